@@ -16,7 +16,7 @@ use std::alloc::Global;
 use std::io::{self, BufRead, BufReader, BufWriter, Write};
 use std::process::ExitCode;
 
-// The answer to a request, or the reason why there is none.
+// The answer to a request, or the reason for which there is no answer.
 #[derive(Drop)]
 enum Answer {
     Listed(u64),
@@ -40,7 +40,7 @@ fn main(rt: HostRuntime) -> io::Result<ExitCode> {
     Ok(ExitCode::SUCCESS)
 }
 
-// Writes an answer. Returns false if there is none.
+// Writes an answer. Returns false if there is no answer.
 fn write_answer<W: Write>(answer: &Answer, answers: &mut W) -> io::Result<bool> {
     match answer {
         Answer::Listed(line) => writeln!(answers, "ok {line}")?,

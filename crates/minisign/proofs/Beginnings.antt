@@ -3,7 +3,7 @@ use Rattle.std.proofs.Common.{◌≡◌, ℕ, List, ◌++◌, Option, None, Some
 use Rattle.std.proofs.Common.{OnErr, append_assoc, ap, sym, ◌∙◌}
 use Rattle.minisign.proofs.Common.{Consumes, ⊤, HasGiven, without_value}
 
--- What always holds also holds after an error.
+-- A statement that always holds also holds after an error.
 pub on_err_of : {T E : Type 0} (r : Result T E) (P : Type 0) → P → OnErr r P
 on_err_of (Ok x) P h = tt
 on_err_of (Err e) P h = h
@@ -13,24 +13,24 @@ pub err_is : {T E : Type 0} (r : Result T E) (e : E) → IsErrAnd r (λ y. y ≡
 err_is (Ok x) e is = absurd is
 err_is (Err y) e is = ap Err is
 
--- What holds for an error holds for the result that passes it on.
+-- If a statement holds for an error, it holds for the result that passes this error on.
 pub passed_up : {T E : Type 0} (r : Result T E) (e : E) (P : E → Type 0) → IsErrAnd r (λ y. y ≡ e) → P e
     → IfErr r P
 passed_up (Ok x) e P _ h = tt
 passed_up (Err y) e P is h = rw (sym is) at h
 
 -- Combines what holds for a value with what holds for the end of the call that returned it.
-pub told_value : {T E : Type 0} (r : Result T E) (P : T → Type 0) (Ends : Result ⊤ E → Type 0)
+pub on_value : {T E : Type 0} (r : Result T E) (P : T → Type 0) (Ends : Result ⊤ E → Type 0)
     (Q : T → Type 0) → IfOk r P → Ends (without_value r)
     → ((v : T) → P v → Ends (Ok tt) → Q v) → IfOk r Q
-told_value (Ok v) P Ends Q h ended f = f v h ended
-told_value (Err e) P Ends Q h _ f = tt
+on_value (Ok v) P Ends Q h ended f = f v h ended
+on_value (Err e) P Ends Q h _ f = tt
 
-pub told_fault : {T E : Type 0} (r : Result T E) (Ends : Result ⊤ E → Type 0) (Q : E → Type 0)
+pub on_fault : {T E : Type 0} (r : Result T E) (Ends : Result ⊤ E → Type 0) (Q : E → Type 0)
     → Ends (without_value r)
     → ((e : E) → Ends (Err e) → Q e) → IfErr r Q
-told_fault (Ok v) Ends Q _ f = tt
-told_fault (Err e) Ends Q ended f = f e ended
+on_fault (Ok v) Ends Q _ f = tt
+on_fault (Err e) Ends Q ended f = f e ended
 
 -- If bytes were read from the front and then more of them, a prefix was read in total.
 pub given_behind : (old mid new : Option (List ℕ)) (a : List ℕ) → Consumes old mid a → HasGiven mid new

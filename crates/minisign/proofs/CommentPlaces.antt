@@ -10,7 +10,8 @@ use Rattle.std.proofs.lemmas.List.Sums.{fails_before_first}
 use Rattle.std.proofs.lemmas.List.Splits.{length-slice_split, slice_split_first, slice_split_none}
 use Rattle.std.specs.List.{position_or_len, before_first}
 use Rattle.minisign.proofs.WrittenLines.{lines_of_parts-cons}
-use Rattle.minisign.specs.SignatureText.{StandsAt, behind_line, comment_offset, comment_start, SignatureText}
+use Rattle.minisign.specs.SignatureText.{IsAtOffset, behind_line, comment_offset, comment_start}
+use Rattle.minisign.specs.SignatureText.{SignatureText}
 use Rattle.minisign.specs.SignatureText.{SignatureTextRecord, trusted_comment_label}
 
 abbrev is_feed : ℕ → Bool
@@ -77,10 +78,10 @@ behind_front n xs s is = ⊎_elim
     (λ l. let empty = is ∙ drop_all n xs l in drop_all (length xs - length s) xs
     (omega (arith, ap length empty)) ∙ sym empty) (cases_lt n (length xs))
 
--- What is in the first line of a part of the text is in the text.
-pub placed : (bytes line part text : List ℕ) (at n : ℕ) → StandsAt bytes line at → take (length line) part
+-- Bytes in the first line of a part of the text are also in the text.
+pub placed : (bytes line part text : List ℕ) (at n : ℕ) → IsAtOffset bytes line at → take (length line) part
     ≡ line → length line ≤ length part → part ≡ drop n text
-    → StandsAt bytes text (length text - length part + at)
+    → IsAtOffset bytes text (length text - length part + at)
 placed bytes line part text at n h front fits is =
     let many = h.within in
     let l = ap length is ∙ length-drop n text in
@@ -108,7 +109,7 @@ pub in_line : (line comment own rest trimmed : List ℕ) (n : ℕ) → line ≡ 
     → rest ≡ trim_start own → rest ≡ drop n own → trimmed ≡ trim_end rest
     → trimmed ≡ take (length trimmed) rest → length trimmed ≤ length rest
     → (length line - length rest ≡ comment_start line) × (length trimmed ≡ length (trim comment))
-    × StandsAt (trim comment) line (length line - length rest)
+    × IsAtOffset (trim comment) line (length line - length rest)
 in_line line comment own rest trimmed n labelled also begun at ended front fits =
     let label = length trusted_comment_label in
     let own_is = ap (drop label) also ∙ drop-append_seam trusted_comment_label _ in
@@ -116,7 +117,7 @@ in_line line comment own rest trimmed n labelled also begun at ended front fits 
     ∙ drop-append_seam trusted_comment_label _ in
     let same = ended ∙ ap trim_end begun ∙ ap trim (sym own_is ∙ comment_is) in
     let behind = at ∙ ap (drop n) (sym own_is) ∙ drop-drop n label line in
-    let stands : StandsAt trimmed line (length line - length rest) = record {
+    let stands : IsAtOffset trimmed line (length line - length rest) = record {
       within = omega (arith, fits, ap length behind, length-drop (label + n) line);
       same = ap (take (length trimmed)) (behind_front _ _ _ behind) ∙ sym front;
     } in (
@@ -131,9 +132,9 @@ pub in_text : (text third line : List ℕ) (t : SignatureTextRecord) (start len 
     → third ≡ behind_line (behind_line text)
     → line ≡ slice_index_or (lines third) 0 [] → length line ≤ length third
     → ((comment : List ℕ) → line ≡ trusted_comment_label ++ comment
-    → (start ≡ comment_start line) × (len ≡ length (trim comment)) × StandsAt (trim comment) line start)
+    → (start ≡ comment_start line) × (len ≡ length (trim comment)) × IsAtOffset (trim comment) line start)
     → (length text - length third + start ≡ comment_offset text) × (len ≡ length t.comments.trusted)
-    × StandsAt t.comments.trusted text (length text - length third + start)
+    × IsAtOffset t.comments.trusted text (length text - length third + start)
 unfolding comment_offset
 in_text text third line t start _ h third_is line_is fits place =
     let second_on = (front_line text _ _ h.cut).1 in

@@ -78,10 +78,10 @@ opened_within k password bound v allowed h =
     of true = refl
     of false = refl
 
-pub opened_so : (k v : SecretKeyRecord) (password : List ℕ) (bound : Option ℕ) (w : Numbers)
+pub opened_from_parts : (k v : SecretKeyRecord) (password : List ℕ) (bound : Option ℕ) (w : Numbers)
     → v ≡ xored_key k password
     → allowed_work k bound ≡ Ok w → restored_key v ≡ Ok v → open_sealed k password bound ≡ Ok v
-opened_so k v password _ w is work restored = ap
+opened_from_parts k v password _ w is work restored = ap
     (λ r. and_then r (λ _. restored_key (xored_key k password))) work ∙ ap restored_key (sym is) ∙ restored
 
 -- The check for a key that is encrypted with scrypt, applied to the key in a text.
@@ -134,7 +134,7 @@ opens_text text _ _ v h =
     let read = ((read_as text).value h.sealed).1 h.read in
     let (w, work) = some_work _ h.allowed in
     open_text _ _ _ _ (sealed_text _ _ _ read (sealed_taken _ h.kdf))
-    ∙ opened_so _ v _ _ w h.key work (rw ((bytes_eq-Decides _ _).1 h.restored) refl)
+    ∙ opened_from_parts _ v _ _ w h.key work (rw ((bytes_eq-Decides _ _).1 h.restored) refl)
 
 pub opened_as : (text password : List ℕ) (bound : Option ℕ)
     → IsReading (IsOpened text password bound) (open_key text password bound)

@@ -12,7 +12,7 @@ use Rattle.minisign.proofs.Common.{rereader_call, sink_call, unused, first_stopp
 use Rattle.minisign.proofs.Common.{AllByRecursion, Keeps}
 use Rattle.minisign_base.specs.Members.{SinkOf, SourceOf}
 use Rattle.minisign.specs.declared.signed_data.SignedData.{SignedData}
-use Rattle.minisign.specs.declared.signed_data.SignedData.TheVariants.{Digest, Kept, Unkept}
+use Rattle.minisign.specs.declared.signed_data.SignedData.TheVariants.{Digest, Message, NoData}
 use Rattle.minisign_base.specs.declared.faults.NamedFault.TheVariants.{ReadingFailed}
 use Rattle.minisign.specs.Reading.{HasFailed, IsAhead, IsReadFault}
 use Rattle.minisign.specs.Records.{PublicKeyRecord, SignatureBoxRecord, is_prehashed}
@@ -22,7 +22,7 @@ use Rattle.minisign.specs.Verifying.{HoldsSigned, held_copy_stages, held_bytes, 
 use Rattle.minisign.specs.Verifying.{Judge, Put, Stage, StageEnds, copying_stages, second_copy_stages}
 use Rattle.minisign.specs.Verifying.{is_reread, reading_stages, reporting_stages, Compare, Copy, Mark, Read}
 use Rattle.minisign.specs.Verifying.{Report, Return, HasCopy, VerifyingFails, VerifyingSucceeds}
-use Rattle.minisign.specs.Verifying.{wanted_status}
+use Rattle.minisign.specs.Verifying.{status_unless_quiet}
 use Rattle.minisign.specs.Texts.{IsGivenOrNoMemory, and_then}
 use Rattle.minisign.proofs.Copies.{all_kept}
 use Rattle.minisign.proofs.Verdicts.{AreSigned, judged_held, judged_or_not}
@@ -225,18 +225,18 @@ what_was_marked (Some _) _ _ _ marked same given =
 
 -- If the first bytes are known and both readings returned them, the second reading returned the
 -- message.
-both_told : (first : Option (List ℕ)) (message second : List ℕ) → IsSome first
+both_known : (first : Option (List ℕ)) (message second : List ℕ) → IsSome first
     → IfSome first (λ xs. second ≡ xs) → IsAhead first message → second ≡ message
-both_told None _ _ some _ _ = absurd (true≢false (sym some))
-both_told (Some _) _ _ _ same given = same ∙ given
+both_known None _ _ some _ _ = absurd (true≢false (sym some))
+both_known (Some _) _ _ _ same given = same ∙ given
 
 -- The bytes that are checked are those that the signature signs, if it is allowed.
 judged_signed : (bytes : List ℕ) (signed : SignedData) (x : SignatureBoxRecord) (legacy : Bool)
     (message : List ℕ) → bytes ≡ held_bytes signed
     → HoldsSigned signed x legacy message → AreSigned bytes x legacy message
 judged_signed _ (Digest _) x _ _ is holds _ = is ∙ rw holds.0 holds.1
-judged_signed _ (Kept _) x _ _ is holds _ = is ∙ rw holds.0 holds.1
-judged_signed _ Unkept x _ _ _ holds allowed =
+judged_signed _ (Message _) x _ _ is holds _ = is ∙ rw holds.0 holds.1
+judged_signed _ NoData x _ _ _ holds allowed =
     absurd (true≢false (sym allowed ∙ rw (holds.0, holds.1) refl))
 
 module _ {R : Type 0} (source : SourceOf R) (steady : R → Type 0) (old mid new : R) where
@@ -248,7 +248,7 @@ module _ {R : Type 0} (source : SourceOf R) (steady : R → Type 0) (old mid new
       → (again ≡ true) × (e ≡ Named GoingBackFailed) × Marks (between old new) (Err tt)
       → (message : List ℕ) × StagesEnd (between old new) unused unused (reading_stages again message) (Err e)
   mark_stops true e (_, is, fails) = ([], inl ((is, fails), refl, refl))
-  mark_stops false e (wanted, _, _) = absurd (true≢false (sym wanted))
+  mark_stops false e (is_requested, _, _) = absurd (true≢false (sym is_requested))
 
   -- The data was read from there on, or could not be read.
   pub read_ends : (again : Bool) → (again ≡ false → mid ≡ old)
@@ -274,7 +274,7 @@ record FirstPass {R : Type 0} (again : Bool) (reader : RereaderCall R) (message 
   pub marked : again ≡ true → IsSteady reader → reader.source.behind reader.new
       ≡ reader.source.ahead reader.old
 
--- What follows from the stages of a call.
+-- Consequences of the stages of a call.
 module _ {R W O : Type 0} (reader : RereaderCall R) (status : SinkCall W) (out : SinkCall O) where
   first_pass : (again : Bool) (message : List ℕ)
       → StagesEnd reader status out (reading_stages again message) (Ok tt)
@@ -310,15 +310,15 @@ module _ {R W O : Type 0} (reader : RereaderCall R) (status : SinkCall W) (out :
   say_stops : (quiet : Bool) (x : SignatureBoxRecord) (e : Fault) → reader.new ≡ reader.old
       → out.new ≡ out.old
       → (quiet ≡ false) × (((e ≡ Named OutOfMemory) × (status.new ≡ status.old)) ⊎ IsWritingFault status e)
-      → TakesFront status (wanted_status quiet x) → IsUnflushed status
+      → TakesFront status (status_unless_quiet quiet x) → IsUnflushed status
       → StagesEnd reader status out (reporting_stages quiet x) (Err e)
-  say_stops true x e r o (wanted, _) _ _ = absurd (true≢false wanted)
+  say_stops true x e r o (is_requested, _) _ _ = absurd (true≢false is_requested)
   say_stops false x e r o (_, why) front unflushed =
       inl (⊎_elim inl (λ failed. inr ((failed, front), unflushed)) why, r, o)
 
   -- The status lines were written.
   say_runs : (quiet : Bool) (x : SignatureBoxRecord) → reader.new ≡ reader.old → out.new ≡ out.old
-      → (quiet ≡ true → status.new ≡ status.old) → Takes status (wanted_status quiet x)
+      → (quiet ≡ true → status.new ≡ status.old) → Takes status (status_unless_quiet quiet x)
       → SinkHasNoNewFault status → IsUnflushed status
       → StagesEnd reader status out (reporting_stages quiet x) (Ok tt)
   say_runs true x r o unsaid _ _ _ =
@@ -328,11 +328,11 @@ module _ {R W O : Type 0} (reader : RereaderCall R) (status : SinkCall W) (out :
 
 -- The stages that copy data that was kept.
 pub kept_steps : (output : Bool) (signed : SignedData) (bytes : Vec ℕ _) (second : List ℕ) → output ≡ true
-    → signed ≡ Kept bytes
+    → signed ≡ Message bytes
     → Put bytes.items ∷ Flush ∷ [] ≡ held_copy_stages output signed second
-kept_steps _ _ _ _ wanted is = rw (wanted, is) refl
+kept_steps _ _ _ _ is_requested is = rw (is_requested, is) refl
 
--- What holds after copying, beginning where the data was read.
+-- The state after copying, which began after the data was read.
 record Copied {R O : Type 0} (accepts : Verifier) (pk : PublicKeyRecord) (x : SignatureBoxRecord)
     (output legacy : Bool) (reader : RereaderCall R) (mid : R) (out : SinkCall O) (message : List ℕ)
     : Type 0 where
@@ -347,7 +347,7 @@ module _ (accepts : Verifier) (pk : PublicKeyRecord) (x : SignatureBoxRecord) (l
   -- A box that is neither prehashed nor allowed is not valid.
   unallowed : is_prehashed x.signature ≡ false → legacy ≡ false → ⊥
   unallowed kept unwanted = ⊎_elim (λ alike. true≢false (sym ((bytes_eq-Decides _ _).1 alike) ∙ kept))
-      (λ wanted. true≢false (sym wanted ∙ unwanted)) vouches.allowed
+      (λ is_requested. true≢false (sym is_requested ∙ unwanted)) vouches.allowed
 
   -- A box is valid for all data that gives the same signed bytes.
   vouches_alike : (copy : List ℕ) → signed_bytes x copy ≡ signed_bytes x message
@@ -365,8 +365,8 @@ module _ (accepts : Verifier) (pk : PublicKeyRecord) (x : SignatureBoxRecord) (l
       ≡ copying_stages output (is_prehashed x.signature) message second
   copying_is _ false _ _ = refl
   copying_is _ true (Digest _) holds = rw (holds.0, holds.1) refl
-  copying_is _ true (Kept _) holds = rw (holds.0, holds.1) refl
-  copying_is _ true Unkept holds = absurd (unallowed holds.0 holds.1)
+  copying_is _ true (Message _) holds = rw (holds.0, holds.1) refl
+  copying_is _ true NoData holds = absurd (unallowed holds.0 holds.1)
 
   -- The data is copied if that was requested.
   module _ {R O : Type 0} (reader : RereaderCall R) (mid : R) (out : SinkCall O) where
@@ -381,7 +381,7 @@ module _ (accepts : Verifier) (pk : PublicKeyRecord) (x : SignatureBoxRecord) (l
       end = rw (sym (ap (λ d. d.reader) same)) at pass.end;
       no_new_fault = ap (λ d. reader.source.faults d.reader) same;
       mark = λ once. ap (λ d. reader.source.behind d.reader) same;
-      copied = λ wanted. absurd (true≢false (sym wanted));
+      copied = λ is_requested. absurd (true≢false (sym is_requested));
       out_no_new_fault = ap (λ d. out.sink.sink_faults d.out) same;
     }
     copied true (Digest _) holds read pass second
@@ -394,7 +394,7 @@ module _ (accepts : Verifier) (pk : PublicKeyRecord) (x : SignatureBoxRecord) (l
           end = subst (λ r. IsAtEnd (reader.source.ahead r)) (sym (r4 ∙ r3)) copy.read.end;
           no_new_fault = ap reader.source.faults (r4 ∙ r3) ∙ copy.read.no_new_fault ∙ back.no_new_fault;
           mark = λ once. absurd (true≢false (sym holds.0 ∙ once));
-          copied = λ wanted. record {
+          copied = λ is_requested. record {
             copy = second;
             all = all_kept _ (out.sink.taken d2.out) _ second
                 (subst (λ o. Appends (out.sink.taken o) (out.sink.taken d2.out) second) o1 copy.all)
@@ -409,13 +409,13 @@ module _ (accepts : Verifier) (pk : PublicKeyRecord) (x : SignatureBoxRecord) (l
             vouched = vouches_alike _ same;
             signed_same = same;
             legacy_same = λ kept. absurd (true≢false (sym holds.0 ∙ kept));
-            steady_same = λ held told. both_told _ _ _ told
+            steady_same = λ held known_data. both_known _ _ _ known_data
                 (what_was_marked _ _ _ _ (pass.marked holds.0 held) back.bytes copy.read.given) pass.given;
           };
           out_no_new_fault = flushed.no_new_fault ∙ ap out.sink.sink_faults o3 ∙ copy.no_new_fault
               ∙ ap out.sink.sink_faults o1;
         }
-    copied true (Kept bytes) holds _ pass _ (d1, (((all, no_new_fault), _), r1, _), last) =
+    copied true (Message bytes) holds _ pass _ (d1, (((all, no_new_fault), _), r1, _), last) =
         let (flushed, r2, s2) = last_done (OneEnds reader unused out) Flush d1 (ended reader unused out)
         last in
         let same = ap (signed_bytes x) holds.1 in
@@ -423,7 +423,7 @@ module _ (accepts : Verifier) (pk : PublicKeyRecord) (x : SignatureBoxRecord) (l
           end = subst (λ r. IsAtEnd (reader.source.ahead r)) (sym (r2 ∙ r1)) pass.end;
           no_new_fault = ap reader.source.faults (r2 ∙ r1);
           mark = λ once. ap reader.source.behind (r2 ∙ r1);
-          copied = λ wanted. record {
+          copied = λ is_requested. record {
             copy = bytes.items;
             all = all_kept _ _ _ bytes.items all flushed.bytes;
             flushed = flushed.all;
@@ -431,11 +431,11 @@ module _ (accepts : Verifier) (pk : PublicKeyRecord) (x : SignatureBoxRecord) (l
             vouched = vouches_alike bytes.items same;
             signed_same = same;
             legacy_same = λ kept. holds.1;
-            steady_same = λ held told. holds.1;
+            steady_same = λ held known_data. holds.1;
           };
           out_no_new_fault = flushed.no_new_fault ∙ no_new_fault;
         }
-    copied true Unkept holds _ _ _ _ = absurd (unallowed holds.0 holds.1)
+    copied true NoData holds _ _ _ _ = absurd (unallowed holds.0 holds.1)
 
 module _ {R W O : Type 0} (accepts : Verifier) (pk : PublicKeyRecord) (x : SignatureBoxRecord)
     (quiet output legacy : Bool)
@@ -518,7 +518,7 @@ module _ {R W O : Type 0} (accepts : Verifier) (pk : PublicKeyRecord) (x : Signa
       pub unsaid : (e : Fault)
           → (quiet ≡ false) × (((e ≡ Named OutOfMemory) × (status.new ≡ status.old)) ⊎ IsWritingFault status
           e)
-          → TakesFront status (wanted_status quiet x) → IsUnflushed status
+          → TakesFront status (status_unless_quiet quiet x) → IsUnflushed status
           → Fails mid status.new out.old e
       unsaid e why front unflushed = after_judging [] status.new out.old mid e
           (first_stopped (OneEnds reader status out) (reporting_stages quiet x) (copying []) (at mid)
@@ -527,7 +527,7 @@ module _ {R W O : Type 0} (accepts : Verifier) (pk : PublicKeyRecord) (x : Signa
           refl refl why front unflushed))
 
       -- Copying ended with this result.
-      pub copying_ends : (quiet ≡ true → status.new ≡ status.old) → Takes status (wanted_status quiet x)
+      pub copying_ends : (quiet ≡ true → status.new ≡ status.old) → Takes status (status_unless_quiet quiet x)
           → SinkHasNoNewFault status → IsUnflushed status → (answer : Result ⊤ Fault)
           → (second : List ℕ) × StagesEnd (record reader { old = mid }) unused out
           (held_copy_stages output signed second) answer
@@ -575,9 +575,9 @@ pub record IsOther {R : Type 0} (reader : RereaderCall R) (message : List ℕ) :
   pub same : IsSteady reader → IfSome (reader.source.ahead reader.old) (λ xs. second ≡ xs)
   pub changed : blake2b_digest 64 second ≢ blake2b_digest 64 message
 
--- Why verification fails: an allocation failed; the place could not be marked; the data could not
--- be read; the box is rejected; the status failed; or copying failed, because the source failed,
--- the output failed or the data changed.
+-- The errors of verification: an allocation failed; the place could not be marked; the data could not be
+-- read; the box is rejected; the status failed; or copying failed, because the source failed, the output
+-- failed or the data changed.
 abbrev pub IsReason : {R W O : Type 0} → Verifier → PublicKeyRecord → SignatureBoxRecord → Bool → Bool → Bool
     → RereaderCall R → SinkCall W → SinkCall O → Fault → Type 0
 IsReason accepts pk x quiet output legacy reader status out e = (e ≡ Named OutOfMemory)
@@ -612,25 +612,25 @@ module _ {R W O : Type 0} (accepts : Verifier) (pk : PublicKeyRecord) (x : Signa
 
   out_fault : output ≡ true → (o : O) → out.sink.sink_faults o ≡ out.sink.sink_faults out.old
       → IsWritingFault (record out { old = o }) e → Why
-  out_fault wanted o no_new_fault (_, rose) =
-      inr (inr (inr (inr (inr (inl (wanted, rw no_new_fault at rose))))))
+  out_fault is_requested o no_new_fault (_, rose) =
+      inr (inr (inr (inr (inr (inl (is_requested, rw no_new_fault at rose))))))
 
   mark_fault : output ≡ true → (r : R) → reader.source.faults r ≡ reader.source.faults reader.old
       → Rose (reader.source.faults r) (reader.source.faults reader.new) → Why
-  mark_fault wanted r no_new_fault rose = inr (inl (wanted, rw no_new_fault at rose))
+  mark_fault is_requested r no_new_fault rose = inr (inl (is_requested, rw no_new_fault at rose))
 
   why_unread : (again : Bool) (message : List ℕ) → (again ≡ true → output ≡ true)
       → Stops (reading_stages again message) (begun reader status out) → Why
-  why_unread true _ wanted (inl ((_, fails), s, o)) =
-      mark_fault (wanted refl) _ refl fails.fault
+  why_unread true _ is_requested (inl ((_, fails), s, o)) =
+      mark_fault (is_requested refl) _ refl fails.fault
   why_unread true _ _ (inr (d, (marked, s, o), inl (((fails, _), _), _, _))) =
       read_fault _ marked.no_new_fault fails
   why_unread true _ _ (inr (d, _, inr (_, _, h))) = absurd h
   why_unread false _ _ (inl (((fails, _), _), s, o)) = read_fault _ refl fails
   why_unread false _ _ (inr (d, _, h)) = absurd h
 
-  why_unsaid : (wanted : Bool) → wanted ≡ quiet → (d : Devices R W O) → d.status ≡ status.old
-      → Stops (reporting_stages wanted x) d → Why
+  why_unsaid : (is_requested : Bool) → is_requested ≡ quiet → (d : Devices R W O) → d.status ≡ status.old
+      → Stops (reporting_stages is_requested x) d → Why
   why_unsaid true _ d _ h = absurd h
   why_unsaid false _ d _ (inl (inl memory, r, o)) = inl memory.0
   why_unsaid false is d same (inl (inr (((_, rose), _), _), r, o)) =
@@ -641,8 +641,8 @@ module _ {R W O : Type 0} (accepts : Verifier) (pk : PublicKeyRecord) (x : Signa
   why_unsaid false _ d _ (inr (_, _, h)) = absurd h
 
   -- Reporting leaves the other devices unchanged.
-  said_only : (wanted : Bool) (d d2 : Devices R W O)
-      → StepsEnd (OneEnds reader status out) (reporting_stages wanted x) d d2 (Ok tt)
+  said_only : (is_requested : Bool) (d d2 : Devices R W O)
+      → StepsEnd (OneEnds reader status out) (reporting_stages is_requested x) d d2 (Ok tt)
       → (d2.reader ≡ d.reader) × (d2.out ≡ d.out)
   said_only true d _ is = (ap (λ d. d.reader) is, ap (λ d. d.out) is)
   said_only false d d2 ran =

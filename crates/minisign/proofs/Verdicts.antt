@@ -175,28 +175,33 @@ module _ (accepts : Verifier) (pk_text sig_text message : List ℕ) (legacy : Bo
         → answer ≡ and_then r (λ _. Ok (comment_of box))
     judged_verdict r judged = of_texts _ read ∙ ap (λ r. and_then r (λ _. Ok (comment_of box))) judged
 
-    untold : (r : Result ⊤ Fault) → map_ok (λ _. tt) (and_then r (λ _. Ok (comment_of box))) ≡ r
-    untold (Ok u) = refl
-    untold (Err e) = refl
+    without_comment : (r : Result ⊤ Fault) → map_ok (λ _. tt) (and_then r (λ _. Ok (comment_of box))) ≡ r
+    without_comment (Ok u) = refl
+    without_comment (Err e) = refl
 
-    pub told_nothing : (r : Result ⊤ Fault) → IsGivenOrNoMemory r (judge accepts key box message legacy)
+    pub verdict_without_comment : (r : Result ⊤ Fault)
+        → IsGivenOrNoMemory r (judge accepts key box message legacy)
         → IsGivenOrNoMemory r (map_ok (λ _. tt) answer)
-    told_nothing r (inl judged) = inl (sym (ap (map_ok (λ _. tt)) (judged_verdict r (sym judged)) ∙ untold r))
-    told_nothing r (inr memory) = inr memory
+    verdict_without_comment r (inl judged) = inl (sym (ap (map_ok (λ _. tt)) (judged_verdict r (sym judged))
+        ∙ without_comment r))
+    verdict_without_comment r (inr memory) = inr memory
 
-    pub told_success : (comment : List ℕ) → map_ok trusted_of (read_signature sig_text) ≡ Ok comment → (u : ⊤)
+    pub verdict_of_success : (comment : List ℕ) → map_ok trusted_of (read_signature sig_text) ≡ Ok comment
+        → (u : ⊤)
         → IsGivenOrNoMemory (Ok u) (judge accepts key box message legacy)
         → IsGivenOrNoMemory (Ok comment) answer
-    told_success comment said u judged =
+    verdict_of_success comment said u judged =
         let (t, signature_read, same) = mapped_of _ _ _ (both_read _ _ _ box read).1 in
-        let told : t.comments.trusted ≡ comment = let is = sym (ap (map_ok trusted_of) signature_read)
+        let same_comment : t.comments.trusted ≡ comment = let is = sym (ap (map_ok trusted_of) signature_read)
         ∙ said in cc is in
-        inl (sym (judged_verdict (Ok u) (read_value u _ judged) ∙ ap Ok (ap comment_of (sym same) ∙ told)))
+        inl (sym (judged_verdict (Ok u) (read_value u _ judged) ∙ ap Ok (ap comment_of (sym same)
+        ∙ same_comment)))
 
-    pub told_refusal : (e : Fault) → IsGivenOrNoMemory {V = ⊤} (Err e) (judge accepts key box message legacy)
+    pub verdict_of_error : (e : Fault) → IsGivenOrNoMemory {V = ⊤} (Err e) (judge accepts key box message
+        legacy)
         → IsGivenOrNoMemory (Err e) answer
-    told_refusal e (inl judged) = inl (sym (judged_verdict _ (sym judged)))
-    told_refusal e (inr memory) = inr (cc memory)
+    verdict_of_error e (inl judged) = inl (sym (judged_verdict _ (sym judged)))
+    verdict_of_error e (inr memory) = inr (cc memory)
 
   -- The verdict on valid texts is the comment of the box.
   pub vouching_verdict : (v : TextsVouchFor accepts pk_text sig_text message legacy)
@@ -243,7 +248,7 @@ module _ (accepts : Verifier) (pk_text sig_text message : List ℕ) (legacy : Bo
         vouched = v;
         comments = t.comments;
         both = ap (λ x. x.comments) (sym same);
-        trusted = let told = sym (ap (map_ok trusted_of) signature_read) ∙ said in cc told;
+        trusted = let same_comment = sym (ap (map_ok trusted_of) signature_read) ∙ said in cc same_comment;
       }
 
 -- If two numbers have the same minimum with 64, either both are at least 64 or neither is.

@@ -14,7 +14,7 @@ use Rattle.minisign_base.specs.declared.faults.NamedFault.TheVariants.{ReadingFa
 use Rattle.minisign.specs.Reading.{HasFailed, IsAhead, IsReadFromFile, ReadsWhole}
 use Rattle.minisign.specs.Verifying.{VerifyingFails, VerifyingSucceeds, VerifyingTextsFails}
 use Rattle.minisign.specs.Verifying.{VerifyingTextsSucceeds, read_texts}
-use Rattle.minisign.specs.Headline.{CopyIsVouchedFor, WhereNothingFails, verdict, CopyIsVouchedWith}
+use Rattle.minisign.specs.Headline.{CopyIsVouchedFor, IfNothingFails, verdict, CopyIsVouchedWith}
 use Rattle.minisign.specs.Headline.{TextsVouchWith, TextsVouchFor}
 use Rattle.minisign.proofs.Passes.{IsReason, why_it_fails, fails_without_sinks, fails_without_status}
 use Rattle.minisign.proofs.Verdicts.{both_read, vouches_judged, judged_verdict, signed_comment, text_refused}
@@ -35,8 +35,8 @@ pub copy_vouched : {R W O T : Type 0} (accepts : Verifier) (pk sig : List ℕ) (
     (r : Result T Fault) → OnOk r (VerifyingTextsSucceeds accepts pk sig options reader status out)
     → options.output ≡ true
     → OnOk r (CopyIsVouchedFor accepts pk sig options.allow_legacy out)
-copy_vouched _ _ _ _ _ _ _ (Ok v) h wanted =
-    let copied = h.verified.copied wanted in
+copy_vouched _ _ _ _ _ _ _ (Ok v) h is_requested =
+    let copied = h.verified.copied is_requested in
     record {
       copy = copied.copy;
       taken = copied.all;
@@ -68,10 +68,10 @@ module _ {R W O : Type 0} (accepts : Verifier) (key : PublicKeyRecord) (box : Si
     (reader : RereaderCall R) (status : SinkCall W) (out : SinkCall O) where
   the_message : (m message : List ℕ) → reader.source.ahead reader.old ≡ Some message
       → IsAhead (reader.source.ahead reader.old) m → m ≡ message
-  the_message m _ told given = let same =
-      rw told at given in sym same
+  the_message m _ known_data given = let same =
+      rw known_data at given in sym same
 
-  module _ (message : List ℕ) (told : reader.source.ahead reader.old ≡ Some message)
+  module _ (message : List ℕ) (known_data : reader.source.ahead reader.old ≡ Some message)
       (no_new_fault : ¬ (SourceFails reader)) (status_no_new_fault : ¬ (SinkFails status))
       (out_no_new_fault : ¬ (SinkFails out)) (again : options.output ≡ true → IsSteady reader) where
     refused_for : (e : Fault) → IsReason accepts key box options.quiet options.output options.allow_legacy
@@ -81,29 +81,29 @@ module _ {R W O : Type 0} (accepts : Verifier) (key : PublicKeyRecord) (box : Si
     refused_for e (inr (inl (_, rose))) = absurd (no_new_fault rose)
     refused_for e (inr (inr (inl failed))) = absurd (no_new_fault failed.rose)
     refused_for e (inr (inr (inr (inl (m, given, down))))) =
-        inl (sym (rw (the_message m message told given) at down))
+        inl (sym (rw (the_message m message known_data given) at down))
     refused_for e (inr (inr (inr (inr (inl (_, rose)))))) = absurd (status_no_new_fault rose)
     refused_for e (inr (inr (inr (inr (inr (inl (_, rose))))))) = absurd (out_no_new_fault rose)
-    refused_for e (inr (inr (inr (inr (inr (inr (wanted, (m, given, other)))))))) =
-        let same = rw told at (other.same (again wanted)) in
-        absurd (other.changed (ap (blake2b_digest 64) (same ∙ sym (the_message m _ told given))))
+    refused_for e (inr (inr (inr (inr (inr (inr (is_requested, (m, given, other)))))))) =
+        let same = rw known_data at (other.same (again is_requested)) in
+        absurd (other.changed (ap (blake2b_digest 64) (same ∙ sym (the_message m _ known_data given))))
 
   -- If no device fails, the result is that of the function judge.
   pub judged_exactly : (r : Result ⊤ Fault)
       → OnOk r (VerifyingSucceeds accepts key box options reader status out)
       → IfErr r (VerifyingFails accepts key box options reader status out)
-      → WhereNothingFails options.output reader status out r
+      → IfNothingFails options.output reader status out r
       (λ message. judge accepts key box message options.allow_legacy)
-  judged_exactly (Ok u) ok _ _ told _ _ _ _ =
-      inl (sym (vouches_judged _ _ _ _ _ (rw (the_message _ _ told ok.given) at ok.vouches)))
-  judged_exactly (Err e) _ err message told no_new_fault status_no_new_fault out_no_new_fault again =
-      refused_for message told no_new_fault status_no_new_fault out_no_new_fault again e
+  judged_exactly (Ok u) ok _ _ known_data _ _ _ _ =
+      inl (sym (vouches_judged _ _ _ _ _ (rw (the_message _ _ known_data ok.given) at ok.vouches)))
+  judged_exactly (Err e) _ err message known_data no_new_fault status_no_new_fault out_no_new_fault again =
+      refused_for message known_data no_new_fault status_no_new_fault out_no_new_fault again e
       (why_it_fails accepts key box options.quiet options.output options.allow_legacy reader status out e err)
 
   -- The same if an error is passed on.
   pub refused_exactly : (r : Result ⊤ Fault) (e : Fault) → IsErrAnd r (λ y. y ≡ e)
       → IfErr r (VerifyingFails accepts key box options reader status out)
-      → WhereNothingFails options.output reader status out r
+      → IfNothingFails options.output reader status out r
       (λ message. judge accepts key box message options.allow_legacy)
   refused_exactly (Ok u) e is _ = absurd is
   refused_exactly (Err y) e _ err = judged_exactly (Err y) tt err
@@ -139,13 +139,15 @@ module _ {R W O : Type 0} (accepts : Verifier) (pk sig : List ℕ) (reader : Rer
     ahead_reason : IsReason accepts key box true false false reader status out e
         → IsLeft accepts pk sig reader e
     ahead_reason (inl memory) = inl memory
-    ahead_reason (inr (inl (wanted, _))) = absurd (true≢false (sym wanted))
+    ahead_reason (inr (inl (is_requested, _))) = absurd (true≢false (sym is_requested))
     ahead_reason (inr (inr (inl failed))) = inr (inl failed)
     ahead_reason (inr (inr (inr (inl (message, given, down))))) =
         inr (inr (message, given, judged_verdict _ _ _ _ _ _ _ read _ down))
     ahead_reason (inr (inr (inr (inr (inl (loud, _)))))) = absurd (true≢false loud)
-    ahead_reason (inr (inr (inr (inr (inr (inl (wanted, _))))))) = absurd (true≢false (sym wanted))
-    ahead_reason (inr (inr (inr (inr (inr (inr (wanted, _))))))) = absurd (true≢false (sym wanted))
+    ahead_reason (inr (inr (inr (inr (inr (inl (is_requested, _))))))) = absurd (true≢false
+        (sym is_requested))
+    ahead_reason (inr (inr (inr (inr (inr (inr (is_requested, _))))))) = absurd (true≢false
+        (sym is_requested))
 
 -- The verdict on a file's data.
 pub file_verdict : {T R : Type 0} (bytes : T → List ℕ) (accepts : Verifier) (pk sig : List ℕ)

@@ -1,5 +1,5 @@
--- When a signature box is valid for data under a public key: as a record of conditions, and as a function
--- that gives the first condition that fails. Also the status lines for a valid signature.
+-- The conditions under which a signature box is valid for data under a public key: as a record, and as a
+-- function that gives the first condition that fails. Also the status lines for a valid signature.
 use Rattle.std.specs.Prelude.{◌≡◌, ⊤, ℕ, Bool, true, IsTrue, ◌⊎◌, ◌||◌, ◌&&◌, if◌then◌else◌, nat_le, List, []}
 use Rattle.std.specs.Prelude.{◌++◌, length, take, Option, Result, Ok, codes, bytes_eq, option_map}
 use Rattle.std.specs.Option.{option_map_or}
@@ -31,8 +31,8 @@ abbrev pub accepts_comments : Verifier → PublicKeyRecord → SignatureBoxRecor
 accepts_comments accepts pk x = option_map_or (λ c. nat_le 64 (length c.signature)
     && accepts (x.signature.signature ++ c.trusted) pk.key (take 64 c.signature)) x.comments true
 
--- The signature box is valid for the message under the public key. legacy is true if a legacy
--- signature is allowed, which signs the message itself.
+-- The signature box is valid for the message under the public key. `legacy` is true if legacy signatures,
+-- which sign the message itself, are allowed.
 pub record Vouches (accepts : Verifier) (pk : PublicKeyRecord) (x : SignatureBoxRecord) (message : List ℕ)
     (legacy : Bool) : Type 0 where
   pub same_key : x.signature.keynum ≡ pk.keynum

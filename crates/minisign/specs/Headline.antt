@@ -1,6 +1,5 @@
--- The headlines of verification: what a caller of the verifying calls may rely on. docs/TRUSTED.md
--- explains the notation, such as x.now, and that a key or a box of the code stands for its record
--- or its text here.
+-- The headlines of verification: what a caller of the verifying calls may rely on. docs/TRUSTED.md explains
+-- the notation, such as x.now, and that a key or a box of the code represents its record or its text here.
 use Rattle.std.specs.Prelude.{◌≡◌, ℕ, Bool, true, List, Some, Ok, IfSome, Result, false}
 use Rattle.minisign_base.specs.Fault.{Fault}
 use Rattle.minisign_base.specs.DeviceCalls.{IsFlushed, IsSteady, RereaderCall, SinkFails, SinkCall}
@@ -15,8 +14,8 @@ use Rattle.minisign.specs.Verifying.{ReadsTwice}
 
 -- The verdict on two texts and a message: the trusted comment if the signature is valid, and
 -- otherwise the first check that fails. The public key text is parsed first, then the signature
--- text, and then the signature is checked. legacy is true if a legacy signature is allowed, which
--- signs the message itself.
+-- text, and then the signature is checked. `legacy` is true if legacy signatures, which sign the
+-- message itself, are allowed.
 unfoldable pub verdict : Verifier → List ℕ → List ℕ → List ℕ → Bool → Result (List ℕ) Fault
 verdict accepts pk_text sig_text message legacy =
     and_then (read_public_key pk_text) (λ key.
@@ -44,18 +43,18 @@ pub record TextsVouchWith (accepts : Verifier) (pk_text sig_text message : List 
 
 -- If the data is known, no device fails and, if the data is copied, the source is steady, then the
 -- result is out of memory or what the function of_data gives for the data.
-abbrev pub WhereNothingFails : {R W O V : Type 0} → Bool → RereaderCall R → SinkCall W → SinkCall O
+abbrev pub IfNothingFails : {R W O V : Type 0} → Bool → RereaderCall R → SinkCall W → SinkCall O
     → Result V Fault → (List ℕ → Result V Fault) → Type 0
-WhereNothingFails output reader status out answer of_data =
+IfNothingFails output reader status out answer of_data =
     (message : List ℕ) → reader.source.ahead reader.old ≡ Some message
     → ¬ (SourceFails reader) → ¬ (SinkFails status) → ¬ (SinkFails out)
     → (output ≡ true → IsSteady reader) → IsGivenOrNoMemory answer (of_data message)
 
--- WhereNothingFails for the verdict on two texts, with these options.
-abbrev pub IsVerdictWhereNothingFails : {R W O : Type 0} → Verifier → List ℕ → List ℕ → VerifyOptions
+-- IfNothingFails for the verdict on two texts, with these options.
+abbrev pub IsVerdictIfNothingFails : {R W O : Type 0} → Verifier → List ℕ → List ℕ → VerifyOptions
     → RereaderCall R → SinkCall W → SinkCall O → Result (List ℕ) Fault → Type 0
-IsVerdictWhereNothingFails accepts pk_text sig_text options reader status out answer =
-    WhereNothingFails options.output reader status out answer
+IsVerdictIfNothingFails accepts pk_text sig_text options reader status out answer =
+    IfNothingFails options.output reader status out answer
     (λ message. verdict accepts pk_text sig_text message options.allow_legacy)
 
 -- The texts are valid for the bytes that the output received and flushed, as far as these are

@@ -13,7 +13,7 @@ use Rattle.minisign_base.specs.Fault.{Fault, Named}
 use Rattle.std.specs.Simd.Lanes.{zip2}
 use Rattle.minisign_kdf.specs.Scrypt.{scrypt}
 use Rattle.minisign_kdf.specs.Params.{Numbers}
-use Rattle.minisign_kdf.specs.Room.{wanted_bytes, wanted_words}
+use Rattle.minisign_kdf.specs.Memory.{bytes_needed, words_needed}
 use Rattle.minisign.specs.Records.{SecretKeyRecord}
 use Rattle.minisign.specs.Texts.{and_then, require}
 use Rattle.minisign_base.specs.declared.faults.NamedFault.TheVariants as named
@@ -113,7 +113,7 @@ opening_work k = taken_by_opening (λ v. (v.n_log2, v.p)) k
 -- The memory for decrypting the key in place with every k-th row kept: the number of 32-bit words,
 -- and the number of bytes.
 abbrev pub opening_memory : SecretKeyRecord → ℕ → ℕ × ℕ
-opening_memory key k = taken_by_opening (λ v. (wanted_words v k, wanted_bytes v)) key
+opening_memory key k = taken_by_opening (λ v. (words_needed v k, bytes_needed v)) key
 
 -- == Decrypting the key in a text ==
 
@@ -176,13 +176,14 @@ pub record IsUnencryptedText (text : List ℕ) (k : SecretKeyRecord) : Type 0 wh
 
 -- The steps of decrypting a key: the prompt reports the derivation, the limits and the bound must
 -- allow it, the prompt reports that it is done, and the checksum must match.
-abbrev pub telling_steps : SecretKeyRecord → List ℕ → Option ℕ → List Step
-telling_steps k password bound = Say deriving_text ∷ Test (result_err (allowed_work k bound)) ∷ Allocate
+abbrev pub decrypting_steps : SecretKeyRecord → List ℕ → Option ℕ → List Step
+decrypting_steps k password bound = Say deriving_text ∷ Test (result_err (allowed_work k bound)) ∷ Allocate
     ∷ Say done_text ∷ Test (result_err (restored_key (xored_key k password))) ∷ []
 
 -- The steps of decrypting an encrypted key with the password that is typed in these bytes.
 abbrev pub opening_steps : SecretKeyRecord → Option ℕ → List ℕ → List Step
-opening_steps k bound bytes = asking_steps asking_text bytes ++ telling_steps k (typed_password bytes) bound
+opening_steps k bound bytes = asking_steps asking_text bytes ++ decrypting_steps k
+    (typed_password bytes) bound
 
 -- The result is the given one; or it is out of memory, which is possible only if the key in the
 -- text is encrypted with scrypt and its limits are allowed and within the bound.

@@ -161,6 +161,6 @@ comment_offset text =
     length text - length third + comment_start (slice_index_or (lines third) 0 [])
 
 -- The bytes are in the text, at this offset.
-pub record StandsAt (bytes text : List ℕ) (offset : ℕ) : Type 0 where
+pub record IsAtOffset (bytes text : List ℕ) (offset : ℕ) : Type 0 where
   pub within : offset + length bytes ≤ length text
   pub same : take (length bytes) (drop offset text) ≡ bytes

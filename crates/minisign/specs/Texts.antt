@@ -40,12 +40,12 @@ is_base64 text = bytes_eq text (base64_of (base64_bytes text))
 abbrev pub require : {V : Type 0} → Bool → NamedFault → Result V Fault → Result V Fault
 require holds fault more = if holds then more else Err (Named fault)
 
--- Goes on with the value, or passes on the error.
+-- Applies a function that may fail to the value, or returns the error.
 abbrev pub and_then : {V W : Type 0} → Result V Fault → (V → Result W Fault) → Result W Fault
 and_then (Ok v) more = more v
 and_then (Err e) more = Err e
 
--- Applies a function to the value, or passes on the error.
+-- Applies a function to the value, or returns the error.
 abbrev pub map_ok : {V W : Type 0} → (V → W) → Result V Fault → Result W Fault
 map_ok f (Ok v) = Ok (f v)
 map_ok f (Err e) = Err e

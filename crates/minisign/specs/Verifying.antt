@@ -15,7 +15,7 @@ use Rattle.minisign.specs.Records.{PublicKeyRecord, SignatureBoxRecord, is_preha
 use Rattle.minisign.specs.Texts.{IsGivenOrNoMemory, and_then, map_ok}
 use Rattle.minisign.specs.declared.options.VerifyOptions.{VerifyOptions}
 use Rattle.minisign.specs.declared.signed_data.SignedData.{SignedData}
-use Rattle.minisign.specs.declared.signed_data.SignedData.TheVariants.{Digest, Kept, Unkept}
+use Rattle.minisign.specs.declared.signed_data.SignedData.TheVariants.{Digest, Message, NoData}
 use Rattle.std.specs.Io.KnownBytes.{IsAtEnd}
 use Rattle.minisign.specs.KeyTexts.{read_public_key}
 use Rattle.minisign.specs.SignatureText.{read_signature_box}
@@ -133,28 +133,28 @@ verifying_stages accepts pk x options message second = reading_stages (is_reread
 -- The bytes that are kept in memory after reading.
 abbrev pub held_bytes : SignedData → List ℕ
 held_bytes (Digest digest) = digest
-held_bytes (Kept bytes) = bytes.items
-held_bytes Unkept = []
+held_bytes (Message bytes) = bytes.items
+held_bytes NoData = []
 
 -- The data that is kept of a message: its digest for a prehashed signature, the message itself for a
 -- legacy signature that is allowed, and nothing for one that is not allowed.
 abbrev pub HoldsSigned : SignedData → SignatureBoxRecord → Bool → List ℕ → Type 0
 HoldsSigned (Digest digest) x legacy message = (is_prehashed x.signature ≡ true)
     × (digest ≡ blake2b_digest 64 message)
-HoldsSigned (Kept bytes) x legacy message =
+HoldsSigned (Message bytes) x legacy message =
     (is_prehashed x.signature ≡ false) × (bytes.items ≡ message) × (legacy ≡ true)
-HoldsSigned Unkept x legacy message = (is_prehashed x.signature ≡ false) × (legacy ≡ false)
+HoldsSigned NoData x legacy message = (is_prehashed x.signature ≡ false) × (legacy ≡ false)
 
 -- The stages that copy the data, from what was kept of it.
 abbrev pub held_copy_stages : Bool → SignedData → List ℕ → List Stage
 held_copy_stages false signed second = []
 held_copy_stages true (Digest digest) second = second_copy_stages digest second
-held_copy_stages true (Kept bytes) second = Put bytes.items ∷ Flush ∷ []
-held_copy_stages true Unkept second = []
+held_copy_stages true (Message bytes) second = Put bytes.items ∷ Flush ∷ []
+held_copy_stages true NoData second = []
 
 -- The bytes that the status sink must receive for a valid box.
-abbrev pub wanted_status : Bool → SignatureBoxRecord → List ℕ
-wanted_status quiet x = if quiet then [] else status_lines x
+abbrev pub status_unless_quiet : Bool → SignatureBoxRecord → List ℕ
+status_unless_quiet quiet x = if quiet then [] else status_lines x
 
 -- The data was read to its end, which gave the message, and again from the mark to its end, which
 -- gave the copy. Both have the same digest.
@@ -191,7 +191,7 @@ pub record VerifyingSucceeds {R W O : Type 0} (accepts : Verifier) (pk : PublicK
   pub no_new_fault : SourceHasNoNewFault reader
   pub mark : is_reread options.output x ≡ false
       → reader.source.behind reader.new ≡ reader.source.behind reader.old
-  pub said : Takes status (wanted_status options.quiet x)
+  pub said : Takes status (status_unless_quiet options.quiet x)
   pub status_no_new_fault : SinkHasNoNewFault status
   pub status_unflushed : IsUnflushed status
   pub copied : options.output ≡ true → HasCopy accepts pk x options.allow_legacy reader out message

@@ -9,7 +9,7 @@ ghost use Rattle.minisign_base.specs.DeviceCalls.{rereader_call, sink_call, unus
 ghost use Rattle.minisign_base.specs.Devices.{HasGiven};
 ghost use Rattle.minisign.specs.Acceptance.{options_of};
 ghost use Rattle.minisign.specs.Headline.{CopyIsVouchedWith, TextsVouchWith, verdict};
-ghost use Rattle.minisign.specs.Headline.{IsVerdictWhereNothingFails};
+ghost use Rattle.minisign.specs.Headline.{IsVerdictIfNothingFails};
 ghost use Rattle.minisign.specs.Reading.{HasFailed, IsAhead, IsReadFromFile, ReadsWhole};
 ghost use Rattle.minisign.specs.Texts.{IsGivenOrNoMemory, map_ok};
 ghost use Rattle.minisign.specs.Records.{PublicKeyRecord, SignatureBoxRecord};
@@ -48,10 +48,10 @@ pub fn verify_with<S: Scheme, R: Rereader, W: Sink, O: Sink>(
     status: &mut W,
     out: &mut O,
 ) -> Result<String>
-    // If the source's bytes are known, no device fails, and the source is steady if the data is copied,
+    // If the source's bytes are known, no device fails and, if the data is copied, the source is steady,
     // then the result is out of memory or exactly the verdict on the two texts and the data: the trusted
     // comment if the signature is valid, and otherwise the first check that fails.
-    ensures headline { IsVerdictWhereNothingFails (S.accepts scheme.now) pk_text.now sig_text.now options
+    ensures headline { IsVerdictIfNothingFails (S.accepts scheme.now) pk_text.now sig_text.now options
         (rereader_call R.Source R.steady data_reader.old data_reader.new) (sink_call W.Sink status.old
         status.new) (sink_call O.Sink out.old out.new) (map_ok string_bytes result) }
 
@@ -234,7 +234,7 @@ pub fn verify_reader<S: Scheme, R: Rereader>(
     // If the source's bytes are known and it does not fail, then the result is out of memory or exactly the
     // verdict on the two texts and the data: the trusted comment if the signature is valid, and otherwise
     // the first check that fails.
-    ensures headline { IsVerdictWhereNothingFails (S.accepts scheme.now) pk_text.now sig_text.now
+    ensures headline { IsVerdictIfNothingFails (S.accepts scheme.now) pk_text.now sig_text.now
         (options_of true false false) (rereader_call R.Source R.steady data_reader.old data_reader.new) unused
         unused (map_ok string_bytes result) }
 
@@ -315,7 +315,7 @@ pub fn copy_verified<S: Scheme, R: Rereader, O: Sink>(
     // If the source is steady, its bytes are known and no device fails, then the result is out of memory or
     // exactly the verdict on the two texts and the data: the trusted comment if the signature is valid, and
     // otherwise the first check that fails.
-    ensures headline { IsVerdictWhereNothingFails (S.accepts scheme.now) pk_text.now sig_text.now
+    ensures headline { IsVerdictIfNothingFails (S.accepts scheme.now) pk_text.now sig_text.now
         (options_of true true false) (rereader_call R.Source R.steady data_reader.old data_reader.new) unused
         (sink_call O.Sink out.old out.new) (map_ok string_bytes result) }
 

@@ -4,7 +4,7 @@
 ghost use Rattle.std.specs.Prelude.{◌≡◌, ◌+◌, ◌≤◌, ◌++◌, [], List, ℕ, Ok, length, slice_index_or};
 ghost use Rattle.std.specs.Str.{trim};
 ghost use Rattle.std.specs.Str.Lines.{lines};
-ghost use Rattle.minisign.specs.SignatureText.{StandsAt, behind_line, comment_offset, comment_start};
+ghost use Rattle.minisign.specs.SignatureText.{IsAtOffset, behind_line, comment_offset, comment_start};
 ghost use Rattle.minisign.specs.SignatureText.{SignatureTextRecord, read_signature};
 ghost use Rattle.minisign.specs.SignatureText.{trusted_comment_label};
 
@@ -20,7 +20,7 @@ pub fn trusted_comment_place(text: &str) -> (usize, usize)
     // length, and the offset is a function of the text.
     ensures { (t : SignatureTextRecord) → read_signature text.now ≡ Ok t
         → (result.0 ≡ comment_offset text.now) × (result.1 ≡ length t.comments.trusted)
-        × StandsAt t.comments.trusted text.now result.0 }
+        × IsAtOffset t.comments.trusted text.now result.0 }
 {
     let third = behind_line(behind_line(text));
     let (start, len) = comment_in_line(first_line(third));
@@ -55,7 +55,7 @@ fn comment_in_line(line: &str) -> (usize, usize)
     ensures within { result.0 ≤ length line.now }
     ensures place { (comment : List ℕ) → line.now ≡ trusted_comment_label ++ comment
         → (result.0 ≡ comment_start line.now) × (result.1 ≡ length (trim comment))
-        × StandsAt (trim comment) line.now result.0 }
+        × IsAtOffset (trim comment) line.now result.0 }
 {
     let comment = match trusted_comment_in(line) {
         Ok(comment) => comment,

@@ -40,11 +40,11 @@ pub(crate) fn copy_out<R: Rereader, O: Sink>(
     }
     match signed {
         SignedData::Digest(digest) => copy_again(alloc, digest, data_reader, out),
-        SignedData::Kept(bytes) => {
+        SignedData::Message(bytes) => {
             put_bytes(out, bytes)?;
             flush(out)
         }
-        SignedData::Unkept => Ok(()),
+        SignedData::NoData => Ok(()),
     }
 }
 

@@ -65,7 +65,7 @@ impl<'a> SignatureView<'a> {
         self.untrusted_comment
     }
 
-    /// Returns the trusted comment, which the comment signature signs, trimmed.
+    /// Returns the trusted comment, trimmed. The comment signature signs it.
     pub fn trusted_comment(&self) -> &'a str
         ensures { result.now ≡ self.now.trusted }
     {
@@ -93,8 +93,8 @@ impl<'a> SignatureView<'a> {
 /// Errors come in this order: no first line, no second line, a different length of the second line, a
 /// second line that is not base64, fewer than 42 bytes. Does not allocate.
 pub fn read_public_key(text: &str) -> Result<PublicKey>
-    // The result depends only on the text, as its grammar says: the public key in the text, or the first
-    // check that fails.
+    // The result depends only on the text: it is the public key in the text, as the grammar defines it, or
+    // the first check that fails.
     ensures { result ≡ read_public_key text.now }
 {
     let mut lines = text.lines();
@@ -112,8 +112,8 @@ pub fn read_public_key(text: &str) -> Result<PublicKey>
 /// Errors come in this order: a text that has another length once white space is trimmed, a text that is
 /// not base64 as it is, fewer than 42 bytes. Does not allocate.
 pub fn read_bare_public_key(text: &str) -> Result<PublicKey>
-    // The result depends only on the text, as its grammar says: the public key that the text is the base64
-    // of, or the first check that fails.
+    // The result depends only on the text: it is the public key whose base64 is the text, or the first
+    // check that fails.
     ensures { result ≡ read_bare_public_key text.now }
 {
     if text.trim().len() != ENCODED_BYTES {
@@ -132,8 +132,9 @@ pub fn read_bare_public_key(text: &str) -> Result<PublicKey>
 /// second line that is not base64, or of fewer than 74 bytes; a different label of the third line; an
 /// algorithm other than `Ed` and `ED`; a fourth line that is not base64. Does not allocate.
 pub fn read_signature(text: &str) -> Result<SignatureView<'_>>
-    // The result depends only on the text, as its grammar says: the signature with its comments, or the
-    // first check that fails. Only the first 64 bytes of the comment signature are returned.
+    // The result depends only on the text: it is the signature in the text with its comments, as the
+    // grammar defines them, or the first check that fails. Only the first 64 bytes of the comment signature
+    // are returned.
     ensures view { result ≡ map_ok view_of (read_signature text.now) }
 
     // On success, the trusted comment is at least 64 bytes shorter than the text.

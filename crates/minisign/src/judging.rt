@@ -53,7 +53,7 @@ pub(crate) fn judge_view<S: Scheme>(
     if !accepts_message(scheme, pk, view.signature(), message) {
         return Err(NamedFault::SignatureRefused.into());
     }
-    if !accepts_told_comment(scheme, pk, view, room) {
+    if !accepts_comment_signature(scheme, pk, view, room) {
         return Err(NamedFault::CommentSignatureRefused.into());
     }
     Ok(())
@@ -83,7 +83,7 @@ fn accepts_message<S: Scheme>(
 
 // Returns true if the comment signature has at least 64 bytes and the first 64 are a valid
 // signature of the data signature followed by the trusted comment.
-fn accepts_told_comment<S: Scheme>(
+fn accepts_comment_signature<S: Scheme>(
     scheme: &S,
     pk: &PublicKey,
     view: &SignatureView<'_>,

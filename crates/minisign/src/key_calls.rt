@@ -38,10 +38,10 @@ use std::rt::Files;
 /// let sk = open_with_password(alloc, sk_text, password)?;
 /// ```
 pub fn open_with_password(alloc: Global, sk_text: &str, password: &str) -> Result<SecretKey>
-    // The result is out of memory or exactly what the secret key text gives under the password: a key that
-    // was never encrypted, unchanged, if its checksum matches; an encrypted key, decrypted; or else the
-    // first check that fails. Out of memory is returned only if the key is encrypted with scrypt and its
-    // limits are allowed.
+    // The result is out of memory or exactly the key in the secret key text: unchanged, if it was never
+    // encrypted and its checksum matches; decrypted with the password, if it is encrypted; or else the first
+    // check that fails. Out of memory is returned only if the key is encrypted with scrypt and its limits are
+    // allowed.
     ensures { IsOpenedOrNoMemory sk_text.now None result
         (key_with_password sk_text.now password.now) }
 {

@@ -295,7 +295,7 @@ fn ask_and_seal<S: Scheme, R: Source, W: Sink>(
         (λ e. IsSealing (prompt_call R.Source W.Sink prompt.old prompt.new) None (Err e)) }
 {
     let password = choose_password(alloc, prompt)?;
-    seal_aloud(alloc, scheme, drawn, password.as_bytes(), prompt)
+    seal_with_reports(alloc, scheme, drawn, password.as_bytes(), prompt)
 }
 
 // Says what the password is for, and prompts for it twice.
@@ -319,14 +319,14 @@ fn choose_password<R: Source, W: Sink>(alloc: Global, prompt: &mut Prompt<R, W>)
 
 // Makes a key pair that is encrypted with the password, and reports the derivation on the prompt.
 #[tactic(auto, unfolding(crate::specs::Generation::sealing_text, crate::specs::Sealing::done_text))]
-fn seal_aloud<S: Scheme, R: Source, W: Sink>(
+fn seal_with_reports<S: Scheme, R: Source, W: Sink>(
     alloc: Global,
     scheme: &S,
     drawn: &Drawn,
     password: &[u8],
     prompt: &mut Prompt<R, W>,
 ) -> Result<KeyPair>
-    ensures told { OnOk result
+    ensures reported { OnOk result
         (ConversationEnds (prompt_call R.Source W.Sink prompt.old prompt.new) sealing_steps (Ok tt)) }
     ensures sealed { IfOk result
         (λ pair. IsSealedOf (S.public_of scheme.now) drawn.now.seed drawn.now.keynum drawn.now.salt

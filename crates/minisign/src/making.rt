@@ -52,7 +52,7 @@ pub fn make_secret_key(
     k: u64,
     comment: &str,
 ) -> Result<SecretKeyBox>
-    requires kept { 1 ≤ k }
+    requires k_positive { 1 ≤ k }
 
     // On success, the result is the text, with the comment, of the secret key of these parts, encrypted
     // under the password with the given salt and limits, or unencrypted if there is no password. It is 233

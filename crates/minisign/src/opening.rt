@@ -14,7 +14,7 @@ ghost use Rattle.minisign_base.specs.Steps.{without_value};
 ghost use Rattle.minisign_base.specs.Limits.{sealing_limits};
 ghost use Rattle.minisign.specs.Sealing.{allowed_work, is_encrypted, open_sealed, restored_key};
 ghost use Rattle.minisign.specs.Sealing.{sealed_by_scrypt, allowed_rows, opening_work, opening_memory};
-ghost use Rattle.minisign.specs.Sealing.{xored_key, key_xor, IsOpening, opening_steps, telling_steps};
+ghost use Rattle.minisign.specs.Sealing.{xored_key, key_xor, IsOpening, opening_steps, decrypting_steps};
 ghost use Rattle.minisign.specs.Sealing.{asking_text, deriving_text, done_text, read_unencrypted_key};
 ghost use Rattle.minisign.specs.Sealing.{open_key, IsOpenedOrNoMemory};
 ghost use Rattle.minisign.specs.KeyTexts.{read_secret_key};
@@ -57,7 +57,7 @@ impl SecretKeyBox {
     /// Returns the secret key in the text if it was never encrypted, as `SecretKey::from_unencrypted_box`
     /// does.
     pub fn into_unencrypted_secret_key(self) -> Result<SecretKey>
-        // The text is parsed and rejected as `SecretKey::from_unencrypted_box` promises.
+        // The text is parsed, or rejected, as `SecretKey::from_unencrypted_box` promises.
         ensures { result ≡ read_unencrypted_key self }
     {
         SecretKey::from_unencrypted_box(self)
@@ -121,7 +121,7 @@ impl SecretKey {
         prompt: &mut Prompt<R, W>,
         k: u64,
     ) -> Result<SecretKey>
-        requires kept { 1 ≤ k }
+        requires k_positive { 1 ≤ k }
 
         // For every k of at least 1, with every k-th row of scrypt kept, the text is decrypted as
         // `SecretKey::from_box_within` promises, without a bound on the work.
@@ -156,9 +156,9 @@ impl SecretKey {
         prompt: &mut Prompt<R, W>,
         max_p: u32,
     ) -> Result<SecretKey>
-        // With a given password, the result is exactly what the text decrypts to under it within the bound
-        // (the key, or the first check that fails), or out of memory, which is possible only for a key
-        // whose derivation is allowed. The prompt is unchanged.
+        // With a given password, the result is the key in the text, decrypted under this password within
+        // the bound, or the first check that fails; or it is out of memory, which is possible only for a
+        // key whose derivation is allowed. The prompt is unchanged.
         //
         // Without a given password, a text that no password can decrypt is rejected with the prompt
         // unchanged. Otherwise the prompt asks for the password and writes what docs/FORMATS.md says, and
@@ -192,7 +192,7 @@ impl SecretKey {
         k: u64,
         max_p: u32,
     ) -> Result<SecretKey>
-        requires kept { 1 ≤ k }
+        requires k_positive { 1 ≤ k }
 
         // For every k of at least 1, with every k-th row of scrypt kept, the text is decrypted as
         // `SecretKey::from_box_within` promises.
@@ -266,7 +266,7 @@ impl SecretKey {
         k: u64,
         max_p: u32,
     ) -> Result<SecretKey>
-        requires kept { 1 ≤ k }
+        requires k_positive { 1 ≤ k }
 
         // For every k, the result is out of memory or exactly what the key decrypts to under the password:
         // the decrypted key, or the first check that fails. Out of memory is possible only for a key that
@@ -295,7 +295,7 @@ impl SecretKey {
             return (0, 0);
         }
         match key_params(self) {
-            Ok(params) => (params.wanted_words(k), params.wanted_bytes()),
+            Ok(params) => (params.words_needed(k), params.bytes_needed()),
             Err(_) => (0, 0),
         }
     }
@@ -315,7 +315,7 @@ impl SecretKey {
         words: &mut [u32],
         bytes: &mut [u8],
     ) -> Result<SecretKey>
-        requires kept { 1 ≤ k }
+        requires k_positive { 1 ≤ k }
         requires words { (opening_memory self k).0 ≤ length words.old }
         requires bytes { (opening_memory self k).1 ≤ length bytes.old }
 
@@ -347,7 +347,7 @@ impl SecretKey {
         prompt: &mut Prompt<R, W>,
         derivation: Derivation,
     ) -> Result<SecretKey>
-        requires kept { 1 ≤ derivation.k }
+        requires k_positive { 1 ≤ derivation.k }
         ensures opens { IsOpening (prompt_call R.Source W.Sink prompt.old prompt.new)
             (option_map string_bytes password) sk_box derivation.bound result }
         ensures headline { IfSome (option_map string_bytes password)
@@ -407,12 +407,12 @@ impl SecretKey {
             (opening_steps self derivation.bound bytes) (Err e)) }
     {
         let password = ask_password(alloc, prompt)?;
-        self.open_telling(alloc, password.as_bytes(), prompt, derivation)
+        self.open_with_reports(alloc, password.as_bytes(), prompt, derivation)
     }
 
     // Decrypts the key, and reports on the prompt before and after the derivation.
-    #[tactic(auto, using(crate::proofs::Openings::opened_so))]
-    fn open_telling<R: Source, W: Sink>(
+    #[tactic(auto, using(crate::proofs::Openings::opened_from_parts))]
+    fn open_with_reports<R: Source, W: Sink>(
         self,
         alloc: Global,
         password: &[u8],
@@ -422,17 +422,17 @@ impl SecretKey {
         requires { 1 ≤ derivation.k }
         ensures opened { IfOk result (λ v. open_sealed self password.now derivation.bound ≡ Ok v) }
         ensures ended { ConversationEnds (prompt_call R.Source W.Sink prompt.old prompt.new)
-            (telling_steps self password.now derivation.bound) (without_value result) }
+            (decrypting_steps self password.now derivation.bound) (without_value result) }
     {
         say_deriving(prompt)?;
         let mut sk = self;
         sk.apply_stream(alloc, password, derivation)?;
-        sk.finish_telling(prompt)?;
+        sk.finish_with_reports(prompt)?;
         Ok(sk)
     }
 
     // Reports the end of the derivation, and only then checks the decrypted checksum.
-    fn finish_telling<R: Source, W: Sink>(&self, prompt: &mut Prompt<R, W>) -> Result<()>
+    fn finish_with_reports<R: Source, W: Sink>(&self, prompt: &mut Prompt<R, W>) -> Result<()>
         ensures ended { ConversationEnds (prompt_call R.Source W.Sink prompt.old prompt.new)
             (Say done_text ∷ Test (result_err (restored_key self.now)) ∷ []) result }
         ensures restored { OnOk result (restored_key self.now ≡ Ok self.now) }
@@ -538,7 +538,7 @@ impl SecretKey {
         words: &mut [u32],
         bytes: &mut [u8],
     ) -> Result<SecretKey>
-        requires kept { 1 ≤ k }
+        requires k_positive { 1 ≤ k }
         requires sealed { sealed_by_scrypt self ≡ Ok self }
         requires words { (opening_memory self k).0 ≤ length words.old }
         requires bytes { (opening_memory self k).1 ≤ length bytes.old }
@@ -561,7 +561,7 @@ impl SecretKey {
         words: &mut [u32],
         bytes: &mut [u8],
     ) -> Result<()>
-        requires kept { 1 ≤ k }
+        requires k_positive { 1 ≤ k }
         requires sealed { sealed_by_scrypt self.old ≡ Ok self.old }
         requires words { (opening_memory self.old k).0 ≤ length words.old }
         requires bytes { (opening_memory self.old k).1 ≤ length bytes.old }

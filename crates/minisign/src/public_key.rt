@@ -75,8 +75,8 @@ impl PublicKey {
     /// Errors come in this order: no first line, no second line, a different length of the second line, a
     /// second line that is not base64, fewer than 42 bytes. Does not allocate.
     pub fn from_box(_alloc: Global, public_key_box: PublicKeyBox) -> Result<PublicKey>
-        // The result depends only on the text, as its grammar says: the public key in the text, or the
-        // first check that fails.
+        // The result depends only on the text: it is the public key in the text, as the grammar defines it,
+        // or the first check that fails.
         ensures { result ≡ read_public_key public_key_box }
     {
         read_public_key(public_key_box.as_str())
@@ -102,8 +102,8 @@ impl PublicKey {
     /// Errors come in this order: a text that has another length once white space is trimmed, a text that
     /// is not base64 as it is, fewer than 42 bytes. Does not allocate.
     pub fn from_base64(_alloc: Global, text: &str) -> Result<PublicKey>
-        // The result depends only on the text, as its grammar says: the public key that the text is the
-        // base64 of, or the first check that fails.
+        // The result depends only on the text: it is the public key whose base64 is the text, or the first
+        // check that fails.
         ensures { result ≡ read_bare_public_key text.now }
     {
         read_bare_public_key(text)

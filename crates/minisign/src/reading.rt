@@ -52,18 +52,18 @@ pub fn read_text<S: Source>(alloc: Global, source: &mut S) -> Result<String>
 /// a failed allocation for the buffer or for the data. Some data may have been read before the
 /// error.
 pub fn read_to_end<S: Source>(alloc: Global, source: &mut S) -> Result<Vec<u8>>
-    // On success, the result consists of all the unread bytes. An error is out of memory, and the
-    // source did not fail; or a read failed, and the source's error count rose. A place that was
-    // marked is still marked.
+    // On success, the result consists of all the unread bytes. There are two errors: out of memory,
+    // if the source did not fail; or the error of a read that failed, and then the source's error
+    // count rose. A place that was marked is still marked.
     ensures bytes { IfOk result (λ v. ReadsWhole S.Source source.old source.new v.items) }
     ensures refused { IfErr result (IsReadFault S.Source source.old source.new) }
     ensures given { HasGiven (S.ahead source.old) (S.ahead source.new) }
     ensures marked { S.is_marked source.new ≡ S.is_marked source.old }
 {
     let mut buf = piece_buffer(alloc)?;
-    let mut kept = Vec::new(alloc);
-    keep(source, &mut buf, &mut kept)?;
-    Ok(kept)
+    let mut received = Vec::new(alloc);
+    append_all(source, &mut buf, &mut received)?;
+    Ok(received)
 }
 
 // Returns the 64-byte Blake2b digest of all unread data. The data is read in pieces, so memory use
@@ -117,11 +117,12 @@ fn feed<S: Source>(
     }
 }
 
-// Appends all unread data to `kept`, through the buffer.
-fn keep<S: Source>(source: &mut S, buf: &mut [u8], kept: &mut Vec<u8>) -> Result<()>
+// Appends all unread data to `received`, through the buffer.
+fn append_all<S: Source>(source: &mut S, buf: &mut [u8], received: &mut Vec<u8>) -> Result<()>
     requires { 0 < length buf.old }
-    ensures kept { MatchResult result (λ _. (message : List ℕ) × ReadsWhole S.Source source.old source.new
-        message × (kept.new.items ≡ kept.old.items ++ message)) (IsReadFault S.Source source.old source.new) }
+    ensures data { MatchResult result (λ _. (message : List ℕ) × ReadsWhole S.Source source.old source.new
+        message × (received.new.items ≡ received.old.items ++ message)) (IsReadFault S.Source source.old
+        source.new) }
     ensures given { HasGiven (S.ahead source.old) (S.ahead source.new) }
     ensures marked { S.is_marked source.new ≡ S.is_marked source.old }
 {
@@ -131,7 +132,7 @@ fn keep<S: Source>(source: &mut S, buf: &mut [u8], kept: &mut Vec<u8>) -> Result
                 if n == 0 {
                     return Ok(());
                 }
-                kept.extend_from_slice(&buf[..n])?;
+                received.extend_from_slice(&buf[..n])?;
             }
             Err(_) => return Err(NamedFault::ReadingFailed.into()),
         }

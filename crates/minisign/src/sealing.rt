@@ -77,7 +77,7 @@ pub(crate) fn derive_stream_in_place(
     words: &mut [u32],
     bytes: &mut [u8],
 ) -> Result<[u8; 104]>
-    requires kept { 1 ≤ k }
+    requires k_positive { 1 ≤ k }
     requires sealed { sealed_by_scrypt sk.now ≡ Ok sk.now }
     requires words { (opening_memory sk.now k).0 ≤ length words.old }
     requires bytes { (opening_memory sk.now k).1 ≤ length bytes.old }

@@ -213,8 +213,8 @@ impl SecretKey {
     /// Errors come in this order: no first line, no second line, a second line that is not base64, fewer
     /// than 158 bytes. Does not allocate.
     pub fn from_text(text: &str) -> Result<SecretKey>
-        // The result depends only on the text, as its grammar says: the secret key in the text, encrypted
-        // or not, or the first check that fails.
+        // The result depends only on the text: it is the secret key in the text, encrypted or not, as the
+        // grammar defines it, or the first check that fails.
         ensures { result ≡ read_secret_key text.now }
     {
         let record = read_secret_key(text)?;

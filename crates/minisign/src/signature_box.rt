@@ -92,8 +92,8 @@ impl SignatureBox {
     /// algorithm other than `Ed` and `ED`; a fourth line that is not base64. An allocation may fail after
     /// the text was parsed.
     pub fn from_string(alloc: Global, text: &str) -> Result<SignatureBox>
-        // The result is out of memory, or it depends only on the text, as its grammar says: the signature
-        // box in the text, or the first check that fails.
+        // The result is out of memory, or it depends only on the text: it is the signature box in the text,
+        // as the grammar defines it, or the first check that fails.
         ensures { IsGivenOrNoMemory result (read_signature_box text.now) }
     {
         read_text(alloc, text)
@@ -101,7 +101,7 @@ impl SignatureBox {
 
     /// Parses a signature text as `from_string` does, and takes ownership of it.
     pub fn try_from_string(alloc: Global, text: String) -> Result<SignatureBox>
-        // The text is parsed and rejected as `SignatureBox::from_string` promises.
+        // The text is parsed, or rejected, as `SignatureBox::from_string` promises.
         ensures { IsGivenOrNoMemory result (read_signature_box (string_bytes text)) }
     {
         read_text(alloc, text.as_str())
@@ -219,8 +219,8 @@ impl SignatureBox {
     /// Returns the trusted comment, which is signed. The errors are a bare signature, which has none, and a
     /// failed allocation.
     pub fn trusted_comment(&self, alloc: Global) -> Result<String>
-        // On success, the result is the trusted comment. The errors are a box without comments, which is
-        // always rejected, and out of memory.
+        // On success, the result is the trusted comment. A box without comments is always an error, and the
+        // only other error is out of memory.
         ensures { MatchOption self.now.comments (result ≡ Err (Named TrustedCommentAbsent))
             (λ c. MatchResult result (λ t. string_bytes t ≡ c.trusted) (λ e. e ≡ Named OutOfMemory)) }
     {

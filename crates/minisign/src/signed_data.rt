@@ -17,10 +17,10 @@ pub(crate) enum SignedData {
     // Prehashed: the 64-byte Blake2b digest of the data. The data itself is not kept.
     Digest([u8; 64]),
     // Legacy: the data itself.
-    Kept(Vec<u8>),
+    Message(Vec<u8>),
     // Legacy although that is not allowed: nothing, because the signature will be rejected before
     // the data is looked at.
-    Unkept,
+    NoData,
 }
 
 impl SignedData {
@@ -30,8 +30,8 @@ impl SignedData {
     {
         match self {
             SignedData::Digest(digest) => digest,
-            SignedData::Kept(bytes) => bytes,
-            SignedData::Unkept => b"",
+            SignedData::Message(bytes) => bytes,
+            SignedData::NoData => b"",
         }
     }
 }
@@ -53,12 +53,12 @@ pub(crate) fn read_signed_data<R: Source>(
     ensures marked { R.is_marked data_reader.new ≡ R.is_marked data_reader.old }
 {
     if !signature_box.is_prehashed() && allow_legacy {
-        return Ok(SignedData::Kept(read_to_end(alloc, data_reader)?));
+        return Ok(SignedData::Message(read_to_end(alloc, data_reader)?));
     }
     let digest = prehash(alloc, data_reader)?;
     if signature_box.is_prehashed() {
         Ok(SignedData::Digest(digest))
     } else {
-        Ok(SignedData::Unkept)
+        Ok(SignedData::NoData)
     }
 }

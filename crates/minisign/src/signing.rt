@@ -63,9 +63,9 @@ pub fn sign<S: Scheme, R: Source, Z: RandomSource>(
     random: &mut Z,
     moment: u64,
 ) -> Result<SignatureBox>
-    // On success, the signature box is made from all the unread bytes, the comments or their
-    // defaults, and two times 64 random bytes, and if the key is genuine, the box is valid for
-    // these bytes under its own public key with the same key ID. This holds for all comments.
+    // On success, the signature box is made from all the unread bytes of the source, the comments or their
+    // defaults, and twice 64 random bytes; and if the key is genuine, the box is valid for the unread bytes
+    // of the source under the key's own public key with the same key ID. This holds for all comments.
     ensures signed { IfOk result (HasSignedData S.Scheme scheme.now sk.now
         (source_call R.Source data_reader.old data_reader.new) (given_comments trusted_comment.entry
         untrusted_comment.entry moment) (random_call Z.RandomSource random.old random.new)) }
@@ -109,7 +109,7 @@ pub fn sign<S: Scheme, R: Source, Z: RandomSource>(
 }
 
 /// States that the default comments meet the headline's premises on comments, whatever the time is. This
-/// function is a law: it does nothing, and its contract is what it is for.
+/// function is a law: it does nothing, and exists only for its contract.
 pub fn default_comments_are_read_back(moment: u64)
     // If no comments are given, the default comments are read back from the signature text exactly as they
     // were written.

@@ -46,17 +46,18 @@ pub fn sign_texts<S: Scheme, P: Source, Q: Sink, R: Source, Z: RandomSource>(
     random: &mut Z,
     moment: u64,
 ) -> Result<String>
-    // On success, the secret key text gives the signing key under some password. If that key is genuine,
-    // neither comment has a line feed and the trusted comment is trimmed, the signature text parses to a
-    // signature box that is valid for the data under every public key of the key's seed and key ID.
+    // On success, the signing key is the key in the secret key text, decrypted under some password if it is
+    // encrypted. If that key is genuine, neither comment has a line feed and the trusted comment is
+    // trimmed, the signature text parses to a signature box that is valid for the data under every public
+    // key of the key's seed and key ID.
     ensures headline { IfOk result (λ t. TextSigningHeadline (S.accepts scheme.now)
         (S.public_of scheme.now) sk_text.now (R.ahead data_reader.old) (given_comments
         trusted_comment.entry untrusted_comment.entry moment) (string_bytes t)) }
 
-    // On success, the text gave a key: either one that was never encrypted and whose checksum matches, with
-    // the prompt unchanged, or an encrypted one that was decrypted with the password that was given or
-    // typed. The result is the text of the signature box that signing makes with this key for all the data.
-    // If this key is genuine, the signature text is read back as the clause `headline` says.
+    // On success, the text contains a key: either a key that was never encrypted and whose checksum
+    // matches, with the prompt unchanged, or an encrypted key that was decrypted with the password that was
+    // given or typed. The result is the text of the signature box that signing makes with this key for all
+    // the data. If this key is genuine, the signature text is read back as the clause `headline` says.
     ensures signed { IfOk result (λ t. HasSignedWithText S.Scheme scheme.now
         (prompt_call P.Source Q.Sink prompt.old prompt.new) (option_map string_bytes password) sk_text.now
         (source_call R.Source data_reader.old data_reader.new) (given_comments trusted_comment.entry
@@ -65,10 +66,10 @@ pub fn sign_texts<S: Scheme, P: Source, Q: Sink, R: Source, Z: RandomSource>(
     // On success, the random source did not fail.
     ensures random_no_new_fault { OnOk result (Z.random_faults random.new ≡ Z.random_faults random.old) }
 
-    // If the text gives no key, the error is the first reason, and nothing was read from either source.
-    // Otherwise an error is out of memory, and neither source failed; or the data source failed, and no
-    // random bytes were taken; or the random source failed after all the data was read. The error for an
-    // encrypted key is never returned.
+    // If no key can be read from the text and decrypted, the error says why, and nothing was read from
+    // either source. Otherwise there are three errors: out of memory, if neither source failed; the error
+    // of the data source, and then no random bytes were taken; or the error of the random source, after all
+    // the data was read. The error of `sign` for an encrypted key is never returned.
     ensures refused { IfErr result (TextSigningFails (prompt_call P.Source Q.Sink prompt.old prompt.new)
         (option_map string_bytes password) sk_text.now (source_call R.Source data_reader.old data_reader.new)
         (random_call Z.RandomSource random.old random.new)) }

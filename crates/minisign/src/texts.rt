@@ -22,8 +22,8 @@ use std::alloc::Global;
 use std::str::Lines;
 
 /// States that the functions that parse texts, and those that decrypt or accept secret keys, agree with the
-/// relations that define the grammars. This function is a law: it does nothing, and its contract is what it
-/// is for.
+/// relations that define the grammars. This function is a law: it does nothing, and exists only for its
+/// contract.
 #[tactic(auto, using(crate::proofs::PublicKeyTexts::read_as, crate::proofs::PublicKeyTexts::bare_read_as, crate::proofs::SignatureTexts::read_as, crate::proofs::SecretKeyTexts::read_as, crate::proofs::SecretKeyTexts::bytes_read_as, crate::proofs::Openings::opened_as, crate::proofs::Openings::unencrypted_as))]
 pub fn texts_are_decided()
     // The functions that parse a public key text, a bare base64 public key, a signature text, a secret key

@@ -10,10 +10,10 @@ ghost use Rattle.minisign_base.specs.DeviceCalls.{sink_call, unused};
 ghost use Rattle.minisign.specs.Records.{PublicKeyRecord, SignatureBoxRecord};
 ghost use Rattle.minisign.specs.Acceptance.{Verifier, Vouches, accepts_comments, options_of, judge};
 ghost use Rattle.minisign.specs.Acceptance.{judge_key, judged_parts, status_lines, judge_answers};
-ghost use Rattle.minisign.specs.Headline.{TextsVouchWith, WhereNothingFails, verdict};
+ghost use Rattle.minisign.specs.Headline.{TextsVouchWith, IfNothingFails, verdict};
 ghost use Rattle.minisign.specs.Texts.{IsGivenOrNoMemory, IsReading, and_then};
 ghost use Rattle.minisign.specs.Verifying.{HoldsSigned, StagesEnd, is_reread, reading_stages, VerifyingFails};
-ghost use Rattle.minisign.specs.Verifying.{VerifyingSucceeds, wanted_status};
+ghost use Rattle.minisign.specs.Verifying.{VerifyingSucceeds, status_unless_quiet};
 
 use crate::comment_signature::accepts_comments;
 use crate::copying::copy_out;
@@ -58,10 +58,10 @@ pub fn verify<S: Scheme, R: Rereader, W: Sink, O: Sink>(
     status: &mut W,
     out: &mut O,
 ) -> Result<()>
-    // If the source's bytes are known, no device fails, and the source is steady if the data is copied,
+    // If the source's bytes are known, no device fails and, if the data is copied, the source is steady,
     // then the result is out of memory or exactly what the function `judge` gives for the public key, the
     // signature box, the data and `allow_legacy`.
-    ensures headline { WhereNothingFails output (rereader_call R.Source R.steady data_reader.old
+    ensures headline { IfNothingFails output (rereader_call R.Source R.steady data_reader.old
         data_reader.new) (sink_call W.Sink status.old status.new) (sink_call O.Sink out.old out.new) result
         (λ message. judge (S.accepts scheme.now) pk.now signature_box.now message allow_legacy) }
 
@@ -70,8 +70,8 @@ pub fn verify<S: Scheme, R: Rereader, W: Sink, O: Sink>(
     // accepts the signature for the Blake2b digest of the data (for a legacy signature, for the
     // data itself); and the comment signature, if there is one, has at least 64 bytes, and the
     // scheme accepts the first 64 for the signature followed by the trusted comment. All the data
-    // was read to its end without an error. Unless the data of a prehashed signature is copied, the
-    // marked bytes are unchanged.
+    // was read to its end without an error. The marked bytes are unchanged, except with `output` for a
+    // prehashed signature.
     //
     // On success, `status` received exactly the status lines, or nothing with `quiet`, and was not flushed.
     // Neither `status` nor `out` reported an error.
@@ -132,10 +132,10 @@ pub fn verify<S: Scheme, R: Rereader, W: Sink, O: Sink>(
 
     // After an error, `status` has received a prefix of the status lines, which may be empty.
     ensures said_front { OnErr result
-        (TakesFront (sink_call W.Sink status.old status.new) (wanted_status quiet signature_box.now)) }
+        (TakesFront (sink_call W.Sink status.old status.new) (status_unless_quiet quiet signature_box.now)) }
 
-    // Unless the data of a prehashed signature is copied, the unread bytes of `data_reader` are a
-    // suffix of those before the call, whatever the result.
+    // Except with `output` for a prehashed signature, the unread bytes of `data_reader` are a suffix
+    // of those before the call, whatever the result.
     ensures given { is_reread output signature_box.now ≡ false
         → HasGiven (R.ahead data_reader.old) (R.ahead data_reader.new) }
 
@@ -159,7 +159,7 @@ pub fn verify<S: Scheme, R: Rereader, W: Sink, O: Sink>(
 }
 
 /// States what a verdict does not depend on, for every scheme. This function is a law: it does nothing, and
-/// its contract is what it is for.
+/// exists only for its contract.
 #[tactic(auto, using(crate::proofs::Verdicts::unvouched_same))]
 pub fn unvouched_parts_change_no_verdict()
     // The verdict does not depend on the untrusted comment, on the public key's algorithm bytes, or on any
@@ -170,7 +170,7 @@ pub fn unvouched_parts_change_no_verdict()
 {}
 
 /// States that the functions `judge` and `verdict` agree with the records that list the conditions for a
-/// valid signature. This function is a law: it does nothing, and its contract is what it is for.
+/// valid signature. This function is a law: it does nothing, and exists only for its contract.
 #[tactic(auto, using(crate::proofs::Verdicts::judge_decided, crate::proofs::Verdicts::verdict_decided))]
 pub fn verdicts_are_decided()
     // The function `judge` accepts a signature box exactly if the box is valid for the message under the
@@ -265,7 +265,7 @@ fn say<W: Sink>(
     quiet: bool,
 ) -> Result<()>
     ensures said { OnOk result (Takes (sink_call W.Sink status.old status.new)
-        (wanted_status quiet signature_box.now)) }
+        (status_unless_quiet quiet signature_box.now)) }
     ensures no_new_fault { OnOk result (W.sink_faults status.new ≡ W.sink_faults status.old) }
     ensures quiet { quiet ≡ true → status.new ≡ status.old }
     ensures refused { IfErr result
@@ -273,7 +273,7 @@ fn say<W: Sink>(
         ⊎ IsWritingFault (sink_call W.Sink status.old status.new) e)) }
     ensures unflushed { W.flushed status.new ≡ W.flushed status.old }
     ensures front { OnErr result
-        (TakesFront (sink_call W.Sink status.old status.new) (wanted_status quiet signature_box.now)) }
+        (TakesFront (sink_call W.Sink status.old status.new) (status_unless_quiet quiet signature_box.now)) }
 {
     if quiet {
         return Ok(());

@@ -5,10 +5,10 @@ ghost use Rattle.minisign_base.specs.Devices.{HasGiven};
 ghost use Rattle.minisign_base.specs.DeviceCalls.{TakesFront, rereader_call, sink_call};
 ghost use Rattle.minisign.specs.Acceptance.{options_of};
 ghost use Rattle.minisign.specs.Records.{PublicKeyRecord, SignatureBoxRecord};
-ghost use Rattle.minisign.specs.Verifying.{wanted_status, VerifyingTextsFails, VerifyingTextsSucceeds};
+ghost use Rattle.minisign.specs.Verifying.{status_unless_quiet, VerifyingTextsFails, VerifyingTextsSucceeds};
 ghost use Rattle.minisign.specs.Verifying.{read_texts};
 ghost use Rattle.minisign.specs.Texts.{IsGivenOrNoMemory, map_ok};
-ghost use Rattle.minisign.specs.Headline.{CopyIsVouchedFor, WhereNothingFails, verdict};
+ghost use Rattle.minisign.specs.Headline.{CopyIsVouchedFor, IfNothingFails, verdict};
 
 use crate::in_place::read_public_key;
 use crate::public_key::PublicKey;
@@ -38,11 +38,11 @@ pub fn verify_texts<S: Scheme, R: Rereader, W: Sink, O: Sink>(
     status: &mut W,
     out: &mut O,
 ) -> Result<()>
-    // If the source's bytes are known, no device fails, and the source is steady if the data is copied,
+    // If the source's bytes are known, no device fails and, if the data is copied, the source is steady,
     // then the result is out of memory or exactly the verdict: success if the signature is valid for the
     // data under the public key, and otherwise the first check that fails. The verdict is a function of the
     // two texts, the data and `allow_legacy`.
-    ensures headline { WhereNothingFails output (rereader_call R.Source R.steady data_reader.old
+    ensures headline { IfNothingFails output (rereader_call R.Source R.steady data_reader.old
         data_reader.new) (sink_call W.Sink status.old status.new) (sink_call O.Sink out.old out.new) result
         (λ bytes. map_ok (λ _. tt)
         (verdict (S.accepts scheme.now) pk_text.now sig_text.now bytes allow_legacy)) }
@@ -71,7 +71,8 @@ pub fn verify_texts<S: Scheme, R: Rereader, W: Sink, O: Sink>(
     // After an error, `status` is unchanged or has received a prefix of the status lines.
     ensures said_front { OnErr result ((status.new ≡ status.old) ⊎
         ((key : PublicKeyRecord) × (box : SignatureBoxRecord) × (read_texts pk_text.now sig_text.now
-        ≡ Ok (key, box)) × TakesFront (sink_call W.Sink status.old status.new) (wanted_status quiet box))) }
+        ≡ Ok (key, box)) × TakesFront (sink_call W.Sink status.old status.new) (status_unless_quiet quiet
+        box))) }
 
     // Without `output`, the unread bytes of `data_reader` are a suffix of those before the call.
     ensures given { output ≡ false → HasGiven (R.ahead data_reader.old) (R.ahead data_reader.new) }

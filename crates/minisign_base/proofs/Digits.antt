@@ -46,7 +46,7 @@ filled_up (suc p) (suc fuel) n behind h l some =
           (two_places p n e h)
     ] refl
 
--- What `{:016X}` writes before and after the digits.
+-- The padding that `{:016X}` writes before and after the digits.
 padded_sixteen : (numeral : List ℕ) → padded_integral (format_spec 32 0 4 16 (2 ^ 64 - 1)) false [] numeral
     ≡ replicate (16 - length numeral) 48 ++ numeral
 unfolding padded_integral char_count

@@ -2,7 +2,7 @@
 use Rattle.std.proofs.Common.{◌≡◌, Result, Ok, Err, IfErr, subst, sym}
 use Rattle.std.specs.Result.{IsErrAnd}
 
--- What holds for an error holds for the result that passes it on.
+-- If a statement holds for an error, it holds for the result that passes this error on.
 pub handed_on : {T E : Type 0} (r : Result T E) (e : E) (P : E → Type 0) → IsErrAnd r (λ y. y ≡ e) → P e
     → IfErr r P
 handed_on (Ok x) e P is h = tt

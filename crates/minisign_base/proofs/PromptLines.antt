@@ -18,18 +18,18 @@ use Rattle.minisign_base.specs.Passwords.{accepted_line, first_line, line_length
 
 -- The bytes of a reader, if they are known, are those that were read followed by those that are
 -- left.
-pub told : (a b : Option (List ℕ)) (done : List ℕ) → Consumes a b done
+pub consumed_front : (a b : Option (List ℕ)) (done : List ℕ) → Consumes a b done
     → (rest : List ℕ) × IfSome a (λ xs. xs ≡ done ++ rest) × IfSome a (λ _. b ≡ Some rest)
-told None b done c = ([], tt, tt)
-told (Some xs) None done c = absurd c
-told (Some xs) (Some ys) done c = (ys, c, refl)
+consumed_front None b done c = ([], tt, tt)
+consumed_front (Some xs) None done c = absurd c
+consumed_front (Some xs) (Some ys) done c = (ys, c, refl)
 
 -- At the end none is left.
-pub told_all : (a b : Option (List ℕ)) (done : List ℕ) → Consumes a b done → IsAtEnd b
+pub consumed_all : (a b : Option (List ℕ)) (done : List ℕ) → Consumes a b done → IsAtEnd b
     → IfSome a (λ xs. xs ≡ done) × IfSome a (λ _. b ≡ Some [])
-told_all None b done c e = (tt, tt)
-told_all (Some xs) None done c e = absurd c
-told_all (Some xs) (Some ys) done c e = (c ∙ ap (λ l. done ++ l) e ∙ append-nil done, ap Some e)
+consumed_all None b done c e = (tt, tt)
+consumed_all (Some xs) None done c e = absurd c
+consumed_all (Some xs) (Some ys) done c e = (c ∙ ap (λ l. done ++ l) e ∙ append-nil done, ap Some e)
 
 -- Bytes without a line feed, followed by a line, are a line as long as both.
 pub line_length-append : (done more : List ℕ) → line_length done ≡ length done → line_length (done ++ more)

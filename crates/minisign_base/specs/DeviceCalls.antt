@@ -22,7 +22,7 @@ pub record SinkCall (W : Type 0) : Type 1 where
   pub old : W
   pub new : W
 
--- These two records, as a clause writes them.
+-- Makes these two records from their fields.
 abbrev pub rereader_call : {R : Type 0} → SourceOf R → (R → Type 0) → R → R → RereaderCall R
 rereader_call source steady old new = record { source = source; steady = steady; old = old; new = new }
 

@@ -13,7 +13,7 @@ Rose old new = min (old + 1) (2 ^ 64 - 1) ≤ new
 abbrev pub SameWhereKnown : Option (List ℕ) → Option (List ℕ) → Type 0
 SameWhereKnown whole known = IfSome known (λ ys. whole ≡ Some ys)
 
--- If the bytes are known, there are none yet.
+-- The bytes, if they are known, are the empty list.
 abbrev pub BeginsAnew : Option (List ℕ) → Type 0
 BeginsAnew new = IfSome new (λ ys. ys ≡ [])
 
@@ -38,7 +38,7 @@ pub record HasRead {S E : Type 0} (ahead_of behind_of since_of : S → Option (L
   pub no_new_fault : OnOk answer (faults_of new ≡ faults_of old)
   pub mark : OnOk answer (behind_of new ≡ behind_of old)
   pub fault : OnErr answer (Rose (faults_of old) (faults_of new))
-  pub kept : OnErr answer (SameWhereKnown (ahead_of old) (ahead_of new))
+  pub unchanged : OnErr answer (SameWhereKnown (ahead_of old) (ahead_of new))
   pub err_left : OnErr answer (left_of new ≤ left_of old)
   pub marked : is_marked_of new ≡ is_marked_of old
   pub since : IfOk answer (λ n. since_of new ≡ append_known (since_of old) (take n buffer))
@@ -54,7 +54,7 @@ pub record HasMarked {S A E : Type 0} (steady_of : S → Type 0)
   pub mark : steady_of old → OnOk answer (behind_of new ≡ ahead_of old)
   pub no_new_fault : OnOk answer (faults_of new ≡ faults_of old)
   pub fault : OnErr answer (Rose (faults_of old) (faults_of new))
-  pub kept : OnErr answer (SameWhereKnown (ahead_of old) (ahead_of new))
+  pub unchanged : OnErr answer (SameWhereKnown (ahead_of old) (ahead_of new))
   pub marked : OnOk answer (is_marked_of new ≡ true)
   pub unmarked : OnErr answer (is_marked_of new ≡ false)
   pub since : OnOk answer (BeginsAnew (since_of new))
@@ -91,7 +91,7 @@ pub record HasWritten {S E : Type 0} (taken_of flushed_of : S → Option (List �
   pub bytes : IfOk answer (λ n. Appends (taken_of old) (taken_of new) (take n due))
   pub no_new_fault : OnOk answer (faults_of new ≡ faults_of old)
   pub fault : OnErr answer (Rose (faults_of old) (faults_of new))
-  pub kept : OnErr answer (Keeps (taken_of old) (taken_of new))
+  pub unchanged : OnErr answer (Keeps (taken_of old) (taken_of new))
   pub unflushed : flushed_of new ≡ flushed_of old
 
 -- A flush: the sink received nothing, and all that it received before is flushed. After an error,

@@ -1,16 +1,16 @@
--- An error: a named one, or a kind and a text of the caller's own.
+-- An error: a named error of the library, or a kind and a text that the caller chose.
 use Rattle.std.specs.Prelude.{ℕ, List, Option, Some, None, string_bytes}
 use Rattle.minisign_base.specs.Faults.{fault_row, named_text}
 use Rattle.minisign_base.specs.declared.errors.ErrorKind.{ErrorKind}
 use Rattle.minisign_base.specs.declared.errors.Meaning.{Meaning}
-use Rattle.minisign_base.specs.declared.errors.Meaning.TheVariants as kept
+use Rattle.minisign_base.specs.declared.errors.Meaning.TheVariants as stored
 use Rattle.minisign_base.specs.declared.faults.NamedFault.{NamedFault}
 
 pub data Fault : Type 0 where
   Named : NamedFault → Fault
   Worded : ErrorKind → List ℕ → Fault
 
--- The name, if the error has one.
+-- The named error, if it is one.
 abbrev pub name_of : Fault → Option NamedFault
 name_of (Named f) = Some f
 name_of (Worded kind text) = None
@@ -23,8 +23,8 @@ abbrev pub text_of : Fault → List ℕ
 text_of (Named f) = named_text f
 text_of (Worded kind text) = text
 
--- The error that the stored meaning stands for.
+-- The error that this representation encodes.
 abbrev pub fault_of : Meaning → Fault
-fault_of (kept.Named f) = Named f
-fault_of (kept.Fixed kind text) = Worded kind text.now
-fault_of (kept.Made kind text) = Worded kind (string_bytes text)
+fault_of (stored.Named f) = Named f
+fault_of (stored.Fixed kind text) = Worded kind text.now
+fault_of (stored.Made kind text) = Worded kind (string_bytes text)

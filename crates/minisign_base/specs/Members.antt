@@ -9,18 +9,18 @@ use Rattle.minisign_base.specs.declared.devices.sinks.Sink as sink
 use Rattle.minisign_base.specs.declared.devices.sources.Source as source
 use Rattle.minisign_base.specs.declared.scheme.Scheme as scheme
 
--- A source: `ahead`, `behind`, `since`, `is_marked`, `left` and `faults`.
+-- The ghost members of a source: `ahead`, `behind`, `since`, `is_marked`, `left` and `faults`.
 abbrev pub SourceOf : Type 0 → Type 1
 SourceOf S = source.Ghosts S
 
--- A sink: `taken`, `flushed` and `sink_faults`.
+-- The ghost members of a sink: `taken`, `flushed` and `sink_faults`.
 abbrev pub SinkOf : Type 0 → Type 1
 SinkOf W = sink.Ghosts W
 
--- A random source: `random_ahead` and `random_faults`.
+-- The ghost members of a random source: `random_ahead` and `random_faults`.
 abbrev pub RandomOf : Type 0 → Type 1
 RandomOf Z = random_source.Ghosts Z
 
--- A signature scheme: `public_of`, `signature_of` and `accepts`.
+-- The ghost members of a signature scheme: `public_of`, `signature_of` and `accepts`.
 abbrev pub SchemeOf : Type 0 → Type 1
 SchemeOf S = scheme.Ghosts S

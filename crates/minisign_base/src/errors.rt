@@ -21,31 +21,32 @@ use std::{fmt, io};
 /// The kind of problem that an error reports.
 #[derive(Clone, Copy, Debug, PartialEq, Eq)]
 pub enum ErrorKind {
-    /// Key generation.
+    /// Generating keys failed.
     Generate,
-    /// Signing.
+    /// Signing failed.
     Sign,
-    /// Verifying a signature or a checksum.
+    /// Verifying a signature or a checksum failed.
     Verify,
-    /// A device, or a text that has the wrong form.
+    /// Reading or writing failed, or a key file or signature file has the wrong format.
     Io,
-    /// Anything else.
+    /// Any other error.
     Misc,
-    /// Hashing.
+    /// Hashing failed.
     Hash,
-    /// Deriving a key from a password.
+    /// Deriving a key from a password failed.
     KDF,
-    /// Generating random bytes.
+    /// Generating random bytes failed.
     RNG,
-    /// Bytes that are not UTF-8, or a text that is not base64.
+    /// A secret key file is not base64; in Rust, also: std rejected bytes that are not UTF-8.
     Encoding,
-    /// An encrypted key where a decrypted one is needed.
+    /// A secret key is encrypted, but the call needs a decrypted one.
     EncryptedKey,
-    /// A failed allocation.
+    /// An allocation failed.
     OutOfMemory,
 }
 
-/// An error: a named one, or a kind and a text of the caller's own. `Display` writes the text.
+/// An error: a named error of the library, or a kind and a text that the caller chose. `Display` writes the
+/// text.
 #[derive(Debug, Drop)]
 pub struct PError {
     meaning: Meaning,
@@ -54,7 +55,7 @@ pub struct PError {
 /// A value or an error.
 pub type Result<T> = std::result::Result<T, PError>;
 
-// An error as it is stored. A text that was allocated is `Made`.
+// The representation of an error: `Fixed` has a constant text, `Made` an allocated one.
 #[derive(Debug, Drop)]
 enum Meaning {
     Named(NamedFault),
@@ -89,8 +90,8 @@ impl PError {
         }
     }
 
-    /// Returns the named error. An error with a kind and text of the caller's own has no name, whatever its
-    /// text is. Does not allocate.
+    /// Returns the named error, or `None` if the caller chose the kind and the text, even if a named error
+    /// has the same text. Does not allocate.
     pub fn named(&self) -> Option<NamedFault>
         ensures { result ≡ name_of self.now }
     {
@@ -100,8 +101,8 @@ impl PError {
         }
     }
 
-    /// Returns the text that `Display` writes. `room` is the buffer for a text that contains key IDs. Does
-    /// not allocate.
+    /// Returns the text that `Display` writes. A text that contains key IDs is written to the buffer `room`;
+    /// the other texts are not copied. Does not allocate.
     pub fn text<'a>(&'a self, room: &'a mut [u8; TEXT_ROOM]) -> &'a [u8]
         ensures { result.now ≡ text_of self.now }
     {
@@ -112,7 +113,7 @@ impl PError {
         }
     }
 
-    /// Returns what the error concerns.
+    /// Returns the kind of the error.
     pub fn kind(&self) -> &ErrorKind
         ensures { result.now ≡ kind_of self.now }
     {

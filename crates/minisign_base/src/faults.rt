@@ -176,7 +176,7 @@ impl NamedFault {
         NamedFault::InvalidUtf8,
     ];
 
-    /// Returns what the error concerns.
+    /// Returns the kind of the error.
     pub fn kind(&self) -> &'static ErrorKind
         ensures { result.now ≡ (fault_row self.now).kind }
     {
@@ -198,8 +198,8 @@ impl NamedFault {
         self.row().2
     }
 
-    /// Returns the text that `Display` writes. `room` is the buffer for a text that contains key IDs. Does
-    /// not allocate.
+    /// Returns the text that `Display` writes. A text that contains key IDs is written to the buffer `room`;
+    /// the other texts are not copied. Does not allocate.
     pub fn text<'a>(&self, room: &'a mut [u8; TEXT_ROOM]) -> &'a [u8]
         ensures { result.now ≡ named_text self.now }
     {

@@ -78,8 +78,8 @@ fn put_at(room: &mut [u8], at: usize, piece: &[u8]) -> usize
 ///
 /// One line is allocated first; if that fails, returns `OutOfMemory`, with nothing written or read. The
 /// other errors come in this order: `WritingFailed` and `ReadingFailed` if a device fails, `EndOfInput` if
-/// the input ends at once, `PasswordTooLong` if 1026 bytes contain no line feed (no more are read),
-/// `NotUtf8`, and `PasswordTooLong` for more than 1024 bytes.
+/// the input is empty, `PasswordTooLong` if 1026 bytes contain no line feed (no more are read), `NotUtf8`,
+/// and `PasswordTooLong` for more than 1024 bytes.
 pub fn get_password<R: Source, W: Sink>(
     alloc: Global,
     prompt: &mut Prompt<R, W>,
@@ -138,7 +138,7 @@ fn seconds_since_1970(now: SystemTime) -> Result<u64>
 }
 
 /// Returns the scrypt parameters for a memory limit in bytes and an operations limit, as `specs/Limits`
-/// defines them. r is 8, and an operations limit below 32768 counts as 32768. If the operations limit is
+/// defines them. r is 8, and an operations limit below 32768 is raised to 32768. If the operations limit is
 /// below a 32nd of the memory limit, it bounds N, and p is 1. Otherwise the memory limit bounds N, and the
 /// operations limit gives p.
 ///
@@ -146,8 +146,8 @@ fn seconds_since_1970(now: SystemTime) -> Result<u64>
 /// `InvalidParameters` exactly if scrypt rejects the parameters (RFC 7914, section 2). Does not allocate.
 #[tactic(auto, unfolding(crate::specs::Limits::numbers))]
 pub fn raw_scrypt_params(memlimit: u64, opslimit: u64, n_log2_max: u8) -> Result<Params>
-    // The result is a function of the limits, by definition: the scrypt parameters, or the error for limits
-    // that are too high or that scrypt rejects.
+    // The result is what `specs/Limits` defines for these limits: the scrypt parameters, or the error for
+    // limits that are too high or that scrypt rejects.
     ensures outcome { result ≡ limits (numbers memlimit opslimit) n_log2_max }
 
     // By its definition, N is the least power of two, from 2 on, that is above half of the greatest cost

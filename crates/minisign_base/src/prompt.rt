@@ -97,7 +97,7 @@ impl Prompt<NoSource, NoSink> {
     /// Returns a prompt without input and output. Text that is written to it is discarded, and
     /// asking for a password fails with `EndOfInput`. Does not allocate.
     pub fn silent() -> Prompt<NoSource, NoSink>
-        // No line that is read from a silent prompt is a password: its input ends at once, and the error is
+        // A line that is read from a silent prompt gives no password: the input is empty, so the error is
         // `EndOfInput`.
         ensures { (old new : Prompt NoSource NoSink) (bytes : List ℕ)
             → HasReadLine (source_call ⟦<NoSource as Source>⟧ old.reader new.reader) bytes
@@ -151,7 +151,7 @@ fn next_byte<R: Source>(source: &mut R) -> Result<Option<u8>>
     ensures no_new_fault { OnOk result (R.faults source.new ≡ R.faults source.old) }
     ensures refused { IfErr result
         (λ e. (e ≡ Named ReadingFailed) × Rose (R.faults source.old) (R.faults source.new)) }
-    ensures kept { OnErr result (SameWhereKnown (R.ahead source.old) (R.ahead source.new)) }
+    ensures unchanged { OnErr result (SameWhereKnown (R.ahead source.old) (R.ahead source.new)) }
 {
     let mut byte = [0u8; 1];
     match source.read(&mut byte) {
@@ -162,7 +162,7 @@ fn next_byte<R: Source>(source: &mut R) -> Result<Option<u8>>
 }
 
 /// States what a prompt's writer receives, given the steps of its conversation. This function is a law: it
-/// does nothing, and its contract is what it is for.
+/// does nothing, and exists only for its contract.
 pub fn conversations_are_written<R: Source, W: Sink>()
     // If all steps of a conversation succeeded, the writer received everything that they write, without an
     // error. If the conversation stopped with an error, the writer received a prefix of that.

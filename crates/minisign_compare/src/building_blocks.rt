@@ -75,7 +75,7 @@ fn answer_blake2b(alloc: Global, line: &str, reply: &mut Reply) -> Result<(), Re
     )
 }
 
-// Adds the fields of a digest: of all bytes at once, and in pieces, for which the state is
+// Adds the fields of a digest. The bytes are hashed in a single call, and then in pieces with a state that is
 // finalized twice. The length of `room` is the length of the digest.
 fn show_digests(
     room: &mut [u8],
@@ -97,8 +97,8 @@ fn show_digests(
     Ok(())
 }
 
-// Adds all of the bytes to a state: at once for `-`, and otherwise cut at the places in a list with
-// commas.
+// Feeds all bytes to the state: in a single call if `cuts` is `-`, otherwise split at the positions in this
+// comma-separated list.
 fn feed(state: &mut Blake2b, cuts: &str, bytes: &[u8]) -> Result<(), Refusal>
     requires { has_finalized state.old ≡ false }
     ensures fed { OnOk result ((m : List ℕ) → IsFed state.old m → IsFed state.new (m ++ bytes.now)) }

@@ -105,7 +105,7 @@ pub struct CountedSource<'a> {
 }
 
 impl<'a> CountedSource<'a> {
-    /// Returns the number of reads, also of those that failed.
+    /// Returns the number of reads, including those that failed.
     pub fn reads(&self) -> u64
         ensures { result ≡ self.now.reads }
     {
@@ -175,8 +175,8 @@ fn from_place(bytes: &[u8], place: usize) -> &[u8] {
     }
 }
 
-/// The sink of a request: `-` accepts everything, `N` accepts this number of bytes, and `f` or `fN`
-/// does the same but fails to flush.
+/// The sink of a request: `-` accepts everything, and `N` accepts N bytes. `f` and `fN` accept as
+/// much, but each flush fails.
 #[derive(Clone, Copy)]
 pub struct SinkWord {
     room: usize,
@@ -208,7 +208,7 @@ fn room_of(word: &str) -> Result<usize, Refusal> {
     }
 }
 
-/// Random bytes that are given, and the number of those that were taken.
+/// A random source that returns given bytes, and counts the bytes that were taken.
 #[derive(Drop)]
 pub struct CountedRandom<'a> {
     random: FixedRandom<'a>,

@@ -205,7 +205,7 @@ fn show_reads(source: &CountedSource<'_>, reply: &mut Reply) {
     reply.tail.number("pos", source.place());
 }
 
-// Parses the record of a public key; `-` stands for none.
+// Parses the record of a public key, or `-` for no key.
 fn key_or_none(alloc: Global, word: &str) -> Result<Option<PublicKey>, Refusal> {
     if word == "-" {
         return Ok(None);

@@ -43,8 +43,8 @@ pub fn answer(
     answer_over(alloc, request, line, devices, reply)
 }
 
-// Returns the positions of a request's words: two sinks, a comment, a password and typed lines. 0
-// stands for a word that the request does not have.
+// Returns the positions of a request's words: two sinks, a comment, a password and typed lines. The
+// position of a word that the request does not have is 0.
 fn numbers_of(request: &PairRequest) -> &'static [usize; 5] {
     match request {
         PairRequest::Plain => &[0, 0, 0, 0, 0],
@@ -152,7 +152,7 @@ fn show_devices(alloc: Global, request: &PairRequest, devices: Devices<'_>, repl
     }
 }
 
-// Adds the fields of a result.
+// Adds the fields of the pair that a call returned, or stores its error.
 fn show(alloc: Global, returned: minisign::Result<KeyPair>, reply: &mut Reply) {
     match returned {
         Ok(pair) => show_pair(alloc, &pair, reply),

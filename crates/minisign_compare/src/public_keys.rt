@@ -35,14 +35,14 @@ fn key_read(
 ) -> Result<PublicKey, Refusal> {
     match request {
         PublicKeyRequest::FromBox | PublicKeyRequest::FromBase64 | PublicKeyRequest::FromFile =>
-            key_told(rt, request, word),
+            key_from_text(rt, request, word),
         PublicKeyRequest::FromSecretKey => key_of_secret(rt.alloc(), word),
         _ => key_of(rt.alloc(), word),
     }
 }
 
-// Returns the key in a text, in its base64, or in a file.
-fn key_told(
+// Parses a key from the text of a key file, from its base64, or from the file with this name.
+fn key_from_text(
     rt: &HostRuntime,
     request: &PublicKeyRequest,
     word: &str,
@@ -72,7 +72,7 @@ fn key_in_box(alloc: Global, text: &str) -> minisign::Result<PublicKey> {
     PublicKey::from_box(alloc, PublicKeyBox::from_string(alloc, text)?)
 }
 
-// Returns the public key of the record of a secret key.
+// Parses the record of a secret key and returns its public key.
 fn key_of_secret(alloc: Global, word: &str) -> Result<PublicKey, Refusal> {
     let bytes = bytes_of(alloc, word)?;
     Ok(public_half(&bytes)?)

@@ -1,4 +1,5 @@
-//! The answer to a request: the result of the call, and what it wrote, read and took from devices.
+//! The answer to a request: the result of the call, the bytes that it wrote, and the numbers of reads and of
+//! random bytes.
 
 ghost use Rattle.std.specs.Prelude.{◌≡◌, [], ◌++◌, false, OnOk, codes, if◌then◌else◌, string_bytes};
 ghost use Rattle.hex.specs.Hex.{encode_lower};
@@ -101,7 +102,7 @@ pub struct Reply {
     pub fields: Fields,
     /// The fields of the call's effects.
     pub tail: Fields,
-    /// The fields of what the call wrote, and of the unread typed lines.
+    /// The fields with the bytes that the call wrote, and with the number of unread typed lines.
     pub deeds: Fields,
     /// The bytes that the Rust crate writes to standard output: a prompt's texts, or a copy.
     pub stdout: Vec<u8>,
@@ -109,7 +110,7 @@ pub struct Reply {
     pub stderr: Vec<u8>,
     /// The number of unread typed lines.
     pub typed_left: u64,
-    // The first error in place of a value for a field.
+    // The first error that a call returned instead of the value of a field.
     fault: Option<PError>,
 }
 
@@ -160,7 +161,8 @@ impl Reply {
         }
     }
 
-    /// Writes the last fields, and returns the answer or the error that was stored.
+    /// Adds the fields with the bytes that were written. Returns `OutOfMemory` if a field is incomplete, else
+    /// the stored error if there is one, else `answer`.
     pub fn end(&mut self, answer: Result<(), Refusal>) -> Result<(), Refusal> {
         self.deeds.bytes("stdout", &self.stdout);
         self.deeds.bytes("stderr", &self.stderr);

@@ -1,4 +1,4 @@
-//! The requests by their names.
+//! The names of the requests and their numbers of words.
 
 use crate::words::{times_in, word};
 
@@ -182,8 +182,8 @@ fn requests() -> &'static [(&'static str, u64, Request)] {
 pub fn request_of(line: &str) -> Option<&'static Request> {
     let name = word(line, 0);
     let words = times_in(line.as_bytes(), b' ');
-    for (wanted, count, request) in requests() {
-        if *wanted == name && *count == words {
+    for (known_name, count, request) in requests() {
+        if *known_name == name && *count == words {
             return Some(request);
         }
     }

@@ -97,7 +97,7 @@ fn answer_text(alloc: Global, bytes: &[u8], line: &str, reply: &mut Reply) -> Re
     Ok(())
 }
 
-// Returns the text of the key of a record.
+// Parses the record of a secret key and returns its text.
 fn text_of_record(alloc: Global, bytes: &[u8], comment: Option<&str>) -> minisign::Result<String> {
     let key = SecretKey::from_bytes(bytes)?;
     Ok(key.to_box(alloc, comment)?.into_string())
@@ -116,7 +116,7 @@ pub fn key_of(alloc: Global, word: &str) -> Result<SecretKey, Refusal> {
     Ok(SecretKey::from_bytes(&bytes)?)
 }
 
-// Adds the fields of a result.
+// Adds the fields of the secret key that a call returned, or stores its error.
 fn show_returned(alloc: Global, returned: minisign::Result<SecretKey>, reply: &mut Reply) {
     match returned {
         Ok(key) => show(alloc, &key, reply),

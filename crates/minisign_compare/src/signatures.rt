@@ -1,4 +1,4 @@
-//! Answers requests for signatures and their texts.
+//! Answers the requests about signatures, whose names begin with `sig_` or `bones_`.
 
 use crate::refusals::Refusal;
 use crate::replies::Reply;
@@ -23,7 +23,7 @@ pub fn answer(
     }
 }
 
-// Adds the fields of the signature in a text or in a file.
+// Parses a signature from a text or from the file with this name, and adds its fields.
 fn answer_text(
     rt: &HostRuntime,
     request: &SignatureRequest,
@@ -39,7 +39,7 @@ fn answer_text(
     Ok(())
 }
 
-// Answers a request about the bare signature of a record.
+// Answers a request about a bare signature, which is given by its 74-byte record.
 fn answer_record(
     alloc: Global,
     request: &SignatureRequest,
@@ -60,7 +60,7 @@ fn show_bones(alloc: Global, bones: &SignatureBones, reply: &mut Reply) {
     reply.fields.flag("prehashed", bones.is_prehashed());
 }
 
-// Adds the field of a box that a request asks for.
+// Adds the comment, or the text, of the box that the request names.
 fn show_part(
     alloc: Global,
     request: &SignatureRequest,
@@ -78,7 +78,8 @@ fn show_part(
     }
 }
 
-/// Parses a box: `bones:` and a record, or a text.
+/// Parses a signature box from a word: `bones:` and the record of a bare signature, or the text of
+/// a signature file.
 pub fn box_of(alloc: Global, word: &str) -> Result<SignatureBox, Refusal> {
     let Some(record) = word.strip_prefix("bones:") else {
         let text = text_of(alloc, word)?;
@@ -88,7 +89,7 @@ pub fn box_of(alloc: Global, word: &str) -> Result<SignatureBox, Refusal> {
     Ok(SignatureBox::from_bones(SignatureBones::from_bytes(&bytes)?))
 }
 
-/// Adds the fields of a result.
+/// Adds the fields of the signature that a call returned, or stores its error.
 pub fn show_returned(alloc: Global, returned: minisign::Result<SignatureBox>, reply: &mut Reply) {
     match returned {
         Ok(signature_box) => show(alloc, &signature_box, reply),
@@ -106,7 +107,7 @@ fn show(alloc: Global, signature_box: &SignatureBox, reply: &mut Reply) {
     reply.returned_text("text", signature_box.to_string(alloc));
 }
 
-// Returns the record of the bare signature in a box.
+// Returns the record of a box's signature, without the comments.
 fn record_of(alloc: Global, signature_box: &SignatureBox) -> minisign::Result<Vec<u8>> {
     let bones = SignatureBones::from(signature_box.try_clone(alloc)?);
     bones.to_bytes(alloc)

@@ -19,10 +19,10 @@ pub fn word(line: &str, number: usize) -> &str {
 }
 
 /// Returns the number of times that a byte occurs.
-pub fn times_in(bytes: &[u8], wanted: u8) -> u64 {
+pub fn times_in(bytes: &[u8], byte_sought: u8) -> u64 {
     let mut times = 0u64;
     for byte in bytes {
-        if *byte == wanted {
+        if *byte == byte_sought {
             times = times.saturating_add(1);
         }
     }
@@ -65,7 +65,7 @@ pub fn text_in(bytes: &[u8]) -> Result<&str, Refusal>
     }
 }
 
-/// Parses a text; `-` stands for none.
+/// Parses a text, or `-` for no text.
 pub fn text_or_none_of(alloc: Global, word: &str) -> Result<Option<String>, Refusal> {
     match word {
         "-" => Ok(None),

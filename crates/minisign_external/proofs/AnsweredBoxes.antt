@@ -8,12 +8,13 @@ use Rattle.minisign.specs.SignatureText.{read_signature_box, signature_text}
 use Rattle.minisign.specs.Acceptance.{Verifier, VouchesUnderEachKey}
 use Rattle.minisign.specs.Signing.{ChosenComments, Signer, signed_box}
 use Rattle.minisign.proofs.Laws.{vouches_judged}
-use Rattle.minisign_external.specs.Signing.{AcceptsAnswers, IsAnsweredText, SignsSo, answered_box}
+use Rattle.minisign_external.specs.Signing.{AcceptsAnswers, IsAnsweredText, SchemeMakesSignatures}
+use Rattle.minisign_external.specs.Signing.{answered_box}
 use Rattle.minisign_external.specs.Signing.{answered_comments, answered_signature}
 
 pub answered_is_signed : (sign : Signer) (key : SecretKeyRecord) (message z1 z2 key_id : List ℕ)
     (chosen : ChosenComments) (first second : List ℕ)
-    → key_id ≡ key.keynum → SignsSo sign key message chosen.trusted z1 z2 first second
+    → key_id ≡ key.keynum → SchemeMakesSignatures sign key message chosen.trusted z1 z2 first second
     → answered_box key_id chosen first second ≡ signed_box sign key message chosen z1 z2
 answered_is_signed sign key message z1 z2 key_id chosen first second same answers =
     rw (same, sym answers.to_second, sym answers.to_first) refl

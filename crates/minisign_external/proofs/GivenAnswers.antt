@@ -11,7 +11,8 @@ use Rattle.minisign.specs.SignatureText.{SignatureTextRecord, box_of, read_signa
 use Rattle.minisign.specs.Texts.{and_then, map_ok, require}
 use Rattle.minisign_external.specs.Signatures.{read_signature_value, signature_value}
 use Rattle.minisign_external.specs.PublicKeys.{is_public_key, read_utf8}
-use Rattle.minisign_external.specs.Questions.{Answers, has_whole_signature, read_under, told_signature}
+use Rattle.minisign_external.specs.Questions.{Answers, has_whole_signature, read_under}
+use Rattle.minisign_external.specs.Questions.{comment_signature_or_zeros}
 use Rattle.minisign_external.specs.States.{AreAsked, IsBlank, IsFedState, asked_under, asking_misuse}
 use Rattle.minisign_external.specs.States.{asking_under, given_verdict, may_ask, with_public_key}
 use Rattle.minisign_external.specs.Questions.{verdict_under}
@@ -47,17 +48,17 @@ pub prehashed : (v : PublicKeyValue) (text : List ℕ) (t : SignatureTextRecord)
     ≡ Ok t → is_prehashed t.signature ≡ true
 prehashed v text t h = of_read v t (read_utf8 read_signature text) h
 
-whole_told : (b : Bool) (x y : List ℕ) → IsTrue b → (if b then x else y) ≡ x
-whole_told true x y h = refl
-whole_told false x y h = cc h
+whole_signature_is : (b : Bool) (x y : List ℕ) → IsTrue b → (if b then x else y) ≡ x
+whole_signature_is true x y h = refl
+whole_signature_is false x y h = cc h
 
 module _ (accepts : Verifier) (v : PublicKeyValue) (text m room digest : List ℕ) (t : SignatureTextRecord)
     (q : Questions)
     (opens : read_under v false text ≡ Ok t) (asked : AreAsked q room v t)
-    (told : digest ≡ blake2b_digest 64 m) where
+    (returned : digest ≡ blake2b_digest 64 m) where
   first_answer : accepts (signed_bytes (box_of t) m) v.key t.signature.signature
       ≡ accepts digest q.public_key q.signature
-  first_answer = rw (prehashed v text t opens, asked.0, told) refl
+  first_answer = rw (prehashed v text t opens, asked.0, returned) refl
 
   second_answer : IsTrue (has_whole_signature t.comments)
       → accepts (t.signature.signature ++ t.comments.trusted) v.key (take 64 t.comments.signature)
@@ -65,9 +66,10 @@ module _ (accepts : Verifier) (v : PublicKeyValue) (text m room digest : List �
   second_answer whole =
       let message : take q.message_len room ≡ t.signature.signature ++ t.comments.trusted = asked.1.message in
       let key : q.public_key ≡ v.key = ap (λ x. x.public_key) asked.0 in
-      let signature : q.comment_signature ≡ told_signature t.comments = ap (λ x. x.comment_signature)
+      let signature : q.comment_signature ≡ comment_signature_or_zeros t.comments = ap
+      (λ x. x.comment_signature)
       asked.0 in
-      rw (message, key, signature ∙ whole_told (has_whole_signature t.comments) _ _ whole) refl
+      rw (message, key, signature ∙ whole_signature_is (has_whole_signature t.comments) _ _ whole) refl
 
   pub answered : Answers accepts v text m (accepts digest q.public_key q.signature)
       (accepts (take q.message_len room) q.public_key q.comment_signature)
@@ -86,12 +88,12 @@ module _ (accepts : Verifier) (v : PublicKeyValue) (text m room digest : List �
 module _ (accepts : Verifier) (v : PublicKeyValue) (text m room digest : List ℕ) (t : SignatureTextRecord)
     (q : Questions)
     (opens : read_under v false text ≡ Ok t) (asked : AreAsked q room v t)
-    (told : digest ≡ blake2b_digest 64 m) where
+    (returned : digest ≡ blake2b_digest 64 m) where
   pub given : (first second : Bool) → first ≡ accepts digest q.public_key q.signature
       → second ≡ accepts (take q.message_len room) q.public_key q.comment_signature
       → Answers accepts v text m first second
   given first second is also =
-      let both = answered accepts v text m room digest t q opens asked told in
+      let both = answered accepts v text m room digest t q opens asked returned in
       let one = subst (λ x. Answers accepts v text m x
       (accepts (take q.message_len room) q.public_key q.comment_signature)) (sym is) both in
       subst (λ x. Answers accepts v text m first x) (sym also) one

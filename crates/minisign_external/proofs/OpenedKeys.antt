@@ -5,7 +5,8 @@ use Rattle.minisign_base.specs.Fault.{Fault, Named}
 use Rattle.minisign_base.specs.declared.faults.NamedFault.TheVariants.{OutOfMemory}
 use Rattle.minisign.specs.Records.{SecretKeyRecord}
 use Rattle.minisign_external.specs.SecretKeys.{DerivesWithin, IsOpeningRefusal, is_read, open_record}
-use Rattle.minisign_external.specs.SecretKeys.{open_unsealed, opened_or_kept, opened_sealed, opened_unsealed}
+use Rattle.minisign_external.specs.SecretKeys.{open_unsealed, opened_or_unchanged, opened_sealed}
+use Rattle.minisign_external.specs.SecretKeys.{opened_unsealed}
 use Rattle.minisign_external.specs.SecretKeys.{unopened_record, with_refusal}
 use Rattle.minisign_external.specs.declared.secrets.SecretKeyValue.{SecretKeyValue}
 use Rattle.minisign_external.specs.declared.state.Refusal.{Refusal}
@@ -18,7 +19,7 @@ Answer = Result Unit (Refusal Fault) × SecretKeyValue
 
 -- what was answered with an error is that error
 refused : (r : Result SecretKeyRecord Fault) (old new : SecretKeyValue) (f : Refusal Fault)
-    → ◌≡◌ {A = Answer} (Err f, new) (opened_or_kept (with_refusal r) old)
+    → ◌≡◌ {A = Answer} (Err f, new) (opened_or_unchanged (with_refusal r) old)
     → (e : Fault) × (f ≡ Refused e) × (r ≡ Err e)
 refused (Ok k) old new f h = let first = ap (λ (p : Answer). p.0) h in cc first
 refused (Err e) old new f h =
@@ -34,13 +35,13 @@ as_read false g m is = cc is
 
 pub sealed_refusal : (v : UnopenedKeyValue) (password : List ℕ) (most : ℕ) (old new : SecretKeyValue)
     (f : Refusal Fault) → is_read v ≡ true
-    → (◌≡◌ {A = Answer} (Err f, new) (opened_or_kept (opened_sealed v password most) old))
-    ⊎ ((◌≡◌ {A = Answer} (Err f, new) (opened_or_kept (Err (Refused (Named OutOfMemory))) old))
+    → (◌≡◌ {A = Answer} (Err f, new) (opened_or_unchanged (opened_sealed v password most) old))
+    ⊎ ((◌≡◌ {A = Answer} (Err f, new) (opened_or_unchanged (Err (Refused (Named OutOfMemory))) old))
     × DerivesWithin v password most)
     → IsOpeningRefusal (unopened_record v) (Some password) most f
 sealed_refusal v password most old new f read (inl h) =
     let (e, same, is) = refused (open_record (unopened_record v) (Some password) most) old new f
-    (h ∙ ap (λ g. opened_or_kept g old)
+    (h ∙ ap (λ g. opened_or_unchanged g old)
     (as_read (is_read v) (with_refusal (open_record (unopened_record v) (Some password) most))
     (WrongUse KeyNotRead) read)) in
     subst (IsOpeningRefusal (unopened_record v) (Some password) most) (sym same) (inl is)
@@ -52,11 +53,11 @@ sealed_refusal v password most old new f read (inr (h, (also, utf8, derives))) =
 
 pub unsealed_refusal : (v : UnopenedKeyValue) (most : ℕ) (old new : SecretKeyValue) (f : Refusal Fault)
     → is_read v ≡ true
-    → ◌≡◌ {A = Answer} (Err f, new) (opened_or_kept (opened_unsealed v) old)
+    → ◌≡◌ {A = Answer} (Err f, new) (opened_or_unchanged (opened_unsealed v) old)
     → IsOpeningRefusal (unopened_record v) None most f
 unsealed_refusal v most old new f read h =
     let (e, same, is) = refused (open_unsealed (unopened_record v)) old new f
-    (h ∙ ap (λ g. opened_or_kept g old)
+    (h ∙ ap (λ g. opened_or_unchanged g old)
     (as_read (is_read v) (with_refusal (open_unsealed (unopened_record v))) (WrongUse KeyNotRead) read))
     in
     subst (IsOpeningRefusal (unopened_record v) None most) (sym same) (inl is)

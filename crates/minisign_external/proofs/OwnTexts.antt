@@ -1,4 +1,4 @@
--- What the text of two signatures that are accepted says is what the verdict on it is: the trusted comment.
+-- The verdict on the signature file of two accepted signatures is its trusted comment.
 use Rattle.std.proofs.Common.{◌≡◌, ◌∙◌, ℕ, List, ◌++◌, Some, Result, Ok, Err, Bool, true, false}
 use Rattle.std.proofs.Common.{if◌then◌else◌, ap, sym, refl, subst, drop, take, length}
 use Rattle.std.specs.Prelude.{⊤}
@@ -28,7 +28,7 @@ boxed : (r : Result SignatureTextRecord Fault) (x : SignatureBoxRecord) → map_
 boxed (Ok t) x h = (t, refl, (let same : box_of t ≡ x = cc h in same))
 boxed (Err e) x h = cc h
 
--- what passes both tests gives what was told of it
+-- If a signature passes both checks, the result is its trusted comment.
 passes : (j : Result ⊤ Fault) (t : SignatureTextRecord) (more : SignatureTextRecord → Result ⊤ Fault)
     → and_then j (λ _. more t) ≡ Ok tt
     → and_then (and_then j (λ _. Ok t)) (λ s. and_then (more s) (λ _. Ok s.comments.trusted))
@@ -86,11 +86,11 @@ module _ (accepts : Verifier) (public_of : List ℕ → List ℕ) (seed : List �
       → (accepts digest (public_of seed) first ≡ true)
       × (accepts (first ++ trusted) (public_of seed) second ≡ true)
       → verdict_under accepts w (take len bytes) message false ≡ Ok trusted
-  own_verdict message digest trusted untrusted first second bytes len told long holds (one, two) =
+  own_verdict message digest trusted untrusted first second bytes len returned long holds (one, two) =
       let own : IsAnsweredText w.key_id (comments_of trusted untrusted) first second (take len bytes) =
       subst (λ k. IsAnsweredText k (comments_of trusted untrusted) first second (take len bytes))
       (ap (λ x. x.key_id) half) holds.text in
       let answers : AcceptsAnswers accepts w.key message trusted first second = record
-      { to_first = rw (← told, ← own_key) one; to_second = rw (← own_key) two } in
+      { to_first = rw (← returned, ← own_key) one; to_second = rw (← own_key) two } in
       verified accepts w message (take len bytes) (comments_of trusted untrusted) first second own long
       answers

@@ -9,7 +9,7 @@ use Rattle.std.proofs.lemmas.Str.{IsUtf8-from_is_utf8, is_utf8-from_IsUtf8}
 use Rattle.minisign_hash.specs.Blake2b.{blake2b_digest}
 use Rattle.minisign_base.specs.Fault.{Fault}
 use Rattle.minisign.specs.Acceptance.{judge_key}
-use Rattle.minisign.specs.SignatureText.{SignatureTextRecord, read_signature, StandsAt}
+use Rattle.minisign.specs.SignatureText.{SignatureTextRecord, read_signature, IsAtOffset}
 use Rattle.minisign.specs.Texts.{and_then, map_ok}
 use Rattle.minisign_external.specs.PublicKeys.{is_public_key, read_utf8}
 use Rattle.minisign_external.specs.Questions.{HoldsMessage, has_whole_signature, read_under}
@@ -179,7 +179,7 @@ module _ (s : SignatureValue) (text : List ℕ) (t : SignatureTextRecord) (from 
 pub from_text : (r : Result SignatureValue Fault) (text bytes : List ℕ)
     → r ≡ map_ok (signature_value text) (read_signature text) → text ≡ bytes → IsUtf8 bytes
     → IfOk r (λ s. (t : SignatureTextRecord) × (read_signature text ≡ Ok t)
-    × StandsAt t.comments.trusted text s.comment_offset × IsUtf8 t.comments.trusted
+    × IsAtOffset t.comments.trusted text s.comment_offset × IsUtf8 t.comments.trusted
     × (64 + length t.comments.trusted ≤ length text))
     → IfOk r (λ s. (t : SignatureTextRecord) × IsReadFrom s bytes t)
 from_text (Ok s) text bytes h same utf8 (t, read, stands, comment, room) =

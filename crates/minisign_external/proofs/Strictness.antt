@@ -1,4 +1,4 @@
--- What strict Ed25519 rejects of a value is what it rejects of the text that the value was read from.
+-- Strict Ed25519 rejects a struct exactly if it rejects the text that the struct was read from.
 use Rattle.std.proofs.Common.{◌≡◌, ◌∙◌, ◌==◌, ◌||◌, ◌&&◌, not, ℕ, Bool, true, false, if◌then◌else◌, List}
 use Rattle.std.proofs.Common.{Result, ap, refl, take}
 use Rattle.std.specs.Prelude.{replicate}

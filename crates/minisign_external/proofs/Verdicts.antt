@@ -1,4 +1,5 @@
--- What a key and the text of a signature decide is what every text that reads as the key decides with it.
+-- The verdict on a public key and a signature file is the same for every public key file that parses to the
+-- key.
 use Rattle.std.proofs.Common.{◌≡◌, ◌⊎◌, ℕ, Bool, true, false, ◌||◌, ◌&&◌, ◌==◌, not, ◌+◌, if◌then◌else◌, List}
 use Rattle.std.proofs.Common.{◌++◌, Result, Ok, Err, IsTrue, bytes_eq, inl, inr, ap, sym, subst, refl, ◌∙◌}
 use Rattle.std.proofs.Common.{nat_le, length, take}

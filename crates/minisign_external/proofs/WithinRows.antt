@@ -16,7 +16,7 @@ use Rattle.minisign.specs.Sealing.{restored_key, scrypt_kdf, sealed_by_scrypt, w
 use Rattle.minisign.specs.Texts.{and_then, require}
 use Rattle.minisign_external.specs.PublicKeys.{read_utf8}
 use Rattle.minisign_external.specs.SecretKeys.{DerivesWithin, is_read, makes_within, open_within}
-use Rattle.minisign_external.specs.SecretKeys.{opened_or_kept}
+use Rattle.minisign_external.specs.SecretKeys.{opened_or_unchanged}
 use Rattle.minisign_external.specs.SecretKeys.{opened_sealed, unopened_record, with_refusal}
 use Rattle.minisign_external.specs.declared.secrets.SecretKeyValue.{SecretKeyValue}
 use Rattle.minisign_external.specs.declared.state.Refusal.{Refusal}
@@ -88,16 +88,16 @@ opens_or_none key k bytes password times most r is same utf8 work (inr (memory, 
 pub sealed_or_none : (v : UnopenedKeyValue) (password : List ℕ) (most : ℕ) (old : SecretKeyValue)
     (d : Result SecretKeyRecord Fault)
     (answer : Result Unit (Refusal Fault) × SecretKeyValue) → is_read v ≡ true
-    → answer ≡ opened_or_kept (with_refusal d) old
+    → answer ≡ opened_or_unchanged (with_refusal d) old
     → (d ≡ read_utf8 (λ p. open_within (unopened_record v) p most) password)
     ⊎ ((d ≡ Err (Named OutOfMemory)) × IsUtf8 password
     × IsOk (and_then (sealed_by_scrypt (unopened_record v)) (λ s. allowed_rows s most)))
-    → (answer ≡ opened_or_kept (opened_sealed v password most) old)
-    ⊎ ((answer ≡ opened_or_kept (Err (Refused (Named OutOfMemory))) old) × DerivesWithin v password most)
-sealed_or_none v password most old d answer read told (inl opened) =
-    inl (rw read (told ∙ ap (λ x. opened_or_kept (with_refusal x) old) opened))
-sealed_or_none v password most old d answer read told (inr (memory, utf8, derives)) =
-    inr (told ∙ ap (λ x. opened_or_kept (with_refusal x) old) memory, (read, utf8, derives))
+    → (answer ≡ opened_or_unchanged (opened_sealed v password most) old)
+    ⊎ ((answer ≡ opened_or_unchanged (Err (Refused (Named OutOfMemory))) old) × DerivesWithin v password most)
+sealed_or_none v password most old d answer read returned (inl opened) =
+    inl (rw read (returned ∙ ap (λ x. opened_or_unchanged (with_refusal x) old) opened))
+sealed_or_none v password most old d answer read returned (inr (memory, utf8, derives)) =
+    inr (returned ∙ ap (λ x. opened_or_unchanged (with_refusal x) old) memory, (read, utf8, derives))
 
 -- == Which keys make more rows ==
 
@@ -124,7 +124,8 @@ within_of (Ok v) n p true times most same = same_test _ _ WorkTooHigh v same
 within_of (Err e) n p true times most same = no_less times ∙ sym (no_less most)
 within_of l n p false times most same = no_less times ∙ sym (no_less most)
 
--- a key makes at most so many rows where its p is at most the times that are within them
+-- If the bound `times` on p allows the same keys as the bound `most` on the rows, then opening a key computes
+-- at most `most` rows exactly if its p is at most `times`.
 pub within_times : (k : SecretKeyRecord) (times most : ℕ) → allowed_work k (Some times) ≡ allowed_rows k most
     → not (nat_lt times (opening_work k).1) ≡ makes_within k most
 within_times k times most same =

@@ -9,7 +9,7 @@ use Rattle.minisign_external.specs.Numbers.{answer_yes, fault_number, is_answer,
 use Rattle.minisign_external.specs.PublicKeys.{key_of}
 use Rattle.minisign_external.specs.Signatures.{signature_of_value}
 use Rattle.minisign_external.specs.States.{asking_misuse, bare_asked_mark, decision, is_asked_bare}
-use Rattle.minisign_external.specs.States.{judged_before, may_ask, numbered, told_mark, verdict_misuse}
+use Rattle.minisign_external.specs.States.{judged_before, may_ask, numbered, finalized_mark, verdict_misuse}
 use Rattle.minisign_external.specs.States.{with_public_key}
 use Rattle.minisign_external.specs.StrictCalls.{asked_number, asked_strictly}
 use Rattle.minisign_external.specs.StrictEd25519.{is_strict}
@@ -41,8 +41,8 @@ AnswersBare accepts v s message first = accepts (signed_bytes (bare_box s) messa
 
 -- == Asking ==
 
--- The question about the key and the signature in a struct, without the digest. Everything about the
--- comment is 0.
+-- The question about the key and the signature in a struct, without the digest. The fields about the comment
+-- are 0.
 abbrev pub bare_question : PublicKeyValue → SignatureValue → Questions
 bare_question v s = record {
   public_key = v.key;
@@ -60,7 +60,7 @@ bare_question v s = record {
 abbrev pub bare_asked : State → State
 bare_asked s = record s { asked = record { mark = bare_asked_mark; whole = 0 } }
 
--- Asking goes on if the signature was read.
+-- Fails if the signature was not read; otherwise the given result decides.
 abbrev pub with_signature : SignatureValue → Result Unit (Refusal Fault) → Result Unit (Refusal Fault)
 with_signature s more = if has_signature s then more else Err (WrongUse SignatureNotRead)
 
@@ -77,11 +77,11 @@ bare_asking state v s legacy = asked_strictly (is_strict v.key s.signature)
     (if may_ask state then bare_asked_of v s legacy else Err (WrongUse (asking_misuse state)))
 
 -- The result of asking, the state and the questions afterwards. They are unchanged unless the result is true.
-abbrev pub told_bare_asking : Result Bool (Refusal Fault) → PublicKeyValue → SignatureValue → State
+abbrev pub bare_asking_outcome : Result Bool (Refusal Fault) → PublicKeyValue → SignatureValue → State
     → Questions
     → Result Bool (Refusal Fault) × State × Questions
-told_bare_asking (Ok true) v s state q = (Ok true, bare_asked state, bare_question v s)
-told_bare_asking r v s state q = (r, state, q)
+bare_asking_outcome (Ok true) v s state q = (Ok true, bare_asked state, bare_question v s)
+bare_asking_outcome r v s state q = (r, state, q)
 
 -- The state was asked about this key and this signature, which has passed the checks that need no scheme.
 pub record HasAskedBare (state : State) (v : PublicKeyValue) (s : SignatureRecord) (legacy : Bool)
@@ -92,33 +92,33 @@ pub record HasAskedBare (state : State) (v : PublicKeyValue) (s : SignatureRecor
 -- The verdict from the result of the check, and the state after it. If the state was asked about a bare
 -- signature and its digest was returned, the result decides, and the state is finished. Otherwise the call is
 -- API misuse, and the state is unchanged.
-abbrev pub told_bare_verdict : State → Bool → Result Unit (Refusal Fault) × State
-told_bare_verdict s first =
-    if is_asked_bare s && (s.mark == told_mark)
+abbrev pub bare_verdict_outcome : State → Bool → Result Unit (Refusal Fault) × State
+bare_verdict_outcome s first =
+    if is_asked_bare s && (s.mark == finalized_mark)
     then (decision (judge_answers first true), record s { mark = 0 })
     else (Err (WrongUse (verdict_misuse s)), s)
 
 -- == With numbers as results ==
 
--- The result of asking as a number, the state and the questions afterwards. The flag must be 0 or 1; the
--- other errors come after this one.
+-- The outcome of asking for other languages: 0 or the error number, the state and the questions afterwards.
+-- First, the flag that allows legacy signatures must be 0 or 1.
 abbrev pub numbered_asking : Result Bool (Refusal Fault) × State × Questions → ℕ × State × Questions
 numbered_asking (r, s, q) = (asked_number r, s, q)
 
-abbrev pub told_bare_asking_number : State → PublicKeyValue → SignatureValue → ℕ → Questions
+abbrev pub bare_asking_outcome_number : State → PublicKeyValue → SignatureValue → ℕ → Questions
     → ℕ × State × Questions
-told_bare_asking_number state v s legacy q =
+bare_asking_outcome_number state v s legacy q =
     if nat_le 2 legacy then (misuse_number BadLegacyFlag, state, q) else
-    numbered_asking (told_bare_asking (bare_asking state v s (legacy == 1)) v s state q)
+    numbered_asking (bare_asking_outcome (bare_asking state v s (legacy == 1)) v s state q)
 
--- The number of the verdict from a number, and the state after it. If that is not a result, the state is
--- unchanged.
-abbrev pub told_bare_verdict_number : State → ℕ → ℕ × State
-told_bare_verdict_number s first =
-    if is_answer first then numbered (told_bare_verdict s (first == answer_yes)) else
+-- The number of the verdict from the result of the check, and the state after it. The result must be one of
+-- the two numbers that mean yes and no; otherwise the state is unchanged.
+abbrev pub bare_verdict_outcome_number : State → ℕ → ℕ × State
+bare_verdict_outcome_number s first =
+    if is_answer first then numbered (bare_verdict_outcome s (first == answer_yes)) else
     (misuse_number BadAnswer, s)
 
--- The number of a verdict: 0 for success, otherwise that of the first check that fails.
+-- The number of a verdict: 0 for success, otherwise the error number of the first check that fails.
 abbrev pub judged_number : Result ⊤ Fault → ℕ
 judged_number (Ok t) = 0
 judged_number (Err e) = fault_number e

@@ -46,15 +46,16 @@ pub record HoldsPublicKey (keynum secret comment bytes : List ℕ) (len : ℕ) :
       ≡ commented_public_key_text comment (own_public_key (unsealed_key keynum secret))
   pub reads : read_public_key (take len bytes) ≡ Ok (own_public_key (unsealed_key keynum secret))
 
--- Why a file that is `more` bytes longer than its comment is not written to a buffer: the comment has a line
--- feed; or else Minisign would not read all of it; or else the buffer is too short.
+-- The API misuse if a file that is `more` bytes longer than its comment is not written to a buffer: the
+-- comment has a line feed; or else Minisign would not read all of the comment; or else the buffer is too
+-- short.
 abbrev pub IsUnwritable : List ℕ → ℕ → List ℕ → Misuse → Type 0
 IsUnwritable comment more bytes m =
     ((m ≡ BadComment) × ¬ (LacksByte 10 comment))
     ⊎ ((m ≡ UnreadableComment) × LacksByte 10 comment × ¬ (IsReadInKey comment))
     ⊎ ((m ≡ NoRoom) × IsKeyComment comment × (length bytes < length comment + more))
 
--- None of these reasons applies.
+-- None of the reasons of IsUnwritable applies.
 abbrev pub IsWritable : List ℕ → ℕ → List ℕ → Type 0
 IsWritable comment more bytes = IsKeyComment comment × (length comment + more ≤ length bytes)
 
@@ -62,15 +63,15 @@ IsWritable comment more bytes = IsKeyComment comment × (length comment + more �
 abbrev pub AreUtf8KeyTexts : List ℕ → Option (List ℕ) → Type 0
 AreUtf8KeyTexts comment password = IsUtf8 comment × IfSome password IsUtf8
 
--- Why a secret key file is not written if its comment and password are UTF-8: API misuse as above; or else
--- limits that are rejected, or out of memory.
+-- The error if a secret key file is not written although its comment and password are UTF-8: API misuse as in
+-- IsUnwritable; or else limits that are rejected, or out of memory.
 abbrev pub IsMadeRefusal : Option (List ℕ) → Sealing → List ℕ → List ℕ → Refusal Fault → Type 0
 IsMadeRefusal password s comment bytes (WrongUse m) = IsUnwritable comment 233 bytes m
 IsMadeRefusal password s comment bytes (Refused e) = IsWritable comment 233 bytes
     × (e ≡ making_fault password s)
 
--- Why a secret key file is not written: the key is not open; or else the comment or the password is not
--- UTF-8; or else one of the reasons above.
+-- The error if a secret key file is not written: the key is not open; or else the comment or the password is
+-- not UTF-8; or else an error of IsMadeRefusal.
 abbrev pub IsMakingRefusal : SecretKeyValue → Option (List ℕ) → Sealing → List ℕ → List ℕ → Refusal Fault
     → Type 0
 IsMakingRefusal v password s comment bytes r =
@@ -78,7 +79,8 @@ IsMakingRefusal v password s comment bytes r =
     ⊎ ((r ≡ Refused (Named NotUtf8)) × (is_opened v ≡ true) × ¬ (AreUtf8KeyTexts comment password))
     ⊎ ((is_opened v ≡ true) × AreUtf8KeyTexts comment password × IsMadeRefusal password s comment bytes r)
 
--- Why a public key file is not written, in the same order.
+-- The error if a public key file is not written: an error of IsMakingRefusal that does not concern a
+-- password, in the same order.
 abbrev pub IsPublicKeyRefusal : SecretKeyValue → List ℕ → List ℕ → Refusal Fault → Type 0
 IsPublicKeyRefusal v comment bytes (WrongUse m) =
     ((m ≡ KeyNotOpened) × (is_opened v ≡ false))
@@ -88,7 +90,7 @@ IsPublicKeyRefusal v comment bytes (Refused e) =
     × (((e ≡ Named NotUtf8) × ¬ (IsUtf8 comment))
     ⊎ (IsUtf8 comment × IsWritable comment 77 bytes × (e ≡ Named OutOfMemory)))
 
--- The error number of such a reason.
+-- The number of such an error.
 abbrev pub IsPublicKeyNumber : SecretKeyValue → List ℕ → List ℕ → ℕ → Type 0
 IsPublicKeyNumber v comment bytes n =
     (r : Refusal Fault) × (n ≡ refusal_number fault_number r) × IsPublicKeyRefusal v comment bytes r
@@ -109,9 +111,9 @@ pub record HoldsReadSecretKey (k : SecretKeyRecord) (comment bytes : List ℕ) (
   pub written : take len bytes ≡ secret_key_text (Some comment) k
   pub reads : read_secret_key (take len bytes) ≡ Ok k
 
--- Why a file that is `more` bytes longer than its comment is not written for a key that was read: the key
--- was not read, which is the API misuse `unread`; or else the comment is not UTF-8, or is rejected, or the
--- buffer is too short; or out of memory.
+-- The error if a key that was read is not written to a file that is `more` bytes longer than its comment: the
+-- key was not read, which is the API misuse `unread`; or else the comment is not UTF-8, or is rejected, or
+-- the buffer is too short; or out of memory.
 abbrev pub IsEncodingRefusal : Bool → Misuse → ℕ → List ℕ → List ℕ → Refusal Fault → Type 0
 IsEncodingRefusal is_read unread more comment bytes (WrongUse m) =
     ((m ≡ unread) × (is_read ≡ false))
@@ -121,7 +123,7 @@ IsEncodingRefusal is_read unread more comment bytes (Refused e) =
     × (((e ≡ Named NotUtf8) × ¬ (IsUtf8 comment))
     ⊎ (IsUtf8 comment × IsWritable comment more bytes × (e ≡ Named OutOfMemory)))
 
--- The error number of such a reason.
+-- The number of such an error.
 abbrev pub IsEncodingNumber : Bool → Misuse → ℕ → List ℕ → List ℕ → ℕ → Type 0
 IsEncodingNumber is_read unread more comment bytes n =
     (r : Refusal Fault) × (n ≡ refusal_number fault_number r)

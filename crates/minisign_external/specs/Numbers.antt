@@ -83,14 +83,14 @@ misuse_text BadHash = codes "the hash function or the length of its digest is no
 misuse_text EntryNotRead = codes "the entry has not been read from a list"
 
 -- The numbers by which a caller passes in a result of its signature scheme: the letters "yes" and "no", each
--- letter a byte. They are neither 0 nor 1, nor an error number, so that no such number is taken for a result.
+-- letter a byte. They are neither 0 nor 1 nor an error number, so none of these is mistaken for a result.
 abbrev pub answer_yes : ℕ
 answer_yes = 7955827
 
 abbrev pub answer_no : ℕ
 answer_no = 28271
 
--- The number is one of the two.
+-- The number is one of these two.
 abbrev pub is_answer : ℕ → Bool
 is_answer n = (n == answer_yes) || (n == answer_no)
 

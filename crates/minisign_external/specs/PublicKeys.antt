@@ -28,11 +28,11 @@ abbrev pub read_utf8 : {V : Type 0} → (List ℕ → Result V Fault) → List �
 read_utf8 read bytes = require (is_utf8 bytes) NotUtf8 (read bytes)
 
 -- The result of a call that reads a key, and the struct afterwards, which is unchanged after an error.
-abbrev pub told_key : Result PublicKeyRecord Fault → PublicKeyValue → Result Unit Fault × PublicKeyValue
-told_key (Ok k) old = (Ok tt, value_of k)
-told_key (Err e) old = (Err e, old)
+abbrev pub key_outcome : Result PublicKeyRecord Fault → PublicKeyValue → Result Unit Fault × PublicKeyValue
+key_outcome (Ok k) old = (Ok tt, value_of k)
+key_outcome (Err e) old = (Err e, old)
 
--- The same with a number as the result: 0, or the error number.
-abbrev pub told_key_number : Result PublicKeyRecord Fault → PublicKeyValue → ℕ × PublicKeyValue
-told_key_number (Ok k) old = (0, value_of k)
-told_key_number (Err e) old = (fault_number e, old)
+-- The outcome of this call for other languages: 0 or the error number, and the struct afterwards.
+abbrev pub key_outcome_number : Result PublicKeyRecord Fault → PublicKeyValue → ℕ × PublicKeyValue
+key_outcome_number (Ok k) old = (0, value_of k)
+key_outcome_number (Err e) old = (fault_number e, old)

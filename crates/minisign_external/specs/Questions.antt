@@ -41,13 +41,13 @@ comment_verdict_under accepts v sig_text legacy =
 
 -- == The questions ==
 
--- The comment signature has its 64 bytes, so that the second check can be made.
+-- The comment signature has at least 64 bytes, so that the second check can be made.
 abbrev pub has_whole_signature : CommentsRecord → Bool
 has_whole_signature c = nat_le 64 (length c.signature)
 
 -- The comment signature in a struct: its first 64 bytes, or zeros if it has fewer.
-abbrev pub told_signature : CommentsRecord → List ℕ
-told_signature c = if has_whole_signature c then take 64 c.signature else replicate 64 0
+abbrev pub comment_signature_or_zeros : CommentsRecord → List ℕ
+comment_signature_or_zeros c = if has_whole_signature c then take 64 c.signature else replicate 64 0
 
 -- The result of the first check: the scheme accepts the signature of the digest of the message, or of the
 -- message itself if the signature is a legacy one.

@@ -1,5 +1,5 @@
--- The structs that hold a secret key: one as its file contains it, and one for the open key; and what opening
--- gives.
+-- The two structs that hold a secret key, one before and one after it is opened (decrypted), and the result
+-- of opening it.
 use Rattle.std.specs.Prelude.{◌≡◌, ◌==◌, ◌⊎◌, ◌&&◌, ◌*◌, ◌^◌, ℕ, max, not, nat_le, nat_lt, Bool, true}
 use Rattle.std.specs.Prelude.{if◌then◌else◌, bytes_eq, List, drop, Option, None, Some, Result, Ok, Err, IsOk}
 use Rattle.std.specs.Prelude.{replicate}
@@ -26,18 +26,19 @@ use Rattle.minisign_external.specs.declared.state.Refusal.TheVariants.{WrongUse,
 
 -- == A key as its file contains it ==
 
--- The mark of a key that was read and is not opened yet: "minisrec".
+-- The mark (magic number) of a key that was read and is not opened yet: "minisrec".
 abbrev pub read_mark : ℕ
 read_mark = 7162256622418291053
 
 abbrev pub is_read : UnopenedKeyValue → Bool
 is_read v = v.mark == read_mark
 
--- The key record in a struct, as it is in the file.
+-- The key record in a struct: the 158 bytes that the base64 in the key file encodes.
 abbrev pub unopened_record : UnopenedKeyValue → SecretKeyRecord
 unopened_record v = secret_key_of_bytes v.bytes
 
--- The struct for the key record in these 158 bytes, with the work of opening it.
+-- The struct for the key record in these 158 bytes. log2_rows and work are the base-2 logarithm of scrypt's
+-- N, and scrypt's p.
 abbrev pub read_value : List ℕ → UnopenedKeyValue
 read_value bytes =
     let k = secret_key_of_bytes bytes in
@@ -68,17 +69,17 @@ is_opened v = v.mark == opened_mark
 abbrev pub taken_key : List ℕ → List ℕ → SecretKeyValue
 taken_key key_id secret = record { mark = opened_mark; key_id = key_id; secret = secret }
 
--- The public key of an open key: the last 32 of its 64 secret bytes.
+-- The public key of an open key: the last 32 of its 64 secret bytes. It is API misuse if the key is not open.
 abbrev pub public_value_of : SecretKeyValue → Result PublicKeyValue Misuse
 public_value_of v =
     if is_opened v then Ok (record { mark = public_mark; key = drop 32 v.secret; key_id = v.key_id }) else
     Err KeyNotOpened
 
--- The same with a number as the result, and the struct of the public key afterwards, which is unchanged after
--- an error.
-abbrev pub told_public_key : Result PublicKeyValue Misuse → PublicKeyValue → ℕ × PublicKeyValue
-told_public_key (Ok v) old = (0, v)
-told_public_key (Err m) old = (misuse_number m, old)
+-- The outcome for other languages of a call that returns a public key: 0 or the error number, and the
+-- caller's struct afterwards, which is unchanged after an error.
+abbrev pub public_key_outcome : Result PublicKeyValue Misuse → PublicKeyValue → ℕ × PublicKeyValue
+public_key_outcome (Ok v) old = (0, v)
+public_key_outcome (Err m) old = (misuse_number m, old)
 
 -- == Opening ==
 
@@ -86,23 +87,25 @@ told_public_key (Err m) old = (misuse_number m, old)
 abbrev pub lacks_checksum : SecretKeyRecord → Bool
 lacks_checksum k = bytes_eq k.kdf no_kdf && bytes_eq k.checksum (replicate 32 0)
 
--- The key, if it is not encrypted and its checksum matches or is 32 zeros.
+-- The key, if it is not encrypted and its checksum matches or is 32 zeros, otherwise the error.
 abbrev pub open_unsealed : SecretKeyRecord → Result SecretKeyRecord Fault
 open_unsealed k = if lacks_checksum k then Ok k else unencrypted_key k
 
--- An encrypted key, decrypted with a password, if scrypt needs at most `most_rows` rows.
+-- An encrypted key, decrypted with a password, or the error. It is an error if scrypt needs more than
+-- `most_rows` rows of its table.
 abbrev pub open_within : SecretKeyRecord → List ℕ → ℕ → Result SecretKeyRecord Fault
 open_within k password most_rows = and_then (sealed_by_scrypt k)
     (λ s. and_then (allowed_rows s most_rows) (λ _. restored_key (xored_key s password)))
 
--- Opening the struct gives what opening the file gives, without a password and under every password, for
+-- Opening the struct has the same result as opening the file: without a password, and with every password and
 -- every bound on the rows.
 abbrev pub OpensAs : UnopenedKeyValue → List ℕ → Type 0
 OpensAs v text = (open_unsealed (unopened_record v) ≡ and_then (read_secret_key text) open_unsealed)
     × ((password : List ℕ) (most_rows : ℕ) → open_within (unopened_record v) password most_rows
     ≡ and_then (read_secret_key text) (λ k. open_within k password most_rows))
 
--- A result of the library as the result of a call of this crate.
+-- The result of a library function as the result of a call of this crate, whose errors may also be API
+-- misuse.
 abbrev pub with_refusal : Result SecretKeyRecord Fault → Result SecretKeyRecord (Refusal Fault)
 with_refusal (Ok key) = Ok key
 with_refusal (Err e) = Err (Refused e)
@@ -119,8 +122,8 @@ opened_sealed v password most_rows =
     if is_read v then with_refusal (read_utf8 (λ p. open_within (unopened_record v) p most_rows) password)
     else Err (WrongUse KeyNotRead)
 
--- What can be checked of an encrypted key without its password: it is encrypted with scrypt, and its limits
--- are allowed and need at most `most_rows` rows.
+-- The checks of an encrypted key that need no password: it is encrypted with scrypt, and its limits are
+-- allowed and need at most `most_rows` rows.
 abbrev pub sealed_within : SecretKeyRecord → ℕ → Result Numbers Fault
 sealed_within k most_rows = and_then (sealed_by_scrypt k) (λ s. allowed_rows s most_rows)
 
@@ -136,25 +139,26 @@ abbrev pub DerivesWithin : UnopenedKeyValue → List ℕ → ℕ → Type 0
 DerivesWithin v password most_rows = (is_read v ≡ true) × IsUtf8 password
     × IsOk (and_then (sealed_by_scrypt (unopened_record v)) (λ s. allowed_rows s most_rows))
 
--- Opening the key needs at most `most` rows: N for each of scrypt's p parts, or none if the key is rejected
--- before.
+-- Opening the key computes at most `most` rows of scrypt, which computes N * p rows. It computes none if the
+-- key is rejected before scrypt begins.
 abbrev pub makes_within : SecretKeyRecord → ℕ → Bool
 makes_within k most = not (nat_lt most (2 ^ (opening_work k).0 * (opening_work k).1))
 
 -- The memory for opening the struct in place if every k-th row is kept (0 counts as 1): 32-bit words, and
--- bytes. A key that needs more than `most_rows` rows needs no memory, because it is rejected before.
+-- bytes. A key that needs more than `most_rows` rows needs no memory, because it is rejected before scrypt
+-- begins.
 abbrev pub value_memory : UnopenedKeyValue → ℕ → ℕ → ℕ × ℕ
 value_memory v k most_rows =
     if makes_within (unopened_record v) most_rows then opening_memory (unopened_record v) (max k 1) else
     (0, 0)
 
--- This much memory is sufficient for opening the struct in place.
+-- This number of words and bytes is sufficient for opening the struct in place.
 abbrev pub is_enough : UnopenedKeyValue → ℕ → ℕ → ℕ → ℕ → Bool
 is_enough v k most_rows words bytes =
     nat_le (value_memory v k most_rows).0 words && nat_le (value_memory v k most_rows).1 bytes
 
--- Opens the struct with a password in this much memory: it must have been read, and then the memory must be
--- sufficient.
+-- Opens the struct with a password in memory of this number of words and bytes. The errors are, in this
+-- order: the key was not read; the memory is not sufficient; those of `opened_sealed`.
 abbrev pub opened_in_place : UnopenedKeyValue → List ℕ → ℕ → ℕ → ℕ → ℕ
     → Result SecretKeyRecord (Refusal Fault)
 opened_in_place v password k most_rows words bytes =
@@ -173,7 +177,7 @@ DerivesRecord k None most_rows = ⊥
 DerivesRecord k (Some password) most_rows = IsUtf8 password
     × IsOk (and_then (sealed_by_scrypt k) (λ s. allowed_rows s most_rows))
 
--- Opens a secret key file.
+-- Opens the key in a secret key file, as `open_record` does.
 abbrev pub opened_text : List ℕ → Option (List ℕ) → ℕ → Result SecretKeyRecord Fault
 opened_text text password most_rows = and_then (read_utf8 read_secret_key text)
     (λ k. open_record k password most_rows)
@@ -193,18 +197,18 @@ IsTextOpeningRefusal text password most_rows (Refused e) =
     ⊎ ((e ≡ Named OutOfMemory) × (k : SecretKeyRecord) × (read_utf8 read_secret_key text ≡ Ok k)
     × DerivesRecord k password most_rows)
 
--- The result of a call that opens a key, and the struct afterwards: the open key, or after an error what it
--- was before.
-abbrev pub opened_or_kept : Result SecretKeyRecord (Refusal Fault) → SecretKeyValue
+-- The result of a call that opens a key, and the struct afterwards, which is unchanged after an error.
+abbrev pub opened_or_unchanged : Result SecretKeyRecord (Refusal Fault) → SecretKeyValue
     → Result Unit (Refusal Fault) × SecretKeyValue
-opened_or_kept (Ok key) old = (Ok tt, taken_key key.keynum key.secret)
-opened_or_kept (Err r) old = (Err r, old)
+opened_or_unchanged (Ok key) old = (Ok tt, taken_key key.keynum key.secret)
+opened_or_unchanged (Err r) old = (Err r, old)
 
--- The same with a number as the result.
-abbrev pub told_opened : Result SecretKeyRecord (Refusal Fault) → SecretKeyValue → ℕ × SecretKeyValue
-told_opened (Ok key) old = (0, taken_key key.keynum key.secret)
-told_opened (Err r) old = (refusal_number fault_number r, old)
+-- The outcome for other languages of a call that opens a key: 0 or the error number, and the struct
+-- afterwards, which is unchanged after an error.
+abbrev pub opened_outcome : Result SecretKeyRecord (Refusal Fault) → SecretKeyValue → ℕ × SecretKeyValue
+opened_outcome (Ok key) old = (0, taken_key key.keynum key.secret)
+opened_outcome (Err r) old = (refusal_number fault_number r, old)
 
--- The password that a caller passes in by two arguments: none if with_password is 0, otherwise these bytes.
+-- The password that a caller passes: none if with_password is 0, otherwise these bytes.
 abbrev pub passed_in : ℕ → List ℕ → Option (List ℕ)
 passed_in with_password bytes = if with_password == 0 then None else Some bytes

@@ -47,7 +47,8 @@ answered_box key_id chosen first second =
 
 -- The scheme makes these two signatures with the key's secret and the random bytes z1 and z2: the first of
 -- the digest of the message, the second of the first signature followed by the trusted comment.
-pub record SignsSo (sign : Signer) (key : SecretKeyRecord) (message trusted z1 z2 first second : List ℕ)
+pub record SchemeMakesSignatures (sign : Signer) (key : SecretKeyRecord)
+    (message trusted z1 z2 first second : List ℕ)
     : Type 0 where
   pub to_first : sign (blake2b_digest 64 message) key.secret (Some z1) ≡ first
   pub to_second : sign (first ++ trusted) key.secret (Some z2) ≡ second
@@ -74,15 +75,15 @@ pub record IsPairOf (public_of : List ℕ → List ℕ) (seed : List ℕ) (v : S
 
 -- The text is the signature file of the two signatures: it is UTF-8 and parses to their box. For every scheme
 -- that made the two signatures, this is the box that signing makes. If a scheme accepts them under a public
--- key, the box is a valid signature of the message under that key. So what is promised of the files that
--- signing makes also holds for this file.
+-- key, the box is a valid signature of the message under that key. So the promises on signature files that
+-- the library writes also hold for this file.
 pub record IsAnsweredText (key_id : List ℕ) (chosen : ChosenComments) (first second text : List ℕ)
     : Type 0 where
   pub written : text ≡ signature_text (answered_signature key_id first) (answered_comments chosen second)
   pub utf8 : IsUtf8 text
   pub read_back : read_signature_box text ≡ Ok (answered_box key_id chosen first second)
   pub signed : (sign : Signer) (key : SecretKeyRecord) (message z1 z2 : List ℕ) → key_id ≡ key.keynum
-      → SignsSo sign key message chosen.trusted z1 z2 first second
+      → SchemeMakesSignatures sign key message chosen.trusted z1 z2 first second
       → read_signature_box text ≡ Ok (signed_box sign key message chosen z1 z2)
   pub vouched : (accepts : Verifier) (public message : List ℕ)
       → AcceptsAnswers accepts public message chosen.trusted first second
@@ -105,8 +106,8 @@ pub record AreReadByMinisign (chosen : ChosenComments) : Type 0 where
   pub untrusted_return : LacksByte 13 chosen.untrusted
   pub trusted_return : LacksByte 13 chosen.trusted
 
--- Why the comments are rejected, by the first reason: one would not be read back unchanged by this library,
--- or else not by Minisign.
+-- The API misuse if comments are rejected: this library would not read one back unchanged, or else Minisign
+-- would not.
 abbrev pub IsCommentMisuse : ChosenComments → Misuse → Type 0
 IsCommentMisuse chosen m =
     ((m ≡ BadComment) × ¬ (AreChosenReadBack chosen))
@@ -123,13 +124,13 @@ pub record HoldsText (key_id : List ℕ) (chosen : ChosenComments) (first second
   pub text : IsAnsweredText key_id chosen first second (take len bytes)
 
 -- The buffer is too short for the signature file.
-abbrev pub HasNoRoom : List ℕ → ChosenComments → List ℕ → List ℕ → List ℕ → Type 0
-HasNoRoom key_id chosen first second bytes =
+abbrev pub BufferIsTooSmall : List ℕ → ChosenComments → List ℕ → List ℕ → List ℕ → Type 0
+BufferIsTooSmall key_id chosen first second bytes =
     length bytes < length (signature_text (answered_signature key_id first) (answered_comments chosen second))
 
--- Why a signature file is not written, by the first reason: the public key was not read; a comment is not
--- UTF-8; a comment is rejected; the buffer is too short. Out of memory is possible only if no comment is
--- rejected.
+-- The error if a signature file is not written, the first one that applies: the public key was not read; a
+-- comment is not UTF-8; a comment is rejected; the buffer is too short. Out of memory is possible only if no
+-- comment is rejected.
 abbrev pub IsWritingRefusal : PublicKeyValue → ChosenComments → List ℕ → List ℕ → List ℕ → Refusal Fault
     → Type 0
 IsWritingRefusal v chosen first second bytes (WrongUse m) =
@@ -137,13 +138,13 @@ IsWritingRefusal v chosen first second bytes (WrongUse m) =
     ⊎ ((is_public_key v ≡ true) × AreUtf8 chosen × IsCommentMisuse chosen m)
     ⊎ ((m ≡ NoRoom) × (is_public_key v ≡ true) × AreUtf8 chosen × AreChosenReadBack chosen
     × AreReadByMinisign chosen
-    × HasNoRoom v.key_id chosen first second bytes)
+    × BufferIsTooSmall v.key_id chosen first second bytes)
 IsWritingRefusal v chosen first second bytes (Refused e) =
     (is_public_key v ≡ true)
     × (((e ≡ Named OutOfMemory) × AreUtf8 chosen × AreChosenReadBack chosen × AreReadByMinisign chosen)
     ⊎ ((e ≡ Named NotUtf8) × ¬ (AreUtf8 chosen)))
 
--- The error number of such a reason.
+-- The number of an error of IsWritingRefusal.
 abbrev pub IsWritingNumber : PublicKeyValue → ChosenComments → List ℕ → List ℕ → List ℕ → ℕ → Type 0
 IsWritingNumber v chosen first second bytes n =
     (r : Refusal Fault) × (n ≡ refusal_number fault_number r) × IsWritingRefusal v chosen first second bytes r
@@ -163,8 +164,8 @@ HoldsOwnText s scheme v chosen message bytes len = (is_opened v ≡ true)
     × HoldsText v.key_id chosen (first_signature (s.signature_of scheme) v.secret message)
     (second_signature (s.signature_of scheme) v.secret message chosen.trusted) bytes len
 
--- Why this signature file is not written: the key is not open, or else one of the reasons above, for its
--- public key.
+-- The error if this signature file is not written: the key is not open, or else an error of IsWritingRefusal
+-- for its public key.
 abbrev pub IsOwnRefusal : {S : Type 0} → SchemeOf S → S → SecretKeyValue → ChosenComments → List ℕ → List ℕ
     → Refusal Fault → Type 0
 IsOwnRefusal s scheme v chosen message bytes r =
@@ -173,7 +174,8 @@ IsOwnRefusal s scheme v chosen message bytes r =
     × IsWritingRefusal w chosen (first_signature (s.signature_of scheme) v.secret message)
     (second_signature (s.signature_of scheme) v.secret message chosen.trusted) bytes r)
 
--- Why it is not written with the key of a secret key file, which may also fail to open.
+-- The error if a signature file is not written with the key of a secret key file. Opening this key may also
+-- fail.
 abbrev pub IsTextSigningRefusal : {S : Type 0} → SchemeOf S → S → List ℕ → Option (List ℕ) → ℕ
     → ChosenComments → List ℕ → List ℕ → Refusal Fault → Type 0
 IsTextSigningRefusal s scheme text password most_rows chosen message bytes r =

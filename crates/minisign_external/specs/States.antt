@@ -1,4 +1,5 @@
--- The state that a program in another language holds: which data it was fed, what was asked, and the verdict.
+-- The state of verifying or signing one file, which a program in another language holds: the data that was
+-- fed, the Ed25519 checks that were asked for, and the verdict.
 use Rattle.std.specs.Prelude.{◌≡◌, ⊤, ◌==◌, ◌⊎◌, ◌<◌, ◌||◌, ◌&&◌, not, nat_le, ℕ, Bool, if◌then◌else◌, List}
 use Rattle.std.specs.Prelude.{◌+◌, length, replicate, MatchResult, Result, Ok, Err}
 use Rattle.std.specs.Str.{IsUtf8}
@@ -12,7 +13,7 @@ use Rattle.minisign.specs.SignatureText.{SignatureTextRecord}
 use Rattle.minisign.specs.Texts.{require}
 use Rattle.minisign_external.specs.Questions.{Answers, AnswersTexts, HoldsMessage, IsKeyText}
 use Rattle.minisign_external.specs.PublicKeys.{is_public_key}
-use Rattle.minisign_external.specs.Questions.{has_whole_signature, read_under, told_signature}
+use Rattle.minisign_external.specs.Questions.{has_whole_signature, read_under, comment_signature_or_zeros}
 use Rattle.minisign_external.specs.Signatures.{comment_of, signature_of_value}
 use Rattle.minisign_external.specs.Numbers.{IsAnswer, answer_yes, is_answer, fault_number, misuse_number}
 use Rattle.minisign_external.specs.Numbers.{refusal_number}
@@ -27,13 +28,13 @@ use Rattle.minisign_external.specs.declared.state.Refusal.TheVariants.{WrongUse,
 use Rattle.minisign_external.specs.declared.state.State.{State}
 use Rattle.minisign_external.specs.declared.state.Questions.{Questions}
 
--- The marks of a state that accepts data, of one whose digest was returned, of questions that were asked, and
--- of the question about a bare signature: "minisign", "minissum", "minisask" and "minisbar".
+-- The marks (magic numbers): "minisign" if the state accepts data, "minissum" if its digest was returned,
+-- "minisask" after asking about a signature file, and "minisbar" after asking about a bare signature.
 abbrev pub fed_mark : ℕ
 fed_mark = 7955443211184269677
 
-abbrev pub told_mark : ℕ
-told_mark = 7887337261936568685
+abbrev pub finalized_mark : ℕ
+finalized_mark = 7887337261936568685
 
 abbrev pub asked_mark : ℕ
 asked_mark = 7742639332697991533
@@ -47,8 +48,8 @@ pub record IsFedState (s : State) (m : List ℕ) : Type 0 where
   pub fed : WasFed s.hash m
 
 -- The state was fed the message, and its digest was returned.
-pub record HasToldDigest (s : State) (m : List ℕ) : Type 0 where
-  pub mark : s.mark ≡ told_mark
+pub record HasReturnedDigest (s : State) (m : List ℕ) : Type 0 where
+  pub mark : s.mark ≡ finalized_mark
   pub fed : WasFed s.hash m
 
 -- The state was asked about the key and the signature file.
@@ -58,7 +59,7 @@ pub record HasAsked (s : State) (v : PublicKeyValue) (sig_text : List ℕ) (lega
   pub read : read_under v legacy sig_text ≡ Ok signed
   pub whole : (s.asked.whole == 1) ≡ has_whole_signature signed.comments
 
--- What was asked is unchanged.
+-- The questions in the state are unchanged.
 abbrev pub KeepsAsked : State → State → Type 0
 KeepsAsked old new = new.asked ≡ old.asked
 
@@ -66,12 +67,12 @@ KeepsAsked old new = new.asked ≡ old.asked
 abbrev pub IsMarkedFed : State → Type 0
 IsMarkedFed s = s.mark ≡ fed_mark
 
-abbrev pub IsMarkedTold : State → Type 0
-IsMarkedTold s = s.mark ≡ told_mark
+abbrev pub IsMarkedFinalized : State → Type 0
+IsMarkedFinalized s = s.mark ≡ finalized_mark
 
 -- The state was initialized, and no verdict has finished it.
 abbrev pub is_begun : State → Bool
-is_begun s = (s.mark == fed_mark) || (s.mark == told_mark)
+is_begun s = (s.mark == fed_mark) || (s.mark == finalized_mark)
 
 -- The state was asked about a key and a signature.
 abbrev pub is_asked : State → Bool
@@ -81,7 +82,7 @@ is_asked s = s.asked.mark == asked_mark
 abbrev pub is_asked_bare : State → Bool
 is_asked_bare s = s.asked.mark == bare_asked_mark
 
--- Questions that hold nothing: zeros in every field.
+-- Questions with 0 in every field.
 abbrev pub no_questions : Questions
 no_questions = record {
   public_key = replicate 32 0;
@@ -102,7 +103,7 @@ questions_of v t = record {
   public_key = v.key;
   digest = replicate 64 0;
   signature = t.signature.signature;
-  comment_signature = told_signature t.comments;
+  comment_signature = comment_signature_or_zeros t.comments;
   message_len = 64 + length t.comments.trusted;
   comment_offset = 64;
   comment_len = length t.comments.trusted;
@@ -110,7 +111,7 @@ questions_of v t = record {
   reserved = 0;
 }
 
--- The same for a signature in a struct.
+-- The questions about the key and the signature in a struct, without the digest.
 abbrev pub questions_about : PublicKeyValue → SignatureValue → Questions
 questions_about v s = record {
   public_key = v.key;
@@ -128,9 +129,9 @@ questions_about v s = record {
 abbrev pub asked_about : State → SignatureValue → State
 asked_about state s = record state { asked = record { mark = asked_mark; whole = s.whole } }
 
--- Why a state accepts no data: its digest was returned, or else it is not initialized.
+-- The API misuse if a state accepts no data: its digest was returned, or else it is not initialized.
 abbrev pub feeding_misuse : State → Misuse
-feeding_misuse s = if s.mark == told_mark then AlreadyAsked else NotBegun
+feeding_misuse s = if s.mark == finalized_mark then AlreadyAsked else NotBegun
 
 -- The state accepts no data, for this reason. It was not fed any message, not even an empty one.
 abbrev pub IsNotFed : State → Misuse → Type 0
@@ -148,18 +149,17 @@ pub record AreQuestions (q : Questions) (bytes : List ℕ) (v : PublicKeyValue) 
   pub questions : q ≡ record (questions_of v t) { digest = q.digest }
   pub message : HoldsMessage t.signature t.comments.trusted bytes q.message_len
 
--- The same with zeros as the digest.
+-- As AreQuestions, with zeros as the digest.
 abbrev pub AreAsked : Questions → List ℕ → PublicKeyValue → SignatureTextRecord → Type 0
 AreAsked q bytes v t = (q ≡ questions_of v t)
     × HoldsMessage t.signature t.comments.trusted bytes q.message_len
 
--- Succeeds if the buffer has room for the message of the second question with a trusted comment of this
--- length.
+-- Succeeds if the buffer is long enough for the message of the second question, with a trusted comment of
+-- this length.
 abbrev pub room_for : ℕ → ℕ → Result Unit (Refusal Fault)
 room_for len room = if nat_le (64 + len) room then Ok tt else Err (WrongUse NoRoom)
 
--- Asking goes on after a check that succeeded, and otherwise fails with the error of the library, or the API
--- misuse, of this check.
+-- Chains checks: if the first result is an error, asking fails with it; otherwise the second result decides.
 abbrev pub judged_before : Result ⊤ Fault → Result Unit (Refusal Fault) → Result Unit (Refusal Fault)
 judged_before (Ok t) more = more
 judged_before (Err e) more = Err (Refused e)
@@ -168,7 +168,7 @@ abbrev pub placed_before : Result (List ℕ) Misuse → Result Unit (Refusal Fau
 placed_before (Ok comment) more = more
 placed_before (Err m) more = Err (WrongUse m)
 
--- Asking goes on if the public key was read.
+-- Fails if the public key was not read; otherwise the given result decides.
 abbrev pub with_public_key : PublicKeyValue → Result Unit (Refusal Fault) → Result Unit (Refusal Fault)
 with_public_key v more = if is_public_key v then more else Err (WrongUse PublicKeyNotRead)
 
@@ -179,7 +179,8 @@ abbrev pub asked_of : PublicKeyValue → SignatureValue → List ℕ → Bool �
 asked_of v s text legacy room = with_public_key v (placed_before (comment_of s text)
     (judged_before (judge_key v.key_id (signature_of_value s) legacy) (room_for s.comment_len room)))
 
--- Why a state cannot be asked: it was asked before or its digest was returned; or else it is not initialized.
+-- The API misuse if a state cannot be asked: it was asked before or its digest was returned, or else it is
+-- not initialized.
 abbrev pub asking_misuse : State → Misuse
 asking_misuse s = if is_begun s then AlreadyAsked else NotBegun
 
@@ -205,26 +206,26 @@ asking_under s v text legacy room =
     if may_ask s then with_public_key v (asked_under (read_under v legacy text) room) else
     Err (WrongUse (asking_misuse s))
 
--- Why a state gives no verdict: it was not asked or its digest was not returned; or else it is not
--- initialized.
+-- The API misuse if a state gives no verdict: it was not asked or its digest was not returned, or else it is
+-- not initialized.
 abbrev pub verdict_misuse : State → Misuse
 verdict_misuse s = if is_begun s then NotAsked else NotBegun
 
--- The result of a check as the result of a call of this crate.
+-- The result of a check as the result of a call of this crate, whose errors may also be API misuse.
 abbrev pub decision : Result ⊤ Fault → Result Unit (Refusal Fault)
 decision (Ok t) = Ok tt
 decision (Err e) = Err (Refused e)
 
--- The comment signature that the state was asked about has its 64 bytes.
+-- The comment signature that the state was asked about has at least 64 bytes.
 abbrev pub has_asked_whole : State → Bool
 has_asked_whole s = s.asked.whole == 1
 
 -- The verdict from the results of the two checks, and the state after it. If the state was asked and its
 -- digest was returned, the results decide, and the state is finished. Otherwise the call is API misuse, and
 -- the state is unchanged.
-abbrev pub told_verdict : State → Bool → Bool → Result Unit (Refusal Fault) × State
-told_verdict s first second =
-    if is_asked s && (s.mark == told_mark)
+abbrev pub verdict_outcome : State → Bool → Bool → Result Unit (Refusal Fault) × State
+verdict_outcome s first second =
+    if is_asked s && (s.mark == finalized_mark)
     then (decision (judge_answers first (has_asked_whole s && second)), record s { mark = 0 })
     else (Err (WrongUse (verdict_misuse s)), s)
 
@@ -235,12 +236,12 @@ comment_result s second =
     then decision (require (has_asked_whole s && second) CommentSignatureRefused (Ok tt))
     else Err (WrongUse (verdict_misuse s))
 
--- The error is one of the library, and this holds for it.
+-- The error is one of the library and not API misuse, and it has this property.
 abbrev pub IsFaultOf : (Fault → Type 0) → Refusal Fault → Type 0
 IsFaultOf holds (WrongUse m) = ⊥
 IsFaultOf holds (Refused e) = holds e
 
--- Why asking about all data that a state was fed fails: the state accepts no data; or else the key, the
+-- The error of asking about all data that a state was fed: the state accepts no data; or else the key, the
 -- signature, the text or the buffer is rejected as above.
 abbrev pub IsNotFedRefusal : State → Refusal Fault → Type 0
 IsNotFedRefusal s (WrongUse m) = IsNotFed s m
@@ -267,23 +268,23 @@ GivesVerdict accepts pk_text sig_text message legacy r =
     MatchResult r (λ _. TextsVouchFor accepts pk_text sig_text message legacy)
     (IsFaultOf (λ e. verdict accepts pk_text sig_text message legacy ≡ Err e))
 
--- A verdict without the trusted comment, which the caller already has.
+-- The verdict without the trusted comment, which the caller already has.
 abbrev pub given_verdict : Result (List ℕ) Fault → Result Unit (Refusal Fault)
 given_verdict (Ok trusted) = Ok tt
 given_verdict (Err e) = Err (Refused e)
 
--- The state was asked about the key and the signature file, its digest was returned, and the two numbers are
--- the scheme's results of both checks.
+-- The state was asked about the key and the signature file, its digest was returned, and the two numbers say
+-- what the scheme returned for both checks.
 pub record IsAnswered (s : State) (accepts : Verifier) (v : PublicKeyValue) (sig_text message : List ℕ)
     (legacy : Bool)
     (first second : ℕ) : Type 0 where
   pub asked : HasAsked s v sig_text legacy
-  pub told : IsMarkedTold s
+  pub finalized : IsMarkedFinalized s
   pub first_known : IsAnswer first
   pub second_known : IsAnswer second
   pub answers : Answers accepts v sig_text message (first == answer_yes) (second == answer_yes)
 
--- The two numbers are the scheme's results of both checks for the two files.
+-- The two numbers say what the scheme returned for both checks of the two files.
 abbrev pub AnswersTextsBy : Verifier → List ℕ → List ℕ → List ℕ → ℕ → ℕ → Type 0
 AnswersTextsBy accepts pk_text sig_text message first second =
     IsAnswer first × IsAnswer second
@@ -304,13 +305,14 @@ GivesNumber accepts pk_text sig_text message legacy n =
     ⊎ ((0 < n) × (e : Fault) × (n ≡ fault_number e)
     × (verdict accepts pk_text sig_text message legacy ≡ Err e))
 
--- The number must be one of the two results; the other errors come after this one.
+-- The number of the verdict on the comment signature only. First, the result of the check must be one of the
+-- two numbers that mean yes and no.
 abbrev pub comment_number : State → ℕ → ℕ
 comment_number s second =
     if is_answer second then result_number (comment_result s (second == answer_yes)) else
     misuse_number BadAnswer
 
--- The flag must be 0 or 1; the other errors come after this one.
+-- The number of the result of asking. First, the flag that allows legacy signatures must be 0 or 1.
 abbrev pub asking_number : State → PublicKeyValue → SignatureValue → List ℕ → ℕ → ℕ → ℕ
 asking_number s v signature text legacy room =
     if nat_le 2 legacy then misuse_number BadLegacyFlag else result_number
@@ -321,13 +323,13 @@ abbrev pub verdict_number : Result (List ℕ) Fault → ℕ
 verdict_number (Ok trusted) = 0
 verdict_number (Err e) = fault_number e
 
--- The number of the verdict from two numbers, and the state after it. If one of them is not a result, the
--- state is unchanged.
+-- The number of the verdict from the results of the two checks, and the state after it. A result must be one
+-- of the two numbers that mean yes and no; otherwise the state is unchanged.
 abbrev pub numbered : Result Unit (Refusal Fault) × State → ℕ × State
 numbered (r, s) = (result_number r, s)
 
-abbrev pub told_verdict_number : State → ℕ → ℕ → ℕ × State
-told_verdict_number s first second =
+abbrev pub verdict_outcome_number : State → ℕ → ℕ → ℕ × State
+verdict_outcome_number s first second =
     if is_answer first && is_answer second
-    then numbered (told_verdict s (first == answer_yes) (second == answer_yes))
+    then numbered (verdict_outcome s (first == answer_yes) (second == answer_yes))
     else (misuse_number BadAnswer, s)

@@ -1,5 +1,6 @@
--- How the calls for other languages treat weak public keys and signatures, which strict Ed25519 rejects for
--- their bytes: with an error of its own. So they give the verdict of a scheme that also rejects these.
+-- Weak public keys and signatures, which strict Ed25519 rejects for their bytes. The calls for other
+-- languages return an error number of their own for them, so their verdict is that of a scheme that also
+-- rejects weak keys and signatures.
 use Rattle.std.specs.Prelude.{◌≡◌, ◌==◌, ◌&&◌, ◌||◌, not, nat_le, ℕ, Bool, true, false, if◌then◌else◌, List}
 use Rattle.std.specs.Prelude.{take, Result, Ok, Err}
 use Rattle.minisign_base.specs.Fault.{Fault}
@@ -20,23 +21,24 @@ use Rattle.minisign_external.specs.declared.state.Misuse.TheVariants.{BadLegacyF
 use Rattle.minisign_external.specs.declared.state.Refusal.{Refusal}
 use Rattle.minisign_external.specs.declared.state.State.{State}
 
--- A scheme with weak public keys and signatures rejected.
+-- The scheme that also rejects weak public keys and signatures.
 abbrev pub strict : Verifier → Verifier
 strict accepts message key signature = is_strict key signature && accepts message key signature
 
--- Neither the key nor a signature of the file is weak. The comment signature counts if it has its 64 bytes.
+-- Neither the key nor a signature of the file is weak. The comment signature is only tested if it has at
+-- least 64 bytes.
 abbrev pub is_strict_text : PublicKeyValue → SignatureTextRecord → Bool
 is_strict_text v t =
     is_strict v.key t.signature.signature
     && (not (has_whole_signature t.comments) || is_strict_signature (take 64 t.comments.signature))
 
--- The same for a signature in a struct.
+-- Neither the key nor a signature in the struct is weak.
 abbrev pub is_strict_value : PublicKeyValue → SignatureValue → Bool
 is_strict_value v s =
     is_strict v.key s.signature && (not (s.whole == 1) || is_strict_signature s.comment_signature)
 
--- The result of asking: false if the key or a signature is weak, and true if not, unless there is another
--- error.
+-- The result of asking: the error if there is one, otherwise false if the key or a signature is weak, and
+-- true if not.
 abbrev pub asked_strictly : Bool → Result Unit (Refusal Fault) → Result Bool (Refusal Fault)
 asked_strictly is_strict (Ok t) = Ok is_strict
 asked_strictly is_strict (Err r) = Err r
@@ -48,14 +50,15 @@ abbrev pub asked_number : Result Bool (Refusal Fault) → ℕ
 asked_number (Ok is_strict) = if is_strict then 0 else weak_number
 asked_number (Err r) = refusal_number fault_number r
 
--- The flag must be 0 or 1; the other errors come after this one.
+-- The number of the result of asking. First, the flag that allows legacy signatures must be 0 or 1.
 abbrev pub strict_asking_number : State → PublicKeyValue → SignatureValue → List ℕ → ℕ → ℕ → ℕ
 strict_asking_number s v signature text legacy room =
     if nat_le 2 legacy then misuse_number BadLegacyFlag else
     asked_number (asked_strictly (is_strict_value v signature) (asking_result s v signature text (legacy == 1)
     room))
 
--- The number n of a verdict, unless the signature file was parsed and it or the key is weak.
+-- The number n of a verdict; but if the signature file was parsed, and the key or a signature is weak, the
+-- number of that error.
 abbrev pub strict_read : PublicKeyValue → Result SignatureTextRecord Fault → ℕ → ℕ
 strict_read v (Ok t) n = if is_strict_text v t then n else weak_number
 strict_read v (Err e) n = n
@@ -68,7 +71,7 @@ strict_verdict_number accepts v sig_text message legacy =
     strict_read v (read_under v legacy sig_text)
     (verdict_number (verdict_under (strict accepts) v sig_text message legacy))
 
--- Goes on with the public key that was read, or gives the number of the error.
+-- Applies the function to the public key if it was read, otherwise returns the number of the error.
 abbrev pub number_with : Result PublicKeyRecord Fault → (PublicKeyRecord → ℕ) → ℕ
 number_with (Ok k) more = more k
 number_with (Err e) more = fault_number e
@@ -93,7 +96,7 @@ VerifiesStrictly s scheme v message trusted text =
     → SignsStrictly s scheme seed v message trusted
     → verdict_under (strict (s.accepts scheme)) w text message false ≡ Ok trusted
 
--- The same for the key in a record.
+-- `VerifiesStrictly` for the key ID and the secret of a secret key record.
 abbrev pub OwnTextVerifiesStrictly : {S : Type 0} → SchemeOf S → S → SecretKeyRecord → List ℕ → List ℕ
     → List ℕ
     → Type 0

@@ -36,8 +36,8 @@ abbrev pub is_strict_point : List ℕ → Bool
 is_strict_point point =
     nat_lt (y_of point) field_prime && not (list_any (λ y. y_of point == y) small_order_ys)
 
--- The first half of a signature, R, passes this test, and the second half, S, is below the group order
--- (section 5.1.7).
+-- The first half of a signature, R, passes the test of `is_strict_point`, and the second half, S, is below
+-- the group order (section 5.1.7).
 abbrev pub is_strict_signature : List ℕ → Bool
 is_strict_signature signature =
     is_strict_point (take 32 signature) && nat_lt (number_of (drop 32 signature)) group_order

@@ -63,7 +63,7 @@ signature_in bytes =
 abbrev pub bare_mark : ℕ
 bare_mark = 7090752082729134445
 
--- The struct for a bare signature: everything about comments and about a text is 0.
+-- The struct for a bare signature. The fields about comments and about a signature file are 0.
 abbrev pub bare_value : SignatureRecord → SignatureValue
 bare_value s = record {
   mark = bare_mark;
@@ -83,7 +83,7 @@ bare_value s = record {
 abbrev pub read_bare_value : List ℕ → Result SignatureValue Fault
 read_bare_value bytes = map_ok bare_value (signature_in bytes)
 
--- The signature in the struct was read, from a text or from a record.
+-- A signature was read into the struct, from a signature file or from a record.
 abbrev pub has_signature : SignatureValue → Bool
 has_signature s = (s.mark == signature_mark) || (s.mark == bare_mark)
 
@@ -111,22 +111,25 @@ secret_key_record v =
 -- == What the calls return and write ==
 
 -- The result of a call that reads a secret key, and the struct afterwards, which is unchanged after an error.
-abbrev pub told_unopened : Result UnopenedKeyValue Fault → UnopenedKeyValue
+abbrev pub unopened_outcome : Result UnopenedKeyValue Fault → UnopenedKeyValue
     → Result Unit Fault × UnopenedKeyValue
-told_unopened (Ok v) old = (Ok tt, v)
-told_unopened (Err e) old = (Err e, old)
+unopened_outcome (Ok v) old = (Ok tt, v)
+unopened_outcome (Err e) old = (Err e, old)
 
--- The same with a number as the result: 0, or the error number.
-abbrev pub told_unopened_number : Result UnopenedKeyValue Fault → UnopenedKeyValue → ℕ × UnopenedKeyValue
-told_unopened_number (Ok v) old = (0, v)
-told_unopened_number (Err e) old = (fault_number e, old)
+-- The outcome of this call for other languages: 0 or the error number, and the struct or the buffer
+-- afterwards.
+abbrev pub unopened_outcome_number : Result UnopenedKeyValue Fault → UnopenedKeyValue → ℕ × UnopenedKeyValue
+unopened_outcome_number (Ok v) old = (0, v)
+unopened_outcome_number (Err e) old = (fault_number e, old)
 
--- The result of a call that writes a record, and the buffer afterwards, which is unchanged after an error.
-abbrev pub told_record : Result (List ℕ) Misuse → List ℕ → Result Unit Misuse × List ℕ
-told_record (Ok bytes) old = (Ok tt, bytes)
-told_record (Err m) old = (Err m, old)
+-- The result of a call that writes the record of a key or a signature, and the buffer afterwards, which is
+-- unchanged after an error.
+abbrev pub record_outcome : Result (List ℕ) Misuse → List ℕ → Result Unit Misuse × List ℕ
+record_outcome (Ok bytes) old = (Ok tt, bytes)
+record_outcome (Err m) old = (Err m, old)
 
--- The same with a number as the result: 0, or the error number.
-abbrev pub told_record_number : Result (List ℕ) Misuse → List ℕ → ℕ × List ℕ
-told_record_number (Ok bytes) old = (0, bytes)
-told_record_number (Err m) old = (misuse_number m, old)
+-- The outcome of this call for other languages: 0 or the error number, and the struct or the buffer
+-- afterwards.
+abbrev pub record_outcome_number : Result (List ℕ) Misuse → List ℕ → ℕ × List ℕ
+record_outcome_number (Ok bytes) old = (0, bytes)
+record_outcome_number (Err m) old = (misuse_number m, old)

@@ -1,4 +1,5 @@
-//! Asks the two questions and returns the verdict, with the state that a program in another language holds.
+//! Writes the inputs of the two Ed25519 checks and returns the verdict from their results, for the state that
+//! a program in another language holds.
 
 ghost use Rattle.std.specs.Prelude.{◌≡◌, ◌≢◌, ◌<◌, ◌≤◌, ◌+◌, ℕ, Bool, List, Ok, Err, true, OnOk};
 ghost use Rattle.std.specs.Prelude.{OnErr, IfOk, IfErr, MatchResult, ◌++◌, length, drop, take};
@@ -9,11 +10,11 @@ ghost use Rattle.minisign_external.specs.Questions.{Answers, AnswersComment, IsK
 ghost use Rattle.minisign_external.specs.Questions.{comment_verdict_under, read_under, verdict_under};
 ghost use Rattle.minisign_external.specs.Signatures.{IsReadFrom, comment_of};
 ghost use Rattle.minisign_external.specs.States.{AreAsked, AreQuestions, GivesVerdict, HasAsked};
-ghost use Rattle.minisign_external.specs.States.{HasToldDigest, IsAskFedRefusal, IsFedState};
-ghost use Rattle.minisign_external.specs.States.{IsMarkedTold, IsTextRefusal, asked_about, asked_of};
+ghost use Rattle.minisign_external.specs.States.{HasReturnedDigest, IsAskFedRefusal, IsFedState};
+ghost use Rattle.minisign_external.specs.States.{IsMarkedFinalized, IsTextRefusal, asked_about, asked_of};
 ghost use Rattle.minisign_external.specs.States.{asking_misuse, asking_result, asking_under, comment_result};
 ghost use Rattle.minisign_external.specs.States.{given_verdict, is_asked, is_begun};
-ghost use Rattle.minisign_external.specs.States.{questions_about, room_for, told_verdict, verdict_misuse};
+ghost use Rattle.minisign_external.specs.States.{questions_about, room_for, verdict_outcome, verdict_misuse};
 ghost use Rattle.minisign_external.specs.StrictCalls.{asked_strictly, is_strict_text, is_strict_value};
 ghost use Rattle.minisign_external.specs.declared.public_keys.PublicKeyValue.{PublicKeyValue};
 ghost use Rattle.minisign_external.specs.declared.state.Refusal.TheVariants.{WrongUse};
@@ -21,7 +22,7 @@ ghost use Rattle.minisign_external.specs.declared.state.Refusal.TheVariants.{Wro
 use crate::public_keys::PublicKeyValue;
 use crate::signatures::SignatureValue;
 use crate::signed_texts::write_comment_message;
-use crate::state::{ASKED, Asked, FED, Misuse, Questions, Refusal, State, TOLD};
+use crate::state::{ASKED, Asked, FED, FINALIZED, Misuse, Questions, Refusal, State};
 use crate::strict::is_strict_value;
 use crate::verdict::{comment_verdict, verdict};
 use minisign::judge_key;
@@ -73,7 +74,7 @@ impl State {
         // the buffer are unchanged.
         ensures rest { OnOk result
             (drop questions.new.message_len message.new ≡ drop questions.new.message_len message.old) }
-        ensures kept { OnErr result
+        ensures unchanged { OnErr result
             ((self.new ≡ self.old) × (questions.new ≡ questions.old) × (message.new ≡ message.old)) }
     {
         if self.mark != FED || self.is_asked() || self.is_asked_bare() {
@@ -87,7 +88,7 @@ impl State {
 
     /// Asks as `ask` does, but only if neither the key nor a signature is weak (strict Ed25519 rejects its
     /// bytes, whatever the message is). Returns true if it asked, and false if the only problem is that one
-    /// of them is weak. The comment signature counts if it has its 64 bytes. Does not allocate.
+    /// of them is weak. The comment signature is only tested if it has at least 64 bytes. Does not allocate.
     pub fn ask_strictly(
         &mut self,
         key: &PublicKeyValue,
@@ -98,7 +99,8 @@ impl State {
         message: &mut [u8],
     ) -> Result<bool, Refusal>
         // If `ask` would fail, so does this call, with the same error; otherwise the result is true exactly
-        // if neither the key nor a signature is weak. The comment signature counts if it has its 64 bytes.
+        // if neither the key nor a signature is weak. The comment signature is only tested if it has at least
+        // 64 bytes.
         ensures value { result ≡ asked_strictly (is_strict_value key.now signature.now)
             (asking_result self.old key.now signature.now sig_text.now allow_legacy (length message.old)) }
 
@@ -119,7 +121,7 @@ impl State {
         // questions and the buffer are unchanged.
         ensures rest { result ≡ Ok true
             → drop questions.new.message_len message.new ≡ drop questions.new.message_len message.old }
-        ensures kept { result ≢ Ok true
+        ensures unchanged { result ≢ Ok true
             → (self.new ≡ self.old) × (questions.new ≡ questions.old) × (message.new ≡ message.old) }
     {
         if is_strict_value(key, signature) {
@@ -173,8 +175,8 @@ impl State {
             key.now t × HasAsked self.new key.now sig_text.now allow_legacy × (c.now ≡ t.comments.trusted)) }
         ensures digest { OnOk result
             ((m : List ℕ) → IsFedState self.old m → (questions.new.digest ≡ blake2b_digest 64 m)
-            × HasToldDigest self.new m) }
-        ensures told { OnOk result (IsMarkedTold self.new) }
+            × HasReturnedDigest self.new m) }
+        ensures finalized { OnOk result (IsMarkedFinalized self.new) }
 
         // On success, the key and the signature were read, the signature was read from this text, and the
         // key, the signature, the text and the buffer size cause none of the errors of `ask`.
@@ -188,14 +190,14 @@ impl State {
             (IsAskFedRefusal self.old key.now signature.now sig_text.now allow_legacy (length message.old)) }
         ensures texts { (t : SignatureTextRecord) → IsReadFrom signature.now sig_text.now t
             → IfErr result (IsTextRefusal key.now sig_text.now allow_legacy) }
-        ensures kept { OnErr result
+        ensures unchanged { OnErr result
             ((self.new ≡ self.old) × (questions.new ≡ questions.old) × (message.new ≡ message.old)) }
         ensures rest { OnOk result
             (drop questions.new.message_len message.new ≡ drop questions.new.message_len message.old) }
     {
-        let mut told = *self;
+        let mut finalized_state = *self;
         let mut digest = [0u8; 64];
-        told.digest(&mut digest)?;
+        finalized_state.digest(&mut digest)?;
         let comment = self.open_questions(
             key,
             signature,
@@ -205,7 +207,7 @@ impl State {
             message,
         )?;
         questions.digest = digest;
-        self.mark = TOLD;
+        self.mark = FINALIZED;
         Ok(comment)
     }
 
@@ -227,7 +229,7 @@ impl State {
             × (length c.now ≡ signature.now.comment_len) × (64 + length c.now ≤ length message.old)
             × (take (64 + length c.now) message.new ≡ signature.now.signature ++ c.now)) }
         ensures asked { OnOk result (self.new ≡ asked_about self.old signature.now) }
-        ensures kept { OnErr result
+        ensures unchanged { OnErr result
             ((self.new ≡ self.old) × (questions.new ≡ questions.old) × (message.new ≡ message.old)) }
         ensures rest { OnOk result
             (drop questions.new.message_len message.new ≡ drop questions.new.message_len message.old) }
@@ -246,7 +248,7 @@ impl State {
         Ok(comment)
     }
 
-    /// Returns the verdict on the comment signature only: success if it has its 64 bytes and the scheme
+    /// Returns the verdict on the comment signature only: success if it has at least 64 bytes and the scheme
     /// accepts it. It says nothing about any data. It is API misuse if nothing was asked or the state was
     /// finished. Does not allocate.
     pub fn comment_verdict(&self, second: bool) -> Result<(), Refusal>
@@ -258,8 +260,8 @@ impl State {
             self.now ≡ true → result ≡ given_verdict (comment_verdict_under accepts v sig_text legacy) }
 
         // It is API misuse if nothing was asked, or if the state was never initialized or was finished by a
-        // verdict. Otherwise the call succeeds exactly if the comment signature has its 64 bytes and `second`
-        // is true.
+        // verdict. Otherwise the call succeeds exactly if the comment signature has at least 64 bytes and
+        // `second` is true.
         ensures value { result ≡ comment_result self.now second }
     {
         if !self.is_begun() || !self.is_asked() {
@@ -282,22 +284,23 @@ impl State {
         // `second` are the results of the two checks: the result is the verdict on the key, the signature
         // text and the message.
         ensures verdict { (v : PublicKeyValue) (sig message : List ℕ) (legacy : Bool) (accepts : Verifier)
-            → HasAsked self.old v sig legacy → IsMarkedTold self.old → Answers accepts v sig message first
+            → HasAsked self.old v sig legacy → IsMarkedFinalized self.old
+            → Answers accepts v sig message first
             second → result ≡ given_verdict (verdict_under accepts v sig message legacy) }
 
         // So for every public key file that contains this key: the call succeeds exactly if the signature
         // file is a valid signature of the message under that public key. Otherwise the error is the first
         // check that fails.
         ensures texts { (v : PublicKeyValue) (pk sig message : List ℕ) (legacy : Bool) (accepts : Verifier)
-            → HasAsked self.old v sig legacy → IsMarkedTold self.old → IsKeyText pk v
+            → HasAsked self.old v sig legacy → IsMarkedFinalized self.old → IsKeyText pk v
             → Answers accepts v sig message first second → GivesVerdict accepts pk sig message legacy result }
 
         // It is API misuse if nothing was asked or the digest was not returned; then the state is unchanged.
         // Otherwise the state is finished, and the call succeeds exactly if `first` is true, the comment
-        // signature has its 64 bytes and `second` is true.
-        ensures value { (result, self.new) ≡ told_verdict self.old first second }
+        // signature has at least 64 bytes and `second` is true.
+        ensures value { (result, self.new) ≡ verdict_outcome self.old first second }
     {
-        if self.mark != TOLD || !self.is_asked() {
+        if self.mark != FINALIZED || !self.is_asked() {
             return Err(Refusal::WrongUse(self.verdict_misuse()));
         }
         self.mark = 0;
@@ -307,7 +310,8 @@ impl State {
         }
     }
 
-    // Returns why a state cannot be asked: it was asked or its digest was returned, or it is not initialized.
+    // Returns the API misuse if a state cannot be asked: it was asked or its digest was returned, or it is
+    // not initialized.
     pub(crate) fn asking_misuse(&self) -> Misuse
         ensures { result ≡ asking_misuse self.now }
     {
@@ -318,8 +322,8 @@ impl State {
         }
     }
 
-    // Returns why a state gives no verdict: it was not asked or its digest was not returned, or it is not
-    // initialized.
+    // Returns the API misuse if a state gives no verdict: it was not asked or its digest was not returned, or
+    // it is not initialized.
     pub(crate) fn verdict_misuse(&self) -> Misuse
         ensures { result ≡ verdict_misuse self.now }
     {
@@ -348,13 +352,13 @@ fn test_questions(
         return Err(Refusal::WrongUse(misuse));
     }
     match judge_key(&key.key_id, &signature.signature(), allow_legacy) {
-        Ok(()) => test_room(signature.comment_len, room),
+        Ok(()) => test_buffers(signature.comment_len, room),
         Err(fault) => Err(Refusal::Refused(fault)),
     }
 }
 
 // Checks that the buffer is long enough for the message with a trusted comment of this length.
-fn test_room(comment_len: u64, room: usize) -> Result<(), Refusal>
+fn test_buffers(comment_len: u64, room: usize) -> Result<(), Refusal>
     ensures { result ≡ room_for comment_len room }
 {
     if room < 64 || ((room - 64) as u64) < comment_len {

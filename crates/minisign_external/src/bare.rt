@@ -1,19 +1,20 @@
-//! Asks about a bare signature, one without comments, and returns the verdict, with the state that a
-//! program in another language holds. Nothing here allocates.
+//! Writes the inputs of the Ed25519 check for a bare signature, which is one without comments, and returns
+//! the verdict from its result, for the state that a program in another language holds. Nothing here
+//! allocates.
 
 ghost use Rattle.std.specs.Prelude.{◌≡◌, ℕ, Bool, List, Ok, true};
 ghost use Rattle.minisign.specs.Acceptance.{Verifier};
 ghost use Rattle.minisign.specs.Records.{SignatureRecord};
 ghost use Rattle.minisign_external.specs.Bare.{AnswersBare, HasAskedBare, bare_asked_of, bare_asking};
-ghost use Rattle.minisign_external.specs.Bare.{bare_question, bare_verdict_under, told_bare_asking};
-ghost use Rattle.minisign_external.specs.Bare.{told_bare_verdict};
+ghost use Rattle.minisign_external.specs.Bare.{bare_question, bare_verdict_under, bare_asking_outcome};
+ghost use Rattle.minisign_external.specs.Bare.{bare_verdict_outcome};
 ghost use Rattle.minisign_external.specs.Signatures.{signature_of_value};
-ghost use Rattle.minisign_external.specs.States.{IsFedState, IsMarkedTold, decision};
+ghost use Rattle.minisign_external.specs.States.{IsFedState, IsMarkedFinalized, decision};
 ghost use Rattle.minisign_external.specs.declared.public_keys.PublicKeyValue.{PublicKeyValue};
 
 use crate::public_keys::PublicKeyValue;
 use crate::signatures::SignatureValue;
-use crate::state::{Asked, BARE_ASKED, FED, Misuse, Questions, Refusal, State, TOLD};
+use crate::state::{Asked, BARE_ASKED, FED, FINALIZED, Misuse, Questions, Refusal, State};
 use crate::strict::is_strict;
 use crate::verdict::verdict;
 use minisign::judge_key;
@@ -34,10 +35,10 @@ impl State {
         questions: &mut Questions,
     ) -> Result<bool, Refusal>
         // If the result is true, `questions` holds the question about the key and the signature, with zeros
-        // in place of the digest and of everything about a comment, and the state records that it was asked
-        // about a bare signature. Otherwise the state and the questions are unchanged: the result is false
-        // if the key or the signature is weak, and before that the first error that applies.
-        ensures value { (result, self.new, questions.new) ≡ told_bare_asking
+        // in place of the digest and in the fields about a comment, and the state records that it was asked
+        // about a bare signature. Otherwise the state and the questions are unchanged: the result is false if
+        // the key or the signature is weak, and before that the first error that applies.
+        ensures value { (result, self.new, questions.new) ≡ bare_asking_outcome
             (bare_asking self.old key.now signature.now allow_legacy) key.now signature.now self.old
             questions.old }
 
@@ -73,16 +74,16 @@ impl State {
         // `first` is the result of the check: the result is the verdict on the key, the bare signature and
         // the message.
         ensures verdict { (v : PublicKeyValue) (s : SignatureRecord) (message : List ℕ) (legacy : Bool)
-            (accepts : Verifier) → HasAskedBare self.old v s legacy → IsMarkedTold self.old
+            (accepts : Verifier) → HasAskedBare self.old v s legacy → IsMarkedFinalized self.old
             → AnswersBare accepts v s message first
             → result ≡ decision (bare_verdict_under accepts v s message legacy) }
 
         // It is API misuse if the state was not asked about a bare signature or the digest was not
         // returned; then the state is unchanged. Otherwise the state is finished, and the call succeeds
         // exactly if `first` is true.
-        ensures value { (result, self.new) ≡ told_bare_verdict self.old first }
+        ensures value { (result, self.new) ≡ bare_verdict_outcome self.old first }
     {
-        if self.mark != TOLD || !self.is_asked_bare() {
+        if self.mark != FINALIZED || !self.is_asked_bare() {
             return Err(Refusal::WrongUse(self.verdict_misuse()));
         }
         self.mark = 0;

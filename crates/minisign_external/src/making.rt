@@ -30,7 +30,7 @@ use std::alloc::Global;
 // Minisign does not read all of a comment that has this many bytes or more.
 const COMMENT_BYTES: usize = 1004;
 
-// How much longer a secret key file and a public key file are than their comments.
+// The number of bytes by which a secret key file, and a public key file, are longer than their comments.
 const SECRET_KEY_BYTES: usize = 233;
 
 const PUBLIC_KEY_BYTES: usize = 77;
@@ -71,7 +71,7 @@ pub fn write_secret_key(
     // of memory. After an error the buffer is unchanged.
     ensures refused { IfErr result
         (IsMakingRefusal key.now (option_copied password.entry) sealing.now comment.now to.old) }
-    ensures kept { OnErr result (to.new ≡ to.old) }
+    ensures unchanged { OnErr result (to.new ≡ to.old) }
 {
     if !key.is_opened() {
         return Err(Refusal::WrongUse(Misuse::KeyNotOpened));
@@ -116,7 +116,7 @@ fn write_made(
     ensures rest { IfOk result (λ len. drop len to.new ≡ drop len to.old) }
     ensures refused { IfErr result
         (IsMadeRefusal (option_copied password.entry) sealing.now comment.now to.old) }
-    ensures kept { OnErr result (to.new ≡ to.old) }
+    ensures unchanged { OnErr result (to.new ≡ to.old) }
 {
     test_writable(comment.as_bytes(), SECRET_KEY_BYTES, to)?;
     let k = keep_every.max(1);
@@ -146,7 +146,7 @@ pub fn write_public_key(
     // The errors are those of `write_secret_key` that do not concern a password, in the same order. After an
     // error the buffer is unchanged.
     ensures refused { IfErr result (IsPublicKeyRefusal key.now comment.now to.old) }
-    ensures kept { OnErr result (to.new ≡ to.old) }
+    ensures unchanged { OnErr result (to.new ≡ to.old) }
 {
     if !key.is_opened() {
         return Err(Refusal::WrongUse(Misuse::KeyNotOpened));
@@ -184,7 +184,7 @@ pub fn encode_public_key(
     // buffer is unchanged.
     ensures refused { IfErr result
         (IsEncodingRefusal (is_public_key key.now) PublicKeyNotRead 77 comment.now to.old) }
-    ensures kept { OnErr result (to.new ≡ to.old) }
+    ensures unchanged { OnErr result (to.new ≡ to.old) }
 {
     if !key.is_public_key() {
         return Err(Refusal::WrongUse(Misuse::PublicKeyNotRead));
@@ -264,7 +264,7 @@ pub fn encode_unopened_key(
     // feed; Minisign does not read all of it; the buffer is too short; out of memory. After an error the
     // buffer is unchanged.
     ensures refused { IfErr result (IsEncodingRefusal (is_read key.now) KeyNotRead 233 comment.now to.old) }
-    ensures kept { OnErr result (to.new ≡ to.old) }
+    ensures unchanged { OnErr result (to.new ≡ to.old) }
 {
     if !key.is_read() {
         return Err(Refusal::WrongUse(Misuse::KeyNotRead));

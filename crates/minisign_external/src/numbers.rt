@@ -9,11 +9,11 @@ ghost use Rattle.minisign_external.specs.Numbers.{misuse_number, misuse_text, re
 use crate::state::{Misuse, Refusal};
 use minisign_base::{ErrorKind, NamedFault, PError};
 
-/// The number of the answer yes of a signature scheme: the letters `yes`, each a byte. It is neither
-/// 0 nor 1, nor the number of an error.
+/// The number by which a caller passes the result of a check by its signature scheme if the signature is
+/// valid: the letters `yes`, one byte each. It is neither 0 nor 1, nor an error number.
 pub const ANSWER_YES: u32 = 7955827;
 
-/// The number of the answer no: the letters `no`, each a byte.
+/// The number for a signature that is not valid: the letters `no`, one byte each.
 pub const ANSWER_NO: u32 = 28271;
 
 /// Returns true if the number is `ANSWER_YES` or `ANSWER_NO`.
@@ -96,8 +96,7 @@ impl Misuse {
         Misuse::EntryNotRead,
     ];
 
-    /// Returns the error number of the API misuse, which the table gives: 1 to 6, 9 to 15, 61 to 63, or 82 to
-    /// 88.
+    /// Returns the error number of the API misuse: 1 to 6, 9 to 15, 61 to 63, or 82 to 88.
     pub fn number(&self) -> u32
         ensures { result ≡ misuse_number self.now }
     {

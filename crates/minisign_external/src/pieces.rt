@@ -96,7 +96,7 @@ pub fn sign_pieces<S: Scheme>(
     // these comments and this buffer. After an error the buffer is unchanged.
     ensures refused { IfErr result (IsOwnRefusal S.Scheme scheme.now key.now
         (comments_of trusted.now untrusted.now) (joined pieces.now) to.old) }
-    ensures kept { OnErr result (to.new ≡ to.old) }
+    ensures unchanged { OnErr result (to.new ≡ to.old) }
 {
     let public_key = public_half(key)?;
     let digest = digest_of(pieces)?;
@@ -131,7 +131,7 @@ pub fn sign_pieces_by_text<S: Scheme>(
     ensures refused { IfErr result (IsTextSigningRefusal S.Scheme scheme.now key_text.now.text.now
         (option_copied key_text.now.password) key_text.now.most_rows
         (comments_of trusted.now untrusted.now) (joined pieces.now) to.old) }
-    ensures kept { OnErr result (to.new ≡ to.old) }
+    ensures unchanged { OnErr result (to.new ≡ to.old) }
     ensures rest { IfOk result (λ len. drop len to.new ≡ drop len to.old) }
 {
     match key_text.open(alloc) {
@@ -168,9 +168,9 @@ fn verify_read<S: Scheme>(
 }
 
 // Returns the public key of an open key.
-#[tactic(auto, using(crate::proofs::PublicHalves::told_half, crate::proofs::PublicHalves::untold_half))]
+#[tactic(auto, using(crate::proofs::PublicHalves::half_of_success, crate::proofs::PublicHalves::half_of_error))]
 fn public_half(key: &SecretKeyValue) -> Result<PublicKeyValue, Misuse>
-    ensures told { IfOk result (λ w. (is_opened key.now ≡ true) × (public_value_of key.now ≡ Ok w)
+    ensures success { IfOk result (λ w. (is_opened key.now ≡ true) × (public_value_of key.now ≡ Ok w)
         × (w.key_id ≡ key.now.key_id)) }
     ensures refused { IfErr result (λ m. (m ≡ KeyNotOpened) × (is_opened key.now ≡ false)) }
 {
@@ -254,7 +254,7 @@ fn sign_both<S: Scheme>(
 pub fn answers_decide()
     // If the application asks its scheme the two questions, with the digest of a message in the first, then
     // the scheme's results are the results of the two checks for the key, the signature text and that
-    // message, which `State::verdict` needs.
+    // message. The promise of `State::verdict` needs this.
     ensures given { (accepts : Verifier) (v : PublicKeyValue) (text message room digest : List ℕ)
         (t : SignatureTextRecord) (q : Questions) → read_under v false text ≡ Ok t → AreAsked q room v t
         → digest ≡ blake2b_digest 64 message → (first second : Bool) → first ≡ accepts digest q.public_key

@@ -2,7 +2,7 @@
 
 ghost use Rattle.std.specs.Prelude.{◌≡◌};
 ghost use Rattle.minisign.specs.KeyTexts.{read_bare_public_key, read_public_key};
-ghost use Rattle.minisign_external.specs.PublicKeys.{is_public_key, read_utf8, told_key};
+ghost use Rattle.minisign_external.specs.PublicKeys.{is_public_key, read_utf8, key_outcome};
 
 use minisign::{PublicKey, Result, read_bare_public_key, read_public_key};
 use minisign_base::NamedFault;
@@ -36,26 +36,26 @@ impl PublicKeyValue {
 ///
 /// The errors are, in this order: the text is not UTF-8; those of `minisign::read_public_key`. After an error
 /// the value is unchanged.
-pub fn tell_public_key(text: &[u8], value: &mut PublicKeyValue) -> Result<()>
+pub fn store_public_key(text: &[u8], value: &mut PublicKeyValue) -> Result<()>
     // On success, `value` holds the key and the key ID of the public key file, and is marked as read. The
     // file must be UTF-8. Otherwise, or if it does not parse, the error is the first check that fails, and
     // `value` is unchanged.
-    ensures { (result, value.new) ≡ told_key (read_utf8 read_public_key text.now) value.old }
+    ensures { (result, value.new) ≡ key_outcome (read_utf8 read_public_key text.now) value.old }
 {
-    tell(read(text), value)
+    store_key(read(text), value)
 }
 
 /// Reads the base64 of a public key, 56 bytes, into a value.
 ///
 /// The errors are, in this order: the text is not UTF-8; those of `minisign::read_bare_public_key`. After an
 /// error the value is unchanged.
-pub fn tell_bare_public_key(text: &[u8], value: &mut PublicKeyValue) -> Result<()>
+pub fn store_bare_public_key(text: &[u8], value: &mut PublicKeyValue) -> Result<()>
     // On success, `value` holds the key and the key ID of the base64 text, and is marked as read. The text
     // must be UTF-8. Otherwise, or if it does not parse, the error is the first check that fails, and `value`
     // is unchanged.
-    ensures { (result, value.new) ≡ told_key (read_utf8 read_bare_public_key text.now) value.old }
+    ensures { (result, value.new) ≡ key_outcome (read_utf8 read_bare_public_key text.now) value.old }
 {
-    tell(read_bare(text), value)
+    store_key(read_bare(text), value)
 }
 
 // Parses a public key file of two lines.
@@ -79,8 +79,8 @@ fn read_bare(text: &[u8]) -> Result<PublicKey>
 }
 
 // Stores a key that was read.
-fn tell(read: Result<PublicKey>, value: &mut PublicKeyValue) -> Result<()>
-    ensures { (result, value.new) ≡ told_key read value.old }
+fn store_key(read: Result<PublicKey>, value: &mut PublicKeyValue) -> Result<()>
+    ensures { (result, value.new) ≡ key_outcome read value.old }
 {
     match read {
         Ok(pk) => {

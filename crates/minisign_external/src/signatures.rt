@@ -1,15 +1,15 @@
-//! A signature that was read once from its file. It has everything that asking needs except the trusted
-//! comment, which stays in the file. Nothing here allocates.
+//! A signature that was read once from its file. It has all that `State::ask` needs except the trusted
+//! comment, which it does not copy from the file. Nothing here allocates.
 
 ghost use Rattle.std.specs.Prelude.{◌≡◌, ◌+◌, ◌≤◌, Bool, Ok, Err, false, true, IfOk, IfErr, MatchOption};
 ghost use Rattle.std.specs.Prelude.{MatchResult, if◌then◌else◌, bytes_eq, nat_le, length, take, drop};
 ghost use Rattle.std.specs.Str.{IsUtf8};
 ghost use Rattle.minisign_hash.specs.Blake2b.{blake2b_digest};
-ghost use Rattle.minisign.specs.SignatureText.{StandsAt, SignatureTextRecord, first_64, read_signature};
+ghost use Rattle.minisign.specs.SignatureText.{IsAtOffset, SignatureTextRecord, first_64, read_signature};
 ghost use Rattle.minisign.specs.SignatureText.{view_of};
 ghost use Rattle.minisign.specs.Records.{CommentsRecord, is_prehashed};
 ghost use Rattle.minisign.specs.Texts.{map_ok};
-ghost use Rattle.minisign_external.specs.Questions.{has_whole_signature, told_signature};
+ghost use Rattle.minisign_external.specs.Questions.{has_whole_signature, comment_signature_or_zeros};
 ghost use Rattle.minisign_external.specs.Signatures.{IsReadFrom, comment_bytes, comment_of, is_text_of};
 ghost use Rattle.minisign_external.specs.Signatures.{read_signature_value, signature_of_value};
 ghost use Rattle.minisign_external.specs.Signatures.{signature_value};
@@ -27,8 +27,8 @@ use minisign_hash::blake2b::Blake2b;
 // The mark of a signature that was read: the letters `minisigv`.
 pub(crate) const READ: u64 = 8531903963487693165;
 
-/// A signature as its file contains it, 200 bytes with the layout of C. The mark and the digest are for
-/// `State::ask`; the other fields inform the caller too.
+/// A signature as its file contains it, 200 bytes with the layout of C. The mark and the digest are only for
+/// `State::ask`; callers may also read the other fields.
 #[repr(C)]
 #[derive(Clone, Copy)]
 pub struct SignatureValue {
@@ -48,7 +48,7 @@ pub struct SignatureValue {
     pub text_digest: [u8; 32],
     /// The algorithm: `ED`, or `Ed` if `legacy` is 1.
     pub algorithm: [u8; 2],
-    /// 1 if the signature is a legacy one, of the data itself, otherwise 0.
+    /// 1 if the signature is a legacy one, which signs the data itself, otherwise 0.
     pub legacy: u8,
     /// 1 if the file has 64 bytes of the comment signature, otherwise 0.
     pub whole: u8,
@@ -84,7 +84,7 @@ impl SignatureValue {
     fn read_text(text: &str) -> Result<SignatureValue>
         ensures value { result ≡ map_ok (signature_value text.now) (read_signature text.now) }
         ensures read { IfOk result (λ s. (t : SignatureTextRecord) × (read_signature text.now ≡ Ok t)
-            × StandsAt t.comments.trusted text.now s.comment_offset × IsUtf8 t.comments.trusted
+            × IsAtOffset t.comments.trusted text.now s.comment_offset × IsUtf8 t.comments.trusted
             × (64 + length t.comments.trusted ≤ length text.now)) }
     {
         match read_signature(text) {
@@ -97,10 +97,10 @@ impl SignatureValue {
     fn of_view(text: &str, view: &SignatureView<'_>) -> SignatureValue
         ensures { (t : SignatureTextRecord) → read_signature text.now ≡ Ok t → view.now ≡ view_of t
             → (result ≡ signature_value text.now t)
-            × StandsAt t.comments.trusted text.now result.comment_offset }
+            × IsAtOffset t.comments.trusted text.now result.comment_offset }
     {
         let signature = view.signature();
-        let (comment_signature, whole) = told_comment_signature(view);
+        let (comment_signature, whole) = comment_signature_and_flag(view);
         let (comment_offset, comment_len) = trusted_comment_place(text);
         SignatureValue {
             mark: READ,
@@ -190,7 +190,7 @@ fn digest_of(text: &[u8]) -> [u8; 32]
     digest
 }
 
-// Returns 1 if the signature is a legacy one, of the data itself, otherwise 0.
+// Returns 1 if the signature is a legacy one, which signs the data itself, otherwise 0.
 fn legacy_number(view: &SignatureView<'_>) -> u8
     ensures { result ≡ (if is_prehashed view.now.signature then 0 else 1) }
 {
@@ -198,9 +198,9 @@ fn legacy_number(view: &SignatureView<'_>) -> u8
 }
 
 // Returns the comment signature and 1, or 64 zeros and 0 if it has fewer than 64 bytes.
-fn told_comment_signature(view: &SignatureView<'_>) -> ([u8; 64], u8)
+fn comment_signature_and_flag(view: &SignatureView<'_>) -> ([u8; 64], u8)
     ensures { (c : CommentsRecord) → view.now.comment_signature ≡ first_64 c.signature
-        → (result.0 ≡ told_signature c) × (result.1 ≡ (if has_whole_signature c then 1 else 0)) }
+        → (result.0 ≡ comment_signature_or_zeros c) × (result.1 ≡ (if has_whole_signature c then 1 else 0)) }
 {
     match view.comment_signature() {
         Some(signature) => (signature, 1),

@@ -48,7 +48,7 @@ pub fn signed_text(
     ensures refused { IfErr result (λ r. ((r ≡ Refused (Named OutOfMemory)) × AreChosenReadBack
         (comments_of trusted.now untrusted.now) × AreReadByMinisign (comments_of trusted.now untrusted.now))
         ⊎ ((m : Misuse) × (r ≡ WrongUse m) × IsCommentMisuse (comments_of trusted.now untrusted.now) m)) }
-    ensures kept { OnOk result (AreChosenReadBack (comments_of trusted.now untrusted.now)
+    ensures read_back { OnOk result (AreChosenReadBack (comments_of trusted.now untrusted.now)
         × AreReadByMinisign (comments_of trusted.now untrusted.now)) }
 {
     test_comments(trusted, untrusted)?;
@@ -77,7 +77,7 @@ pub fn write_signed_text(
     // `signed_text`; the buffer is too short. After an error the buffer is unchanged.
     ensures refused { IfErr result
         (IsWritingRefusal key.now (comments_of trusted.now untrusted.now) first.now second.now to.old) }
-    ensures kept { OnErr result (to.new ≡ to.old) }
+    ensures unchanged { OnErr result (to.new ≡ to.old) }
 {
     if !key.is_public_key() {
         return Err(Refusal::WrongUse(Misuse::PublicKeyNotRead));
@@ -141,7 +141,7 @@ fn test_comments(trusted: &str, untrusted: &str) -> Result<(), Misuse>
         × AreReadByMinisign (comments_of trusted.now untrusted.now))
         (IsCommentMisuse (comments_of trusted.now untrusted.now)) }
 {
-    if !are_kept(trusted, untrusted) {
+    if !are_read_back(trusted, untrusted) {
         return Err(Misuse::BadComment);
     }
     if !are_read_by_minisign(trusted.as_bytes(), untrusted.as_bytes()) {
@@ -164,8 +164,8 @@ fn are_read_by_minisign(trusted: &[u8], untrusted: &[u8]) -> bool
 }
 
 // Returns true if this library reads the comments back unchanged.
-fn are_kept(trusted: &str, untrusted: &str) -> bool
-    ensures kept { result ≡ true → AreChosenReadBack (comments_of trusted.now untrusted.now) }
+fn are_read_back(trusted: &str, untrusted: &str) -> bool
+    ensures read_back { result ≡ true → AreChosenReadBack (comments_of trusted.now untrusted.now) }
     ensures unkept { result ≡ false → ¬ (AreChosenReadBack (comments_of trusted.now untrusted.now)) }
 {
     !trusted.as_bytes().contains(&10)

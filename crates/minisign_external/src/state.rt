@@ -1,12 +1,14 @@
-//! A state of fixed size, which a program in another language holds to verify or sign one file. It is asked
-//! about a key and a signature, is fed the data in pieces, and returns the digest and the verdict.
+//! The state of verifying or signing one file, a struct of fixed size for programs in other languages. To
+//! verify, the program asks about a key and a signature, feeds the data in pieces, finalizes the digest,
+//! makes the two Ed25519 checks itself, and passes in their results for the verdict. To sign, it feeds the
+//! data and finalizes the digest.
 
 ghost use Rattle.std.specs.Prelude.{◌≡◌, ◌++◌, ℕ, List, [], false, Ok, OnOk, IfOk, IfErr, MatchResult};
 ghost use Rattle.std.specs.Prelude.{length};
 ghost use Rattle.minisign_hash.specs.Blake2b.{blake2b_digest};
 ghost use Rattle.minisign_hash.specs.Fed.{IsFed, has_finalized, output_length};
-ghost use Rattle.minisign_external.specs.States.{HasToldDigest, IsBlank, IsFedState, IsMarkedFed};
-ghost use Rattle.minisign_external.specs.States.{IsMarkedTold, IsNotFed, KeepsAsked, fed_mark, is_asked};
+ghost use Rattle.minisign_external.specs.States.{HasReturnedDigest, IsBlank, IsFedState, IsMarkedFed};
+ghost use Rattle.minisign_external.specs.States.{IsMarkedFinalized, IsNotFed, KeepsAsked, fed_mark, is_asked};
 ghost use Rattle.minisign_external.specs.States.{is_asked_bare};
 ghost use Rattle.minisign_external.specs.States.{is_begun, no_questions};
 ghost use Rattle.minisign_external.specs.declared.state.Refusal.TheVariants.{Refused, WrongUse};
@@ -15,18 +17,18 @@ use minisign_base::PError;
 use minisign_hash::blake2b::Blake2b;
 use minisign_hash::blake2b::stored::StoredBlake2b;
 
-// The marks of a state that accepts data (the letters `minisign`), of one whose digest was returned
-// (`minissum`), of questions that were asked (`minisask`), and of the question about a bare signature
-// (`minisbar`).
+// The marks (magic numbers), as eight letters in little endian: `FED`, `minisign`: the state accepts data.
+// `FINALIZED`, `minissum`: its digest was returned. `ASKED`, `minisask`: it was asked about a signature file.
+// `BARE_ASKED`, `minisbar`: it was asked about a bare signature.
 pub(crate) const FED: u64 = 7955443211184269677;
 
-pub(crate) const TOLD: u64 = 7887337261936568685;
+pub(crate) const FINALIZED: u64 = 7887337261936568685;
 
 pub(crate) const ASKED: u64 = 7742639332697991533;
 
 pub(crate) const BARE_ASKED: u64 = 8241977040894323053;
 
-/// A state, 512 bytes with the layout of C.
+/// The state of verifying or signing one file, 512 bytes with the layout of C.
 #[repr(C)]
 #[derive(Clone, Copy)]
 pub struct State {
@@ -36,18 +38,18 @@ pub struct State {
     reserved: [u64; 18],
 }
 
-// What was asked. All of it is written when the questions are asked; before that it is the default, zeros.
+// The questions in a state. They are written when they are asked; before that they are the default, zeros.
 #[repr(C)]
 #[derive(Clone, Copy, Default)]
 pub(crate) struct Asked {
-    // `ASKED` if the questions were asked, `BARE_ASKED` if the one about a bare signature was, otherwise
-    // anything else.
+    // `ASKED` after asking about a signature file, `BARE_ASKED` after asking about a bare signature,
+    // otherwise any other value.
     pub(crate) mark: u64,
-    // 1 if the comment signature has its 64 bytes, otherwise 0.
+    // 1 if the comment signature has at least 64 bytes, otherwise 0.
     pub(crate) whole: u64,
 }
 
-/// The two questions that the caller must ask its Ed25519, with the layout of C.
+/// The inputs of the two Ed25519 checks that the caller must make, with the layout of C.
 #[repr(C)]
 #[derive(Clone, Copy)]
 pub struct Questions {
@@ -65,9 +67,9 @@ pub struct Questions {
     pub comment_offset: u64,
     /// The length of the trusted comment in bytes.
     pub comment_len: u64,
-    /// 1 if the signature is a legacy one, of the data itself, otherwise 0.
+    /// 1 if the signature is a legacy one, which signs the data itself, otherwise 0.
     pub legacy: u32,
-    /// Reserved.
+    /// Reserved, 0.
     pub reserved: u32,
 }
 
@@ -94,7 +96,8 @@ pub enum Misuse {
     /// Minisign would not read a comment back, because it is too long, or contains a zero byte or a
     /// carriage return.
     UnreadableComment,
-    /// The installation expects a different call now, or this call cannot fail with this error.
+    /// The installation expects a different call now, or no operation can fail with the error that was
+    /// reported.
     NotDue,
     /// An option of an installation other than `numbering` is neither 0 nor 1.
     BadOption,
@@ -105,7 +108,8 @@ pub enum Misuse {
     KeyNotOpened,
     /// No secret key was read into the struct.
     KeyNotRead,
-    /// No signature was read into the struct, or it is a bare signature and the call needs comments.
+    /// No signature was read into the struct, or only a bare signature, which lacks the comments that the
+    /// call needs.
     SignatureNotRead,
     /// The signature was read from a different signature file than the one that was passed with it.
     OtherSignatureText,
@@ -125,7 +129,8 @@ pub enum Misuse {
     EntryNotRead,
 }
 
-/// Why a call failed: API misuse, or an error, usually one of the library.
+/// The error of a call: API misuse, or an error of type `F`, which is `PError` unless a crate has errors of
+/// its own.
 #[derive(Debug, Drop)]
 pub enum Refusal<F = PError> {
     /// API misuse.
@@ -153,7 +158,7 @@ impl<F> From<Misuse> for Refusal<F> {
 }
 
 impl Questions {
-    /// Returns questions that hold nothing, for a call that asks to overwrite. Does not allocate.
+    /// Returns questions with all fields 0, which a call that asks overwrites. Does not allocate.
     pub fn none() -> Questions
         // All fields of the result are 0.
         ensures { result ≡ no_questions }
@@ -187,8 +192,8 @@ impl State {
         }
     }
 
-    /// Feeds the next bytes of the data. Fails if the state was never initialized or was finished, or if its
-    /// digest was already returned; then the state is unchanged. Does not allocate.
+    /// Feeds the next bytes of the data. Fails if the state was never initialized, was finished by a verdict,
+    /// or its digest was already returned. Then the state is unchanged. Does not allocate.
     pub fn update(&mut self, piece: &[u8]) -> Result<(), Misuse>
         // On success, the piece is appended to the data that the state was fed. What was asked is unchanged.
         // The call fails only if the digest was already returned, or if the state was never initialized or
@@ -206,25 +211,25 @@ impl State {
         Ok(())
     }
 
-    /// Writes the 64-byte digest of the data that the state was fed. The state then accepts no more data.
-    /// Fails as `update` does; then the state and `digest` are unchanged.
+    /// Writes the 64-byte digest of the data that the state was fed. The state then accepts no more data. The
+    /// errors are those of `update`. After an error, the state and `digest` are unchanged.
     pub fn digest(&mut self, digest: &mut [u8; 64]) -> Result<(), Misuse>
         // On success, the digest is the Blake2b digest (64 bytes) of all data that the state was fed, and the
         // state accepts no more data. What was asked is unchanged. The call fails only if the digest was
         // already returned, or if the state was never initialized or was finished by a verdict. Then the
         // state and the digest are unchanged.
         ensures digest { (m : List ℕ) → IsFedState self.old m
-            → MatchResult result (λ _. (digest.new ≡ blake2b_digest 64 m) × HasToldDigest self.new m)
+            → MatchResult result (λ _. (digest.new ≡ blake2b_digest 64 m) × HasReturnedDigest self.new m)
             (λ _. ⊥) }
         ensures asked { KeepsAsked self.old self.new }
-        ensures told { OnOk result (IsMarkedFed self.old × IsMarkedTold self.new) }
+        ensures finalized { OnOk result (IsMarkedFed self.old × IsMarkedFinalized self.new) }
         ensures rest { OnOk result (self.new ≡ record self.old { mark = self.new.mark }) }
         ensures refused { IfErr result
             (λ e. IsNotFed self.old e × (self.new ≡ self.old) × (digest.new ≡ digest.old)) }
     {
         let mut hasher = self.hasher()?;
         hasher.finalize(digest);
-        self.mark = TOLD;
+        self.mark = FINALIZED;
         Ok(())
     }
 
@@ -232,7 +237,7 @@ impl State {
     pub(crate) fn is_begun(&self) -> bool
         ensures { result ≡ is_begun self.now }
     {
-        self.mark == FED || self.mark == TOLD
+        self.mark == FED || self.mark == FINALIZED
     }
 
     // Returns true if questions were asked.
@@ -257,7 +262,7 @@ impl State {
         ensures mark { OnOk result (self.now.mark ≡ fed_mark) }
         ensures refused { IfErr result (IsNotFed self.now) }
     {
-        if self.mark == TOLD {
+        if self.mark == FINALIZED {
             return Err(Misuse::AlreadyAsked);
         }
         if self.mark != FED {

@@ -24,11 +24,11 @@ ghost use Rattle.minisign_external.specs.SecretKeys.{DerivesWithin, IsOpeningRef
 ghost use Rattle.minisign_external.specs.SecretKeys.{OpensAs, is_enough, is_read, lacks_checksum};
 ghost use Rattle.minisign_external.specs.SecretKeys.{makes_within};
 ghost use Rattle.minisign_external.specs.SecretKeys.{open_record, open_unsealed, open_within};
-ghost use Rattle.minisign_external.specs.SecretKeys.{opened_in_place, opened_or_kept, opened_sealed};
+ghost use Rattle.minisign_external.specs.SecretKeys.{opened_in_place, opened_or_unchanged, opened_sealed};
 ghost use Rattle.minisign_external.specs.SecretKeys.{opened_text, opened_unsealed, read_value, taken_key};
 ghost use Rattle.minisign_external.specs.SecretKeys.{sealed_within, tested_sealed};
 ghost use Rattle.minisign_external.specs.SecretKeys.{unopened_record, value_memory, with_refusal};
-ghost use Rattle.minisign_external.specs.ValueRecords.{told_unopened, unopened_in};
+ghost use Rattle.minisign_external.specs.ValueRecords.{unopened_outcome, unopened_in};
 
 use crate::secrets::SecretKeyValue;
 use crate::state::{Misuse, Refusal};
@@ -70,7 +70,8 @@ pub struct UnopenedKeyValue {
     /// The base-2 logarithm of the number of 1 KiB rows that opening needs, at most 20; 0 if the key is not
     /// encrypted or its limits are rejected.
     pub log2_rows: u8,
-    /// How many times all rows are computed; 0 if the key is not encrypted or its limits are rejected.
+    /// The number of times that scrypt computes all rows, or 0 if the key is not encrypted or its limits are
+    /// rejected.
     pub work: u32,
     /// Reserved.
     pub reserved: u32,
@@ -85,7 +86,7 @@ pub struct KeyText<'a> {
     pub password: Option<&'a [u8]>,
     /// k, if only every k-th row of scrypt is kept in memory; 0 and 1 keep them all.
     pub keep_every: u64,
-    /// How many rows scrypt may compute in all.
+    /// The greatest number of rows that scrypt may compute in total.
     pub most_rows: u64,
 }
 
@@ -164,7 +165,7 @@ impl UnopenedKeyValue {
     fn of_bytes(bytes: [u8; 158]) -> UnopenedKeyValue
         ensures { result ≡ read_value bytes }
     {
-        let (is_sealed, log2_rows, work) = told_of(&bytes);
+        let (is_sealed, log2_rows, work) = summary_of_record(&bytes);
         UnopenedKeyValue {
             mark: READ,
             bytes,
@@ -191,18 +192,18 @@ pub(crate) fn key_of(bytes: &[u8; 158]) -> Result<SecretKey>
 }
 
 // Returns 1 if the key in these bytes needs a password, otherwise 0, and the work of opening it.
-fn told_of(bytes: &[u8; 158]) -> (u8, u8, u32)
+fn summary_of_record(bytes: &[u8; 158]) -> (u8, u8, u32)
     ensures sealed { result.0 ≡ (if wants_password (secret_key_of_bytes bytes.now) then 1 else 0) }
     ensures work { (result.1, result.2) ≡ opening_work (secret_key_of_bytes bytes.now) }
 {
     match key_of(bytes) {
-        Ok(key) => told_by(&key),
+        Ok(key) => summary_of_key(&key),
         Err(_fault) => (0, 0, 0),
     }
 }
 
 // Returns 1 if the key needs a password, otherwise 0, and the work of opening it.
-fn told_by(key: &SecretKey) -> (u8, u8, u32)
+fn summary_of_key(key: &SecretKey) -> (u8, u8, u32)
     ensures sealed { result.0 ≡ (if wants_password key.now then 1 else 0) }
     ensures work { (result.1, result.2) ≡ opening_work key.now }
 {
@@ -222,12 +223,12 @@ pub fn read_unopened_key(sk_text: &[u8], value: &mut UnopenedKeyValue) -> Result
     // The call succeeds exactly if the text is UTF-8 and a well-formed secret key file. Otherwise the error
     // is the first check that fails, and `value` is unchanged.
     ensures result { result ≡ without_value (read_utf8 read_secret_key sk_text.now) }
-    ensures kept { OnErr result (value.new ≡ value.old) }
+    ensures unchanged { OnErr result (value.new ≡ value.old) }
 
     // On success, `value` holds the key of the file and says how much work opening it takes. Opening `value`
     // gives the same result as opening the file, for every password and every bound on the work.
     ensures read { OnOk result (read_utf8 read_secret_key sk_text.now ≡ Ok (unopened_record value.new)) }
-    ensures told { OnOk result (value.new ≡ read_value value.new.bytes) }
+    ensures success { OnOk result (value.new ≡ read_value value.new.bytes) }
     ensures opens { OnOk result (OpensAs value.new sk_text.now) }
 {
     match read(sk_text) {
@@ -247,7 +248,7 @@ pub fn read_unopened_key(sk_text: &[u8], value: &mut UnopenedKeyValue) -> Result
 pub fn read_unopened_record(record_bytes: &[u8], value: &mut UnopenedKeyValue) -> Result<()>
     // On success, `value` holds the first 158 bytes and says how much work opening the key takes. If there
     // are fewer bytes, the error is `RecordTooShort`, and `value` is unchanged.
-    ensures { (result, value.new) ≡ told_unopened (unopened_in record_bytes.now) value.old }
+    ensures { (result, value.new) ≡ unopened_outcome (unopened_in record_bytes.now) value.old }
 {
     if record_bytes.len() < 158 {
         return Err(NamedFault::RecordTooShort.into());
@@ -352,7 +353,7 @@ pub fn open_unsealed_key(
     // The call succeeds exactly if the key was read, is not encrypted, and has a checksum that matches or is
     // 32 zeros. On success, `value` holds the key and is marked as open. Otherwise the error is the first
     // check that fails, and `value` is unchanged.
-    ensures { (result, value.new) ≡ opened_or_kept (opened_unsealed unopened.now) value.old }
+    ensures { (result, value.new) ≡ opened_or_unchanged (opened_unsealed unopened.now) value.old }
 {
     if unopened.is_read() {
         take_opened(open_unsealed(unopened), value)
@@ -381,12 +382,13 @@ pub fn open_sealed_key(
     most_rows: u64,
     value: &mut SecretKeyValue,
 ) -> std::result::Result<(), Refusal>
-    // On success, the key was read, the password decrypts it within `most_rows`, and `value` holds the
-    // decrypted key and is marked as open. Otherwise the error is the first check that fails or, once a key
-    // is derived from the password, possibly out of memory; and `value` is unchanged. Apart from out of
+    // On success, the key was read, the password decrypts it with at most `most_rows` rows, and `value` holds
+    // the decrypted key and is marked as open. Otherwise the error is the first check that fails or, once a
+    // key is derived from the password, possibly out of memory; and `value` is unchanged. Apart from out of
     // memory, the result does not depend on `keep_every`.
-    ensures { ((result, value.new) ≡ opened_or_kept (opened_sealed unopened.now password.now most_rows)
-        value.old) ⊎ (((result, value.new) ≡ opened_or_kept (Err (Refused (Named OutOfMemory))) value.old)
+    ensures { ((result, value.new) ≡ opened_or_unchanged (opened_sealed unopened.now password.now most_rows)
+        value.old) ⊎ (((result, value.new) ≡ opened_or_unchanged (Err (Refused (Named OutOfMemory)))
+        value.old)
         × DerivesWithin unopened.now password.now most_rows) }
 {
     if unopened.is_read() {
@@ -464,17 +466,17 @@ pub fn open_sealed_key_in_place(
     value: &mut SecretKeyValue,
 ) -> std::result::Result<(), Refusal>
     // The call succeeds exactly if the key was read, the memory is sufficient, and the password decrypts the
-    // key within `most_rows`. Then `value` holds the decrypted key and is marked as open. Otherwise the error
-    // is the first check that fails, never out of memory, and `value` is unchanged. What the memory held
-    // before makes no difference.
-    ensures opened { (result, value.new) ≡ opened_or_kept (opened_in_place unopened.now password.now
+    // key with at most `most_rows` rows. Then `value` holds the decrypted key and is marked as open.
+    // Otherwise the error is the first check that fails, never out of memory, and `value` is unchanged. What
+    // the memory held before makes no difference.
+    ensures opened { (result, value.new) ≡ opened_or_unchanged (opened_in_place unopened.now password.now
         keep_every most_rows (length words.old) (length bytes.old)) value.old }
 
     // The memory is filled with zeros when the call returns, also after an error.
     ensures words_cleared { words.new ≡ replicate (length words.old) 0 }
     ensures bytes_cleared { bytes.new ≡ replicate (length bytes.old) 0 }
 {
-    if let Err(misuse) = test_room(unopened, keep_every, most_rows, words, bytes) {
+    if let Err(misuse) = test_buffers(unopened, keep_every, most_rows, words, bytes) {
         clear_memory(words, bytes);
         return Err(Refusal::WrongUse(misuse));
     }
@@ -483,7 +485,7 @@ pub fn open_sealed_key_in_place(
 }
 
 // Checks that the key was read and that the memory is sufficient to open it in place.
-fn test_room(
+fn test_buffers(
     unopened: &UnopenedKeyValue,
     keep_every: u64,
     most_rows: u64,
@@ -501,8 +503,8 @@ fn test_room(
     if !is_read {
         return Err(Misuse::KeyNotRead);
     }
-    let (wanted_words, wanted_bytes) = memory_to_open(unopened, keep_every, most_rows);
-    if wanted_words <= words.len() as u64 && wanted_bytes <= bytes.len() as u64 {
+    let (words_needed, bytes_needed) = memory_to_open(unopened, keep_every, most_rows);
+    if words_needed <= words.len() as u64 && bytes_needed <= bytes.len() as u64 {
         Ok(())
     } else {
         Err(Misuse::NoRoom)
@@ -514,7 +516,7 @@ fn take_opened(
     opened: Result<SecretKey>,
     value: &mut SecretKeyValue,
 ) -> std::result::Result<(), Refusal>
-    ensures { (result, value.new) ≡ opened_or_kept (with_refusal opened) value.old }
+    ensures { (result, value.new) ≡ opened_or_unchanged (with_refusal opened) value.old }
 {
     match opened {
         Ok(key) => {

@@ -4,10 +4,10 @@
 ghost use Rattle.std.specs.Prelude.{◌≡◌, ◌+◌, ◌++◌, length, replicate, if◌then◌else◌, Ok};
 ghost use Rattle.minisign.specs.Records.{is_prehashed};
 ghost use Rattle.minisign.specs.Texts.{map_ok};
-ghost use Rattle.minisign_external.specs.PublicKeys.{told_key};
+ghost use Rattle.minisign_external.specs.PublicKeys.{key_outcome};
 ghost use Rattle.minisign_external.specs.ValueRecords.{bare_value, has_signature, public_key_in};
 ghost use Rattle.minisign_external.specs.ValueRecords.{public_key_record, read_bare_value, secret_key_record};
-ghost use Rattle.minisign_external.specs.ValueRecords.{signature_in, signature_record, told_record};
+ghost use Rattle.minisign_external.specs.ValueRecords.{signature_in, signature_record, record_outcome};
 ghost use Rattle.minisign_external.specs.ValueRecords.{unsealed_algorithms};
 
 use crate::public_keys::{PUBLIC, PublicKeyValue};
@@ -36,7 +36,7 @@ const UNSEALED_ALGORITHMS: [u8; 6] = [69, 100, 0, 0, 66, 50];
 pub fn read_public_key_record(bytes: &[u8], value: &mut PublicKeyValue) -> Result<()>
     // On success, `value` holds the key and the key ID in the first 42 bytes, and is marked as read. If there
     // are fewer bytes, the error is `RecordTooShort`, and `value` is unchanged.
-    ensures { (result, value.new) ≡ told_key (public_key_in bytes.now) value.old }
+    ensures { (result, value.new) ≡ key_outcome (public_key_in bytes.now) value.old }
 {
     if bytes.len() < 42 {
         return Err(NamedFault::RecordTooShort.into());
@@ -60,7 +60,7 @@ pub fn write_public_key_record(
 ) -> std::result::Result<(), Misuse>
     // If the public key was read, the record is its 42 bytes, with the algorithm `Ed`. Otherwise the error is
     // `PublicKeyNotRead`, and the record is unchanged.
-    ensures { (result, bytes.new) ≡ told_record (public_key_record value.now) bytes.old }
+    ensures { (result, bytes.new) ≡ record_outcome (public_key_record value.now) bytes.old }
 {
     if !value.is_public_key() {
         return Err(Misuse::PublicKeyNotRead);
@@ -79,7 +79,7 @@ pub fn write_secret_key_record(
 ) -> std::result::Result<(), Misuse>
     // If the key is open, the record is the 158 bytes of the unencrypted secret key with its key ID and its
     // 64 secret bytes. Otherwise the error is `KeyNotOpened`, and the record is unchanged.
-    ensures { (result, bytes.new) ≡ told_record (secret_key_record value.now) bytes.old }
+    ensures { (result, bytes.new) ≡ record_outcome (secret_key_record value.now) bytes.old }
 {
     if !value.is_opened() {
         return Err(Misuse::KeyNotOpened);
@@ -158,7 +158,7 @@ impl SignatureValue {
     pub fn write_record(&self, bytes: &mut [u8; 74]) -> std::result::Result<(), Misuse>
         // If the signature was read, the record is its 74 bytes. Otherwise the error is `SignatureNotRead`,
         // and the record is unchanged.
-        ensures { (result, bytes.new) ≡ told_record (signature_record self.now) bytes.old }
+        ensures { (result, bytes.new) ≡ record_outcome (signature_record self.now) bytes.old }
     {
         if !self.has_signature() {
             return Err(Misuse::SignatureNotRead);
@@ -189,7 +189,7 @@ fn signature_in(bytes: &[u8]) -> Result<Signature>
     })
 }
 
-// Returns 1 if the signature is a legacy one, of the data itself, otherwise 0.
+// Returns 1 if the signature is a legacy one, which signs the data itself, otherwise 0.
 fn legacy_number(signature: &Signature) -> u8
     ensures { result ≡ (if is_prehashed signature.now then 0 else 1) }
 {

@@ -8,8 +8,8 @@ ghost use Rattle.minisign.specs.Texts.{require};
 use minisign_base::{NamedFault, Result};
 
 /// Returns the verdict that follows from the results of the two Ed25519 checks: success exactly if both are
-/// true and `whole` is true. `whole` says that the comment signature has its 64 bytes, so that the second
-/// check could be made.
+/// true and `whole` is true. `whole` says that the comment signature has at least 64 bytes, so that the
+/// second check could be made.
 ///
 /// The errors are, in this order: `SignatureRefused`, if `first` is false; `CommentSignatureRefused`, if the
 /// comment signature is too short or `second` is false. Does not allocate.

@@ -1,8 +1,9 @@
 //! Key A, which the tests use, and the values that belong to it.
 //!
-//! Key A is the toy scheme's pair of a seed of 32 zeros: its key bytes are 32 times `5a`. The toy's
-//! signature with random bytes of zeros is 32 zeros, and then the public key xored with the folded
-//! message. The values here were computed this way from digests of Python's hashlib.
+//! Key A is the toy scheme's pair of a seed of 32 zeros: its key bytes are 32 times `5a`. A
+//! signature of the toy scheme with random bytes of zeros is 32 zeros, and then the public key
+//! xored with the folded message. The values here were computed this way from digests of Python's
+//! hashlib.
 
 /// The key ID of key A.
 pub const KEY_ID: [u8; 8] = [1, 2, 3, 4, 5, 6, 7, 8];

@@ -1,5 +1,5 @@
-//! Code that the tests and the program of the comparison share: key A and its texts, devices that
-//! fail, and files. It has no tests of its own.
+//! Code that the tests and `minisign_compare` share: key A with its encoded keys and signatures,
+//! devices that fail, and files. It has no tests of its own.
 
 #![tactic(auto)]
 

@@ -1,4 +1,4 @@
-//! Outcomes of calls, and comparisons of bytes and texts.
+//! Compares the results of calls with expected outcomes, bytes and texts.
 
 use minisign_base::errors::Result;
 use minisign_base::faults::NamedFault;
@@ -6,7 +6,7 @@ use std::alloc::Global;
 use std::fmt;
 use std::fmt::Write;
 
-/// The outcome of a call, without its value.
+/// The outcome of a call: success, without the value, or the error.
 #[derive(Clone, Copy, Debug, PartialEq, Eq)]
 pub enum Outcome {
     /// The call succeeds.
@@ -15,9 +15,9 @@ pub enum Outcome {
     Refused(NamedFault),
 }
 
-/// Returns true if the result is as expected: any value, or exactly this error with its key IDs. An
-/// error with a kind and text of the caller's own never matches.
-pub fn comes_to<T>(answer: &Result<T>, expected: Outcome) -> bool {
+/// Returns true if the result has this outcome: any value for `Accepted`, or exactly this error,
+/// including its key IDs. An error that a caller made from a kind and a text never matches.
+pub fn matches_outcome<T>(answer: &Result<T>, expected: Outcome) -> bool {
     match answer {
         Ok(_) => expected == Outcome::Accepted,
         Err(fault) => match fault.named() {
@@ -27,13 +27,13 @@ pub fn comes_to<T>(answer: &Result<T>, expected: Outcome) -> bool {
     }
 }
 
-/// Does the same with a result that is not used any more.
-pub fn ends_in<T: Drop>(answer: Result<T>, expected: Outcome) -> bool {
-    comes_to(&answer, expected)
+/// Returns true if the result has this outcome, as `matches_outcome` does, and drops the result.
+pub fn is_outcome<T: Drop>(answer: Result<T>, expected: Outcome) -> bool {
+    matches_outcome(&answer, expected)
 }
 
-/// Returns true if the check was made and holds.
-pub fn is_so(answer: Result<bool>) -> bool {
+/// Returns the result of a check, or false if the check returned an error.
+pub fn check_holds(answer: Result<bool>) -> bool {
     match answer {
         Ok(right) => right,
         Err(_) => false,
@@ -47,15 +47,17 @@ fn is_right_or_out_of_memory(answer: &Result<bool>) -> bool {
     }
 }
 
-/// Returns true if the check was made and holds, or an allocation failed.
-pub fn is_so_or_out_of_memory(answer: Result<bool>) -> bool {
+/// Returns the result of a check. If it returned an error, returns true if the error is out of
+/// memory.
+pub fn check_holds_or_out_of_memory(answer: Result<bool>) -> bool {
     is_right_or_out_of_memory(&answer)
 }
 
-/// Returns true also if a sink could not grow, so that writing failed.
-pub fn is_so_or_unwritten(answer: Result<bool>) -> bool {
+/// As `check_holds_or_out_of_memory`, but also returns true for `WritingFailed`, which a sink returns if
+/// it cannot grow.
+pub fn check_holds_or_unwritten(answer: Result<bool>) -> bool {
     is_right_or_out_of_memory(&answer)
-        || comes_to(&answer, Outcome::Refused(NamedFault::WritingFailed))
+        || matches_outcome(&answer, Outcome::Refused(NamedFault::WritingFailed))
 }
 
 /// Returns true if the call returned these bytes.
@@ -88,7 +90,7 @@ pub fn front(bytes: &[u8], len: usize) -> &[u8] {
     &bytes[..len.min(bytes.len())]
 }
 
-/// Returns bytes that count up from 0.
+/// Returns 200 bytes: 0, 1, 2 and so on.
 pub fn counted() -> [u8; 200] {
     let mut bytes = [0u8; 200];
     for i in 0..200 {

@@ -1,6 +1,6 @@
-//! Prompts over slices and buffers, and passwords that are given.
+//! Prompts that read typed lines from a slice, and passwords that a test passes.
 
-use crate::devices::sources::OneByOne;
+use crate::devices::sources::OneBytePerRead;
 use minisign_base::devices::sinks::VecSink;
 use minisign_base::devices::sources::Source;
 use minisign_base::errors::Result;
@@ -8,12 +8,12 @@ use minisign_base::prompt::Prompt;
 use std::alloc::Global;
 
 /// Returns a prompt with this input, one byte for each read.
-pub fn typed<'a>(alloc: Global, bytes: &'a [u8]) -> Prompt<OneByOne<'a>, VecSink> {
-    Prompt::new(OneByOne::new(bytes), VecSink::new(alloc))
+pub fn typed<'a>(alloc: Global, bytes: &'a [u8]) -> Prompt<OneBytePerRead<'a>, VecSink> {
+    Prompt::new(OneBytePerRead::new(bytes), VecSink::new(alloc))
 }
 
 /// Returns the given password, if there is one.
-pub fn handed(alloc: Global, password: Option<&str>) -> Result<Option<String>> {
+pub fn password_copy(alloc: Global, password: Option<&str>) -> Result<Option<String>> {
     match password {
         Some(password) => Ok(Some(String::from_str(alloc, password)?)),
         None => Ok(None),

@@ -1,15 +1,15 @@
-//! The texts of key A, of its signatures, of encrypted keys, and of the pair from random bytes that
-//! count up from 0.
+//! Key files and signature files as texts: of key A, of encrypted keys, and of the pair that is generated
+//! from the random bytes 0, 1, 2 and so on.
 //!
 //! The base64 is from Python's base64 module. Encrypted bytes were xored with scrypt output of
 //! Python's hashlib. Key A is encrypted with the salt whose bytes count up from 0x20, by
 //! `tests/library/sealed_keys.py`.
 
-/// Key A's public text: 114 bytes, 57 of them in the first line.
+/// Key A's public key file: 114 bytes, 57 of them in the first line.
 pub const KEY_TEXT: &str =
     "untrusted comment: minisign public key: 0807060504030201\nRWQBAgMEBQYHCFpaWlpaWlpaWlpaWlpaWlpaWlpaWlpaWlpaWlpaWlpa\n";
 
-/// Key A's secret text, not encrypted: 259 bytes, 46 of them in the first line.
+/// Key A's secret key file, not encrypted: 259 bytes, 46 of them in the first line.
 pub const SECRET_TEXT: &str =
     "untrusted comment: rsign encrypted secret key\nRWQAAEIyAAAAAAAAAAAAAAAAAAAAAAAAAAAAAAAAAAAAAAAAAAAAAAAAAAAAAAAAAAAAAAAAAQIDBAUGBwgAAAAAAAAAAAAAAAAAAAAAAAAAAAAAAAAAAAAAAAAAAFpaWlpaWlpaWlpaWlpaWlpaWlpaWlpaWlpaWlpaWlpazoeDdHm2Hr/pRluKO3DYzP11U/WDPdZWSdZKEnx6ifg=\n";
 
@@ -32,21 +32,21 @@ pub const SEALED_AS_USUAL: &str =
 pub const SEALED_AS_MINISIGN: &str =
     "c\nRWRTY0IyICEiIyQlJicoKSorLC0uLzAxMjM0NTY3ODk6Ozw9Pj8AAAACAAAAAAAAAEAAAAAAfNjz++TIKpp4IyGrjJGmCSx73rDg3YioSercimsbLYSEmCVnqNXlkhOlMnO28DQkrhqE6TPG4CHMRLKTyPTH/aM8cigR6hHlyOu2QlHuGt7c7Ymi2nZ4nmOlTg5ZxOkXvKWEU0RI3L4=\n";
 
-/// The text of a signature of `abc` under key A, with the comments `c` and `t`: 230 bytes.
+/// The signature file of `abc` under key A, with the comments `c` and `t`: 230 bytes.
 pub const SIGNATURE_TEXT: &str =
     "untrusted comment: c\nRUQBAgMEBQYHCAAAAAAAAAAAAAAAAAAAAAAAAAAAAAAAAAAAAAAAAAAAnV06XOjtbnryLxgygHtgJg6o/+bp8Qy3qGtn2FWlYag=\ntrusted comment: t\nAAAAAAAAAAAAAAAAAAAAAAAAAAAAAAAAAAAAAAAAAACzB2AGsrc0IKh1QmjaITp8VPKlvLOrVu3yMT2CD/878g==\n";
 
-/// The text of a legacy signature of `abc` under key A, with the comments `c` and `t`.
+/// The legacy signature file of `abc` under key A, with the comments `c` and `t`.
 pub const LEGACY_TEXT: &str =
     "untrusted comment: c\nRWQBAgMEBQYHCAAAAAAAAAAAAAAAAAAAAAAAAAAAAAAAAAAAAAAAAAAAOzg5WlpaWlpaWlpaWlpaWlpaWlpaWlpaWlpaWlpaWlo=\ntrusted comment: t\nAAAAAAAAAAAAAAAAAAAAAAAAAAAAAAAAAAAAAAAAAAAVYmMAAAAAAAAAAAAAAAAAAAAAAAAAAAAAAAAAAAAAAA==\n";
 
-/// The status lines for these texts: 60 bytes.
+/// The status lines after verifying these signatures: 60 bytes.
 pub const SAID: &[u8] = b"Signature and comment signature verified\nTrusted comment: t\n";
 
-/// The public text of the pair from random bytes that count up from 0: 114 bytes.
+/// The public key file of the pair from the random bytes 0, 1, 2 and so on: 114 bytes.
 pub const COUNTED_PUBLIC_TEXT: &str =
     "untrusted comment: minisign public key: 2726252423222120\nRWQgISIjJCUmJ1pbWFleX1xdUlNQUVZXVFVKS0hJTk9MTUJDQEFGR0RF\n";
 
-/// The secret text of this pair, encrypted under the empty password.
+/// The secret key file of this pair, encrypted with the empty password.
 pub const COUNTED_SEALED_UNDER_NOTHING: &str =
     "untrusted comment: rsign encrypted secret key\nRWRTY0IyKCkqKywtLi8wMTIzNDU2Nzg5Ojs8PT4/QEFCQ0RFRkcAABAAAAAAAAAAAAIAAAAAIoT8yd+PcQfH6lwE1U7O9qfndmpt7swxBoez0bsWiknOfDOOpFGbhjh5qsz72GDfpXvgyyaj1ApsXB8h6ndwyMLnkT37fS678tPzO+d7NuqTnl9nkchMiqeXIS9wInpMPH1nK9B1duY=\n";

@@ -91,7 +91,7 @@ held_taken n g count k b used m i s none len whole ec ek eg =
       counted = omega (arith, ec, ek, whole);
     }
 
--- What is left after whole blocks is the last block.
+-- The bytes after the whole blocks are the last block.
 pub last_taken : (n : ℕ) (h m blocks last : List ℕ) (i k : ℕ) → drop (128 * i) m ≡ blocks ++ last
     → length m ≡ 128 * i + length (blocks ++ last)
     → length blocks % 128 ≡ 0 → length last ≤ 128 → (0 < length m → 0 < length last)

@@ -29,7 +29,7 @@ count_covers n k some =
 
 pub some_kept : (n k : ℕ) → 1 ≤ k → 1 ≤ n → 0 < div_ceil n k
 some_kept n k some rows = elim (cases_lt 0 (div_ceil n k)) [
-  | inl kept ↦ kept
+  | inl kept_rows_now ↦ kept_rows_now
   | inr none ↦
       let zero_is : div_ceil n k ≡ 0 = omega arith in
       let above : n ≤ k * div_ceil n k = count_covers n k some in
@@ -42,7 +42,7 @@ last_before n k some rows =
     let c : ℕ = div_ceil n k in
     let turned : k * c ≡ c * k = mul_comm k c in
     let below : c * k < n + k = (div_ceil_times n k (omega arith)).1 in
-    let kept : 0 < c = some_kept n k some rows in
+    let kept_rows_now : 0 < c = some_kept n k some rows in
     let one : c ≡ suc (c - 1) = omega arith in
     let next : k * c ≡ k * (c - 1) + k = ap (λ (m : ℕ). k * m) one ∙ mul-suc k (c - 1) in
     omega arith
@@ -85,15 +85,16 @@ pub rom_mix_from-kept_rows : (r n k : ℕ) (b : List ℕ) → 1 ≤ k → 1 ≤ 
 unfolding rom_mix_from rom_mix
 rom_mix_from-kept_rows r n k b some rows =
     let c : ℕ = div_ceil n k in
-    let kept : List (List ℕ) = kept_rows r n k b in
-    let last : length kept - 1 ≡ c - 1 = ap (λ (m : ℕ). m - 1) (length-kept_rows r n k b) in
+    let kept_rows_now : List (List ℕ) = kept_rows r n k b in
+    let last : length kept_rows_now - 1 ≡ c - 1 = ap (λ (m : ℕ). m - 1) (length-kept_rows r n k b) in
     let before : k * (c - 1) < n = last_before n k some rows in
     let some_row : 0 < c = some_kept n k some rows in
     let within : c - 1 < c = omega arith in
     let up : k * (c - 1) + (n - k * (c - 1)) ≡ n = omega arith in
-    let start : row_at r (get_or kept (length kept - 1) []) (n - k * (length kept - 1)) ≡ row_at r b n =
-    ap (λ (m : ℕ). row_at r (get_or kept m []) (n - k * m)) last
+    let start : row_at r (get_or kept_rows_now (length kept_rows_now - 1) []) (n - k *
+    (length kept_rows_now - 1)) ≡ row_at r b n =
+    ap (λ (m : ℕ). row_at r (get_or kept_rows_now m []) (n - k * m)) last
     ∙ ap (λ (l : List ℕ). row_at r l (n - k * (c - 1))) (kept_row r n k b (c - 1) within)
     ∙ row_at-add r b (k * (c - 1)) (n - k * (c - 1)) ∙ ap (row_at r b) up in
-    mixed_part_same r n (remade_row r k kept) (row_at r b) _ n (omega arith) (remade r n k b some)
+    mixed_part_same r n (remade_row r k kept_rows_now) (row_at r b) _ n (omega arith) (remade r n k b some)
     ∙ ap (λ (l : List ℕ). mixed_part r n (row_at r b) l n) start

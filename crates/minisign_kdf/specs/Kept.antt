@@ -11,8 +11,8 @@ use Rattle.minisign_kdf.specs.Scrypt.{mixed_part, row_at}
 abbrev pub integerify : ℕ → List ℕ → ℕ
 integerify r x = number_l 256 (block 64 x (2 * r - 1))
 
--- The kept rows as contracts see them: r is the block size, n is N, and the rows V_0, V_k, V_2k, ..
--- are bytes in the order of the RFC.
+-- The model of the kept rows: r is the block size, n is N, and the rows V_0, V_k, V_2k, .. are bytes in the
+-- order of the RFC.
 pub record KeptRows : Type 0 where
   pub r : ℕ
   pub n : ℕ

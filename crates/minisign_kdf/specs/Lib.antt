@@ -7,5 +7,5 @@ pub mod Diagonal
 pub mod Scrypt
 pub mod Kept
 pub mod Params
-pub mod Room
+pub mod Memory
 pub mod Faults

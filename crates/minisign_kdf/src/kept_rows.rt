@@ -1,5 +1,5 @@
-//! Every k-th row of scryptROMix (RFC 7914, section 5), kept in one vector of words. The words of each
-//! block are in diagonal order.
+//! The table of scryptROMix (RFC 7914, section 5) with only every k-th row, in one vector of words. The words
+//! of each block are in diagonal order, which `specs/Diagonal.antt` defines.
 
 ghost use Rattle.std.specs.Prelude.{◌≡◌, ℕ, ◌+◌, ◌*◌, ◌%◌, ◌/◌, ◌^◌, ◌<◌, ◌≤◌, IfErr, IfOk, OnOk, length};
 ghost use Rattle.std.specs.Prelude.{vec_capacity, vec_len};
@@ -12,7 +12,7 @@ ghost use Rattle.minisign_kdf.specs.Scrypt.{row_at};
 use crate::block_mix::mix_times;
 use crate::errors::KdfError;
 use crate::order::load_part;
-use crate::row_rooms::RowRoom;
+use crate::row_memory::RowMemory;
 use std::alloc::{AllocError, Global};
 use std::marker::Model;
 
@@ -55,7 +55,7 @@ impl Rows {
         requires whole { length block.now % 128 ≡ 0 }
         requires even { 1 ≤ n_log2 }
         requires cost { n_log2 < 64 }
-        requires kept { 1 ≤ k }
+        requires k_positive { 1 ≤ k }
 
         // On success, the kept rows are exactly the rows V_0, V_k, V_2k, .. of the block with numbers below
         // N.
@@ -67,7 +67,7 @@ impl Rows {
         ensures refused { IfErr result (λ e. e ≡ KdfError.OutOfMemory) }
     {
         let r = block.len() / 128;
-        let mut words = room_for_rows(alloc, r, n_log2, k)?;
+        let mut words = memory_for_rows(alloc, r, n_log2, k)?;
         let mut work = zeros(alloc, 64 * r)?;
         keep_rows(block, n_log2, k, &mut words, &mut work);
         Ok(Rows {
@@ -90,7 +90,7 @@ impl Rows {
     /// Returns the words of the kept rows, 32 * r for each, read from bytes lowest byte first. The sixteen
     /// words of each block are in diagonal order: index q holds word 5 * q mod 16. Does not allocate.
     pub fn words(&self) -> &[u32]
-        // The result is the words of all kept rows, those of each block in diagonal order.
+        // The result is the words of all kept rows. In each block, index q holds word 5 * q mod 16.
         ensures rows { rows_of self.now.r (div_ceil self.now.n self.now.k) result.now
             ≡ self.now.rows }
         ensures len { length result.now ≡ 32 * self.now.r * div_ceil self.now.n self.now.k }
@@ -100,7 +100,7 @@ impl Rows {
 }
 
 // Allocates memory for the kept rows and no more, in one request.
-pub(crate) fn room_for_rows(
+pub(crate) fn memory_for_rows(
     alloc: Global,
     r: usize,
     n_log2: u8,
@@ -108,7 +108,7 @@ pub(crate) fn room_for_rows(
 ) -> Result<Vec<u32>, KdfError>
     requires small { 32 * r < 2 ^ 64 }
     requires cost { n_log2 < 64 }
-    requires kept { 1 ≤ k }
+    requires k_positive { 1 ≤ k }
     ensures room { IfOk result (λ v. vec_capacity v ≡ 32 * r * div_ceil (2 ^ n_log2) k) }
     ensures fits { OnOk result (128 * r * div_ceil (2 ^ n_log2) k < 2 ^ 63) }
     ensures refused { IfErr result (λ e. e ≡ KdfError.OutOfMemory) }
@@ -138,7 +138,7 @@ pub(crate) fn zeros(alloc: Global, len: usize) -> Result<Vec<u32>, AllocError>
 }
 
 // Computes the kept rows of a block. The previous contents of `rows` and `work` are ignored.
-pub(crate) fn keep_rows<S: RowRoom>(
+pub(crate) fn keep_rows<S: RowMemory>(
     block: &[u8],
     n_log2: u8,
     k: u64,
@@ -148,7 +148,7 @@ pub(crate) fn keep_rows<S: RowRoom>(
     requires some { 0 < length block.now }
     requires whole { length block.now % 128 ≡ 0 }
     requires cost { n_log2 < 64 }
-    requires kept { 1 ≤ k }
+    requires k_positive { 1 ≤ k }
     requires room { 32 * (length block.now / 128) * div_ceil (2 ^ n_log2) k ≤ S.room rows.old }
     requires work_len { 2 * length block.now ≤ 4 * length work.old }
     ensures len { length (S.words rows.new)
@@ -168,7 +168,7 @@ pub(crate) fn keep_rows<S: RowRoom>(
 // Returns the number of kept rows: N / k, rounded up.
 pub(crate) fn kept_count(n_log2: u8, k: u64) -> usize
     requires cost { n_log2 < 64 }
-    requires kept { 1 ≤ k }
+    requires k_positive { 1 ≤ k }
     ensures { result ≡ div_ceil (2 ^ n_log2) k }
 {
     row_count(n_log2).div_ceil(k as usize)
@@ -184,7 +184,7 @@ pub(crate) fn row_count(n_log2: u8) -> usize
 
 // Computes `count` kept rows: `x`, and each further one by mixing the one before it k times. The
 // previous contents of `rows` and `work` are ignored. Afterwards `x` holds the last row.
-fn fill_rows<S: RowRoom>(
+fn fill_rows<S: RowMemory>(
     r: usize,
     count: usize,
     k: usize,
@@ -194,7 +194,7 @@ fn fill_rows<S: RowRoom>(
 )
     requires some { 1 ≤ r }
     requires count { 1 ≤ count }
-    requires kept { 1 ≤ k }
+    requires k_positive { 1 ≤ k }
     requires room { 32 * r * count ≤ S.room rows.old }
     requires x_len { length x.old ≡ 32 * r }
     requires work_len { length work.old ≡ 32 * r }

@@ -5,15 +5,15 @@ ghost use Rattle.std.specs.Prelude.{if◌then◌else◌, is_ok, length, replicat
 ghost use Rattle.std.specs.Int.{div_ceil};
 ghost use Rattle.minisign_kdf.specs.Blocks.{block, joined_lists};
 ghost use Rattle.minisign_kdf.specs.Pbkdf2.{longest_key};
-ghost use Rattle.minisign_kdf.specs.Room.{wanted_bytes, wanted_words};
+ghost use Rattle.minisign_kdf.specs.Memory.{bytes_needed, words_needed};
 ghost use Rattle.minisign_kdf.specs.Scrypt.{is_key_length, rom_mix, scrypt};
 
 use crate::errors::{InvalidOutputLen, KdfError};
-use crate::kept_rows::{keep_rows, room_for_rows, rows_in, zeros};
+use crate::kept_rows::{keep_rows, memory_for_rows, rows_in, zeros};
 use crate::params::Params;
 use crate::pbkdf2::pbkdf2_once;
 use crate::rom_mix::mix_kept;
-use crate::row_rooms::{Passed, RowRoom};
+use crate::row_memory::{Passed, RowMemory};
 use std::alloc::{AllocError, Global};
 
 // The greatest length of a derived key: 2^32 - 1 blocks of 32 bytes.
@@ -30,7 +30,7 @@ struct Buffers {
 impl Buffers {
     // Allocates all three buffers, first the one for the rows.
     fn new(alloc: Global, params: &Params, k: u64) -> Result<Buffers, KdfError>
-        requires kept { 1 ≤ k }
+        requires k_positive { 1 ≤ k }
         ensures room { IfOk result
             (λ b. vec_capacity b.rows ≡ 32 * params.now.r * div_ceil (2 ^ params.now.n_log2) k) }
         ensures work { IfOk result (λ b. vec_len b.work ≡ 96 * params.now.r) }
@@ -41,7 +41,7 @@ impl Buffers {
     {
         let r = params.r() as usize;
         let p = params.p() as usize;
-        let rows = room_for_rows(alloc, r, params.n_log2(), k)?;
+        let rows = memory_for_rows(alloc, r, params.n_log2(), k)?;
         let work = zeros(alloc, 96 * r)?;
         let parts = bytes(alloc, 128 * r * p)?;
         Ok(Buffers { rows, work, parts })
@@ -115,10 +115,11 @@ pub fn scrypt_keeping(
     k: u64,
     out: &mut [u8],
 ) -> Result<u64, KdfError>
-    requires kept { 1 ≤ k }
+    requires k_positive { 1 ≤ k }
 
-    // On success, for every k from 1 on, `out` holds the scrypt output of RFC 7914 for the password, the
-    // salt, the parameters and its length, which is from 1 to 137438953440 bytes. It does not depend on k.
+    // On success, for every k of at least 1, `out` holds the scrypt output of RFC 7914 for the password,
+    // the salt, the parameters and its length, which is from 1 to 137438953440 bytes. It does not depend on
+    // k.
     ensures fits { OnOk result (IsTrue (is_key_length (length out.old))) }
     ensures derived { OnOk result
         (out.new ≡ scrypt password.now salt.now (2 ^ params.now.n_log2) params.now.r params.now.p
@@ -151,8 +152,8 @@ pub fn scrypt_keeping(
 /// Derives the same key as `scrypt_keeping` in memory that the caller provides, with only every
 /// k-th row of a part kept, k at least 1. Does not allocate, so it cannot fail.
 ///
-/// `words` must have at least the length that `Params::wanted_words` returns, and `bytes` the length that
-/// `Params::wanted_bytes` returns. Their previous contents are ignored, and both are all zeros afterwards.
+/// `words` must have at least the length that `Params::words_needed` returns, and `bytes` the length that
+/// `Params::bytes_needed` returns. Their previous contents are ignored, and both are all zeros afterwards.
 /// `out` must have from 1 to 137438953440 bytes.
 pub fn scrypt_in(
     password: &[u8],
@@ -163,9 +164,9 @@ pub fn scrypt_in(
     bytes: &mut [u8],
     out: &mut [u8],
 )
-    requires kept { 1 ≤ k }
-    requires words { wanted_words params.now k ≤ length words.old }
-    requires bytes { wanted_bytes params.now ≤ length bytes.old }
+    requires k_positive { 1 ≤ k }
+    requires words { words_needed params.now k ≤ length words.old }
+    requires bytes { bytes_needed params.now ≤ length bytes.old }
     requires len { IsTrue (is_key_length (length out.old)) }
 
     // For every k of at least 1, whatever the caller's memory held, `out` holds the scrypt output
@@ -202,9 +203,9 @@ fn derive_in(
     bytes: &mut [u8],
     out: &mut [u8],
 )
-    requires kept { 1 ≤ k }
-    requires words { wanted_words params.now k ≤ length words.old }
-    requires bytes { wanted_bytes params.now ≤ length bytes.old }
+    requires k_positive { 1 ≤ k }
+    requires words { words_needed params.now k ≤ length words.old }
+    requires bytes { bytes_needed params.now ≤ length bytes.old }
     requires len { length out.old ≤ longest_key }
     ensures { out.new ≡ scrypt password.now salt.now
         (2 ^ params.now.n_log2) params.now.r params.now.p (length out.old) }
@@ -235,7 +236,7 @@ fn bytes(alloc: Global, len: usize) -> Result<Vec<u8>, AllocError>
 
 // Derives the key. The previous contents of the buffers are ignored. Afterwards `rows` holds the
 // kept rows of the last part.
-fn derive<S: RowRoom>(
+fn derive<S: RowMemory>(
     password: &[u8],
     salt: &[u8],
     params: &Params,
@@ -245,7 +246,7 @@ fn derive<S: RowRoom>(
     work: &mut [u32],
     out: &mut [u8],
 )
-    requires kept { 1 ≤ k }
+    requires k_positive { 1 ≤ k }
     requires parts_len { length parts.old ≡ 128 * params.now.r * params.now.p }
     requires room { 32 * params.now.r * div_ceil (2 ^ params.now.n_log2) k ≤ S.room rows.old }
     requires work_len { length work.old ≡ 96 * params.now.r }
@@ -264,7 +265,7 @@ fn derive<S: RowRoom>(
 
 // Applies scryptROMix to each of the p parts, in place. The previous contents of `rows` and `work`
 // are ignored. Afterwards `rows` holds the kept rows of the last part.
-fn mix_parts<S: RowRoom>(
+fn mix_parts<S: RowMemory>(
     r: usize,
     n_log2: u8,
     k: u64,
@@ -276,7 +277,7 @@ fn mix_parts<S: RowRoom>(
     requires some { 1 ≤ r }
     requires even { 1 ≤ n_log2 }
     requires cost { n_log2 < 64 }
-    requires kept { 1 ≤ k }
+    requires k_positive { 1 ≤ k }
     requires parts { 1 ≤ p }
     requires parts_len { length parts.old ≡ 128 * r * p }
     requires room { 32 * r * div_ceil (2 ^ n_log2) k ≤ S.room rows.old }
@@ -293,12 +294,12 @@ fn mix_parts<S: RowRoom>(
 }
 
 // Applies scryptROMix to a part, in place. The previous contents of `rows` and `work` are ignored.
-fn rom_mix<S: RowRoom>(n_log2: u8, k: u64, part: &mut [u8], rows: &mut S, work: &mut [u32])
+fn rom_mix<S: RowMemory>(n_log2: u8, k: u64, part: &mut [u8], rows: &mut S, work: &mut [u32])
     requires some { 0 < length part.old }
     requires whole { length part.old % 128 ≡ 0 }
     requires even { 1 ≤ n_log2 }
     requires cost { n_log2 < 64 }
-    requires kept { 1 ≤ k }
+    requires k_positive { 1 ≤ k }
     requires room { 32 * (length part.old / 128) * div_ceil (2 ^ n_log2) k ≤ S.room rows.old }
     requires work_len { 3 * length part.old ≤ 4 * length work.old }
     ensures mixed { part.new ≡ rom_mix (length part.old / 128) (2 ^ n_log2) part.old }

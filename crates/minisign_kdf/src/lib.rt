@@ -13,7 +13,7 @@ mod order;
 pub mod params;
 pub mod pbkdf2;
 pub mod rom_mix;
-mod row_rooms;
+mod row_memory;
 mod salsa;
 
 pub use errors::{InvalidOutputLen, InvalidParams, KdfError};

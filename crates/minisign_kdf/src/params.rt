@@ -2,7 +2,7 @@
 
 ghost use Rattle.std.specs.Prelude.{◌≡◌, ◌↔◌, ◌*◌, ◌^◌, ◌<◌, ◌≤◌, IsOk, IfOk, is_ok, nat_lt};
 ghost use Rattle.minisign_kdf.specs.Params.{IsAccepted, Numbers, is_accepted};
-ghost use Rattle.minisign_kdf.specs.Room.{wanted_bytes, wanted_words};
+ghost use Rattle.minisign_kdf.specs.Memory.{bytes_needed, words_needed};
 
 use crate::errors::InvalidParams;
 use crate::kept_rows::kept_count;
@@ -76,20 +76,20 @@ impl Params {
     /// Returns how many 32-bit words of memory `scrypt_in` needs with every k-th row kept, k at
     /// least 1: 32 * r for each kept row, of which there are N / k, rounded up, and for three more.
     /// Does not allocate.
-    pub fn wanted_words(&self, k: u64) -> u64
+    pub fn words_needed(&self, k: u64) -> u64
         requires { 1 ≤ k }
 
         // The result is the number of words in the rows that are kept for a part and in three more rows.
-        ensures { result ≡ wanted_words self.now k }
+        ensures { result ≡ words_needed self.now k }
     {
         32 * u64::from(self.r) * (kept_count(self.n_log2, k) as u64 + 3)
     }
 
     /// Returns how many bytes of memory `scrypt_in` needs in addition to these words: 128 * r for each of
     /// the p parts. Does not allocate.
-    pub fn wanted_bytes(&self) -> u64
+    pub fn bytes_needed(&self) -> u64
         // The result is the number of bytes in all parts.
-        ensures { result ≡ wanted_bytes self.now }
+        ensures { result ≡ bytes_needed self.now }
     {
         128 * u64::from(self.r) * u64::from(self.p)
     }

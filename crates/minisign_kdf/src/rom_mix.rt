@@ -1,5 +1,6 @@
-//! scryptROMix (RFC 7914, section 5) with only every k-th row kept, in one slice of words; each other row
-//! is computed again from the kept row before it. The words of each block are in diagonal order.
+//! scryptROMix (RFC 7914, section 5) with only every k-th row in memory. Each other row is computed again
+//! from the kept row before it. The rows are in one slice of words, each block in diagonal order: the order
+//! that Salsa20 on vectors uses, which `specs/Diagonal.antt` defines.
 
 ghost use Rattle.std.specs.Prelude.{◌≡◌, ℕ, ◌+◌, ◌-◌, ◌*◌, ◌/◌, ◌%◌, ◌^◌, ◌<◌, ◌≤◌, List, length, bit_xor};
 ghost use Rattle.std.specs.Int.{div_ceil};
@@ -14,10 +15,10 @@ use crate::kept_rows::{kept_count, row_count};
 use crate::order::store_part;
 use std::simd::u32x4;
 
-/// Writes scryptROMix (RFC 7914, section 5) with N = 2^`n_log2` to `out`, using `rows`, of which every k-th
-/// is kept: the words of N / k rows, rounded up, in the layout of `Rows::words`, with any contents. Row j
-/// is computed by mixing the kept row j / k another j mod k times. With the rows that `Rows::fill` computes
-/// from a block, the result is scryptROMix of that block.
+/// Writes scryptROMix (RFC 7914, section 5) with N = 2^`n_log2` to `out`. `rows` has only every k-th row: the
+/// words of N / k rows, rounded up, in the layout of `Rows::words`. Row j is computed from the kept row j / k
+/// by mixing it j mod k times. If `rows` are the rows that `Rows::fill` computes from a block, the result is
+/// scryptROMix of this block. Any other contents of `rows` are allowed too.
 ///
 /// `out` must have the length of a row, 128 * r bytes for some r of at least 1, and `work` at least
 /// 96 * r words, which is three rows. `n_log2` must be from 1 to 63, and k at least 1. The previous
@@ -26,18 +27,18 @@ use std::simd::u32x4;
 pub fn mix_kept(rows: &[u32], n_log2: u8, k: u64, out: &mut [u8], work: &mut [u32])
     requires even { 1 ≤ n_log2 }
     requires cost { n_log2 < 64 }
-    requires kept { 1 ≤ k }
+    requires k_positive { 1 ≤ k }
     requires some { 0 < length out.old }
     requires whole { length out.old % 128 ≡ 0 }
     requires rows_len { 4 * length rows.now ≡ length out.old * div_ceil (2 ^ n_log2) k }
     requires work_len { 3 * length out.old ≤ 4 * length work.old }
 
-    // For kept rows with any contents, `out` holds the result of scryptROMix in which each row is computed
-    // by mixing the kept row before it.
+    // For any contents of `rows`, `out` holds the result of a scryptROMix that takes the kept rows from
+    // `rows` and computes each other row by mixing the kept row before it.
     ensures mixed { let r = length out.old / 128 in
         out.new ≡ rom_mix_from r (2 ^ n_log2) k (rows_of r (div_ceil (2 ^ n_log2) k) rows.now) }
 
-    // If the rows are the kept rows of a block, `out` holds scryptROMix of this block.
+    // If `rows` are the kept rows of a block, `out` holds scryptROMix of this block.
     ensures standard { let r = length out.old / 128 in (b : List ℕ) →
         rows_of r (div_ceil (2 ^ n_log2) k) rows.now ≡ kept_rows r (2 ^ n_log2) k b
         → out.new ≡ rom_mix r (2 ^ n_log2) b }
@@ -64,7 +65,7 @@ fn mix_with_rows(
     requires some { 1 ≤ r }
     requires even { 1 ≤ n_log2 }
     requires cost { n_log2 < 64 }
-    requires kept { 1 ≤ k }
+    requires k_positive { 1 ≤ k }
     requires rows_len { length rows.now ≡ 32 * r * div_ceil (2 ^ n_log2) k }
     requires x_len { length x.old ≡ 32 * r }
     requires work_len { length work.old ≡ 32 * r }
@@ -84,7 +85,7 @@ fn mix_with_rows(
 fn mix_last_row(r: usize, n_log2: u8, k: u64, rows: &[u32], x: &mut [u32], work: &mut [u32])
     requires some { 1 ≤ r }
     requires cost { n_log2 < 64 }
-    requires kept { 1 ≤ k }
+    requires k_positive { 1 ≤ k }
     requires rows_len { length rows.now ≡ 32 * r * div_ceil (2 ^ n_log2) k }
     requires x_len { length x.old ≡ 32 * r }
     requires work_len { length work.old ≡ 32 * r }
@@ -111,7 +112,7 @@ fn mix_with_row(
 )
     requires some { 1 ≤ r }
     requires cost { n_log2 < 64 }
-    requires kept { 1 ≤ k }
+    requires k_positive { 1 ≤ k }
     requires rows_len { length rows.now ≡ 32 * r * div_ceil (2 ^ n_log2) k }
     requires x_len { length x.now ≡ 32 * r }
     requires row_len { length row.old ≡ 32 * r }
@@ -121,15 +122,15 @@ fn mix_with_row(
         (integerify r b % 2 ^ n_log2))) }
 {
     let j = integerify(r, x) as usize % row_count(n_log2);
-    let kept = kept_row(r, n_log2, k, rows, j);
-    mix_with_remade(r, kept, j % k as usize, x, row, out);
+    let base_row = kept_row(r, n_log2, k, rows, j);
+    mix_with_remade(r, base_row, j % k as usize, x, row, out);
 }
 
 // Returns the kept row from which row j is computed.
 #[inline(always)]
 fn kept_row(r: usize, n_log2: u8, k: u64, rows: &[u32], j: usize) -> &[u32]
     requires some { 1 ≤ r }
-    requires kept { 1 ≤ k }
+    requires k_positive { 1 ≤ k }
     requires j { j < 2 ^ n_log2 }
     requires rows_len { length rows.now ≡ 32 * r * div_ceil (2 ^ n_log2) k }
     ensures row { result.now ≡ block (32 * r) rows.now (j / k) }
@@ -140,35 +141,36 @@ fn kept_row(r: usize, n_log2: u8, k: u64, rows: &[u32], j: usize) -> &[u32]
     &rows[at..at + len]
 }
 
-// Mixes `x` with the row that is made by mixing `kept` `times` times.
+// Mixes `x` with a row, which is computed by mixing `base_row` `times` times, into `out`.
 #[inline(always)]
 fn mix_with_remade(
     r: usize,
-    kept: &[u32],
+    base_row: &[u32],
     times: usize,
     x: &[u32],
     row: &mut [u32],
     out: &mut [u32],
 )
     requires some { 1 ≤ r }
-    requires kept_len { length kept.now ≡ 32 * r }
+    requires base_row_len { length base_row.now ≡ 32 * r }
     requires x_len { length x.now ≡ 32 * r }
     requires row_len { length row.old ≡ 32 * r }
     requires out_len { length out.old ≡ 32 * r }
     ensures { diagonal_bytes out.new
         ≡ block_mix r (zip2 bit_xor (diagonal_bytes x.now)
-        (row_at r (diagonal_bytes kept.now) times)) }
+        (row_at r (diagonal_bytes base_row.now) times)) }
 {
-    touch_row(r, kept, out);
+    touch_row(r, base_row, out);
     if times == 0 {
-        xor_block_mix(r, x, kept, out);
+        xor_block_mix(r, x, base_row, out);
     } else {
-        mix_times(r, times, kept, row, out);
+        mix_times(r, times, base_row, row, out);
         xor_block_mix(r, x, row, out);
     }
 }
 
-// Returns the low 64 bits of the last block. Its first two words are at indices 0 and 13.
+// Returns the low 64 bits of the last block, which are its first two words. In diagonal order these are at
+// indices 0 and 13.
 fn integerify(r: usize, x: &[u32]) -> u64
     requires some { 1 ≤ r }
     requires x_len { length x.now ≡ 32 * r }
@@ -178,9 +180,9 @@ fn integerify(r: usize, x: &[u32]) -> u64
     u64::from(x[last]) + (u64::from(x[last + 13]) << 32)
 }
 
-// Reads a vector of each of the row's first r blocks and of its last block, so that the mixing
-// afterwards waits for memory once and not block by block. The values go to `out`, which is
-// overwritten afterwards.
+// Loads the row into the cache: reads a vector of each of its first r blocks and of its last block, so that
+// the mixing afterwards waits for memory once and not for each block. The values are xored into `out`, which
+// is overwritten afterwards.
 fn touch_row(r: usize, row: &[u32], out: &mut [u32])
     requires some { 1 ≤ r }
     requires row_len { length row.now ≡ 32 * r }
@@ -193,7 +195,7 @@ fn touch_row(r: usize, row: &[u32], out: &mut [u32])
     touch_block(&row[32 * r - 16..], &mut out[32 * r - 16..]);
 }
 
-// Reads a vector of the block, and xors it into `out`.
+// Reads a vector of the block and xors it into `out`.
 #[inline(always)]
 fn touch_block(block: &[u32], out: &mut [u32])
     requires block_len { 4 ≤ length block.now }

@@ -50,7 +50,8 @@ SaysVerdict sink old new status =
     (status ≡ 0 → (box : SignatureBoxRecord) × SaysAfterWarning sink old new (status_lines box))
     × (status ≡ 1 → EndsWithFault sink old new (λ _ _. ⊤))
 
--- The lines of `verify-raw`: the same, with the single line of a box without comments.
+-- The lines of `verify-raw`: those of a verifying command, with the single status line of a box without
+-- comments.
 abbrev pub SaysRawVerdict : {S : Type 0} → SinkOf S → S → S → ℕ → Type 0
 SaysRawVerdict sink old new status =
     (status ≡ 0 → SaysAfterWarning sink old new (line verified_text))

@@ -38,9 +38,10 @@ SaysAfterWarning {S = S} sink old new text =
 -- error, and the error line was sent.
 abbrev pub EndsWithFault : {S : Type 0} → SinkOf S → S → S → (SinkCall S → Fault → Type 0) → Type 0
 EndsWithFault {S = S} sink old new Fails =
-    (e : Fault) × (warned told : S) × TakesOrFails sink old warned warning_line × TakesOrFails sink told new
+    (e : Fault) × (warned reported : S) × TakesOrFails sink old warned warning_line
+    × TakesOrFails sink reported new
     (fault_line e)
-    × Fails (sink_call sink warned told) e
+    × Fails (sink_call sink warned reported) e
 
 -- A run that writes nothing else ends with an error for which Fails holds: the warning was sent,
 -- and then the error line.

@@ -15,8 +15,8 @@ use Rattle.minisign_tool.specs.declared.sign.SigningDevices.{SigningDevices}
 
 -- If the key is genuine, the text parses to a box that is valid for the message under every public
 -- key with the seed's key bytes and this key ID.
-abbrev pub ReadsBackWhereGenuine : Verifier → (List ℕ → List ℕ) → SecretKeyRecord → List ℕ → List ℕ → Type 0
-ReadsBackWhereGenuine accepts public_of sk message text =
+abbrev pub ReadsBackIfGenuine : Verifier → (List ℕ → List ℕ) → SecretKeyRecord → List ℕ → List ℕ → Type 0
+ReadsBackIfGenuine accepts public_of sk message text =
     (seed : List ℕ) → IsGenuine public_of sk seed
     → (x : SignatureBoxRecord) × (read_signature_box text ≡ Ok x)
     × VouchesUnderEachKey accepts (public_of seed) sk.keynum message x
@@ -28,7 +28,7 @@ pub record SigningCall (K R Z A B : Type 0) : Type 1 where
   pub random : RandomCall Z
   pub prompt : PromptCall A B
 
--- This record, as a clause writes it.
+-- Builds this record. Contract clauses use it.
 abbrev pub signing_call : {K R Z A B : Type 0} → SourceOf K → SourceOf R → RandomOf Z → SourceOf A → SinkOf B
     → SigningDevices K R Z A B → SigningDevices K R Z A B → SigningCall K R Z A B
 signing_call sk_file data_reader random reader writer old new = record {
@@ -49,7 +49,7 @@ pub record SignsText {S K R Z A B : Type 0} (s : SchemeOf S) (scheme : S) (d : S
   pub read : ReadsWhole d.data_reader.source d.data_reader.old d.data_reader.new message
   pub signed : IsSignedText (s.signature_of scheme) key message (given_comments None None moment) d.random
       text
-  pub vouched : ReadsBackWhereGenuine (s.accepts scheme) (s.public_of scheme) key message text
+  pub vouched : ReadsBackIfGenuine (s.accepts scheme) (s.public_of scheme) key message text
 
 -- The key's file was read whole, and this is the text that signing with its text makes.
 pub record MakesSigned {S K R Z A B : Type 0} (s : SchemeOf S) (scheme : S) (d : SigningCall K R Z A B)
@@ -68,7 +68,7 @@ pub record MakesVouched {K R Z A B : Type 0} (accepts : Verifier) (public_of : L
   pub held : IsAhead (d.sk_file.source.ahead d.sk_file.old) sk_text
   pub signed : IsAhead (d.data_reader.source.ahead d.data_reader.old) message
   pub given : IsKeyOf sk_text key
-  pub vouched : ReadsBackWhereGenuine accepts public_of key message text
+  pub vouched : ReadsBackIfGenuine accepts public_of key message text
 
 -- The signature text was not written completely: the sink received a prefix of it.
 pub record WriteFails {G : Type 0} (g : SinkCall G) (text : List ℕ) (e : Fault) : Type 0 where
@@ -88,8 +88,8 @@ abbrev pub HasWrittenSigned : {S K R Z A B G : Type 0} → SchemeOf S → S → 
     → Type 0
 HasWrittenSigned s scheme d g moment = (text : List ℕ) × MakesSigned s scheme d moment text × TakesPart g text
 
--- No signature was made: the key's file gave no text, and no other device was used; or signing with
--- the text failed.
+-- No signature was made: the key's file could not be read as a text, and no other device was used; or signing
+-- with the text failed.
 abbrev pub NoSignature : {K R Z A B : Type 0} → SigningCall K R Z A B → Fault → Type 0
 NoSignature d e =
     (IsTextFault d.sk_file.source d.sk_file.old d.sk_file.new e

@@ -10,7 +10,7 @@ pub record ReadsBoth {P Q : Type 0} (first : SourceCall P) (second : SourceCall 
   pub first_read : ReadsWhole first.source first.old first.new first_text
   pub second_read : ReadsWhole second.source second.old second.new second_text
 
--- One of two files gave no text. If it is the first, the second is unchanged.
+-- One of two files could not be read as a text. If it is the first, the second is unchanged.
 abbrev pub EitherFails : {P Q : Type 0} → SourceCall P → SourceCall Q → Fault → Type 0
 EitherFails first second e =
     (IsTextFault first.source first.old first.new e × (second.new ≡ second.old))

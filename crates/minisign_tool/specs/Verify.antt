@@ -29,7 +29,7 @@ pub record VerifyingCall (P Q R : Type 0) : Type 1 where
   pub sig_file : SourceCall Q
   pub data_reader : RereaderCall R
 
--- This record, as a clause writes it.
+-- Builds this record. Contract clauses use it.
 abbrev pub verifying_call : {P Q R : Type 0} → SourceOf P → SourceOf Q → SourceOf R → (R → Type 0)
     → VerifyingDevices P Q R → VerifyingDevices P Q R → VerifyingCall P Q R
 verifying_call pk_file sig_file data_reader steady old new = record {
@@ -65,7 +65,7 @@ pub record FilesVouchForCopy {P Q R O : Type 0} (accepts : Verifier) (d : Verify
       verified.message
   pub copy : CopyIsVouchedFor accepts verified.pk_text verified.sig_text false out
 
--- A file gave no text, and no data was read; or verification with the texts failed.
+-- A file could not be read as a text, and no data was read; or verification with the texts failed.
 abbrev pub FilesFail : {P Q R W : Type 0} → Verifier → VerifyingCall P Q R → SinkCall W → Fault → Type 0
 FilesFail accepts d status e =
     (EitherFails d.pk_file d.sig_file e × (d.data_reader.new ≡ d.data_reader.old) × (status.new ≡ status.old))
@@ -73,8 +73,8 @@ FilesFail accepts d status e =
     × VerifyingTextsFails accepts pk_text sig_text says_only d.data_reader status unused e
     × SaysFront status pk_text sig_text)
 
--- A file gave no text, and no data was read or copied; or verification with the texts, or copying,
--- failed.
+-- A file could not be read as a text, and no data was read or copied; or verification with the texts, or
+-- copying, failed.
 abbrev pub FilesFailToCopy : {P Q R O W : Type 0} → Verifier → VerifyingCall P Q R → SinkCall O → SinkCall W
     → Fault
     → Type 0

@@ -37,8 +37,8 @@ pub fn run_cat<S: Scheme, P: Source, Q: Source, R: Rereader, O: Sink, W: Sink>(
     // With exit status 0, `out` did not fail.
     ensures out_no_new_fault { result ≡ 0 → O.sink_faults out.new ≡ O.sink_faults out.old }
 
-    // With exit status 1, either a file gave no text, and no data was read, or verification failed, as
-    // `verify_texts` promises. The warning was sent first and the error line last.
+    // With exit status 1, either a file could not be read as a text, and no data was read, or verification
+    // failed, as `verify_texts` promises. The warning was sent first and the error line last.
     ensures refused { result ≡ 1 → EndsWithFault W.Sink errors.old errors.new
         (FilesFailToCopy (S.accepts scheme.now) (verifying_call P.Source Q.Source R.Source R.steady
         devices.old devices.new) (sink_call O.Sink out.old out.new)) }

@@ -1,4 +1,5 @@
-//! The program `minisign_tool`, which signs and verifies with an insecure toy scheme, and says so.
+//! The program `minisign_tool`, which signs and verifies with an insecure toy scheme, and prints a warning
+//! about it.
 #![tactic(auto)]
 
 ghost use Rattle.std.specs.Prelude.{◌≡◌, ◌≤◌, drop, map, option_map, string_bytes, IfOk, IsOk, OnErr, OnOk};

@@ -24,7 +24,7 @@ const MAX_INTERRUPTIONS: u32 = 1_000_000;
 pub fn permissions_after(older: u32) -> u32
     // The result has the old mode's bits for the owner and for all others, and those group bits that all
     // others have too. No other bit is set.
-    ensures kept { KeepsPermissions older result }
+    ensures permissions { KeepsPermissions older result }
 {
     let (owner, group, others) = digits(older);
     owner * 64 + others + (group & others) * 8
@@ -55,21 +55,25 @@ pub fn give_permissions(file: &File, older: &Option<Metadata>) -> io::Result<()>
     let Some(older) = older else {
         return Ok(());
     };
-    let made = again(|| file.metadata())?;
+    let made = retry_interrupted(|| file.metadata())?;
     let is_same = made.uid() == older.uid() && made.gid() == older.gid();
     let has_group = is_same
-        || again(|| fchown(file, Some(older.uid()), Some(older.gid()))).is_ok()
-        || again(|| fchown(file, None, Some(older.gid()))).is_ok();
-    let kept = permissions_after(older.mode());
-    let wanted = if has_group { kept } else { without_group(kept) };
-    if made.mode() & ALL == wanted {
+        || retry_interrupted(|| fchown(file, Some(older.uid()), Some(older.gid()))).is_ok()
+        || retry_interrupted(|| fchown(file, None, Some(older.gid()))).is_ok();
+    let same_mode = permissions_after(older.mode());
+    let expected_mode = if has_group {
+        same_mode
+    } else {
+        without_group(same_mode)
+    };
+    if made.mode() & ALL == expected_mode {
         return Ok(());
     }
-    file.set_permissions(Permissions::from_mode(wanted))
+    file.set_permissions(Permissions::from_mode(expected_mode))
 }
 
 // Makes a system call, and repeats it if a signal interrupts it.
-fn again<T, F: FnMut() -> io::Result<T>>(mut call: F) -> io::Result<T>
+fn retry_interrupted<T, F: FnMut() -> io::Result<T>>(mut call: F) -> io::Result<T>
     requires { F.IsAlwaysCallable call }
 {
     for _ in 0..MAX_INTERRUPTIONS {

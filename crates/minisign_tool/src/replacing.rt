@@ -55,22 +55,22 @@ struct FilePlace {
 
 // A temporary file beside the target, complete and synced. If it is dropped before it is installed,
 // it is deleted.
-struct Stage {
+struct TemporaryFile {
     rt: HostRuntime,
-    staged: String,
+    temporary_path: String,
     place: FilePlace,
     directory: Option<File>,
     is_installed: bool,
 }
 
-impl Drop for Stage {
+impl Drop for TemporaryFile {
     fn drop(self) {
         if !self.is_installed {
-            let _removed = fs::remove_file(&self.rt, self.staged.as_str());
+            let _removed = fs::remove_file(&self.rt, self.temporary_path.as_str());
         }
-        let Stage {
+        let TemporaryFile {
             rt: _rt,
-            staged: _staged,
+            temporary_path: _temporary_path,
             place: _place,
             directory: _directory,
             is_installed: _is_installed,
@@ -78,7 +78,7 @@ impl Drop for Stage {
     }
 }
 
-impl Stage {
+impl TemporaryFile {
     // Gives the temporary file the permissions of the existing file, writes all bytes and syncs it.
     fn fill(&self, file: File, bytes: &[u8]) -> Result<()>
         ensures { IfErr result IsWriteFault }
@@ -96,7 +96,11 @@ impl Stage {
     fn install(&mut self) -> Result<()>
         ensures { IfErr result IsWriteFault }
     {
-        written(fs::rename(&self.rt, self.staged.as_str(), self.place.path.as_str()))?;
+        written(fs::rename(
+            &self.rt,
+            self.temporary_path.as_str(),
+            self.place.path.as_str(),
+        ))?;
         self.is_installed = true;
         Ok(())
     }
@@ -129,10 +133,10 @@ pub fn replace_file(rt: &HostRuntime, contents: Contents<'_>) -> Result<()>
     ensures { IfErr result IsWriteFault }
 {
     let place = find_place(rt, contents.path)?;
-    match make_stage(rt, place, contents)? {
-        Some(mut stage) => {
-            stage.install()?;
-            stage.sync()
+    match make_temporary_file(rt, place, contents)? {
+        Some(mut temporary) => {
+            temporary.install()?;
+            temporary.sync()
         }
         None => write_stream(rt, contents),
     }
@@ -151,9 +155,9 @@ pub fn replace_both(rt: &HostRuntime, public: Contents<'_>, secret: Contents<'_>
 {
     let public_place = find_place(rt, public.path)?;
     let secret_place = find_place(rt, secret.path)?.apart_from(&public_place);
-    let mut public_stage = make_stage(rt, public_place, public)?;
-    let mut secret_stage = make_stage(rt, secret_place, secret)?;
-    put_both(rt, public, secret, &mut public_stage, &mut secret_stage)
+    let mut public_file = make_temporary_file(rt, public_place, public)?;
+    let mut secret_file = make_temporary_file(rt, secret_place, secret)?;
+    put_both(rt, public, secret, &mut public_file, &mut secret_file)
 }
 
 // Writes directly what is not a regular file, installs both temporary files, and then syncs the new
@@ -162,37 +166,37 @@ fn put_both(
     rt: &HostRuntime,
     public: Contents<'_>,
     secret: Contents<'_>,
-    public_stage: &mut Option<Stage>,
-    secret_stage: &mut Option<Stage>,
+    public_file: &mut Option<TemporaryFile>,
+    secret_file: &mut Option<TemporaryFile>,
 ) -> Result<()>
     ensures { IfErr result IsWriteFault }
 {
-    if public_stage.is_none() {
+    if public_file.is_none() {
         write_stream(rt, public)?;
     }
-    if secret_stage.is_none() {
+    if secret_file.is_none() {
         write_stream(rt, secret)?;
     }
-    install(public_stage)?;
-    install(secret_stage)?;
-    sync(public_stage)?;
-    sync(secret_stage)
+    install(public_file)?;
+    install(secret_file)?;
+    sync(public_file)?;
+    sync(secret_file)
 }
 
-fn install(stage: &mut Option<Stage>) -> Result<()>
+fn install(temporary: &mut Option<TemporaryFile>) -> Result<()>
     ensures { IfErr result IsWriteFault }
 {
-    match stage {
-        Some(stage) => stage.install(),
+    match temporary {
+        Some(temporary) => temporary.install(),
         None => Ok(()),
     }
 }
 
-fn sync(stage: &Option<Stage>) -> Result<()>
+fn sync(temporary: &Option<TemporaryFile>) -> Result<()>
     ensures { IfErr result IsWriteFault }
 {
-    match stage {
-        Some(stage) => stage.sync(),
+    match temporary {
+        Some(temporary) => temporary.sync(),
         None => Ok(()),
     }
 }
@@ -252,7 +256,7 @@ fn find_place(rt: &HostRuntime, path: &str) -> Result<Place>
     })
 }
 
-// Follows all links. Returns `None` if a link stands for a stream of the program itself, such as
+// Follows all links. Returns `None` if a link refers to a stream of the program itself, such as
 // `/dev/stdout`.
 fn follow_links(rt: &HostRuntime, path: &str) -> Result<Option<String>>
     ensures { IfErr result IsWriteFault }
@@ -269,7 +273,7 @@ fn follow_links(rt: &HostRuntime, path: &str) -> Result<Option<String>>
             return Ok(None);
         }
         let target = written(fs::read_link(rt, path.as_str()))?;
-        path = beside(rt, &path, target.as_str())?;
+        path = path_beside(rt, &path, target.as_str())?;
     }
     Err(NamedFault::WritingFailed.into())
 }
@@ -284,7 +288,11 @@ fn is_of_processes(rt: &HostRuntime, link: &Metadata) -> bool {
 
 // Creates and fills the temporary file for a place. Returns `None` if the place is not a regular
 // file.
-fn make_stage(rt: &HostRuntime, place: Place, contents: Contents<'_>) -> Result<Option<Stage>>
+fn make_temporary_file(
+    rt: &HostRuntime,
+    place: Place,
+    contents: Contents<'_>,
+) -> Result<Option<TemporaryFile>>
     ensures { IfErr result IsWriteFault }
 {
     let Place::File(place) = place else {
@@ -299,16 +307,16 @@ fn make_stage(rt: &HostRuntime, place: Place, contents: Contents<'_>) -> Result<
         None => contents.mode,
     };
     let directory = fs::open(rt, directory_of(&place.path)).ok();
-    let (file, staged) = create_beside(rt, &place.path, mode)?;
-    let stage = Stage {
+    let (file, temporary_path) = create_beside(rt, &place.path, mode)?;
+    let temporary = TemporaryFile {
         rt: *rt,
-        staged,
+        temporary_path,
         place,
         directory,
         is_installed: false,
     };
-    stage.fill(file, contents.bytes)?;
-    Ok(Some(stage))
+    temporary.fill(file, contents.bytes)?;
+    Ok(Some(temporary))
 }
 
 // Creates a temporary file with a new name in the directory of a path.
@@ -320,14 +328,14 @@ fn create_beside(rt: &HostRuntime, path: &str, mode: u32) -> Result<(File, Strin
     let number = u64::from_le_bytes(number);
     for more in 0..MAX_NAMES {
         let name = format!(in rt.alloc(); ".minisign_tool-{:016x}", number.wrapping_add(more))?;
-        let staged = beside(rt, path, &name)?;
+        let temporary_path = path_beside(rt, path, &name)?;
         let made = OpenOptions::new()
             .write(true)
             .create_new(true)
             .mode(mode)
-            .open(rt, staged.as_str());
+            .open(rt, temporary_path.as_str());
         match made {
-            Ok(file) => return Ok((file, staged)),
+            Ok(file) => return Ok((file, temporary_path)),
             Err(error) if error.kind() == io::ErrorKind::AlreadyExists => {}
             Err(_) => return Err(NamedFault::WritingFailed.into()),
         }
@@ -366,7 +374,7 @@ fn written<T>(answer: io::Result<T>) -> Result<T>
 }
 
 // Returns a path that is relative to the directory of another path.
-fn beside(rt: &HostRuntime, path: &str, other: &str) -> Result<String>
+fn path_beside(rt: &HostRuntime, path: &str, other: &str) -> Result<String>
     ensures { IfErr result IsWriteFault }
 {
     match path.rsplit_once('/') {

@@ -64,15 +64,16 @@ pub fn run_sign<
         (sink_call G.Sink signature.old signature.new) }
 
     // With exit status 0, the text is the one that `sign_texts` promises, with the default comments, for
-    // the data that was read: it is made with the key in the key's file, decrypted with the typed password
-    // if it is encrypted. If this key is genuine, the text is read back as above. The warning was sent.
+    // the data that was read: it is made with the key in the key's file, decrypted with the typed password if
+    // it is encrypted. If this key is genuine, the text parses to a signature box that is valid for the data,
+    // as the clause `headline` states. The warning was sent.
     ensures signed { result ≡ 0 → HasWrittenSigned S.Scheme scheme.now
         (signing_call K.Source R.Source Z.RandomSource A.Source B.Sink devices.old devices.new)
         (sink_call G.Sink signature.old signature.new) moment }
     ensures said { result ≡ 0 → TakesOrFails W.Sink errors.old errors.new warning_line }
 
-    // With exit status 1, either the key's file gave no text, and nothing else was used; or signing failed,
-    // and nothing was written; or the text was not written completely.
+    // With exit status 1, either the key's file could not be read as a text, and nothing else was used; or
+    // signing failed, and nothing was written; or the text was not written completely.
     ensures refused { result ≡ 1 → ShowsOnlyFault W.Sink errors.old errors.new
         (FileSigningFails S.Scheme scheme.now (signing_call K.Source R.Source Z.RandomSource A.Source B.Sink
         devices.old devices.new) (sink_call G.Sink signature.old signature.new) moment) }

@@ -10,7 +10,7 @@ use minisign::reading::read_text;
 use std::alloc::Global;
 
 /// Reads the texts of two files. The first is read whole, and must be UTF-8, before the second is read. The
-/// error is that of the first file that gives no text, as for `read_text`.
+/// error is that of the first file that cannot be read as a text, as for `read_text`.
 pub fn read_both_texts<P: Source, Q: Source>(
     alloc: Global,
     first: &mut P,
@@ -20,8 +20,8 @@ pub fn read_both_texts<P: Source, Q: Source>(
     ensures texts { IfOk result (λ both. ReadsBoth (source_call P.Source first.old first.new)
         (source_call Q.Source second.old second.new) (string_bytes both.0) (string_bytes both.1)) }
 
-    // The error is that of the first file that gives no text, as `read_text` promises. If the first file
-    // gives none, the second is unchanged.
+    // The error is that of the first file that cannot be read as a text, as `read_text` promises. If the
+    // first file cannot be read as a text, the second is unchanged.
     ensures refused { IfErr result (EitherFails (source_call P.Source first.old first.new)
         (source_call Q.Source second.old second.new)) }
 {

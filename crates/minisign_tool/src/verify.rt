@@ -44,8 +44,8 @@ pub fn run_verify<S: Scheme, P: Source, Q: Source, R: Rereader, W: Sink>(
         (verifying_call P.Source Q.Source R.Source R.steady devices.old devices.new)
         (SaysAfterWarning W.Sink errors.old errors.new) }
 
-    // With exit status 1, either a file gave no text, and no data was read, or verification failed, as
-    // `verify_texts` promises. The warning was sent first and the error line last.
+    // With exit status 1, either a file could not be read as a text, and no data was read, or verification
+    // failed, as `verify_texts` promises. The warning was sent first and the error line last.
     ensures refused { result ≡ 1 → EndsWithFault W.Sink errors.old errors.new
         (FilesFail (S.accepts scheme.now)
         (verifying_call P.Source Q.Source R.Source R.steady devices.old devices.new)) }

@@ -49,13 +49,13 @@ impl<'a> RandomSource for FixedRandom<'a> {
 
     ghost random_faults = { λ s. s.faults.0 };
 
-    // Fails exactly if fewer bytes are left than `buf` has, and then no byte is lost.
+    // Fails exactly if fewer bytes are left than `buf` has, and then the bytes that are left are unchanged.
     fn fill(&mut self, buf: &mut [u8]) -> Result<(), DeviceFault>
         ensures enough { IsOk result ↔ IsSomeAnd (⟦<FixedRandom<'a> as RandomSource>⟧.random_ahead self.old)
             (λ xs. length buf.old ≤ length xs) }
         ensures fill { HasFilled ⟦<FixedRandom<'a> as RandomSource>⟧.random_ahead
             ⟦<FixedRandom<'a> as RandomSource>⟧.random_faults self.old self.new buf.new result }
-        ensures kept { OnErr result
+        ensures unchanged { OnErr result
             (⟦<FixedRandom<'a> as RandomSource>⟧.random_ahead self.new
             ≡ ⟦<FixedRandom<'a> as RandomSource>⟧.random_ahead self.old) }
     {

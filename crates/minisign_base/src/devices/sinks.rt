@@ -174,8 +174,8 @@ pub fn put_line<S: Sink>(
     label: &[u8],
     text: &[u8],
 ) -> errors::Result<()>
-    // On success, the sink received the whole line. An error is out of memory, and the sink is unchanged;
-    // or the sink failed, and received a prefix of the line.
+    // On success, the sink received the whole line. There are two errors: out of memory, and then the sink
+    // is unchanged; or the sink failed, and received a prefix of the line.
     ensures bytes { OnOk result
         (Appends (S.taken sink.old) (S.taken sink.new) (label.now ++ text.now ++ 10 ∷ [])) }
     ensures no_new_fault { OnOk result (S.sink_faults sink.new ≡ S.sink_faults sink.old) }

@@ -163,7 +163,7 @@ impl<'a> Rereader for SliceSource<'a> {
             ⟦<SliceSource<'a> as Source>⟧.faults self.old self.new result }
         ensures stays_marked { ⟦<SliceSource<'a> as Source>⟧.behind self.new
             ≡ ⟦<SliceSource<'a> as Source>⟧.behind self.old }
-        ensures kept { OnErr result
+        ensures unchanged { OnErr result
             (⟦<SliceSource<'a> as Source>⟧.ahead self.new ≡ ⟦<SliceSource<'a> as Source>⟧.ahead self.old) }
     {
         if !self.is_marked {

@@ -4,8 +4,8 @@ use crate::devices::turn::Turn;
 use minisign_base::devices::DeviceFault;
 use minisign_base::devices::random_sources::{FixedRandom, RandomSource};
 
-/// A random source that returns the bytes of a slice, in order. One of its fills fails, and it goes
-/// on after that.
+/// A random source that returns the bytes of a slice, in order. One of its fills fails; later fills
+/// succeed.
 #[derive(Drop)]
 pub struct FailingRandom<'a> {
     /// The source of the bytes.

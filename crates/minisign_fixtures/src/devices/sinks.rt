@@ -1,5 +1,5 @@
-//! Sinks for tests: one that accepts a limited number of bytes or fails, one with a buffer that a
-//! flush passes on, and one that only counts.
+//! Sinks (writers) for tests: `LimitedSink` accepts a limited number of bytes or fails,
+//! `BufferedSink` holds bytes back until a flush, and `Counting` only counts bytes.
 
 ghost use Rattle.std.specs.Prelude.{◌≡◌, Some, None, [], ◌++◌, ◌<◌};
 
@@ -8,14 +8,19 @@ use minisign_base::devices::DeviceFault;
 use minisign_base::devices::sinks::{Sink, VecSink};
 use std::alloc::Global;
 
-/// A buffer with limits on its size, on the bytes of each write and on the number of flushes. It
-/// may also fail at one call. The bytes that it received can always be read.
+/// A sink with limits on its size, on the bytes of each write and on the number of flushes. One of
+/// its calls can also be made to fail. The received bytes can be read at any time, even after a
+/// failure.
 #[derive(Drop)]
 pub struct LimitedSink {
     taken: VecSink,
+    // The number of bytes that it can still receive.
     room: usize,
+    // The greatest number of bytes for each write.
     most: usize,
+    // The number of flushes that still succeed.
     flushes: usize,
+    // The call that fails.
     turn: Turn,
     faults: u64,
 }
@@ -44,7 +49,7 @@ impl LimitedSink {
         self
     }
 
-    /// Makes each flush fail after this number of flushes.
+    /// Lets this number of flushes succeed. All later flushes fail.
     pub fn flushed(mut self, times: usize) -> LimitedSink
         ensures taken { ⟦<LimitedSink as Sink>⟧.taken result ≡ ⟦<LimitedSink as Sink>⟧.taken self }
     {
@@ -52,7 +57,8 @@ impl LimitedSink {
         self
     }
 
-    /// Makes the call after this number of writes and flushes fail. Later calls succeed.
+    /// Makes one call fail: the write or flush after this number of writes and flushes. Later calls
+    /// succeed.
     pub fn failing_after(mut self, calls: usize) -> LimitedSink
         ensures taken { ⟦<LimitedSink as Sink>⟧.taken result ≡ ⟦<LimitedSink as Sink>⟧.taken self }
     {
@@ -96,11 +102,11 @@ impl Sink for LimitedSink {
     }
 }
 
-/// A buffer in front of another one, like a buffered file: bytes wait until a flush passes them on.
-/// It fails only if an allocation fails.
+/// A sink like a buffered file: written bytes wait in a buffer until a flush passes them on to a
+/// second one. It fails only if an allocation fails.
 #[derive(Drop)]
 pub struct BufferedSink {
-    passed_on: Vec<u8>,
+    flushed_bytes: Vec<u8>,
     waiting: Vec<u8>,
     faults: u64,
 }
@@ -113,17 +119,17 @@ impl BufferedSink {
         ensures faults { ⟦<BufferedSink as Sink>⟧.sink_faults result ≡ 0 }
     {
         BufferedSink {
-            passed_on: Vec::new(alloc),
+            flushed_bytes: Vec::new(alloc),
             waiting: Vec::new(alloc),
             faults: 0,
         }
     }
 
     /// Returns the bytes that were flushed.
-    pub fn passed_on(&self) -> &[u8]
+    pub fn flushed_bytes(&self) -> &[u8]
         ensures { ⟦<BufferedSink as Sink>⟧.flushed self.now ≡ Some result.now }
     {
-        self.passed_on.as_slice()
+        self.flushed_bytes.as_slice()
     }
 
     /// Returns the bytes that were received since the last flush.
@@ -133,9 +139,9 @@ impl BufferedSink {
 }
 
 impl Sink for BufferedSink {
-    ghost taken = { λ s. Some (s.passed_on.items ++ s.waiting.items) };
+    ghost taken = { λ s. Some (s.flushed_bytes.items ++ s.waiting.items) };
 
-    ghost flushed = { λ s. Some s.passed_on.items };
+    ghost flushed = { λ s. Some s.flushed_bytes.items };
 
     ghost sink_faults = { λ s. s.faults };
 
@@ -150,7 +156,7 @@ impl Sink for BufferedSink {
     }
 
     fn flush(&mut self) -> Result<(), DeviceFault> {
-        match self.passed_on.extend_from_slice(&self.waiting) {
+        match self.flushed_bytes.extend_from_slice(&self.waiting) {
             Ok(()) => {
                 self.waiting.clear();
                 Ok(())

@@ -9,19 +9,19 @@ use minisign_base::devices::sources::{Rereader, SliceSource, Source};
 
 /// A source of the bytes of a slice, one byte for each read.
 #[derive(Drop)]
-pub struct OneByOne<'a> {
+pub struct OneBytePerRead<'a> {
     source: SliceSource<'a>,
 }
 
-impl<'a> OneByOne<'a> {
-    pub fn new(bytes: &'a [u8]) -> OneByOne<'a> {
-        OneByOne {
+impl<'a> OneBytePerRead<'a> {
+    pub fn new(bytes: &'a [u8]) -> OneBytePerRead<'a> {
+        OneBytePerRead {
             source: SliceSource::new(bytes),
         }
     }
 }
 
-impl<'a> Source for OneByOne<'a> {
+impl<'a> Source for OneBytePerRead<'a> {
     ghost ahead = { λ s. ⟦<SliceSource<'a> as Source>⟧.ahead s.source };
 
     ghost behind = { λ s. ⟦<SliceSource<'a> as Source>⟧.behind s.source };
@@ -40,7 +40,7 @@ impl<'a> Source for OneByOne<'a> {
     }
 }
 
-impl<'a> Rereader for OneByOne<'a> {
+impl<'a> Rereader for OneBytePerRead<'a> {
     ghost steady = { λ _. ⊤ };
 
     fn mark(&mut self) -> Result<(), DeviceFault> {
@@ -52,11 +52,11 @@ impl<'a> Rereader for OneByOne<'a> {
     }
 }
 
-/// A source of the bytes of a slice, one byte for each read. One of its calls fails, and it goes on
-/// after that; or all calls fail from that one on.
+/// A source of the bytes of a slice, one byte for each read. Either one of its calls fails and
+/// later calls succeed, or all calls from a certain one on fail.
 #[derive(Drop)]
 pub struct FailingSource<'a> {
-    source: OneByOne<'a>,
+    source: OneBytePerRead<'a>,
     marked: bool,
     turn: Turn,
     faults: u64,
@@ -75,7 +75,7 @@ impl<'a> FailingSource<'a> {
 
     fn by(bytes: &'a [u8], turn: Turn) -> FailingSource<'a> {
         FailingSource {
-            source: OneByOne::new(bytes),
+            source: OneBytePerRead::new(bytes),
             marked: false,
             turn,
             faults: 0,
@@ -84,15 +84,15 @@ impl<'a> FailingSource<'a> {
 }
 
 impl<'a> Source for FailingSource<'a> {
-    ghost ahead = { λ s. ⟦<OneByOne<'a> as Source>⟧.ahead s.source };
+    ghost ahead = { λ s. ⟦<OneBytePerRead<'a> as Source>⟧.ahead s.source };
 
-    ghost behind = { λ s. ⟦<OneByOne<'a> as Source>⟧.behind s.source };
+    ghost behind = { λ s. ⟦<OneBytePerRead<'a> as Source>⟧.behind s.source };
 
-    ghost since = { λ s. ⟦<OneByOne<'a> as Source>⟧.since s.source };
+    ghost since = { λ s. ⟦<OneBytePerRead<'a> as Source>⟧.since s.source };
 
     ghost is_marked = { λ s. s.marked };
 
-    ghost left = { λ s. ⟦<OneByOne<'a> as Source>⟧.left s.source };
+    ghost left = { λ s. ⟦<OneBytePerRead<'a> as Source>⟧.left s.source };
 
     ghost faults = { λ s. s.faults };
 
@@ -134,8 +134,8 @@ impl<'a> Rereader for FailingSource<'a> {
     }
 }
 
-/// A source of the bytes of a slice, and of another slice after it went back. It fails only in
-/// `back` without a mark.
+/// A source that returns the bytes of one slice, and those of a second slice after going back to
+/// the mark. It fails only if `back` is called without a mark.
 #[derive(Drop)]
 pub struct Changes<'a> {
     source: SliceSource<'a>,

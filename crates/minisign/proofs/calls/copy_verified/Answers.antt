@@ -5,8 +5,9 @@ use Rattle.minisign.proofs.VouchedTexts.{copied_with, copy_refused, silent}
 use Rattle.minisign.proofs.calls.copy_verified.Goals as goal
 
 pub returns-clause-headline : goal.returns-clause-headline
-returns-clause-headline g c = λ message told no_new_fault status_no_new_fault out_no_new_fault again.
-    c.verify_with.ensures.headline message told no_new_fault (λ rose. omega (arith, rose)) out_no_new_fault
+returns-clause-headline g c = λ message known_data no_new_fault status_no_new_fault out_no_new_fault again.
+    c.verify_with.ensures.headline message known_data no_new_fault (λ rose. omega
+    (arith, rose)) out_no_new_fault
     again
 
 pub returns-clause-copied : goal.returns-clause-copied

@@ -5,8 +5,8 @@ use Rattle.minisign.proofs.VouchedTexts.{ahead_refused, ahead_vouched, reader_re
 use Rattle.minisign.proofs.calls.verify_reader.Goals as goal
 
 pub returns-clause-headline : goal.returns-clause-headline
-returns-clause-headline g c = λ message told no_new_fault status_no_new_fault out_no_new_fault again.
-    c.verify_with.ensures.headline message told no_new_fault (λ rose. omega (arith, rose))
+returns-clause-headline g c = λ message known_data no_new_fault status_no_new_fault out_no_new_fault again.
+    c.verify_with.ensures.headline message known_data no_new_fault (λ rose. omega (arith, rose))
     (λ rose. omega (arith, rose)) again
 
 pub returns-clause-vouched : goal.returns-clause-vouched

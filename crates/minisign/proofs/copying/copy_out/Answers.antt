@@ -5,13 +5,13 @@ use Rattle.minisign.specs.Verifying.{Flush, Put}
 use Rattle.minisign.proofs.Passes.{OneEnds, kept_steps, last_step, next_step}
 use Rattle.minisign.proofs.copying.copy_out.Goals as goal
 
-pub returns-in_ok-put_bytes-in-Kept : goal.returns-in_ok-put_bytes-in-Kept
-returns-in_ok-put_bytes-in-Kept g c =
+pub returns-in_ok-put_bytes-in-Message : goal.returns-in_ok-put_bytes-in-Message
+returns-in_ok-put_bytes-in-Message g c =
     let reader = rereader_call g.R.Source g.R.Rereader.steady c.args.data_reader.now c.args.data_reader.now in
     let out = sink_call g.O.Sink c.args.out.now c.flush.new.out in
-    let bytes = c.in-Kept.bytes.items in
-    let stages = kept_steps _ _ _ _ c.if-not-output.false c.in-Kept.is in
-    let put = rw c.deref.ensures.value at c.in_ok-put_bytes-in-Kept.ensures in (
+    let bytes = c.in-Message.bytes.items in
+    let stages = kept_steps _ _ _ _ c.if-not-output.false c.in-Message.is in
+    let put = rw c.deref.ensures.value at c.in_ok-put_bytes-in-Message.ensures in (
       bytes,
       rw stages at (next_step (OneEnds reader unused out) (Put bytes) (Flush ∷ []) _
           (record { reader = c.args.data_reader.now; status = tt; out = c.put_bytes.new.out }) _

@@ -5,11 +5,11 @@ use Rattle.minisign.proofs.Beginnings.{passed_up}
 use Rattle.minisign.specs.Generation.{choosing_steps, sealing_steps}
 use Rattle.minisign.proofs.keypair.ask_and_seal.Goals as goal
 
--- What holds for a result, together with a fact about the prompt.
-told_of : {T E : Type 0} (r : Result T E) (A : Type 0) (P Q : T → Type 0) → ((t : T) → A → P t → Q t)
+-- Combines a statement about a result with a fact about the prompt.
+both_hold : {T E : Type 0} (r : Result T E) (A : Type 0) (P Q : T → Type 0) → ((t : T) → A → P t → Q t)
     → OnOk r A → IfOk r P → IfOk r Q
-told_of (Ok t) A P Q f a p = f t a p
-told_of (Err e) A P Q f a p = tt
+both_hold (Ok t) A P Q f a p = f t a p
+both_hold (Err e) A P Q f a p = tt
 
 pub returns-in_err-password-clause-refused : goal.returns-in_err-password-clause-refused
 returns-in_err-password-clause-refused g c =
@@ -25,27 +25,27 @@ returns-in_err-password-clause-refused g c =
 pub returns-clause-typed : goal.returns-clause-typed
 returns-clause-typed g c =
     let (first, second, typed, again, chosen) = c.in_ok-password.ensures.chosen in
-    let p = prompt_call g.R.Source g.W.Sink c.args.prompt.now c.seal_aloud.new.prompt in
-    told_of c.seal_aloud.result _ _ _ (λ pair told sealed. (
+    let p = prompt_call g.R.Source g.W.Sink c.args.prompt.now c.seal_with_reports.new.prompt in
+    both_hold c.seal_with_reports.result _ _ _ (λ pair said sealed. (
       string_bytes c.in_ok-password.password,
       (
         first,
         second,
         (typed, again),
         second_ended p c.choose_password.new.prompt
-            (choosing_steps first second) sealing_steps (Ok tt) chosen told,
+            (choosing_steps first second) sealing_steps (Ok tt) chosen said,
       ),
       rw (c.as_bytes.ensures.value) at sealed,
-    )) c.seal_aloud.ensures.told c.seal_aloud.ensures.sealed
+    )) c.seal_with_reports.ensures.reported c.seal_with_reports.ensures.sealed
 
 pub returns-clause-refused : goal.returns-clause-refused
 returns-clause-refused g c =
     let (first, second, typed, again, chosen) = c.in_ok-password.ensures.chosen in
-    let p = prompt_call g.R.Source g.W.Sink c.args.prompt.now c.seal_aloud.new.prompt in
-    IfErr-weaker c.seal_aloud.result _ _ (λ e stopped. (
+    let p = prompt_call g.R.Source g.W.Sink c.args.prompt.now c.seal_with_reports.new.prompt in
+    IfErr-weaker c.seal_with_reports.result _ _ (λ e stopped. (
       first,
       second,
       tt,
       second_ended p c.choose_password.new.prompt
           (choosing_steps first second) sealing_steps (Err e) chosen stopped,
-    )) c.seal_aloud.ensures.refused
+    )) c.seal_with_reports.ensures.refused

@@ -1,6 +1,6 @@
 -- Proves the goals of `verify_texts` that the prover leaves open.
 use Rattle.minisign.proofs.Common.{sink_call}
-use Rattle.minisign.proofs.Verdicts.{kept_refusal, text_refused, told_nothing}
+use Rattle.minisign.proofs.Verdicts.{kept_refusal, text_refused, verdict_without_comment}
 use Rattle.minisign.proofs.VouchedTexts.{copy_vouched, fails_with, succeeds_with}
 use Rattle.minisign.proofs.ReadTexts.{read_value}
 use Rattle.minisign.proofs.Beginnings.{err_is}
@@ -16,7 +16,8 @@ returns-clause-accepted g c =
     succeeds_with _ _ _ _ _ _ _ _ _ (read_value _ _ c.in_ok-pk.ensures) _ c.verify.ensures.accepted
 
 pub returns-clause-vouched : goal.returns-clause-vouched
-returns-clause-vouched g c = λ wanted. copy_vouched _ _ _ _ _ _ _ _ (returns-clause-accepted g c) wanted
+returns-clause-vouched g c = λ is_requested. copy_vouched _ _ _ _ _ _ _ _
+    (returns-clause-accepted g c) is_requested
 
 pub returns-clause-refused : goal.returns-clause-refused
 returns-clause-refused g c = fails_with _ _ _ _ _ (sink_call g.W.Sink c.args.status.now c.verify.new.status)
@@ -24,6 +25,6 @@ returns-clause-refused g c = fails_with _ _ _ _ _ (sink_call g.W.Sink c.args.sta
     _ _ (read_value _ _ c.in_ok-pk.ensures) _ c.verify.ensures.refused
 
 pub returns-clause-headline : goal.returns-clause-headline
-returns-clause-headline g c = λ message told no_new_fault status_no_new_fault out_no_new_fault again.
-    told_nothing _ _ _ _ _ _ _ (read_value _ _ c.in_ok-pk.ensures) _
-    (c.verify.ensures.headline message told no_new_fault status_no_new_fault out_no_new_fault again)
+returns-clause-headline g c = λ message known_data no_new_fault status_no_new_fault out_no_new_fault again.
+    verdict_without_comment _ _ _ _ _ _ _ (read_value _ _ c.in_ok-pk.ensures) _
+    (c.verify.ensures.headline message known_data no_new_fault status_no_new_fault out_no_new_fault again)

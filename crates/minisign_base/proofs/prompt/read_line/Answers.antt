@@ -8,7 +8,7 @@ use Rattle.minisign_base.specs.DeviceCalls.{source_call}
 use Rattle.minisign_base.specs.Passwords.{accepted_line, line_length, read_count}
 use Rattle.minisign_base.proofs.PromptLines.{line_length-append, line_length-feed, password_of-end}
 use Rattle.minisign_base.proofs.PromptLines.{password_of-feed, password_of-long, password_of-nothing}
-use Rattle.minisign_base.proofs.PromptLines.{read_front, read_whole, told, told_all}
+use Rattle.minisign_base.proofs.PromptLines.{read_front, read_whole, consumed_front, consumed_all}
 use Rattle.minisign_base.proofs.prompt.read_line.Goals as goal
 
 pub returns-in-Some-eq10-clause-read : goal.returns-in-Some-eq10-clause-read
@@ -23,7 +23,8 @@ returns-in-Some-eq10-clause-read g c =
     let byte = rw c.in-Some-eq10.is at c.in_ok-next_byte.ensures.byte in
     let feed = subst (λ (b : ℕ). Consumes (g.R.Source.ahead c.bytes.source)
     (g.R.Source.ahead c.next_byte.new.source) (b ∷ [])) c.in-Some-eq10.field-0-test byte.0 in
-    let (rest, ahead, unread) = told _ _ _ (Consumes-trans _ _ _ _ _ c.bytes.invariant.given feed) in
+    let (rest, ahead, unread) = consumed_front _ _ _
+    (Consumes-trans _ _ _ _ _ c.bytes.invariant.given feed) in
     let given : length (done ++ 10 ∷ []) ≡ used + 1 = length-append done (10 ∷ [])
     ∙ ap (λ (k : ℕ). k + 1) size in
     let stands : line_length ((done ++ 10 ∷ []) ++ rest)
@@ -47,7 +48,7 @@ returns-in-None-clause-refused g c =
     let none : take c.bytes.used c.bytes.line ≡ [] = ap (λ (k : ℕ). take k c.bytes.line) c.if-used-eq0.true in
     let given = subst (λ (done : List ℕ). Consumes (g.R.Source.ahead c.args.source.now)
     (g.R.Source.ahead c.bytes.source) done) none c.bytes.invariant.given in
-    let (ahead, unread) = told_all _ _ _ (Consumes-trans _ _ _ _ _ given byte.0) byte.1 in
+    let (ahead, unread) = consumed_all _ _ _ (Consumes-trans _ _ _ _ _ given byte.0) byte.1 in
     inr (
       [],
       read_whole (source_call g.R.Source c.args.source.now c.next_byte.new.source) [] ahead unread
@@ -66,7 +67,8 @@ returns-in-None-2-clause-read g c =
     let unfinished : line_length done ≡ length done = c.bytes.invariant.unfinished ∙ sym size in
     let some : 0 < used = omega (arith, c.if-used-eq0.false) in
     let byte = rw c.in-None.is at c.in_ok-next_byte.ensures.byte in
-    let (ahead, unread) = told_all _ _ _ (Consumes-trans _ _ _ _ _ c.bytes.invariant.given byte.0) byte.1 in
+    let (ahead, unread) = consumed_all _ _ _
+    (Consumes-trans _ _ _ _ _ c.bytes.invariant.given byte.0) byte.1 in
     let all : done ++ [] ≡ done = append-nil done in (
       done,
       read_whole (source_call g.R.Source c.args.source.now c.next_byte.new.source) done
@@ -86,7 +88,7 @@ returns-clause-refused g c =
     let done : List ℕ = take used line in
     let size : length done ≡ used = length-take-le used line (omega arith) in
     let unfinished : line_length done ≡ length done = c.bytes.invariant.unfinished ∙ sym size in
-    let (rest, ahead, unread) = told _ _ _ c.bytes.invariant.given in
+    let (rest, ahead, unread) = consumed_front _ _ _ c.bytes.invariant.given in
     let count : length done ≡ read_count (done ++ rest) = omega
     (arith, size, all, line_length-append done rest unfinished) in
     inr (

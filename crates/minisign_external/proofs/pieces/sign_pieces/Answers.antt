@@ -4,14 +4,14 @@ use Rattle.std.specs.List.{flat_map}
 use Rattle.minisign_external.proofs.OwnTexts.{own_verdict}
 use Rattle.minisign_external.proofs.pieces.sign_pieces.Goals as goal
 
-told : {T E : Type 0} {P Q : T → Type 0} (r : Result T E) → IfOk r P → ((v : T) → P v → Q v) → IfOk r Q
-told (Ok v) p more = more v p
-told (Err e) p more = tt
+returned : {T E : Type 0} {P Q : T → Type 0} (r : Result T E) → IfOk r P → ((v : T) → P v → Q v) → IfOk r Q
+returned (Ok v) p more = more v p
+returned (Err e) p more = tt
 
 pub returns-clause-verifies : goal.returns-clause-verifies
-returns-clause-verifies g c = told c.write_signed_text.result c.write_signed_text.ensures.text
+returns-clause-verifies g c = returned c.write_signed_text.result c.write_signed_text.ensures.text
     (λ len (read, holds) seed w pair public.
-    let (opened, half, same_id) = c.in_ok-public_key.ensures.told in
+    let (opened, half, same_id) = c.in_ok-public_key.ensures.success in
     let chosen = comments_of c.args.trusted.now c.args.untrusted.now in
     let holds_own = subst (λ (id : List ℕ). HoldsText id chosen c.in_ok-first.first c.in_ok-first.second
     c.write_signed_text.new.to len) same_id holds in

@@ -10,11 +10,11 @@ use Rattle.minisign_kdf.proofs.kept_rows.fill_rows.Goals as goal
 pub rows-init : goal.rows-init
 rows-init g c =
     let x : List ℕ = c.args.x.now in
-    let items : (g.S.RowRoom.words c.push.new.self) ≡ x = c.push.ensures.words
+    let items : (g.S.RowMemory.words c.push.new.self) ≡ x = c.push.ensures.words
     ∙ ap (λ (l : List ℕ). l ++ x) c.clear.ensures.words in
     record {
       len = omega arith;
-      rows = λ j lt. kept_first c.args.r c.args.k j (g.S.RowRoom.words c.push.new.self) x items
+      rows = λ j lt. kept_first c.args.r c.args.k j (g.S.RowMemory.words c.push.new.self) x items
           c.requires.x_len lt;
       room = omega arith;
     }
@@ -46,7 +46,7 @@ rows-preserved g c =
     let r : ℕ = c.args.r in
     let k : ℕ = c.args.k in
     let i : ℕ = c.rows.i in
-    let xs : List ℕ = g.S.RowRoom.words c.rows.rows in
+    let xs : List ℕ = g.S.RowMemory.words c.rows.rows in
     let made = c.rows.invariant in
     let seen : length c.words.result.now ≡ 32 * r * i = c.words.ensures.len ∙ made.len in
     let len : length xs ≡ 32 * r * i = ap length (sym c.words.ensures.value) ∙ seen in

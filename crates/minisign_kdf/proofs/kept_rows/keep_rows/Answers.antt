@@ -22,7 +22,7 @@ returns-clause-rows g c =
     let b : List ℕ = c.args.block.now in
     let k : ℕ = c.args.k in
     let n : ℕ = 2 ^ c.args.n_log2 in
-    let words : List ℕ = g.S.RowRoom.words c.fill_rows.new.rows in
+    let words : List ℕ = g.S.RowMemory.words c.fill_rows.new.rows in
     let size : length b / 4 / 32 ≡ length b / 128 = omega arith in
     let each : (i : ℕ) → i < div_ceil n k → diagonal_bytes (block (32 * (length b / 128)) words i)
     ≡ row_at (length b / 128) b (k * i) =

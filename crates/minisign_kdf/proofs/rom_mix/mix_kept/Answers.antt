@@ -30,4 +30,4 @@ returns-clause-standard c = λ b filled.
     let size : length c.args.out.now / 4 / 32 ≡ r = omega arith in
     c.store_part.ensures ∙ c.mix_with_rows.ensures
     ∙ ap (λ (m : ℕ). rom_mix_from m n k (rows_of m (div_ceil n k) c.args.rows.now)) size
-    ∙ ap (rom_mix_from r n k) filled ∙ rom_mix_from-kept_rows r n k b c.requires.kept (omega arith)
+    ∙ ap (rom_mix_from r n k) filled ∙ rom_mix_from-kept_rows r n k b c.requires.k_positive (omega arith)

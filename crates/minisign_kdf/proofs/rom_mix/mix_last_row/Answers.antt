@@ -19,47 +19,47 @@ last_within r n k count some rows e = rw e
 
 pub overflow_sub-last : goal.overflow_sub-last
 overflow_sub-last c = omega
-    (arith, some_kept (2 ^ c.args.n_log2) c.args.k c.requires.kept (pow_pos c.args.n_log2))
+    (arith, some_kept (2 ^ c.args.n_log2) c.args.k c.requires.k_positive (pow_pos c.args.n_log2))
 
 pub overflow_mul-times : goal.overflow_mul-times
 overflow_mul-times c = omega (
   arith,
-  last_below (2 ^ c.args.n_log2) c.args.k c.kept_count-last.result c.requires.kept
+  last_below (2 ^ c.args.n_log2) c.args.k c.kept_count-last.result c.requires.k_positive
       (pow_pos c.args.n_log2) c.kept_count-last.ensures,
 )
 
 pub overflow_sub-times : goal.overflow_sub-times
 overflow_sub-times c = omega (
   arith,
-  last_below (2 ^ c.args.n_log2) c.args.k c.kept_count-last.result c.requires.kept
+  last_below (2 ^ c.args.n_log2) c.args.k c.kept_count-last.result c.requires.k_positive
       (pow_pos c.args.n_log2) c.kept_count-last.ensures,
 )
 
 pub mix_times-requires-clause-times : goal.mix_times-requires-clause-times
 mix_times-requires-clause-times c = omega (
   arith,
-  last_below (2 ^ c.args.n_log2) c.args.k c.kept_count-last.result c.requires.kept
+  last_below (2 ^ c.args.n_log2) c.args.k c.kept_count-last.result c.requires.k_positive
       (pow_pos c.args.n_log2) c.kept_count-last.ensures,
 )
 
 pub overflow_mul-r-2 : goal.overflow_mul-r-2
 overflow_mul-r-2 c = omega (
   arith,
-  last_within c.args.r (2 ^ c.args.n_log2) c.args.k c.kept_count-last.result c.requires.kept
+  last_within c.args.r (2 ^ c.args.n_log2) c.args.k c.kept_count-last.result c.requires.k_positive
       (pow_pos c.args.n_log2) c.kept_count-last.ensures,
 )
 
 pub offset_bounds-rows-r : goal.offset_bounds-rows-r
 offset_bounds-rows-r c = omega (
   arith,
-  last_within c.args.r (2 ^ c.args.n_log2) c.args.k c.kept_count-last.result c.requires.kept
+  last_within c.args.r (2 ^ c.args.n_log2) c.args.k c.kept_count-last.result c.requires.k_positive
       (pow_pos c.args.n_log2) c.kept_count-last.ensures,
 )
 
 pub slice_bounds-mix_times-start : goal.slice_bounds-mix_times-start
 slice_bounds-mix_times-start c = omega (
   arith,
-  last_within c.args.r (2 ^ c.args.n_log2) c.args.k c.kept_count-last.result c.requires.kept
+  last_within c.args.r (2 ^ c.args.n_log2) c.args.k c.kept_count-last.result c.requires.k_positive
       (pow_pos c.args.n_log2) c.kept_count-last.ensures,
 )
 
@@ -67,7 +67,7 @@ pub mix_times-requires-clause-from_len : goal.mix_times-requires-clause-from_len
 mix_times-requires-clause-from_len c =
     let n : ℕ = 2 ^ c.args.n_log2 in
     let some : 0 < n = pow_pos c.args.n_log2 in
-    let kept : 0 < div_ceil n c.args.k = some_kept n c.args.k c.requires.kept (omega arith) in
+    let base_row : 0 < div_ceil n c.args.k = some_kept n c.args.k c.requires.k_positive (omega arith) in
     length_end (32 * c.args.r) (div_ceil n c.args.k) _ c.args.rows.now c.requires.rows_len (omega arith)
     (ap (λ (m : ℕ). 32 * c.args.r * (m - 1)) c.kept_count-last.ensures)
 
@@ -77,7 +77,7 @@ returns c =
     let n : ℕ = 2 ^ c.args.n_log2 in
     let k : ℕ = c.args.k in
     let some : 0 < n = pow_pos c.args.n_log2 in
-    let kept : 0 < div_ceil n k = some_kept n k c.requires.kept (omega arith) in
+    let base_row : 0 < div_ceil n k = some_kept n k c.requires.k_positive (omega arith) in
     let times : c.row_count.result - k * (c.kept_count-last.result - 1) ≡ n - k * (div_ceil n k - 1) =
     (λ t. c.row_count.ensures t - k * (c.kept_count-last.ensures t - 1)) in
     c.mix_times.ensures

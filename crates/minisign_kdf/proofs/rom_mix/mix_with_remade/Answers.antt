@@ -11,9 +11,9 @@ pub returns-then-times-eq0 : goal.returns-then-times-eq0
 returns-then-times-eq0 c =
     let r : ℕ = c.args.r in
     let x : List ℕ = c.args.x.now in
-    let b : List ℕ = diagonal_bytes c.args.kept.now in
+    let b : List ℕ = diagonal_bytes c.args.base_row.now in
     c.xor_block_mix.ensures
-    ∙ ap (block_mix r) (diagonal_bytes-xor x c.args.kept.now (2 * r) (omega arith) (omega arith)
+    ∙ ap (block_mix r) (diagonal_bytes-xor x c.args.base_row.now (2 * r) (omega arith) (omega arith)
     ∙ ap (zip2 bit_xor (diagonal_bytes x))
     (sym (row_at_none r b) ∙ ap (row_at r b) (sym c.if-times-eq0.true)))
 

@@ -8,5 +8,6 @@ returns c =
     let named : c.integerify.result % c.row_count.result ≡ c.integerify.result % 2 ^ c.args.n_log2 = ap
     (λ (m : ℕ). c.integerify.result % m) c.row_count.ensures in
     mixed_with_remade c.args.r c.args.n_log2 c.args.k c.integerify.result _ c.args.rows.now
-    c.kept_row-kept.result.now c.args.x.now _ c.requires.kept c.requires.cost c.integerify.ensures named
-    c.kept_row-kept.ensures.row c.mix_with_remade.ensures
+    c.kept_row-base_row.result.now c.args.x.now _ c.requires.k_positive c.requires.cost c.integerify.ensures
+    named
+    c.kept_row-base_row.ensures.row c.mix_with_remade.ensures

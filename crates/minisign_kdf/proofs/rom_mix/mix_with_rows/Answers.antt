@@ -35,5 +35,5 @@ returns c =
     let all : 2 * c.turns._turn ≡ n = ap (λ (t : ℕ). 2 * t)
     (turns ∙ ap (λ (m : ℕ). m / 2) c.row_count-turn-end.ensures)
     ∙ even_power c.args.n_log2 c.requires.even in
-    mixed_from r n k words _ c.requires.kept (omega arith)
+    mixed_from r n k words _ c.requires.k_positive (omega arith)
     (c.turns.invariant ∙ ap (mixed_part r n v (last_row_mixed r n k words)) all)

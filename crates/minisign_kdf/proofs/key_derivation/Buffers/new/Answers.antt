@@ -7,8 +7,8 @@ use Rattle.minisign_kdf.proofs.key_derivation.Buffers.new.Goals as goal
 part_bytes : (r p : ℕ) → r * p < 2 ^ 30 → 128 * r * p < 2 ^ 37
 part_bytes r p small = grind (arith, small)
 
-pub room_for_rows-requires-clause-cost : goal.room_for_rows-requires-clause-cost
-room_for_rows-requires-clause-cost c =
+pub memory_for_rows-requires-clause-cost : goal.memory_for_rows-requires-clause-cost
+memory_for_rows-requires-clause-cost c =
     let p = c.args.params.now in
     let small : p.n_log2 < 64 = n_log2_small p c.r-r.ensures.accepted in
     omega arith

@@ -1,8 +1,8 @@
--- Proves the goal of `SecretKey::finish_telling` that the prover leaves open.
+-- Proves the goal of `SecretKey::finish_with_reports` that the prover leaves open.
 use Rattle.std.proofs.Common.{◌≡◌, ℕ, List, [], ◌∷◌, Result, Ok, Err, MatchResult, ap, inl, inr, refl}
 use Rattle.minisign.proofs.Common.{⊤, result_err, PromptCall, prompt_call, Fault, ConversationEnds, Say}
 use Rattle.minisign.proofs.Common.{StepEnds, Test}
-use Rattle.minisign.proofs.secret_key.SecretKey.finish_telling.Goals as goal
+use Rattle.minisign.proofs.secret_key.SecretKey.finish_with_reports.Goals as goal
 
 -- A text was written, and then a check was made.
 tested_last : {R W V : Type 0} (p : PromptCall R W) (text : List ℕ) (test : Result V Fault) (v : V)

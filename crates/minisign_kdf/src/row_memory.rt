@@ -3,7 +3,7 @@
 ghost use Rattle.std.specs.Prelude.{◌≡◌, ℕ, ◌+◌, ◌≤◌, ◌++◌, List, [], length, take, vec_capacity};
 
 /// A buffer for rows, which are appended one after another.
-pub(crate) trait RowRoom {
+pub(crate) trait RowMemory {
     // The words of the rows in the buffer, and the number of words that the buffer can hold.
     ghost words: { Self → List ℕ };
 
@@ -15,7 +15,7 @@ pub(crate) trait RowRoom {
         ensures len { length (words self.new) ≡ 0 }
         ensures room { room self.old ≤ room self.new };
 
-    // Appends a row, for which there must be room.
+    // Appends a row. The buffer must have space for it.
     fn push(&mut self, row: &[u32])
         requires { length (words self.old) + length row.now ≤ room self.old }
         ensures words { words self.new ≡ words self.old ++ row.now }
@@ -28,7 +28,7 @@ pub(crate) trait RowRoom {
         ensures len { length result.now ≡ length (words self.now) };
 }
 
-impl RowRoom for Vec<u32> {
+impl RowMemory for Vec<u32> {
     ghost words = { λ v. v.items };
 
     ghost room = { λ v. vec_capacity v };
@@ -47,7 +47,7 @@ impl RowRoom for Vec<u32> {
     }
 }
 
-/// The caller's memory, of which the first `used` words are those of rows.
+/// The caller's memory. Its first `used` words hold rows.
 #[derive(Drop)]
 pub(crate) struct Passed<'a> {
     memory: &'a mut [u32],
@@ -57,13 +57,13 @@ pub(crate) struct Passed<'a> {
 impl<'a> Passed<'a> {
     // Returns an empty buffer in this memory.
     pub(crate) fn new(memory: &'a mut [u32]) -> Passed<'a>
-        ensures room { ⟦<Passed<'a> as RowRoom>⟧.room result ≡ length memory.old }
+        ensures room { ⟦<Passed<'a> as RowMemory>⟧.room result ≡ length memory.old }
     {
         Passed { memory, used: 0 }
     }
 }
 
-impl<'a> RowRoom for Passed<'a> {
+impl<'a> RowMemory for Passed<'a> {
     ghost words = { λ s. take s.used s.memory.now };
 
     ghost room = { λ s. length s.memory.now };

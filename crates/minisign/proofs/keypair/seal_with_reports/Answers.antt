@@ -1,9 +1,9 @@
--- Proves the goals of `seal_aloud` that the prover leaves open.
+-- Proves the goals of `seal_with_reports` that the prover leaves open.
 use Rattle.std.proofs.Common.{inl, inr, refl}
 use Rattle.minisign.proofs.Beginnings.{passed_up}
 use Rattle.minisign.specs.Generation.{sealing_text}
 use Rattle.minisign.specs.Sealing.{done_text}
-use Rattle.minisign.proofs.keypair.seal_aloud.Goals as goal
+use Rattle.minisign.proofs.keypair.seal_with_reports.Goals as goal
 
 pub returns-in_err-pair-clause-refused : goal.returns-in_err-pair-clause-refused
 unfolding sealing_text
@@ -18,9 +18,9 @@ returns-in_err-say-2-clause-refused g c =
     passed_up _ _ _ c.from_residual-in_err-say-2.ensures.1
     (inr (said, c.in_ok-say.ensures.ended, inr (said, (tt, refl), inl c.in_err-say-2.ensures.ended)))
 
-pub returns-clause-told : goal.returns-clause-told
+pub returns-clause-reported : goal.returns-clause-reported
 unfolding sealing_text done_text
-returns-clause-told g c =
+returns-clause-reported g c =
     let said = c.say.new.self in (
       said,
       c.in_ok-say.ensures.ended,

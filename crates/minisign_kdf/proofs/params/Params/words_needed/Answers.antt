@@ -1,8 +1,8 @@
--- Proves the goals of `Params::wanted_words` that the prover leaves open.
+-- Proves the goals of `Params::words_needed` that the prover leaves open.
 use Rattle.std.proofs.Common.{◌≡◌, ℕ, ◌+◌, ◌*◌, ◌^◌, ◌<◌, ◌≤◌, ap, arith}
 use Rattle.minisign_kdf.specs.Params.{Numbers}
 use Rattle.minisign_kdf.proofs.ParamsFacts.{kept_at_most, n_log2_small, words_small}
-use Rattle.minisign_kdf.proofs.params.Params.wanted_words.Goals as goal
+use Rattle.minisign_kdf.proofs.params.Params.words_needed.Goals as goal
 
 pub kept_count-requires-clause-cost : goal.kept_count-requires-clause-cost
 kept_count-requires-clause-cost c = n_log2_small

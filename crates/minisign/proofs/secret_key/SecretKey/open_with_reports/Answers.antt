@@ -1,9 +1,9 @@
--- Proves the goals of `SecretKey::open_telling` that the prover leaves open.
+-- Proves the goals of `SecretKey::open_with_reports` that the prover leaves open.
 use Rattle.std.proofs.Common.{ap, inl, inr, refl, ⊎_elim}
 use Rattle.minisign.proofs.Common.{result_err}
 use Rattle.minisign.proofs.Openings.{no_fault}
 use Rattle.minisign.proofs.Beginnings.{err_is}
-use Rattle.minisign.proofs.secret_key.SecretKey.open_telling.Goals as goal
+use Rattle.minisign.proofs.secret_key.SecretKey.open_with_reports.Goals as goal
 
 pub returns-in_err-apply_stream-clause-ended : goal.returns-in_err-apply_stream-clause-ended
 returns-in_err-apply_stream-clause-ended g c =
@@ -15,11 +15,11 @@ returns-in_err-apply_stream-clause-ended g c =
     )) (λ work. inr (said, c.in_ok-say_deriving.ensures.ended, inl (ap result_err work, refl)))
     c.in_err-apply_stream.ensures.refused)
 
-pub returns-in_err-finish_telling-clause-ended : goal.returns-in_err-finish_telling-clause-ended
-returns-in_err-finish_telling-clause-ended g c =
+pub returns-in_err-finish_with_reports-clause-ended : goal.returns-in_err-finish_with_reports-clause-ended
+returns-in_err-finish_with_reports-clause-ended g c =
     let said = c.say_deriving.new.prompt in
-    let refused = rw c.in_ok-apply_stream.ensures.xored at c.in_err-finish_telling.ensures.ended in
-    rw (err_is _ _ c.from_residual-in_err-finish_telling.ensures.1) (inr (
+    let refused = rw c.in_ok-apply_stream.ensures.xored at c.in_err-finish_with_reports.ensures.ended in
+    rw (err_is _ _ c.from_residual-in_err-finish_with_reports.ensures.1) (inr (
       said,
       c.in_ok-say_deriving.ensures.ended,
       inr (said, (no_fault _ c.in_ok-apply_stream.ensures.allowed, refl), inr (said, (tt, refl), refused)),
@@ -28,7 +28,7 @@ returns-in_err-finish_telling-clause-ended g c =
 pub returns-clause-ended : goal.returns-clause-ended
 returns-clause-ended g c =
     let said = c.say_deriving.new.prompt in
-    let ended = rw c.in_ok-apply_stream.ensures.xored at c.in_ok-finish_telling.ensures.ended in (
+    let ended = rw c.in_ok-apply_stream.ensures.xored at c.in_ok-finish_with_reports.ensures.ended in (
       said,
       c.in_ok-say_deriving.ensures.ended,
       (said, (no_fault _ c.in_ok-apply_stream.ensures.allowed, refl), (said, (tt, refl), ended)),

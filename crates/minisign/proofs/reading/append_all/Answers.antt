@@ -1,11 +1,11 @@
--- Proves the goal of `keep` that the prover leaves open.
+-- Proves the goal of `append_all` that the prover leaves open.
 use Rattle.std.proofs.Common.{◌∙◌, append_assoc, refl}
 use Rattle.minisign.proofs.Common.{Consumes-trans}
-use Rattle.minisign.proofs.reading.keep.Goals as goal
+use Rattle.minisign.proofs.reading.append_all.Goals as goal
 
 pub pieces-preserved : goal.pieces-preserved
 pieces-preserved g c =
-    let (done, given, kept) = c.pieces.invariant.given in
+    let (done, given, received) = c.pieces.invariant.given in
     record {
       no_new_fault = c.in-Ok.ensures.no_new_fault ∙ c.pieces.invariant.no_new_fault;
       marked = c.in-Ok.ensures.marked ∙ c.pieces.invariant.marked;
@@ -13,6 +13,6 @@ pieces-preserved g c =
       given = (
         _,
         Consumes-trans _ _ _ _ _ given c.in-Ok.ensures.bytes,
-        rw (c.in_ok-extend_from_slice-in-Ok.ensures.items, kept, append_assoc) refl,
+        rw (c.in_ok-extend_from_slice-in-Ok.ensures.items, received, append_assoc) refl,
       );
     }

@@ -1,7 +1,7 @@
--- The loop invariant and termination measure of `keep`.
+-- The loop invariant and termination measure of `append_all`.
 use Rattle.std.proofs.Common.{◌≡◌, ℕ, List, ◌++◌}
 use Rattle.minisign.proofs.Common.{Consumes}
-use Rattle.minisign.proofs.reading.keep.Given as goal
+use Rattle.minisign.proofs.reading.append_all.Given as goal
 
 abbrev pub invariant-pieces : goal.invariant-pieces
 invariant-pieces g l = record {
@@ -9,7 +9,7 @@ invariant-pieces g l = record {
   marked : g.S.Source.is_marked l.source ≡ g.S.Source.is_marked l.fn.source;
   mark : g.S.Source.behind l.source ≡ g.S.Source.behind l.fn.source;
   given : (done : List ℕ) × Consumes (g.S.Source.ahead l.fn.source) (g.S.Source.ahead l.source) done
-      × (l.kept.items ≡ l.fn.kept.items ++ done);
+      × (l.received.items ≡ l.fn.received.items ++ done);
 }
 
 abbrev pub decreases-pieces : goal.decreases-pieces
