@@ -197,7 +197,7 @@ enum minisign_error {
     /* Minisign would not read a comment back, because it is too long, or contains a zero byte or a carriage
      * return. */
     MINISIGN_UNREADABLE_COMMENT = 11,
-    /* The installation expects a different call now, or this call cannot fail with this error. */
+    /* The installation expects a different call now, or no operation can fail with the error that was reported. */
     MINISIGN_NOT_DUE = 12,
     /* An option of an installation other than numbering is neither 0 nor 1. */
     MINISIGN_BAD_OPTION = 13,
@@ -297,7 +297,8 @@ enum minisign_error {
     MINISIGN_OTHER_SIZE = 60,
     /* The signature was read from a different signature file than the one that was passed with it. */
     MINISIGN_OTHER_SIGNATURE_TEXT = 61,
-    /* No signature was read into the struct, or it is a bare signature and the call needs comments. */
+    /* No signature was read into the struct, or only a bare signature, which lacks the comments that the call
+     * needs. */
     MINISIGN_SIGNATURE_NOT_READ = 62,
     /* No secret key was read into the struct. */
     MINISIGN_KEY_NOT_READ = 63,
@@ -342,10 +343,10 @@ enum minisign_error {
 /* A buffer size that is large enough for the text of every error. */
 #define MINISIGN_ERROR_TEXT_BYTES 128
 
-/* Writes the English text of an error to text, a buffer of room bytes. The text is meant for people. It ends with a 0
- * byte, and is cut if the buffer is too short. If room is 0, nothing is written. The text of MINISIGN_OK is "no
- * error", and that of a number without a meaning is "unknown error". Returns the length of the whole text without the
- * 0 byte, as snprintf does. Since 0.1. */
+/* Writes the English text of an error to the buffer text. room is the size of the buffer in bytes. The text is meant
+ * for people. It ends with a 0 byte, and is cut if the buffer is too short. If room is 0, nothing is written. The text
+ * of MINISIGN_OK is "no error", and that of a number without a meaning is "unknown error". Returns the length of the
+ * whole text without the 0 byte, as snprintf does. Since 0.1. */
 size_t minisign_error_text(uint32_t error, char *text MINISIGN_ROLE(room ERROR_TEXT_BYTES), size_t room);
 
 /* The kind of an error: a coarse class, for programs that treat many errors alike. API misuse and 0 have kinds of their
@@ -357,27 +358,27 @@ enum minisign_kind {
     MINISIGN_KIND_NONE = 0,
     /* API misuse. */
     MINISIGN_KIND_MISUSE = 1,
-    /* Key generation. */
+    /* Generating keys failed. */
     MINISIGN_KIND_GENERATE = 2,
-    /* Signing. */
+    /* Signing failed. */
     MINISIGN_KIND_SIGN = 3,
-    /* Verifying a signature or a checksum. */
+    /* Verifying a signature or a checksum failed. */
     MINISIGN_KIND_VERIFY = 4,
-    /* A device, or a text that has the wrong form. */
+    /* Reading or writing failed, or a key file or signature file has the wrong format. */
     MINISIGN_KIND_IO = 5,
-    /* Anything else. */
+    /* Any other error. */
     MINISIGN_KIND_MISC = 6,
-    /* Hashing. */
+    /* Hashing failed. */
     MINISIGN_KIND_HASH = 7,
-    /* Deriving a key from a password. */
+    /* Deriving a key from a password failed. */
     MINISIGN_KIND_KDF = 8,
-    /* Generating random bytes. */
+    /* Generating random bytes failed. */
     MINISIGN_KIND_RNG = 9,
-    /* Bytes that are not UTF-8, or a text that is not base64. */
+    /* A secret key file is not base64; in Rust, also: std rejected bytes that are not UTF-8. */
     MINISIGN_KIND_ENCODING = 10,
-    /* An encrypted key where a decrypted one is needed. */
+    /* A secret key is encrypted, but the call needs a decrypted one. */
     MINISIGN_KIND_ENCRYPTED_KEY = 11,
-    /* A failed allocation. */
+    /* An allocation failed. */
     MINISIGN_KIND_OUT_OF_MEMORY = 12
 };
 /* The end of the kinds. */
@@ -522,8 +523,8 @@ typedef struct minisign_questions {
 /*
  * Prepares the two checks: writes the key and both signatures to questions, and the message of the second check to
  * message. sig_text is the file from which the signature was read. It is not parsed again: the call compares its
- * digest with the text_digest of the signature, and takes the trusted comment from it. message is a buffer of room
- * bytes, and needs 64 + comment_len bytes, with the comment_len of the signature. Does not allocate.
+ * digest with the text_digest of the signature, and takes the trusted comment from it. message is an output buffer,
+ * and room is its size in bytes, which must be at least 64 plus the comment_len of the signature. Does not allocate.
  *
  * Call minisign_ask before you feed data, so that a file that cannot be valid is rejected early. You may also call it
  * later, before minisign_digest: the first check is always about all data that the state was fed.
@@ -650,8 +651,9 @@ MINISIGN_MUST_USE enum minisign_error minisign_read_secret_key_record(
 
 /*
  * Writes an unopened key as a secret key file, as it is: nothing is encrypted, decrypted or checked, so the key stays
- * sealed if it is sealed. Writes both lines to text, a buffer of room bytes, and their length to text_len.
- * MINISIGN_SECRET_KEY_BYTES(comment_len) bytes are enough. minisign_read_secret_key reads the same key from the file.
+ * sealed if it is sealed. Writes both lines to text, and their length to text_len. text is an output buffer, and room
+ * is its size in bytes: MINISIGN_SECRET_KEY_BYTES(comment_len) bytes are enough. minisign_read_secret_key reads the
+ * same key from the file.
  *
  * After an error, *text and *text_len are unchanged. The errors, in this order: MINISIGN_KEY_NOT_READ;
  * MINISIGN_NOT_UTF8; MINISIGN_BAD_COMMENT, MINISIGN_UNREADABLE_COMMENT, as for minisign_secret_key_text;
@@ -769,9 +771,10 @@ MINISIGN_MUST_USE enum minisign_error minisign_public_key_of(
 MINISIGN_MUST_USE enum minisign_error minisign_secret_key_record(
     const minisign_secret_key *key, uint8_t secret_record[158] MINISIGN_ROLE(secret));
 
-/* Writes the second message to sign to message, a buffer of room bytes. The message is your signature of the digest
- * followed by the trusted comment, 64 + trusted_len bytes. Sign it with the same secret as the digest. Does not
- * allocate. The only error is MINISIGN_NO_ROOM, after which the buffer is unchanged. Since 0.1. */
+/* Writes the second message to sign to the buffer message. room is the size of the buffer in bytes. The message is
+ * your signature of the digest followed by the trusted comment, 64 + trusted_len bytes. Sign it with the same secret
+ * as the digest. Does not allocate. The only error is MINISIGN_NO_ROOM, after which the buffer is unchanged. Since
+ * 0.1. */
 MINISIGN_MUST_USE enum minisign_error minisign_comment_message(
     const uint8_t first[64], const uint8_t *trusted, size_t trusted_len,
     uint8_t *message MINISIGN_ROLE(room 64 + trusted_len), size_t room);
@@ -799,9 +802,9 @@ typedef struct minisign_signed_parts {
     (240 + (size_t) (trusted_comment_len) + (size_t) (untrusted_comment_len))
 
 /*
- * Writes a signature file from your two signatures and the comments: four lines of UTF-8, as `minisign -V` reads
- * them. They are written to text, a buffer of room bytes, and their length to text_len. The file gets the key ID of
- * key, a public key that was read, or that minisign_public_key_of wrote from your secret key.
+ * Writes a signature file from your two signatures and the comments: four lines of UTF-8, as `minisign -V` reads them.
+ * They are written to text, and their length to text_len. text is an output buffer, and room is its size in bytes. The
+ * file gets the key ID of key, a public key that was read, or that minisign_public_key_of wrote from your secret key.
  *
  * If the file is read back, it has exactly this key ID, these comments and these signatures. It is a valid signature
  * of the data under a public key if two conditions hold: the public key has this key ID, and Ed25519 accepts both
@@ -876,8 +879,8 @@ static inline minisign_sealing minisign_usual_sealing(const uint8_t salt[32])
 #define MINISIGN_PUBLIC_KEY_BYTES(comment_len) (77 + (size_t) (comment_len))
 
 /*
- * Writes a secret key file: both lines of a file such as minisign.key, to text, a buffer of room bytes, and their
- * length to text_len.
+ * Writes a secret key file, both lines of a file such as minisign.key, to text, and its length to text_len. text is an
+ * output buffer, and room is its size in bytes.
  *
  * If with_password is MINISIGN_PASSWORD or MINISIGN_ANY_PASSWORD, the key is sealed under the password, with the salt
  * and the limits of sealing. This takes the memory and the time of scrypt. keep_every limits the memory as it does in
@@ -913,10 +916,10 @@ MINISIGN_MUST_USE enum minisign_error minisign_secret_key_text_with_any_limits(
     uint64_t keep_every, const uint8_t *comment, size_t comment_len,
     uint8_t *text MINISIGN_ROLE(room SECRET_KEY_BYTES + comment_len), size_t room, size_t *text_len);
 
-/* Writes a public key file: both lines of a file such as minisign.pub, to text, a buffer of room bytes, and their
- * length to text_len. The call takes the secret key, so that you cannot pass secret bytes in place of a public key by
- * mistake, and publish them. After an error, *text and *text_len are unchanged. The errors, in this order:
- * MINISIGN_KEY_NOT_OPENED; MINISIGN_NOT_UTF8; MINISIGN_BAD_COMMENT, MINISIGN_UNREADABLE_COMMENT, as for
+/* Writes a public key file, both lines of a file such as minisign.pub, to text, and its length to text_len. text is an
+ * output buffer, and room is its size in bytes. The call takes the secret key, so that you cannot pass secret bytes in
+ * place of a public key by mistake, and publish them. After an error, *text and *text_len are unchanged. The errors,
+ * in this order: MINISIGN_KEY_NOT_OPENED; MINISIGN_NOT_UTF8; MINISIGN_BAD_COMMENT, MINISIGN_UNREADABLE_COMMENT, as for
  * minisign_secret_key_text; MINISIGN_NO_ROOM; MINISIGN_OUT_OF_MEMORY. Since 0.2. */
 MINISIGN_MUST_USE enum minisign_error minisign_public_key_text(
     const minisign_secret_key *key, const uint8_t *comment, size_t comment_len,

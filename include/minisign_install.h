@@ -37,7 +37,7 @@
  * Data that may arrive slowly, such as that of a pipe, must not be read while the target is locked, and not before the
  * trusted comment is verified, because otherwise anybody could make you read without end. So first make a run with the
  * same options and is_check set. If it ends with MINISIGN_DUE_WOULD_INSTALL, read the data into an unnamed file, at
- * most the bytes that minisign_install_size returns, or at most a limit of your own if there is no signed size. Then
+ * most as many bytes as minisign_install_size returns, or up to a limit of your own if there is no signed size. Then
  * install from this file. If the check ends with MINISIGN_DUE_ALREADY_INSTALLED, read nothing, and make a run with an
  * empty file, which syncs the installed file.
  *
@@ -46,11 +46,12 @@
  * temporary files in the directory of the target, with random names. They are synced before they are renamed, so what
  * is renamed is always complete.
  *
- * If an update does not have a greater version number than the recorded one, the installed file may be the update. Then
- * it is read and verified. If it is the update, the file and the directory are synced, and the run ends with
- * MINISIGN_DUE_ALREADY_INSTALLED. If it is another file, the update is installed if the record was written for the data
- * of this update, or if the option `again` is set. Otherwise the update is rejected. So if a run was interrupted after
- * it had renamed its record and before it renamed its data, the next run completes the installation.
+ * If an update has the recorded version number, the installed file may be the update, so it is read and verified. If it
+ * is the update, the file and the directory are synced, and the run ends with MINISIGN_DUE_ALREADY_INSTALLED. If it is
+ * another file, the update is installed if the record was written for the data of this update, or if the option `again`
+ * is set; otherwise the update is rejected. So if a run was interrupted after it had renamed its record and before it
+ * renamed its data, the next run completes the installation. An older update is rejected, unless the option roll_back
+ * is set.
  *
  * You have to meet the "Requirements" of minisign.h, and those in the following list. If you break one, nothing is
  * guaranteed about the target.
@@ -77,7 +78,7 @@ extern "C" {
 enum minisign_due {
     /* Nothing: the installation was never begun. */
     MINISIGN_DUE_NOTHING = 0,
-    /* Lock the target, and wait as long as the user allows. */
+    /* Lock the target, and wait for the lock as long as the user allows. */
     MINISIGN_DUE_LOCK = 1,
     /* Read the record, and report its bytes, or that there is none. */
     MINISIGN_DUE_READ_RECORD = 2,
@@ -93,9 +94,9 @@ enum minisign_due {
     MINISIGN_DUE_CHECK_TARGET = 7,
     /* Sync the installed file, which is already the update. */
     MINISIGN_DUE_SYNC_TARGET = 8,
-    /* Sync the directory, so that a crash does not undo the name of the installed file. */
+    /* Sync the directory, so that the name of the installed file survives a crash. */
     MINISIGN_DUE_SYNC_TARGET_NAME = 9,
-    /* Remove the temporary files that killed runs have left behind, as far as possible. */
+    /* Remove the temporary files that killed runs have left behind. */
     MINISIGN_DUE_REMOVE_LEFTOVERS = 10,
     /* Create the temporary file of the data under a random name. */
     MINISIGN_DUE_CREATE_FILE = 11,
@@ -177,8 +178,9 @@ typedef struct minisign_installation {
  * signature must have the key ID of `key` or of `other`. If both have this key ID, the signature may be from either of
  * them. If you have only one key, pass it twice.
  *
- * After an error the installation is unchanged. The errors, in this order: MINISIGN_BAD_OPTION, also if is_first is set
- * together with new_key or roll_back; MINISIGN_BAD_NUMBERING; MINISIGN_PUBLIC_KEY_NOT_READ. Since 0.3.
+ * After an error the installation is unchanged. The errors, in this order: MINISIGN_BAD_OPTION, if an option other than
+ * numbering is neither 0 nor 1, or is_first is set together with new_key or roll_back; MINISIGN_BAD_NUMBERING;
+ * MINISIGN_PUBLIC_KEY_NOT_READ. Since 0.3.
  */
 MINISIGN_MUST_USE enum minisign_error minisign_install_init(
     minisign_installation *installation, const minisign_public_key *key, const minisign_public_key *other,
@@ -192,10 +194,10 @@ enum minisign_due minisign_install_due(const minisign_installation *installation
  * Reports that the operation that is due was done. For example, you got the lock, created a temporary file, or copied
  * all of the data.
  *
- * The errors, in this order: MINISIGN_NOT_DUE, after which nothing is changed, for operations that other calls report
- * and after the end of the run; MINISIGN_OTHER_SIZE, for MINISIGN_DUE_COPY_DATA, if the data is shorter than the field
- * "size:" of the trusted comment says. Then the run is rejected for this error, and you continue with the operation
- * that is due. Since 0.3.
+ * The errors, in this order: MINISIGN_NOT_DUE, if another call reports this operation, or the run has ended (nothing is
+ * changed); MINISIGN_OTHER_SIZE, for MINISIGN_DUE_COPY_DATA, if the data is shorter than the field "size:" of the
+ * trusted comment says. Then the run is rejected for this error, and you continue with the operation that is due. Since
+ * 0.3.
  */
 MINISIGN_MUST_USE enum minisign_error minisign_install_done(minisign_installation *installation);
 
@@ -213,8 +215,7 @@ MINISIGN_MUST_USE enum minisign_error minisign_install_copied(
 /*
  * Reports that the operation that is due failed. why is MINISIGN_OUT_OF_MEMORY, MINISIGN_READING_FAILED,
  * MINISIGN_WRITING_FAILED or MINISIGN_RANDOM_SOURCE_FAILED, or for MINISIGN_DUE_LOCK also MINISIGN_TARGET_IN_USE. You
- * may report a failure of any operation, even of one whose success you report with another call than
- * minisign_install_done.
+ * may report the failure of any operation with this call, whichever call reports its success.
  *
  * The run is rejected, and the call returns why. If there is a temporary file that was not renamed,
  * MINISIGN_DUE_REMOVE_FILES becomes due before MINISIGN_DUE_REJECTED. There are two exceptions:
@@ -232,8 +233,8 @@ MINISIGN_MUST_USE enum minisign_error minisign_install_failed(
 
 /*
  * Passes the content of the record, or reports that there is none, if MINISIGN_DUE_READ_RECORD is due. Pass all bytes
- * of the record. If there are more than MINISIGN_RECORD_TEXT_BYTES, report with minisign_install_failed that reading
- * failed.
+ * of the record. If there are more than MINISIGN_RECORD_TEXT_BYTES, call minisign_install_failed with
+ * MINISIGN_READING_FAILED instead.
  *
  * The record is what minisign_install_record_text wrote. Records of versions 0.1 and 0.2 are accepted as well: they
  * are "timestamp:" or "version:" and a number, or only a number, which counts for both fields. A line feed at the end
@@ -264,10 +265,10 @@ MINISIGN_MUST_USE enum minisign_error minisign_install_no_target(minisign_instal
 
 /*
  * Passes the signature file and the time, if MINISIGN_DUE_READ_SIGNATURE is due. sig_text is the whole signature file.
- * The call writes to `message` what the signature of the trusted comment is over, for MINISIGN_DUE_CHECK_COMMENT, and its
- * length to *message_len. message is a buffer of room bytes. It needs 64 bytes and the length of the trusted comment, so
- * 64 + sig_text_len bytes are always enough. The trusted comment is the part of the message after the first 64 bytes.
- * Legacy signatures are always rejected.
+ * The call writes to `message` the bytes that the signature of the trusted comment covers, and their length to
+ * *message_len. You need them for MINISIGN_DUE_CHECK_COMMENT. message is an output buffer, and room is its size in
+ * bytes. It needs 64 bytes plus the length of the trusted comment, so 64 + sig_text_len bytes are always enough. The
+ * trusted comment is the part of the message after the first 64 bytes. Legacy signatures are always rejected.
  *
  * The call also checks what the trusted comment says. You get the result from minisign_install_answer, because until
  * then the comment may be forged. The comment consists of fields that are separated by tabs. It must have
@@ -303,8 +304,8 @@ MINISIGN_MUST_USE enum minisign_error minisign_install_signature(
  * signature over the message that minisign_install_signature wrote; the digest is zeros. For MINISIGN_DUE_CHECK_RECORD,
  * MINISIGN_DUE_CHECK_TARGET and MINISIGN_DUE_CHECK_DATA, check the signature over the 64 bytes of the digest.
  * MINISIGN_DUE_CHECK_RECORD shows if the record was written for the data of this update, so its result may well be no.
- * Unlike minisign_ask, this call rejects no weak public keys and signatures, so your Ed25519 implementation must reject
- * them: see "Ed25519" under "Requirements" in minisign.h.
+ * Unlike minisign_ask, this call does not reject weak public keys and signatures, so your Ed25519 implementation must
+ * reject them: see "Ed25519" under "Requirements" in minisign.h.
  *
  * The only error is MINISIGN_NOT_DUE, if another operation is due. Then nothing is written. Since 0.3.
  */
@@ -319,7 +320,8 @@ MINISIGN_MUST_USE enum minisign_error minisign_install_question(
  *   key has the same key ID and was not asked yet, MINISIGN_DUE_CHECK_COMMENT remains due, for that key. If the signature
  *   is valid, the first reason of these: MINISIGN_OTHER_FILE; MINISIGN_NO_NUMBER; MINISIGN_NO_EXPIRY,
  *   MINISIGN_BAD_EXPIRY or MINISIGN_EXPIRED; MINISIGN_BAD_SIZE; MINISIGN_OLDER_UPDATE;
- * - for MINISIGN_DUE_CHECK_TARGET, MINISIGN_SAME_NUMBER if the installed file is another file that may not be replaced;
+ * - for MINISIGN_DUE_CHECK_TARGET, MINISIGN_SAME_NUMBER if the installed file is not the update, the record was not
+ *   written for the data of this update, and `again` is not set;
  * - for MINISIGN_DUE_CHECK_DATA, MINISIGN_SIGNATURE_REFUSED if the signature is not valid for the bytes that were read
  *   back. MINISIGN_DUE_REMOVE_FILES is due next.
  *
@@ -347,9 +349,10 @@ uint32_t minisign_install_size(const minisign_installation *installation, uint64
 #define MINISIGN_RECORD_TEXT_BYTES 258
 
 /*
- * Writes the content of the new record to text, a buffer of room bytes, if MINISIGN_DUE_WRITE_RECORD is due. Write
- * these bytes to the temporary file of the record. MINISIGN_RECORD_TEXT_BYTES is enough. Returns the length. Returns
- * 0 and writes nothing if another operation is due or the buffer is too short.
+ * Writes the content of the new record to text, if MINISIGN_DUE_WRITE_RECORD is due. text is an output buffer, and
+ * room is its size in bytes: MINISIGN_RECORD_TEXT_BYTES is enough. Write the content to the temporary file of the
+ * record. Returns the length of the content. Returns 0 and writes nothing if another operation is due or the buffer is
+ * too short.
  *
  * The content is three lines, without a line feed after the last: the field and the version number, such as
  * "version:2"; the public key that verified the update, as 64 hexadecimal digits; the Blake2b-512 digest of the data,

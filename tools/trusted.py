@@ -47,9 +47,10 @@ INSTALLING = Part((("minisign_install", "any_application_is_safe", "safe"), ("mi
                    ("minisign_install", "any_good_update_arrives", "installed")), files=OF_APPLICATIONS)
 RUNS = Part((("minisign_install", "any_history_keeps_the_version", "versions"),), files=OF_APPLICATIONS)
 # The function that decides whether a recorded run is that of such an application.
-RECORDED = Part((("minisign_install", "first_offence", ""),), files=OF_APPLICATIONS)
+RECORDED = Part((("minisign_install", "first_unlawful_line", "lawful"),), files=OF_APPLICATIONS)
 LISTS = Part((("minisign_lists", "verify_listed", ""), ("minisign_lists", "lists_are_decided", ""),
-              ("minisign_c", "check_listed_in_a_row", "number"), ("minisign_c", "check_listed_in_a_row", "accepted")), "listed_verdict")
+              ("minisign_c", "check_listed_in_a_row", "number"), ("minisign_c", "check_listed_in_a_row", "accepted"),
+              ("minisign_c", "check_listed_in_a_row", "verdict")), "listed_verdict")
 KIT = Part(())
 PARTS = (VERDICT, OPENING, SIGNING, DEVICES, FROM_C, INSTALLING, RUNS, RECORDED, LISTS, KIT)
 
