@@ -13,26 +13,27 @@
     "Install an update that has a valid Minisign signature. The file TARGET is\n" \
     "replaced by DATA in one step if SIG is a valid signature of DATA under the\n" \
     "public key PK. The signed trusted comment must contain the file name of TARGET\n" \
-    "and a version number that is not below that of the installed update, which the\n" \
-    "program records beside TARGET.\n" \
+    "and a version number that is not below the one that the last installation\n" \
+    "recorded beside TARGET.\n" \
     "\n" \
-    "  --first            Install even if no version number of FIELD (see\n" \
+    "  --first            Install even if no version number from FIELD (see\n" \
     "                     `--numbering`) is recorded for TARGET, or if the record\n" \
     "                     was made under another key.\n" \
-    "  --again            Install an update of the recorded version even if another\n" \
-    "                     update of that version is installed.\n" \
-    "  --new-key          Ignore a version record that was made under a key other\n" \
-    "                     than the given ones. A missing or damaged record is still\n" \
-    "                     an error.\n" \
+    "  --again            Install an update of the recorded version even if a\n" \
+    "                     different file is installed.\n" \
+    "  --new-key          Ignore a version record that was made under a key that you\n" \
+    "                     do not pass. A missing or damaged record is still an\n" \
+    "                     error.\n" \
     "  --roll-back        Install an update even if it is older than the recorded\n" \
     "                     version.\n" \
     "  --check            Check for an update, but do not install it. Print its\n" \
     "                     version number and its trusted comment. The exit status\n" \
     "                     says what an installation would do. Omit DATA, `--mode`,\n" \
     "                     `--max-size` and `--wait`.\n" \
-    "  --key KEY          Use this public key, the second line of its file, and omit\n" \
-    "                     PK. Give this option twice during a change of keys: a\n" \
-    "                     signature by either key is then valid.\n" \
+    "  --key KEY          Use the public key KEY, which is the second line of a\n" \
+    "                     public key file, instead of the file PK. Give this option\n" \
+    "                     twice during a change of keys: a signature by either key\n" \
+    "                     is then valid.\n" \
     "  --numbering FIELD  Take the version number from this field of the trusted\n" \
     "                     comment: `timestamp` (the default) or `version`.\n" \
     "  --name NAME        Require the file name NAME in the trusted comment. The\n" \
@@ -78,11 +79,12 @@
     "  6   The update is installed but could not be synced, so a crash may bring\n" \
     "      back the previous file. Run the command again.\n" \
     "  7   `--first` is not given, and the version record of TARGET is missing or\n" \
-    "      damaged, or has a number of the other FIELD (see `--numbering`).\n" \
+    "      damaged, or its number is from the other field (see `--numbering`).\n" \
     "  8   The update has the recorded version number, but a different file is\n" \
     "      installed, the record does not show that it was written for this update,\n" \
-    "      and `--again` is not given. Either the key has signed two updates with\n" \
-    "      this number, or the record contains no digest.\n" \
+    "      and `--again` is not given. Possible reasons: the key has signed two\n" \
+    "      updates with this number, an older update was installed with\n" \
+    "      `--roll-back`, or the record contains no digest.\n" \
     "  9   The update has expired.\n" \
     "  10  The update is already installed. TARGET and its record are unchanged.\n" \
     "      Without `--check`, the installed file was synced to the disk.\n" \

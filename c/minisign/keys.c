@@ -15,6 +15,7 @@
 #include "shared/platform.h"
 #include "shared/progress.h"
 #include "shared/reports.h"
+#include "shared/streams.h"
 #include "shared/text.h"
 
 #define COMMENT_LABEL "untrusted comment: "
@@ -235,12 +236,39 @@ static _Noreturn void reject_same_file(const char *file, const char *second_name
     exit(TROUBLE);
 }
 
+/* Reads a regular file, and returns its length, or -1. */
+static ssize_t read_regular_file(const char *file, uint8_t bytes[TEXT_BUFFER_BYTES])
+{
+    struct handle handle = { .fd = -1 };
+    bool is_regular = look_up(&handle, AT_FDCWD, file, true) && S_ISREG(handle.status.st_mode);
+    int fd = is_regular ? open_handle(&handle, file, O_RDONLY | O_CLOEXEC) : -1;
+    ssize_t len = fd < 0 ? -1 : read_whole(fd, bytes, TEXT_BUFFER_BYTES);
+
+    close_if_open(&fd);
+    close_if_open(&handle.fd);
+    return len;
+}
+
+/* Returns true if both files are regular and have the same content. */
+static bool are_copies(const char *first, const char *second)
+{
+    uint8_t first_bytes[TEXT_BUFFER_BYTES], second_bytes[TEXT_BUFFER_BYTES];
+    ssize_t len = read_regular_file(first, first_bytes);
+    bool are_same = len > 0 && read_regular_file(second, second_bytes) == len
+                    && memcmp(first_bytes, second_bytes, (size_t) len) == 0;
+
+    sodium_memzero(first_bytes, sizeof first_bytes);
+    sodium_memzero(second_bytes, sizeof second_bytes);
+    return are_same;
+}
+
 void reject_secret_key_as_output(const struct options *options, const char *file, const char *hint)
 {
     struct stat key, status;
 
     if (stat(options->secret_file, &key) == 0 && stat(file, &status) == 0 && S_ISREG(key.st_mode)
-        && is_same_file(&key, &status)) {
+        && (is_same_file(&key, &status)
+            || (has_same_size_and_times(&key, &status) && are_copies(options->secret_file, file)))) {
         fail_error(file, "this is the secret key, which would be overwritten", hint);
     }
 }

@@ -1,5 +1,6 @@
 /* SPDX-License-Identifier: MIT */
-/* Replaces files in one step, by temporary files that are renamed. */
+/* Replaces files in one step: writes the new content into a temporary file, a stage, and renames it. Its target, a
+ * directory and a name, is called its place (places.h). */
 #include "replacing.h"
 
 #include <sodium.h>
@@ -14,36 +15,37 @@
 
 /* Retries when another run deletes our temporary file before we lock it. */
 #define MAX_TRIES 100
-/* Reading a regular file of this size is so fast that nobody notices the delay. */
+/* Queued files are not finished before a file below this size is read, because the read takes almost no time. */
 #define SMALL_BYTES (1 << 20)
-/* Each queued file holds two descriptors. Ten of the first 256 descriptors are left for everything else. */
+/* Each queued file holds two descriptors. Of the first 256 descriptors, ten are left for everything else. */
 #define QUEUED_DESCRIPTORS 2
 #define SPARE_DESCRIPTORS 10
 #define COUNTED_DESCRIPTORS 256
 
 struct replacement {
-    /* The place that the file gets. `place.file` is NULL if this entry is free. */
+    /* The target. `place.file` is NULL if this entry is free. */
     struct place place;
-    /* The temporary file, open and locked until it is in place. -1 if the file was written in place. */
+    /* The temporary file, open and locked until it is renamed. -1 if the existing file was written directly. */
     int fd;
-    /* The name of the temporary file, and whether it has this name or is about to get it. */
+    /* The name of the temporary file. `is_named` is set before the file gets it, so that a signal handler removes
+     * the file. */
     char name[STAGE_NAME_BYTES];
     volatile sig_atomic_t is_named;
     bool is_key;
     /* True if an existing file may be replaced. */
     bool may_replace;
-    /* True if the file is synced, or need not be. */
+    /* True if the file is synced, or need not be synced. */
     bool is_synced;
-    /* True if the file is complete, and waits to be synced and renamed together with others. */
+    /* True if the file is complete, and will be synced and renamed together with others. */
     bool is_queued;
-    /* The other file of a pair. If the partner is not put in place, this file is removed again: its name is exchanged
-     * back if `is_exchanged`, and otherwise unlinked. */
+    /* The other file of a key pair. If it is not put in place, this file is removed from its place again: by exchanging
+     * the names back if `is_exchanged`, otherwise by unlinking it. */
     struct replacement *volatile partner;
     volatile sig_atomic_t is_exchanged;
 };
 
-/* The most files that are queued: syncing all of them takes little more time than syncing one. One more is staged while
- * they are queued. A key pair needs two stages, and is never written while files are queued. */
+/* The maximum number of queued files. Syncing all of them takes little more time than syncing one. Besides them there
+ * is one more stage. A key pair needs two stages, but is never written while files are queued. */
 enum { MAX_QUEUED = 32, MAX_STAGES = MAX_QUEUED + 1 };
 static struct replacement stages[MAX_STAGES];
 static int queued_count;
@@ -60,7 +62,7 @@ static bool name_stage(struct replacement *stage)
     return stage->is_named;
 }
 
-/* Returns true if the name of this place leads to the file of this stage. Async-signal-safe. */
+/* Returns true if the file at this place is that of the stage. Async-signal-safe. */
 static bool is_at(const struct replacement *stage, const struct place *place)
 {
     struct stat staged, named;
@@ -70,7 +72,7 @@ static bool is_at(const struct replacement *stage, const struct place *place)
            && is_same_file(&staged, &named);
 }
 
-/* Reads the file at a place, and returns its length, or -1. */
+/* Reads the file at a place. Returns its length, or -1. */
 static ssize_t read_place(const struct place *place, uint8_t bytes[TEXT_BUFFER_BYTES])
 {
     int fd = AGAIN(openat(place->directory, place->name, O_RDONLY | O_NOFOLLOW | O_NONBLOCK | O_CLOEXEC));
@@ -90,11 +92,12 @@ static bool have_same_content(const struct place *first, const struct place *sec
     bool are_same = len > 0 && read_place(second, second_bytes) == len
                     && memcmp(first_bytes, second_bytes, (size_t) len) == 0;
 
+    sodium_memzero(first_bytes, sizeof first_bytes);
     sodium_memzero(second_bytes, sizeof second_bytes);
     return are_same;
 }
 
-/* Returns true if this stage is in place. Async-signal-safe. */
+/* Returns true if this stage was renamed to its place, or written in place. Async-signal-safe. */
 static bool is_placed(const struct replacement *stage)
 {
     return stage->fd < 0 || is_at(stage, &stage->place);
@@ -102,7 +105,7 @@ static bool is_placed(const struct replacement *stage)
 
 /* ---- Removal at exit ---- */
 
-/* Removes a stage from its place if its partner is not in place. Async-signal-safe. */
+/* Removes a file of a key pair from its place if the other file is not in place. Async-signal-safe. */
 static void undo_stage(struct replacement *stage)
 {
     const struct place *place = &stage->place;
@@ -131,7 +134,8 @@ static void remove_stages(void)
 
 static void finish_stages(void);
 
-/* Runs once, before the first stage. SIGXFSZ is ignored so that a file beyond the size limit is a failed write. */
+/* Is called before each stage, and has an effect once. SIGXFSZ is ignored, so that a write beyond the file size limit
+ * returns an error and does not kill the program. */
 static void register_cleanup(void)
 {
     static bool is_registered;
@@ -157,8 +161,8 @@ static struct replacement *free_stage(void)
     fail_error(NULL, "too many files at once", NULL);
 }
 
-/* Closes everything that a stage has open, and removes its temporary name. If that fails, the name is removed when the
- * program ends. */
+/* Closes the descriptors of a stage, and removes its temporary name. If the name cannot be removed, the stage stays in
+ * use, so that the name is removed when the program ends. */
 static void release_stage(struct replacement *stage)
 {
     stage->partner = NULL;
@@ -172,8 +176,8 @@ static void release_stage(struct replacement *stage)
 
 /* ---- Writing ---- */
 
-/* Creates and locks a temporary file, without a name if the file system can do that. Otherwise it has a random name,
- * and another run may remove it before it is locked. */
+/* Creates and locks a temporary file. It has no name if the file system supports that (O_TMPFILE). Otherwise it has a
+ * random name, and another run may remove it before it is locked. */
 static bool open_stage(struct replacement *stage, mode_t mode)
 {
     stage->fd = open_unnamed(stage->place.directory, mode);
@@ -199,7 +203,7 @@ static bool open_stage(struct replacement *stage, mode_t mode)
     return false;
 }
 
-/* Gives a stage the owner, mode and access list of the existing file, or, if `owner_only`, no more than the owner's
+/* Copies the owner, mode and access list of the existing file to a stage. If `owner_only`, copies only the owner's
  * permissions. */
 static void copy_permissions(const struct replacement *stage, bool owner_only)
 {
@@ -212,13 +216,14 @@ static void copy_permissions(const struct replacement *stage, bool owner_only)
     require(give_permissions(stage->fd, &existing), stage->place.file);
 }
 
-/* Writes a file in place. A regular file is truncated first, unless it was named as a descriptor. */
+/* Writes into the existing file. Truncates a regular file first, unless its path is that of a descriptor, such as
+ * /dev/fd/3. */
 static void write_in_place(struct place *place, const uint8_t *bytes, size_t len)
 {
     int fd = place->opened;
-    bool is_emptied = S_ISREG(place->existing.status.st_mode) && !place->is_descriptor;
+    bool must_truncate = S_ISREG(place->existing.status.st_mode) && !place->is_descriptor;
 
-    require((!is_emptied || ftruncate(fd, 0) == 0) && write_whole(fd, bytes, len), place->file);
+    require((!must_truncate || ftruncate(fd, 0) == 0) && write_whole(fd, bytes, len), place->file);
     place->opened = -1;
     require(close(fd) == 0, place->file);
 }
@@ -239,7 +244,8 @@ void reject_untrusted_file(const char *file, enum kind kind)
     }
 }
 
-/* Returns a stage whose existing file is open, or NULL if a file exists and must not be replaced. */
+/* Returns a stage without a temporary file, with the existing file open. Returns NULL if a file exists and must not be
+ * replaced. */
 static struct replacement *prepare_stage(const char *file, enum kind kind, bool may_replace)
 {
     struct replacement *stage = free_stage();
@@ -255,7 +261,7 @@ static struct replacement *prepare_stage(const char *file, enum kind kind, bool 
     return stage;
 }
 
-/* Writes the whole file: into a temporary file or in place. */
+/* Writes the content into a temporary file, or in place. */
 static void write_replacement(struct replacement *stage, enum kind kind, const uint8_t *bytes, size_t len)
 {
     mode_t mode;
@@ -280,7 +286,7 @@ static void write_replacement(struct replacement *stage, enum kind kind, const u
         fd = dup(stage->fd);
         require(fd < 0 || close(fd) == 0, stage->place.file);
     } else {
-        /* The disk starts to write now, so that fsync takes less time. */
+        /* Starts writing to the disk now, so that fsync takes less time. */
         begin_sync(stage->fd, 0, 0);
     }
 }
@@ -297,7 +303,12 @@ struct replacement *stage_file(const char *file, enum kind kind, bool may_replac
 
 bool have_same_place(const struct replacement *first, const struct replacement *second)
 {
-    return is_same_place(&first->place, &second->place);
+    const struct place *place = &first->place, *second_place = &second->place;
+
+    return is_same_place(place, second_place)
+           || (first->fd >= 0 && second->fd >= 0 && place->has_existing && second_place->has_existing
+               && has_same_size_and_times(&place->existing.status, &second_place->existing.status)
+               && have_same_content(place, second_place));
 }
 
 /* Syncs all stages that need it. */
@@ -318,11 +329,11 @@ static void sync_stages(void)
 
 /* ---- Putting in place ---- */
 
-/* The result of putting a stage in place: done; a file exists that must not be replaced; or an error, in errno. */
+/* The result of putting a stage in place: success, a file exists that must not be replaced, or an error (in errno). */
 enum placement { PLACED, NAME_TAKEN, NOT_PLACED };
 
-/* Copies a stage into the existing file, which cannot be replaced because it is a mount point. A secret is not written
- * into a file that others can access. */
+/* Copies a stage into the existing file, which is a mount point and so cannot be replaced by renaming. Fails if the
+ * content is secret and other users can access the existing file. */
 static bool overwrite(struct replacement *stage)
 {
     uint8_t bytes[TEXT_BUFFER_BYTES];
@@ -375,14 +386,14 @@ static enum placement place_stage(struct replacement *stage)
     return stage->is_named || name_stage(stage) ? rename_replacement(stage) : NOT_PLACED;
 }
 
-/* Returns true if the stage is in place. Ends the program if there was an error. */
+/* Returns true if the stage was put in place. Ends the program after an error. */
 static bool was_placed(const struct replacement *stage, enum placement placement)
 {
     require(placement != NOT_PLACED, stage->place.file);
     return placement == PLACED;
 }
 
-/* Syncs the new name of a file, if the system can sync directories. */
+/* Syncs the new name of a file, by syncing its directory, if the system supports that. */
 static void sync_name(const struct replacement *stage)
 {
     int fd;
@@ -390,7 +401,7 @@ static void sync_name(const struct replacement *stage)
     if (stage->fd < 0) {
         return;
     }
-    /* The link count of a file that had no name has changed. */
+    /* Syncs the file too, because the link count of an unnamed file has changed. */
     require(sync_to_disk(stage->fd), stage->place.file);
     fd = openat(stage->place.directory, ".", O_RDONLY | O_DIRECTORY | O_CLOEXEC);
     require(fd < 0 || sync_to_disk(fd) || errno == EINVAL, stage->place.file);
@@ -426,8 +437,9 @@ void replace_key(const char *file, enum kind kind, uid_t owner, const uint8_t *b
 
 /* ---- Pairs ---- */
 
-/* Exchanges a stage with the existing file. That file keeps the temporary name until the partner is in place, and is
- * locked so that no run removes it as a leftover. Returns false if the file system cannot exchange names. */
+/* Exchanges the names of a stage and the existing file. The existing file has the temporary name until the other file
+ * of the pair is in place, and is locked so that no run removes it as a leftover. Returns false if the file system
+ * cannot exchange names. */
 static bool exchange_stage(struct replacement *stage)
 {
     const struct place *place = &stage->place;
@@ -441,7 +453,7 @@ static bool exchange_stage(struct replacement *stage)
     return stage->is_exchanged;
 }
 
-/* Puts a stage in place so that it is removed again if the program ends before the partner is in place. */
+/* Puts the first file of a pair in place. If the program ends before the partner is in place, the first is removed. */
 static enum placement place_with_partner(struct replacement *stage, struct replacement *partner)
 {
     stage->partner = partner;
@@ -461,9 +473,9 @@ const char *put_both_in_place(struct replacement *first, struct replacement *sec
         existing = first->place.file;
     } else {
         sync_name(first);
-        /* A file system may take two names for one, such as k.key and k.KEY. Then the second file would replace the
-         * first. With FUSE, such names may have different inode numbers, so the contents are compared too: the first file
-         * is a new public key. */
+        /* On some file systems two names are the same, such as k.key and k.KEY. Then the second file would replace the
+         * first. With FUSE the inode numbers may differ all the same, so the contents are compared too. Equal contents
+         * show that the names are the same, because the first file is a new public key. */
         if (first->fd >= 0 && second->fd >= 0
             && (is_at(first, &second->place) || have_same_content(&first->place, &second->place))) {
             undo_stage(first);
@@ -485,7 +497,7 @@ const char *put_both_in_place(struct replacement *first, struct replacement *sec
 
 /* ---- Queued files ---- */
 
-/* If the program ends early, it still puts complete files in place. */
+/* Puts queued files in place if the program ends before it has done so, because they are complete. */
 static void finish_stages(void)
 {
     for (struct replacement *stage = stages; stage < stages + MAX_STAGES; stage++) {
@@ -495,7 +507,7 @@ static void finish_stages(void)
     }
 }
 
-/* Returns how many files can be queued, which depends on the free descriptors. These are counted once. */
+/* Returns the number of files that can be queued. It depends on the free descriptors, which are counted once. */
 static int max_queued(void)
 {
     static int max;

@@ -1,8 +1,8 @@
 /* SPDX-License-Identifier: MIT */
 /*
- * Signs files: minisign -S. The library hashes the data, says what to sign and encodes the signature file; libsodium
- * signs with Ed25519. The key is decrypted once, and the first signature is verified like any other. Each signature
- * file is replaced in one step.
+ * Signs files: minisign -S. The library hashes the data, returns the messages to sign, and encodes the signature file;
+ * libsodium signs the messages with Ed25519. The key is decrypted once. The first signature is verified as minisign -V
+ * would do. Each signature file is replaced in one step.
  */
 #include "signing.h"
 
@@ -67,7 +67,7 @@ static minisign_signed_parts comments_of(const struct options *options, const ch
     };
 }
 
-/* Signs bytes that the library returned, or legacy data. */
+/* Signs a message that the library returned, or, for a legacy signature, the data. */
 static void sign(uint8_t signature[64], const uint8_t *bytes, size_t len)
 {
     crypto_sign_detached(signature, NULL, bytes, len, secrets->open.secret);
@@ -75,8 +75,8 @@ static void sign(uint8_t signature[64], const uint8_t *bytes, size_t len)
 }
 
 /* Turns a signature file into a legacy one: the algorithm "Ed" instead of "ED", which is "RW" instead of "RU" at the
- * start of the second line. The library only verifies legacy signatures, so that its promise about signing has no
- * exception. */
+ * start of the second line. The library itself does not make legacy signatures, so that its contracts for signing need
+ * no exception. */
 static void mark_legacy(struct text *text)
 {
     uint8_t *second_line = (uint8_t *) memchr(text->bytes, '\n', text->len) + 1;
@@ -108,7 +108,8 @@ static void make_signature(struct text *text, minisign_state *state, const struc
     }
 }
 
-/* Ends the program if the signature is not valid for the data under this public key, and says which key is wrong. */
+/* Ends the program if the signature is not valid under this public key. The error names the secret key file if its
+ * halves do not match, otherwise the public key file, if there is one. */
 static void verify_signature(const struct options *options, const minisign_state *hashed, const struct text *text,
                              const struct data *data, const minisign_public_key *public)
 {
@@ -163,8 +164,8 @@ int sign_files(const struct options *options)
 
     require_one_line(options->trusted_comment);
     require_one_line(options->comment);
-    /* The first signature is verified under the public key of the options, or else under the secret key's own public
-     * half. A missing or damaged public key is reported before the password prompt, as Minisign does. */
+    /* The first signature is verified under the public key that the options name, otherwise under the public half of
+     * the secret key. Errors in the public key file are reported before the password prompt, as in Minisign. */
     if (name_of_public_key(options) != NULL) {
         public = load_public_key(options);
     }

@@ -21,6 +21,14 @@ struct handle {
 
 bool is_same_file(const struct stat *first, const struct stat *second);
 
+/* Returns true if size and times are the same. With FUSE, a file may have different inode numbers under two names. Then
+ * size, times and content show that it is one file. */
+static inline bool has_same_size_and_times(const struct stat *first, const struct stat *second)
+{
+    return first->st_size == second->st_size && first->st_mtime == second->st_mtime
+           && first->st_ctime == second->st_ctime;
+}
+
 /* Inspects the file at `path`, relative to `directory`. A link in the last component is followed or, if `follow_links`
  * is false, inspected itself. On failure, returns false and sets errno. */
 bool look_up(struct handle *handle, int directory, const char *path, bool follow_links);

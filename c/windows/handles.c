@@ -1,11 +1,13 @@
 /* SPDX-License-Identifier: MIT */
-/* Inspects files on Windows, for minisign-check: replaces shared/handles.c, which needs POSIX. */
+/* Inspects files on Windows: replaces shared/handles.c, which needs POSIX. */
 #include "native.h"
 
 #include "shared/handles.h"
 
-/* The programs look up names in the current directory only. A colon is rejected wherever it is: after a drive letter it
- * would lead out of that directory, so a name of a list must not contain one. */
+/* minisign-check looks up names in the current directory only. A colon is rejected wherever it is: after a drive letter it
+ * would lead out of that directory, so a name of a list must not contain one.
+ * minisign compares the contents of two files through this call, but not those of names with a drive letter: there, the
+ * file numbers decide, which Windows keeps the same for all names of a file. */
 bool look_up(struct handle *handle, int directory, const char *path, bool follow_links)
 {
     handle->fd = -1;

@@ -296,6 +296,11 @@ HANDLE inspect(const wchar_t *path, DWORD access)
     return CreateFileW(path, access, SHARE_ALL, NULL, OPEN_EXISTING, FILE_FLAG_BACKUP_SEMANTICS, NULL);
 }
 
+static uint64_t ticks_of(FILETIME time)
+{
+    return (uint64_t) time.dwHighDateTime << 32 | time.dwLowDateTime;
+}
+
 bool status_of_handle(HANDLE handle, struct stat *status)
 {
     DWORD type = GetFileType(handle);
@@ -314,6 +319,8 @@ bool status_of_handle(HANDLE handle, struct stat *status)
     status->st_ino = (uint64_t) information.nFileIndexHigh << 32 | information.nFileIndexLow;
     status->st_size = (uint64_t) information.nFileSizeHigh << 32 | information.nFileSizeLow;
     status->st_nlink = information.nNumberOfLinks;
+    status->st_mtime = ticks_of(information.ftLastWriteTime);
+    status->st_ctime = ticks_of(information.ftCreationTime);
     status->st_uid = owner_of(handle);
     return true;
 }

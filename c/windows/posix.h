@@ -27,9 +27,10 @@
 /* A user, by a digest of the security identifier. */
 typedef uint64_t uid_t;
 
-/* The part of POSIX's struct stat that the programs use. `st_dev` and `st_ino` identify the file. */
+/* The part of POSIX's struct stat that the programs use. `st_dev` and `st_ino` identify the file. The programs only
+ * compare times: they are in units of 100 nanoseconds since 1601, and `st_ctime` is the time of creation. */
 struct windows_stat {
-    uint64_t st_dev, st_ino, st_size, st_nlink;
+    uint64_t st_dev, st_ino, st_size, st_nlink, st_mtime, st_ctime;
     uid_t st_uid;
     unsigned st_mode;
 };

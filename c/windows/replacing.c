@@ -21,17 +21,18 @@
 /* A key pair has two stages. */
 enum { MAX_STAGES = 2 };
 
-/* A virus scanner may have a file open for a moment. A call that fails because of that is retried this often, after
- * pauses that double, starting with this many milliseconds; two seconds in total. */
+/* The number of tries of a call that fails because another process, such as a virus scanner, has the file open; and the
+ * first pause between tries. Each pause is twice as long as the one before. Opening the existing file and renaming
+ * each wait at most one second, so two seconds in total. */
 enum { MAX_TRIES = 11, FIRST_PAUSE_MS = 1 };
 
 struct replacement {
     /* The file's name as it was given, for messages. NULL if this entry is free. */
     const char *file;
-    /* The path that the file gets, with all links followed; that of the temporary file; and a second name of the
-     * existing file, by which it returns if the partner is not put in place. In memory of malloc. */
+    /* The path of the target, with all links followed; that of the temporary file; and a second name of the existing
+     * file, from which it is restored if the partner is not put in place. In memory of malloc. */
     wchar_t *place, *temporary, *backup;
-    /* The temporary file, also once it is in place. */
+    /* The temporary file. The handle stays open after the file was renamed. */
     HANDLE handle;
     struct stat existing;
     bool has_existing;
@@ -304,7 +305,7 @@ static bool open_stage(struct replacement *stage, bool is_secret)
 
 /* ---- Writing ---- */
 
-/* Returns true if another process has the file open, and waits a moment. The pauses double. */
+/* If another process has the file open, waits and returns true. Each pause is twice as long as the one before. */
 static bool wait_for_others(DWORD error, int tries)
 {
     if ((error != ERROR_SHARING_VIOLATION && error != ERROR_ACCESS_DENIED) || tries + 1 >= MAX_TRIES) {
