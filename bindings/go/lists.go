@@ -36,7 +36,7 @@ func (hash Hash) size() int {
 	return 64
 }
 
-// A LongDigest says what 128 digits mean on a line that does not name its hash function.
+// A LongDigest is the hash function of a digest of 128 digits on a line that does not name one.
 type LongDigest int
 
 const (
@@ -56,11 +56,11 @@ type ListOptions struct {
 	Name string
 	// AnyName accepts every trusted comment.
 	AnyName bool
-	// LongDigest says what 128 digits mean on a line that does not name its hash function.
+	// LongDigest is the hash function of a digest of 128 digits on a line that does not name one.
 	LongDigest LongDigest
 }
 
-// A LineError says which line of a list is at fault. It wraps ErrMalformedLine or ErrListedTwice.
+// A LineError is an error in one line of a list. It wraps ErrMalformedLine or ErrListedTwice.
 type LineError struct {
 	Err Error
 	// Line is the number of the line, from 1 on.

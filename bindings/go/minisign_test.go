@@ -45,7 +45,7 @@ func ExamplePublicKey_VerifyReader() {
 	// Output: true <nil>
 }
 
-func TestEndedVerifierRejectsCalls(t *testing.T) {
+func TestFinishedVerifierRejectsCalls(t *testing.T) {
 	key, _ := NewPublicKey(keyText)
 	signature, _ := DecodeSignature(signatureText)
 	verifier, err := NewVerifier(&key, signature)
@@ -55,33 +55,32 @@ func TestEndedVerifierRejectsCalls(t *testing.T) {
 	fmt.Fprint(verifier, "te")
 	fmt.Fprint(verifier, "st")
 	if good, err := verifier.Verify(); !good || err != nil {
-		t.Fatal(err)
+		t.Fatalf("Verify() = %v, %v, expected true", good, err)
 	}
-	if good, err := verifier.Verify(); good || err != ErrNotBegun {
-		t.Fatal(good, err)
-	}
-	if _, err := verifier.Write([]byte("more")); err != ErrNotBegun {
-		t.Fatal(err)
-	}
-	if good, err := key.Verify([]byte("test"), Signature{}); good || err != ErrUntrustedCommentPrefix {
-		t.Fatal(good, err)
-	}
-	if good, err := verifier.VerifyTrustedComment(); good || err != ErrNotBegun {
-		t.Fatal(good, err)
-	}
-	var none Verifier
-	if good, err := none.VerifyTrustedComment(); good || err != ErrNotBegun {
-		t.Fatal(good, err)
-	}
-	if good, err := none.Verify(); good || err != ErrNotBegun {
-		t.Fatal(good, err)
-	}
-	if _, err := none.Write(nil); err != ErrNotBegun {
-		t.Fatal(err)
+	var zero Verifier
+	for name, verifier := range map[string]*Verifier{"a finished Verifier": verifier, "a zero Verifier": &zero} {
+		if good, err := verifier.Verify(); good || err != ErrNotBegun {
+			t.Errorf("%s: Verify() = %v, %v, expected ErrNotBegun", name, good, err)
+		}
+		if good, err := verifier.VerifyTrustedComment(); good || err != ErrNotBegun {
+			t.Errorf("%s: VerifyTrustedComment() = %v, %v, expected ErrNotBegun", name, good, err)
+		}
+		for _, piece := range [][]byte{nil, []byte("more")} {
+			if _, err := verifier.Write(piece); err != ErrNotBegun {
+				t.Errorf("%s: Write(%q) = %v, expected ErrNotBegun", name, piece, err)
+			}
+		}
 	}
 }
 
-// VerifyTrustedComment verifies the comment signature only, and does so before there is data.
+func TestZeroSignatureIsRejected(t *testing.T) {
+	key, _ := NewPublicKey(keyText)
+	if good, err := key.Verify([]byte("test"), Signature{}); good || err != ErrUntrustedCommentPrefix {
+		t.Fatalf("Verify() = %v, %v, expected ErrUntrustedCommentPrefix", good, err)
+	}
+}
+
+// VerifyTrustedComment verifies only the comment signature, so its result does not depend on the data.
 func TestTrustedCommentIsVerifiedWithoutData(t *testing.T) {
 	key, _ := NewPublicKey(keyText)
 	signature, _ := DecodeSignature(signatureText)
@@ -104,69 +103,68 @@ func TestTrustedCommentIsVerifiedWithoutData(t *testing.T) {
 		for _, piece := range []string{"", testCase.data} {
 			fmt.Fprint(verifier, piece)
 			if good, err := verifier.VerifyTrustedComment(); good != (testCase.commentErr == nil) || err != testCase.commentErr {
-				t.Fatal(good, err)
+				t.Fatalf("%q, %q: VerifyTrustedComment() = %v, %v, expected %v", testCase.signature.TrustedComment, piece, good, err, testCase.commentErr)
 			}
 		}
 		if good, err := verifier.Verify(); good != (testCase.err == nil) || err != testCase.err {
-			t.Fatal(good, err)
+			t.Fatalf("%q, %q: Verify() = %v, %v, expected %v", testCase.signature.TrustedComment, testCase.data, good, err, testCase.err)
 		}
 	}
 }
 
-// Verifying uses the current fields of a signature and a key.
+// Verifying uses the current values of the fields of a signature and a key.
 func TestChangedFieldsAreRejected(t *testing.T) {
 	key, _ := NewPublicKey(keyText)
 	signature, _ := DecodeSignature(signatureText)
 	changed := signature
 	changed.TrustedComment = "trusted comment: other"
 	if good, err := key.VerifyReader(strings.NewReader("test"), changed); good || err != ErrCommentSignatureRefused {
-		t.Fatal(good, err)
+		t.Fatalf("a changed comment: %v, %v, expected ErrCommentSignatureRefused", good, err)
 	}
 	if good, err := key.VerifyReader(strings.NewReader("test"), signature); !good || err != nil {
-		t.Fatal(good, err)
+		t.Fatalf("the original signature: %v, %v, expected true", good, err)
 	}
 	key.SignatureAlgorithm = [2]byte{}
 	if _, err := NewVerifier(&key, signature); err != ErrUnsupportedAlgorithm {
-		t.Fatal(err)
+		t.Fatalf("a changed key: %v, expected ErrUnsupportedAlgorithm", err)
 	}
 }
 
 func TestNilArgumentIsNamedInError(t *testing.T) {
 	key, _ := NewPublicKey(keyText)
 	signature, _ := DecodeSignature(signatureText)
-	var none *PublicKey
-	_, err := NewVerifier(none, signature)
-	if good, verifyErr := none.Verify([]byte("test"), signature); good || verifyErr.Error() != err.Error() {
-		t.Fatal(good, verifyErr)
+	var nilKey *PublicKey
+	if _, err := NewVerifier(nilKey, signature); err == nil || err.Error() != "minisign: publicKey is nil" {
+		t.Fatalf("NewVerifier: %v", err)
 	}
-	if err.Error() != "minisign: publicKey is nil" {
-		t.Fatal(err)
+	if good, err := nilKey.Verify([]byte("test"), signature); good || err == nil || err.Error() != "minisign: publicKey is nil" {
+		t.Fatalf("Verify: %v, %v", good, err)
 	}
-	if good, err := key.VerifyReader(nil, signature); good || err.Error() != "minisign: reader is nil" {
-		t.Fatal(good, err)
+	if good, err := key.VerifyReader(nil, signature); good || err == nil || err.Error() != "minisign: reader is nil" {
+		t.Fatalf("VerifyReader: %v, %v", good, err)
 	}
 }
 
-// Run with the race detector, this test also shows that verifying does not change keys and signatures.
-func TestThreadsShareKeyAndSignature(t *testing.T) {
+// With -race, this test also shows that verifying does not write to the key and the signature.
+func TestGoroutinesShareKeyAndSignature(t *testing.T) {
 	key, _ := NewPublicKey(keyText)
 	signature, _ := DecodeSignature(signatureText)
-	var threads sync.WaitGroup
-	for thread := 0; thread < 8; thread++ {
-		threads.Add(1)
+	var running sync.WaitGroup
+	for goroutine := 0; goroutine < 8; goroutine++ {
+		running.Add(1)
 		go func() {
-			defer threads.Done()
+			defer running.Done()
 			for count := 0; count < 50; count++ {
 				if good, err := key.Verify([]byte("test"), signature); !good || err != nil {
-					t.Error(err)
+					t.Errorf("Verify: %v, %v, expected true", good, err)
 				}
 				if good, _ := key.VerifyReader(strings.NewReader("tests"), signature); good {
-					t.Error("other data")
+					t.Error("VerifyReader accepts data that was not signed")
 				}
 			}
 		}()
 	}
-	threads.Wait()
+	running.Wait()
 }
 
 func ExampleSecretKey_SignBytes() {
@@ -190,7 +188,7 @@ func ExampleSecretKey_SignBytes() {
 	// "untrusted comment: made by my program" "trusted comment: version:2\tfile:app"
 }
 
-func TestDecodedKeySignsAsBefore(t *testing.T) {
+func TestDecodedKeyMakesValidSignatures(t *testing.T) {
 	secret, err := GenerateKey()
 	if err != nil {
 		t.Fatal(err)
@@ -213,14 +211,20 @@ func TestDecodedKeySignsAsBefore(t *testing.T) {
 			t.Fatal(err)
 		}
 		signature, err := decoded.Sign(strings.NewReader("data"), "c", "u")
-		if good, verifyErr := key.Verify([]byte("data"), signature); !good || decoded.IsWeak() || decoded.KeyId() != key.KeyId {
-			t.Fatal(err, verifyErr)
+		if err != nil {
+			t.Fatal(err)
+		}
+		if good, err := key.Verify([]byte("data"), signature); !good || err != nil {
+			t.Fatalf("the signature of the decoded key: %v, %v, expected true", good, err)
+		}
+		if decoded.IsWeak() || decoded.KeyId() != key.KeyId {
+			t.Fatalf("IsWeak() = %v, KeyId() = %x, expected false, %x", decoded.IsWeak(), decoded.KeyId(), key.KeyId)
 		}
 	}
 	if _, err := DecodeSecretKey(encrypted, []byte("pass"), Work{}); err != ErrWrongPassword {
-		t.Fatal(err)
+		t.Fatalf("a wrong password: %v, expected ErrWrongPassword", err)
 	}
 	if _, err := secret.Encode([]byte("pass word"), Work{OperationsLimit: 1}); err != ErrWeakLimits {
-		t.Fatal(err)
+		t.Fatalf("a low limit: %v, expected ErrWeakLimits", err)
 	}
 }

@@ -62,7 +62,7 @@ export const HASHES = new Map([
   [HASH_SHA512, { name: "sha512", bytes: 64 }],
   [HASH_BLAKE2B, { name: "blake2b", bytes: 64 }],
 ]);
-// What 128 digits mean on a line that does not name its hash function.
+// The hash functions of 128 digits on a line that does not name a function.
 export const LONG_DIGESTS = new Map([
   ["sha512", HASH_SHA512],
   ["blake2b", HASH_BLAKE2B],

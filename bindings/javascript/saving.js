@@ -1,5 +1,6 @@
 // SPDX-License-Identifier: MIT
-// Replaces files in Node by verified data, as node.d.ts says.
+// Implements `saveVerified` for Node, which replaces a file after its new
+// content was verified. node.d.ts has its documentation.
 
 import { randomBytes } from "node:crypto";
 import { lstat, open, rename, unlink } from "node:fs/promises";
@@ -14,8 +15,7 @@ const OPTIONS = ["allowLegacy", "mode", "progress", "signal"];
 const OWNER_ONLY = 0o600;
 const USUAL_MODE = 0o644;
 
-// A temporary file in the directory of a path, which takes the place of the
-// path when `commit` is called.
+// A temporary file in the directory of `path`. `commit` renames it to `path`.
 class Replacement {
   constructor(path) {
     const name = `.minisign-${randomBytes(8).toString("hex")}.tmp`;
@@ -23,7 +23,7 @@ class Replacement {
     this.temporary = join(dirname(path), name);
   }
 
-  // Creates the file. Only its owner can read it until the data is verified.
+  // Creates the temporary file. Until `commit`, only its owner can read it.
   begin() {
     this.begun = this.create();
     return this.begun;
@@ -45,8 +45,8 @@ class Replacement {
     this.file = await open(this.temporary, "wx", OWNER_ONLY);
   }
 
-  // Moves the file to its place. After a crash, the old file or the new one is
-  // there.
+  // Renames the temporary file to `path`. After a crash, `path` has either its
+  // old content or all of the new content.
   async commit(mode = (this.existing?.mode ?? USUAL_MODE) & 0o777) {
     await this.file.chmod(mode);
     await this.file.sync();
@@ -55,7 +55,7 @@ class Replacement {
     await syncDirectory(dirname(this.path));
   }
 
-  // Removes the file. If it is being created, waits until it can be removed.
+  // Removes the temporary file. If it is still being created, waits until then.
   async discard() {
     this.isDiscarded = true;
     await this.begun?.catch(() => {});
@@ -68,18 +68,18 @@ class Replacement {
 
 export async function saveVerified(data, path, signature, key, options = {}) {
   const replacement = new Replacement(pathOf(path));
-  let wantedMode;
+  let requestedMode;
   const begin = async ({ mode, ...rest }) => {
-    wantedMode = mode;
-    const own = { __proto__: null, ...rest };
-    const verifier = await createVerifier(signature, key, own);
+    requestedMode = mode;
+    const verifierOptions = { __proto__: null, ...rest };
+    const verifier = await createVerifier(signature, key, verifierOptions);
     await replacement.begin();
     return {
       get bytes() {
         return verifier.bytes;
       },
-      // Other tasks can change the piece while it is written, so a copy is
-      // verified and written.
+      // Copies the piece, because the caller may change it between verifying
+      // and writing.
       async update(piece) {
         const bytes = bytesOf(piece)?.slice();
         mustBe(bytes, "a piece of data", "bytes", piece);
@@ -91,7 +91,7 @@ export async function saveVerified(data, path, signature, key, options = {}) {
   };
   try {
     const verified = await feedAll(data, options, OPTIONS, begin);
-    await replacement.commit(wantedMode);
+    await replacement.commit(requestedMode);
     return verified;
   } catch (why) {
     await replacement.discard();

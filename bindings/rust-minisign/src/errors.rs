@@ -26,7 +26,7 @@ pub enum ErrorKind {
     KDF,
     /// Generating random bytes.
     RNG,
-    /// Bytes that are not UTF-8, or a text that is not base64.
+    /// A secret key file that is not base64, or bytes that std rejects because they are not UTF-8.
     Encoding,
     /// An encrypted secret key that would have to be decrypted first.
     EncryptedKey,
@@ -54,6 +54,7 @@ pub struct PError {
 
 impl PError {
     /// Makes an error.
+    #[must_use]
     pub fn new<E>(kind: ErrorKind, err: E) -> PError
     where
         E: Into<Box<dyn error::Error + Send + Sync>>,

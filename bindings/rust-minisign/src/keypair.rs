@@ -21,7 +21,7 @@ impl KeyPair {
     ///
     /// # Errors
     ///
-    /// `RNG` if there are no random bytes.
+    /// `RNG` if libsodium cannot be initialized.
     ///
     /// # Examples
     ///
@@ -44,9 +44,9 @@ impl KeyPair {
     ///
     /// # Errors
     ///
-    /// `RNG` if there are no random bytes; `Io` if the terminal cannot be used; `Misc` if the
-    /// password that was typed has more than 1,024 bytes; `Generate` if the second one that was
-    /// typed is different.
+    /// `RNG` if libsodium cannot be initialized; `Io` if the terminal cannot be used; `Misc` if the
+    /// password that was typed has more than 1,024 bytes, or there is too little memory; `Generate`
+    /// if the second one that was typed is different.
     ///
     /// # Examples
     ///
@@ -115,7 +115,7 @@ impl KeyPair {
     ///
     /// # Errors
     ///
-    /// `RNG` if there are no random bytes; `Io` if writing fails.
+    /// `RNG` if libsodium cannot be initialized; `Io` if writing fails.
     ///
     /// # Examples
     ///

@@ -27,7 +27,7 @@ impl PublicKeyBox {
     ///
     /// # Errors
     ///
-    /// None.
+    /// Never fails.
     pub fn from_string(s: &str) -> Result<PublicKeyBox> {
         Ok(PublicKeyBox(s.into()))
     }
@@ -119,7 +119,7 @@ impl PublicKey {
     ///
     /// # Errors
     ///
-    /// None.
+    /// Never fails.
     ///
     /// # Examples
     ///
@@ -153,7 +153,7 @@ impl PublicKey {
     ///
     /// # Errors
     ///
-    /// None.
+    /// Never fails.
     pub fn to_box(&self) -> Result<PublicKeyBox> {
         let comment = format!("minisign public key: {}", key_id_text(self.keynum()));
         Ok(self.key.encode(&comment)?.into())

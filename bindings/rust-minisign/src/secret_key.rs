@@ -12,7 +12,7 @@ const WORK: Work = Work::new(1 << 20, 1 << 25);
 
 const DEFAULT_COMMENT: &str = "rsign encrypted secret key";
 
-/// The content of a secret key file, such as `minisign.key`: both lines. It is not checked before
+/// The content of a secret key file, such as `minisign.key`: both lines. It is checked only when
 /// it is converted to a `SecretKey`, and it is cleared when it is dropped.
 ///
 /// # Examples
@@ -30,16 +30,16 @@ const DEFAULT_COMMENT: &str = "rsign encrypted secret key";
 pub struct SecretKeyBox(Zeroizing<String>);
 
 impl SecretKeyBox {
-    /// Takes the content of a secret key file.
+    /// Stores the content of a secret key file, without checking it.
     ///
     /// # Errors
     ///
-    /// None.
+    /// Never fails.
     pub fn from_string(s: &str) -> Result<SecretKeyBox> {
         Ok(SecretKeyBox(Zeroizing::new(s.into())))
     }
 
-    /// Returns the content. Clear it yourself.
+    /// Returns the content. The caller has to clear it.
     #[must_use]
     pub fn into_string(self) -> String {
         self.into()
@@ -63,7 +63,7 @@ impl SecretKeyBox {
         SecretKey::from_unencrypted_box(self)
     }
 
-    /// Returns the bytes of the content. Clear them yourself.
+    /// Returns the bytes of the content. The caller has to clear them.
     #[must_use]
     pub fn to_bytes(&self) -> Vec<u8> {
         self.0.as_bytes().to_vec()
@@ -88,15 +88,15 @@ impl fmt::Display for SecretKeyBox {
     }
 }
 
-/// Prints nothing of the key.
+/// Prints `SecretKeyBox(..)`, without the content.
 impl fmt::Debug for SecretKeyBox {
     fn fmt(&self, f: &mut fmt::Formatter<'_>) -> fmt::Result {
         f.write_str("SecretKeyBox(..)")
     }
 }
 
-/// A secret key, which makes signatures: the record of a key file, decrypted or not. It is cleared
-/// when it is dropped. Keys are equal if their secrets are equal.
+/// A secret key, decrypted or still encrypted, as the record of a key file. A decrypted key makes
+/// signatures. The key is cleared when it is dropped. Keys are equal if their secrets are equal.
 ///
 /// # Examples
 ///
@@ -117,7 +117,9 @@ pub struct SecretKey {
 // The parts of a record.
 const ALGORITHM: Range<usize> = 0..2;
 const KEY_DERIVATION: Range<usize> = 2..4;
-const HEAD: Range<usize> = 0..54;
+// The key derivation, the checksum algorithm, the salt and the limits, which say how a key is
+// encrypted.
+const ENCRYPTION: Range<usize> = 2..54;
 const KEY_ID: Range<usize> = 54..62;
 const SECRET: Range<usize> = 62..126;
 const PUBLIC: Range<usize> = 94..126;
@@ -139,8 +141,8 @@ impl SecretKey {
         Ok(SecretKey { record })
     }
 
-    /// Returns the key to sign with, if its checksum is right. The record of a key that was
-    /// decrypted still names the key derivation.
+    /// Returns the key to sign with, if its checksum is right. The key derivation is set to zero
+    /// first, because the record of a decrypted key still has it.
     pub(crate) fn open(&self) -> Result<proved::SecretKey> {
         let mut record = self.record.clone();
         record[KEY_DERIVATION].fill(0);
@@ -148,13 +150,14 @@ impl SecretKey {
         Ok(key.open(None, &WORK)?)
     }
 
-    /// Returns the record of the public key that the record of a decrypted key contains.
+    /// Returns the record of the public key, which is a part of the record of a decrypted key.
     pub(crate) fn public_record(&self) -> Vec<u8> {
         let parts = [ALGORITHM, KEY_ID, PUBLIC];
         parts.map(|part| &self.record[part]).concat()
     }
 
-    /// Returns the 8 bytes of the key ID. Those of an encrypted key have no meaning.
+    /// Returns the 8 bytes of the key ID. In the record of an encrypted key the key ID is encrypted
+    /// too, so these bytes are not the key ID.
     #[must_use]
     pub fn keynum(&self) -> &[u8] {
         &self.record[KEY_ID]
@@ -163,10 +166,11 @@ impl SecretKey {
     /// Returns true if the key is encrypted, so that it cannot sign before it is decrypted.
     #[must_use]
     pub fn is_encrypted(&self) -> bool {
+        // A decrypted key still has the key derivation, so `open` has to fail too.
         let key = UnopenedKey::from_record(&*self.record);
         let opened = key.and_then(|key| key.open(None, &WORK));
-        let names_derivation = |error: Error| matches!(error, Error::Rejected(Reason::KEY_SEALED));
-        opened.map_or_else(names_derivation, |_| false) && self.open().is_err()
+        let has_derivation = |error: Error| matches!(error, Error::Rejected(Reason::KEY_SEALED));
+        opened.map_or_else(has_derivation, |_| false) && self.open().is_err()
     }
 
     /// Reads a key from its first 158 bytes, which `to_bytes` returns.
@@ -179,34 +183,36 @@ impl SecretKey {
         Ok(SecretKey { record })
     }
 
-    /// Returns the 158 bytes of the key. They contain the secret if the key was decrypted. Clear
-    /// them yourself.
+    /// Returns the 158 bytes of the key. They contain the secret if the key was decrypted, and the
+    /// caller has to clear them.
     #[must_use]
     pub fn to_bytes(&self) -> Vec<u8> {
         self.record.to_vec()
     }
 
-    /// Decrypts an encrypted key. If `password` is `None`, asks for it on the terminal, after the
-    /// key file was checked.
+    /// Decrypts an encrypted key. If `password` is `None`, checks the key file and then asks for
+    /// the password on the terminal.
     ///
     /// # Errors
     ///
     /// `Io` if a line is missing, the key is not encrypted, or the terminal cannot be used;
     /// `Encoding` if the second line is not base64; `KDF` if the limits of the key are invalid or
     /// above those of `minisign -G`; `Misc` if the password that was typed has more than 1,024
-    /// bytes; `Verify` if the password is wrong.
+    /// bytes, or there is too little memory; `Verify` if the password is wrong.
     pub fn from_box(sk_box: SecretKeyBox, password: Option<String>) -> Result<SecretKey> {
         let password = password.map(Zeroizing::new);
         let key = UnopenedKey::decode(&sk_box.0)?;
         key.check(&WORK)?;
         let is_typed = password.is_none();
-        let password = password.map_or_else(ask_once, Ok)?;
+        let password = password.map_or_else(ask_password, Ok)?;
         let opened = key.open(Some(&password), &WORK);
         if is_typed {
             print("done\n")?;
         }
         let mut decrypted = Self::decrypted(&opened?)?;
-        decrypted.record[HEAD].copy_from_slice(&key.to_record()[HEAD]);
+        // Restores these fields from the file, as the crate minisign does. The algorithm is not
+        // restored, because the checksum that the library computed covers it.
+        decrypted.record[ENCRYPTION].copy_from_slice(&key.to_record()[ENCRYPTION]);
         Ok(decrypted)
     }
 
@@ -255,7 +261,7 @@ impl SecretKey {
     }
 }
 
-fn ask_once() -> Result<Zeroizing<String>> {
+fn ask_password() -> Result<Zeroizing<String>> {
     let password = ask("Password: ")?;
     print("Deriving a key from the password and decrypting the secret key... ")?;
     Ok(password)

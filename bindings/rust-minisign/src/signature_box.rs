@@ -5,10 +5,10 @@ use crate::{ErrorKind, PError, PublicKey, Result};
 use minisign_proved::{BareSignature, Error, Signature, Sodium, StreamVerifier};
 use std::{fs, path::Path};
 
-const UNTRUSTED: &str = "untrusted comment: ";
+const UNTRUSTED_PREFIX: &str = "untrusted comment: ";
 
-/// A parsed signature: that of a signature file, with comments, or a bare one. Parsing verifies
-/// nothing.
+/// A parsed signature: either a signature file with its comments, or a bare signature, without
+/// comments. Parsing verifies nothing.
 ///
 /// # Examples
 ///
@@ -72,20 +72,20 @@ impl SignatureBox {
         }
     }
 
-    /// Returns the comment that is not signed. That of a bare signature is empty.
+    /// Returns the untrusted comment, which is not signed. It is empty for a bare signature.
     ///
     /// # Errors
     ///
-    /// None.
+    /// Never fails.
     pub fn untrusted_comment(&self) -> Result<String> {
         Ok(match &self.0 {
-            Form::File(signature) => signature.untrusted_comment()[UNTRUSTED.len()..].into(),
+            Form::File(signature) => signature.untrusted_comment()[UNTRUSTED_PREFIX.len()..].into(),
             Form::Bare(_) => String::new(),
         })
     }
 
-    /// Returns the comment that is signed with the data. Trust it only after the signature was
-    /// verified.
+    /// Returns the trusted comment, which is signed together with the data. Trust it only after
+    /// the signature was verified.
     ///
     /// # Errors
     ///
@@ -113,8 +113,8 @@ impl SignatureBox {
     ///
     /// # Errors
     ///
-    /// `Io` if a line is missing or is not base64; `Verify` if a comment line does not begin as it
-    /// must, or the algorithm is not supported.
+    /// `Io` if a line is missing or is not base64; `Verify` if a comment line does not begin with
+    /// `untrusted comment: ` or `trusted comment: `, or the algorithm is not supported.
     pub fn from_string(s: &str) -> Result<SignatureBox> {
         Ok(Signature::decode(s)?.into())
     }

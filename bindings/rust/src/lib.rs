@@ -185,6 +185,7 @@ impl SchemeError {
     /// let error = SchemeError::new("the hardware key was removed");
     /// assert_eq!(error.to_string(), "the hardware key was removed");
     /// ```
+    #[must_use]
     pub fn new(text: impl Into<Cow<'static, str>>) -> Self {
         SchemeError(text.into())
     }

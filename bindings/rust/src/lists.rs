@@ -10,6 +10,7 @@ use std::{fs, path::Path};
 
 /// The hash functions of lists.
 #[derive(Clone, Copy, Debug, Eq, PartialEq, Hash)]
+#[non_exhaustive]
 pub enum ListHash {
     /// SHA-256, with 32 bytes.
     Sha256,
@@ -38,8 +39,9 @@ impl ListHash {
     }
 }
 
-/// Says what 128 digits mean on a line that does not name its hash function.
+/// The hash function of a digest of 128 digits on a line that does not name one.
 #[derive(Clone, Copy, Debug, Default, Eq, PartialEq, Hash)]
+#[non_exhaustive]
 pub enum LongDigest {
     /// SHA-512, as `sha512sum` writes them.
     #[default]

@@ -1,6 +1,6 @@
 // SPDX-License-Identifier: MIT
-//! Records, which the base64 in key files and signature files encodes, and keys that are not
-//! decrypted yet.
+//! Records, which are the decoded base64 lines of key files and signature files, and secret keys
+//! that are not decrypted yet.
 
 use crate::{base64, key_id_text, raw, text_of_file};
 use crate::{Error, PublicKey, Reason, SecretKey, Signature, Work};
@@ -8,11 +8,12 @@ use std::{fmt, path::Path};
 use zeroize::Zeroizing;
 
 /// The kind of an error: a coarse class, for programs that treat many errors alike. The kinds are
-/// those of the crate `minisign`, which counts malformed files as `Io`, and two more.
+/// those of the crate `minisign`, where malformed files have the kind `Io`, and also `None`,
+/// `Misuse` and `OutOfMemory`.
 #[derive(Clone, Copy, Debug, Eq, PartialEq, Hash)]
 #[non_exhaustive]
 pub enum Kind {
-    /// No error, or an unknown number.
+    /// No error, or an unknown error code.
     None,
     /// API misuse.
     Misuse,
@@ -34,7 +35,7 @@ pub enum Kind {
     Rng,
     /// A secret key file that is not base64. For public keys and signatures the kind is `Io`.
     Encoding,
-    /// An encrypted key instead of a decrypted one.
+    /// A key that has to be decrypted first.
     EncryptedKey,
     /// A failed allocation.
     OutOfMemory,
@@ -101,7 +102,7 @@ impl PublicKey {
     /// Returns the record, with the algorithm `Ed`, which Minisign writes in every public key.
     #[must_use]
     pub fn to_record(&self) -> [u8; Self::RECORD_BYTES] {
-        raw::public_key_record(&self.key).expect("the key was read")
+        raw::public_key_record(&self.key).expect("a parsed key has a record")
     }
 
     /// Returns the 56 base64 characters of the record, which `from_base64` reads.
@@ -184,7 +185,7 @@ impl BareSignature {
     /// Returns the record.
     #[must_use]
     pub fn to_record(&self) -> [u8; Self::RECORD_BYTES] {
-        raw::signature_record(&self.parsed).expect("the signature was read")
+        raw::signature_record(&self.parsed).expect("a parsed signature has a record")
     }
 
     /// Returns the 8 bytes of the key ID of the signer's key. Nothing is verified.
@@ -201,15 +202,15 @@ impl BareSignature {
 }
 
 impl Signature {
-    /// Returns the record of the signature of the data: the second line of the file, decoded. It
-    /// has neither the comments nor the comment signature.
+    /// Returns the record of the data signature: the second line of the file, decoded. It contains
+    /// neither the comments nor the comment signature.
     #[must_use]
     pub fn to_record(&self) -> [u8; BareSignature::RECORD_BYTES] {
-        raw::signature_record(&self.parsed).expect("the signature was read")
+        raw::signature_record(&self.parsed).expect("a parsed signature has a record")
     }
 
-    /// Returns the content of a signature file with the same comments and signatures: four lines,
-    /// without what Minisign ignores, such as white space and further lines.
+    /// Returns a signature file of four lines with the same comments and signatures. It omits what
+    /// Minisign ignores, such as white space at the ends of lines and further lines.
     ///
     /// # Examples
     ///
@@ -234,7 +235,7 @@ impl Signature {
     #[must_use]
     pub fn to_bare(&self) -> BareSignature {
         let record = self.to_record();
-        BareSignature::from_record(&record).expect("a signature that was read has a record")
+        BareSignature::from_record(&record).expect("the record of a signature can be parsed")
     }
 }
 
@@ -323,7 +324,7 @@ impl UnopenedKey {
         Ok(UnopenedKey { key })
     }
 
-    /// Returns the record, as it was read.
+    /// Returns the record, unchanged.
     #[must_use]
     pub fn to_record(&self) -> Zeroizing<[u8; Self::RECORD_BYTES]> {
         Zeroizing::new(self.key.bytes)
@@ -381,7 +382,7 @@ impl UnopenedKey {
     }
 }
 
-/// Prints nothing of the key.
+/// Prints `UnopenedKey(..)`, without the key.
 impl fmt::Debug for UnopenedKey {
     fn fmt(&self, f: &mut fmt::Formatter) -> fmt::Result {
         f.write_str("UnopenedKey(..)")
@@ -389,16 +390,16 @@ impl fmt::Debug for UnopenedKey {
 }
 
 impl SecretKey {
-    /// Returns the record of the key, not encrypted. It contains the secret.
+    /// Returns the record of the key, which is not encrypted and contains the secret.
     ///
     /// # Errors
     ///
-    /// None for a key that was decrypted or generated.
+    /// Never fails for a key that was decrypted or generated.
     pub fn to_record(&self) -> Result<Zeroizing<[u8; UnopenedKey::RECORD_BYTES]>, Error> {
         Ok(raw::secret_key_record(&self.key)?)
     }
 
-    /// Returns the 8 bytes of the key ID, which is one little-endian number.
+    /// Returns the 8 bytes of the key ID, a little-endian integer.
     #[must_use]
     pub fn key_id(&self) -> &[u8; 8] {
         &self.key.key_id

@@ -266,7 +266,7 @@ impl SecretKey {
     ///
     /// # Errors
     ///
-    /// None for a key that was decrypted or generated.
+    /// Never fails for a key that was decrypted or generated.
     ///
     /// # Examples
     ///
@@ -286,7 +286,7 @@ impl SecretKey {
     ///
     /// # Errors
     ///
-    /// None for a key that was decrypted or generated.
+    /// Never fails for a key that was decrypted or generated.
     pub fn public_key(&self) -> Result<PublicKey, Error> {
         Ok(PublicKey::new(None, raw::public_key_of(&self.key)?))
     }

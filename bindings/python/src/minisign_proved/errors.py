@@ -85,8 +85,8 @@ class UnreadableComment(MinisignError):
 
 
 class NotDue(MinisignError):
-    """The installation expects a different call now, or this call cannot fail with this
-    error."""
+    """The installation expects a different call now, or no operation can fail with the
+    error that was reported."""
 
     number = 12
 
@@ -400,8 +400,8 @@ class OtherSignatureText(MinisignError):
 
 
 class SignatureNotRead(MinisignError):
-    """No signature was read into the struct, or it is a bare signature and the call
-    needs comments."""
+    """No signature was read into the struct, or only a bare signature, which lacks the
+    comments that the call needs."""
 
     number = 62
 

@@ -20,7 +20,7 @@ LIST_BYTES = 1 << 20
 # The hash functions of digests in a list, by the numbers of the library.
 HASHES = {h.HASH_SHA256: "sha256", h.HASH_SHA512: "sha512", h.HASH_BLAKE2B: "blake2b"}
 DIGEST_BYTES = {"sha256": 32, "sha512": 64, "blake2b": 64}
-# The meaning of 128 digits on a line that does not name its hash function.
+# The hash functions of a digest of 128 digits on a line that does not name one.
 LONG_DIGESTS = {
     "sha512": h.HASH_SHA512,
     "blake2b": h.HASH_BLAKE2B,
@@ -79,9 +79,9 @@ class SignedList:
         text that was never meant as a list is not taken for one. If you pass None,
         every trusted comment is accepted.
 
-        `long_digest` says what 128 digits mean on a line that does not name its hash
-        function: "sha512"; "blake2b", as b2sum writes them; or "none", so that such a
-        line is malformed.
+        `long_digest` is the hash function of a digest of 128 digits on a line that does
+        not name one: "sha512"; "blake2b", as b2sum writes them; or "none", so that such
+        a line is malformed.
 
         Raises the errors that `Signature` lists for malformed content; DifferentKeyIds;
         LegacyNotAccepted, for every legacy signature; WeakEd25519; SignatureRefused;

@@ -35,7 +35,8 @@ impl Reason {
     /// Minisign would not read a comment back, because it is too long, or contains a zero byte or a
     /// carriage return.
     pub const UNREADABLE_COMMENT: Reason = Reason(11);
-    /// The installation expects a different call now, or this call cannot fail with this error.
+    /// The installation expects a different call now, or no operation can fail with the error that
+    /// was reported.
     pub const NOT_DUE: Reason = Reason(12);
     /// An option of an installation other than numbering is neither 0 nor 1.
     pub const BAD_OPTION: Reason = Reason(13);
@@ -142,8 +143,8 @@ impl Reason {
     pub const OTHER_SIZE: Reason = Reason(60);
     /// The signature was read from a different signature file than the one that was passed with it.
     pub const OTHER_SIGNATURE_TEXT: Reason = Reason(61);
-    /// No signature was read into the struct, or it is a bare signature and the call needs
-    /// comments.
+    /// No signature was read into the struct, or only a bare signature, which lacks the comments
+    /// that the call needs.
     pub const SIGNATURE_NOT_READ: Reason = Reason(62);
     /// No secret key was read into the struct.
     pub const KEY_NOT_READ: Reason = Reason(63);
