@@ -55,7 +55,7 @@ def stalled_pipe(directory, name, data, number, status):
 
 @meanwhile_cases.table("a stalled device blocks no other run")
 def stalled_device(directory):
-    """A terminal is no regular file either: a run that waits for data from it does not hold the lock."""
+    """A run that waits for data from a terminal, which is not a regular file, does not hold the lock."""
     directory.offer("later", LATER, 7)
     ours, theirs = os.openpty()
     tty.setraw(theirs)

@@ -341,8 +341,8 @@ def build(room, directory, *words):
     program, out = os.path.join(room, "one_call"), os.path.join(room, "out")
     libraries = [f"{out}/libminisign-installing.a", f"{out}/libminisign.a"]
     static_library.run_make(f"OUT={out}", *words, *libraries)
-    static_library.hold([needs.libsodium(), "-std=c99", "-Wall", "-Wextra", "-Werror", f"-I{proved.ROOT}/include", "-o", program,
-                         f"{HERE}/one_call.c", *libraries, "-lsodium"], directory)
+    static_library.run_or_fail([needs.libsodium(), "-std=c99", "-Wall", "-Wextra", "-Werror", f"-I{proved.ROOT}/include", "-o", program,
+                                f"{HERE}/one_call.c", *libraries, "-lsodium"], directory)
     return program
 
 
@@ -358,8 +358,8 @@ def failure_of(room, preload, mutant):
     program = os.path.join(own, "one_call")
     sources = [f"{copy}/c/install/{name}.c" for name in ("installing", "endings", "directory")]
     sources += [f"{copy}/c/shared/{name}.c" for name in ("handles", "permissions", "stages", "streams")]
-    static_library.hold([needs.libsodium(), "-std=c11", "-pthread", f"-I{copy}/c", f"-I{copy}/include", "-o", program, f"{HERE}/one_call.c",
-                         *sources, f"{room}/out/libminisign.a", "-lsodium"])
+    static_library.run_or_fail([needs.libsodium(), "-std=c11", "-pthread", f"-I{copy}/c", f"-I{copy}/include", "-o", program,
+                                f"{HERE}/one_call.c", *sources, f"{room}/out/libminisign.a", "-lsodium"])
     installing = Installing(program, RealInstaller(own), own)
     installing.preload = preload
     try:

@@ -514,7 +514,8 @@ def installs_large_file(directory):
     with open(path, "wb") as file:
         file.truncate(size)
     directory.kind.sign_file(path, directory.path_of("new.sig"), f"timestamp:6\tfile:{TARGET}")
-    directory.expect_end(directory.install(), 0, b"")
+    # A busy machine with a slow disk needs more than the usual time to hash the data twice.
+    directory.expect_end(directory.install(seconds=600), 0, b"")
     found = os.stat(directory.path_of(TARGET)).st_size
     expect((found, directory.content(RECORD)) == (size, b"6"), f"the target has {found} bytes")
 
