@@ -34,10 +34,10 @@ def build(directory):
     if why:
         raise proved.NotBuilt(why)
     made = proved.rattle("build", NAME, directory, "--toolchain", proved.toolchain(), "--backend", "llvm", "-o", f"{NAME}.o", crate=crate)
-    proved.hold(made, NAME)
+    proved.require_success(made, NAME)
     libraries = [f"{kit}/c/libos_c.a", f"{kit}/c/liblibc_c.a"]
     linked = [f"{kit}/bin/rattle-link", "--target", "x86_64-unknown-linux-gnu", "--toolchain", proved.toolchain(), "-o", NAME, f"{NAME}.o"]
-    proved.hold(proved.run([*linked, *libraries], directory), NAME)
+    proved.require_success(proved.run([*linked, *libraries], directory), NAME)
 
 
 def main():

@@ -1,11 +1,12 @@
 #!/usr/bin/env python3
-"""Measures scrypt that keeps only every k-th row in memory, and draws its time and memory as docs/kept_rows.png.
+"""Measures scrypt when it stores only every k-th row in memory, and draws time and memory against k as docs/kept_rows.png.
 
     bench/kept_rows.py [ROUNDS ROUNDS]
 
-The arguments are the numbers of rounds with N 2^15 and with N 2^20, by default 15 and 3. All runs derive 64 bytes with r 8
-and p 1, each in a separate process, taking turns; the keys are compared with those of hashlib. The times are the least
-processor time of the process (user and system) and the least elapsed time of the call; the memory is the peak resident memory.
+The arguments are the numbers of rounds with N = 2^15 and with N = 2^20, by default 15 and 3. A round runs each k once, in a
+separate process, and derives 64 bytes with r = 8 and p = 1. Each key is compared with that of hashlib. For each k the script
+prints the least processor time of a process (user and system), the least elapsed time of the call, and the peak resident
+memory.
 
 Needs: Python 3.9 or later with matplotlib, 1.1 GB of memory, and the program `library_bench`, which build_library_bench.py
 builds. Without matplotlib it continues with the system's python3 and Debian's package python3-matplotlib, which it installs
@@ -24,14 +25,14 @@ from timing import HERE, SCRYPT, installed, needs, processor_timed
 SYSTEM = "/usr/bin/python3"
 
 
-def with_matplotlib():
-    """Returns the path of the system's Python if it has matplotlib, or None."""
+def python_with_matplotlib():
+    """Returns the path of the system's Python if it has matplotlib, otherwise None."""
     ran = subprocess.run([SYSTEM, "-c", "import matplotlib"], stderr=subprocess.DEVNULL) if os.path.exists(SYSTEM) else None
     return SYSTEM if ran is not None and ran.returncode == 0 else None
 
 
 if importlib.util.find_spec("matplotlib") is None:
-    python = installed(needs.need, with_matplotlib, "matplotlib", "python3-matplotlib")
+    python = installed(needs.need, python_with_matplotlib, "matplotlib", "python3-matplotlib")
     os.execv(python, [python, *sys.argv])
 
 import matplotlib
@@ -41,33 +42,35 @@ from matplotlib import pyplot
 
 PICTURE = os.path.join(HERE, "..", "docs", "kept_rows.png")
 PASSWORD, SALT = "pleaseletmein", "SodiumChloride"
-KEPT = (1, 2, 4, 8, 16, 64)
-ROW = 1024
+# The values of k, in ascending order.
+STEPS = (1, 2, 4, 8, 16, 64)
+# The size of a row of scrypt with r = 8.
+ROW_BYTES = 1024
 MIB = 2**20
 
 
 class Least:
-    """The least times and the peak memory of several runs with one N and one k."""
+    """The least processor time and elapsed time, and the peak memory in MiB, of several runs with one N and one k."""
 
     def __init__(self):
         self.processor = self.clock = math.inf
         self.memory = 0.0
 
-    def take(self, processor, clock, memory):
+    def add_run(self, processor, clock, memory):
         self.processor = min(self.processor, processor)
         self.clock = min(self.clock, clock)
         self.memory = max(self.memory, memory)
 
 
 def derive(n_log2, k):
-    """Derives a key with library_bench. Returns the processor and elapsed seconds, the memory in MiB, and the key."""
+    """Derives a key with library_bench. Returns the processor time and elapsed time in seconds, the memory in MiB, and the key."""
     processor, memory, output = processor_timed([*SCRYPT, PASSWORD, SALT, str(n_log2), "8", "1", str(k)])
     microseconds, key = output.split()
     return processor, int(microseconds) / 1e6, memory, key
 
 
 def expected_key(n_log2):
-    """Returns the key of Python's hashlib."""
+    """Returns the key that Python's hashlib derives."""
     key = hashlib.scrypt(
         PASSWORD.encode(), salt=SALT.encode(), n=1 << n_log2, r=8, p=1, dklen=64, maxmem=2**31 - 1
     )
@@ -75,47 +78,49 @@ def expected_key(n_log2):
 
 
 def measure(n_log2, rounds):
-    """Returns the best times and the memory for each k."""
-    best = {k: Least() for k in KEPT}
+    """Returns a `Least` for each k."""
+    best = {k: Least() for k in STEPS}
     expected = expected_key(n_log2)
     for _ in range(rounds):
-        for k in KEPT:
+        for k in STEPS:
             processor, clock, memory, key = derive(n_log2, k)
             if key != expected:
                 raise SystemExit(f"N 2^{n_log2}, k {k}: the key is {key}, expected {expected}")
-            best[k].take(processor, clock, memory)
+            best[k].add_run(processor, clock, memory)
     return best
 
 
 def rows_memory(n_log2, k):
-    """Returns the memory of the rows that are kept, in MiB."""
-    return -(-(1 << n_log2) // k) * ROW / MIB
+    """Returns the memory for the stored rows, in MiB."""
+    return -(-(1 << n_log2) // k) * ROW_BYTES / MIB
 
 
 def mixing_time(n_log2, best):
-    """Returns the seconds for mixing a row once, computed from the two greatest k."""
-    low, high = KEPT[-2:]
+    """Returns the time for computing one row from the previous one, in seconds. It follows from the two greatest k, whose runs differ
+    only in the number of rows that are computed again."""
+    low, high = STEPS[-2:]
     return (best[high].processor - best[low].processor) / ((high - low) / 2 * (1 << n_log2))
 
 
-def most_time(n_log2, best, k):
-    """Returns an upper bound of the time: that of k = 1, and (k - 1) / 2 additional mixings for each of the N rows that scrypt reads."""
+def time_bound(n_log2, best, k):
+    """Returns an upper bound of the processor time: the time with k = 1, plus the time for computing, on average, (k - 1) / 2 rows
+    again for each of the N rows that scrypt reads."""
     return best[1].processor + mixing_time(n_log2, best) * (k - 1) / 2 * (1 << n_log2)
 
 
-def show(n_log2, best, rest):
-    """Prints the table of one N. Ends the script if the memory exceeds the rows by more than 1 MiB and `rest`, the memory of a run that
-    keeps one row."""
+def show(n_log2, best, base_memory):
+    """Prints the table of one N. Ends the script if a run took more memory than its stored rows, `base_memory` and 1 MiB.
+    `base_memory` is the memory of a run that stores only one row."""
     print(f"N 2^{n_log2}, r 8, p 1; mixing a row takes {mixing_time(n_log2, best) * 1e6:.2f} us")
-    for k in KEPT:
+    for k in STEPS:
         run, rows = best[k], rows_memory(n_log2, k)
         print(
             f"k {k:3}  {run.processor:7.3f} s, {run.processor / best[1].processor:5.2f} times k 1, at most "
-            f"{most_time(n_log2, best, k) / best[1].processor:5.2f}  elapsed {run.clock:7.3f} s, "
+            f"{time_bound(n_log2, best, k) / best[1].processor:5.2f}  elapsed {run.clock:7.3f} s, "
             f"{run.clock / best[1].clock:5.2f}  {run.memory:7.1f} MiB, rows {rows:7.1f} MiB"
         )
-        if run.memory > rows + rest + 1:
-            raise SystemExit(f"k {k}: {run.memory:.1f} MiB of memory, expected at most {rows + rest + 1:.1f} MiB")
+        if run.memory > rows + base_memory + 1:
+            raise SystemExit(f"k {k}: {run.memory:.1f} MiB of memory, expected at most {rows + base_memory + 1:.1f} MiB")
 
 
 def draw(results):
@@ -123,19 +128,19 @@ def draw(results):
     figure, (times, memory) = pyplot.subplots(1, 2, figsize=(11, 4.6), layout="constrained")
     for (n_log2, best), colour, mark in zip(results.items(), ("tab:blue", "tab:orange"), "os"):
         name = f"N $2^{{{n_log2}}}$"
-        ratios = [best[k].processor / best[1].processor for k in KEPT]
-        most = [most_time(n_log2, best, k) / best[1].processor for k in KEPT]
-        times.plot(KEPT, ratios, color=colour, marker=mark, label=f"{name}, k 1: {best[1].processor:.2f} s")
-        times.plot(KEPT, most, color=colour, linestyle=":", label=f"{name}, k 1 and the mixings added")
-        memory.plot(KEPT, [best[k].memory for k in KEPT], color=colour, marker=mark, label=f"{name}, measured")
-        rows = [rows_memory(n_log2, k) for k in KEPT]
-        memory.plot(KEPT, rows, color=colour, linestyle=":", label=f"{name}, the kept rows")
+        ratios = [best[k].processor / best[1].processor for k in STEPS]
+        bounds = [time_bound(n_log2, best, k) / best[1].processor for k in STEPS]
+        times.plot(STEPS, ratios, color=colour, marker=mark, label=f"{name}, k 1: {best[1].processor:.2f} s")
+        times.plot(STEPS, bounds, color=colour, linestyle=":", label=f"{name}, k 1 and the mixings added")
+        memory.plot(STEPS, [best[k].memory for k in STEPS], color=colour, marker=mark, label=f"{name}, measured")
+        rows = [rows_memory(n_log2, k) for k in STEPS]
+        memory.plot(STEPS, rows, color=colour, linestyle=":", label=f"{name}, the kept rows")
     times.set(title="Processor time", ylabel="times that of k 1", yticks=(1, 2, 4, 8, 16))
     memory.set(title="Greatest memory", ylabel="MiB", yticks=(1, 4, 16, 64, 256, 1024))
     for axes in (times, memory):
         axes.set_xscale("log", base=2)
         axes.set_yscale("log", base=2)
-        axes.set_xticks(KEPT, [str(k) for k in KEPT])
+        axes.set_xticks(STEPS, [str(k) for k in STEPS])
         axes.set_xlabel("k: every k-th row is kept")
         axes.yaxis.set_major_formatter("{x:g}")
         axes.grid(True, alpha=0.4)
@@ -146,11 +151,11 @@ def draw(results):
 
 def main():
     rounds = [int(argument) for argument in sys.argv[1:]] or [15, 3]
-    rest = derive(10, 1 << 10)[2]
-    print(f"a run that keeps one row takes {rest:.1f} MiB")
+    base_memory = derive(10, 1 << 10)[2]
+    print(f"a run that stores one row takes {base_memory:.1f} MiB")
     results = {n_log2: measure(n_log2, count) for n_log2, count in zip((15, 20), rounds)}
     for n_log2, best in results.items():
-        show(n_log2, best, rest)
+        show(n_log2, best, base_memory)
     draw(results)
 
 

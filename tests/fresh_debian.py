@@ -35,7 +35,7 @@ from proved import NotBuilt
 from running import read
 
 # The time limit, in seconds, allows for slow mirrors.
-hold = functools.partial(static_library.hold, seconds=3000)
+run_or_fail = functools.partial(static_library.run_or_fail, seconds=3000)
 SUITE, MIRROR = "bookworm", "http://deb.debian.org/debian"
 USER = "ann"
 HOME = f"/srv/{USER}"
@@ -56,17 +56,17 @@ def make_debian(root, is_all):
     `is_all`, and a user with the repository in the home directory."""
     if os.geteuid() != 0:
         raise NotBuilt("debootstrap needs root")
-    hold(["unshare", "--mount", "--pid", "--fork", "true"])
-    sites = re.findall(r"https?://\S+/debian/?(?=\s|$)", hold(["apt-get", "indextargets", "--format", "$(SITE)"]))
-    hold([needs.program("debootstrap", "debootstrap"), "--variant=minbase", SUITE, root, [*sites, MIRROR][0]])
+    run_or_fail(["unshare", "--mount", "--pid", "--fork", "true"])
+    sites = re.findall(r"https?://\S+/debian/?(?=\s|$)", run_or_fail(["apt-get", "indextargets", "--format", "$(SITE)"]))
+    run_or_fail([needs.program("debootstrap", "debootstrap"), "--variant=minbase", SUITE, root, [*sites, MIRROR][0]])
     shutil.copy("/etc/resolv.conf", f"{root}/etc/resolv.conf")
     shutil.copytree("/etc/apt/apt.conf.d", f"{root}/etc/apt/apt.conf.d", dirs_exist_ok=True)
     names = [name for name in read(HERE, "packages.txt").decode().split() if is_all or not LEFT_OUT.search(name)]
-    hold(in_debian(root, "root", "apt-get -q update && DEBIAN_FRONTEND=noninteractive apt-get install -q -y "
+    run_or_fail(in_debian(root, "root", "apt-get -q update && DEBIAN_FRONTEND=noninteractive apt-get install -q -y "
                                  f"--no-install-recommends {' '.join(names)} && apt-get clean"))
-    hold(["chroot", root, "useradd", "-m", "-d", HOME, "-s", "/bin/bash", USER])
+    run_or_fail(["chroot", root, "useradd", "-m", "-d", HOME, "-s", "/bin/bash", USER])
     copy_tree(f"{root}{HOME}/minisign")
-    hold(["chroot", root, "chown", "-R", f"{USER}:", HOME])
+    run_or_fail(["chroot", root, "chown", "-R", f"{USER}:", HOME])
 
 
 def main(words):

@@ -112,7 +112,7 @@ class Go:
                             "PATH": static_library.path_without_kit(), **environment}
 
     def run(self, directory, *words, **environment):
-        return static_library.hold([self.go, *words], directory, **{**self.environment, **environment})
+        return static_library.run_or_fail([self.go, *words], directory, **{**self.environment, **environment})
 
     def begin(self, directory, package):
         """Creates a module that depends on the package, as README.md says."""
@@ -357,7 +357,7 @@ def with_compiled_c(go, package, room):
     not be compiled for each."""
     copied = shutil.copytree(package, os.path.join(room, "with-compiled-c"))
     sources = go.run(copied, "list", "-f", '{{join .CFiles " "}}').split()
-    static_library.hold([go.environment["CC"], "-O2", "-I.", "-r", "-nostdlib", "-o", "compiled.syso", *sources], copied)
+    static_library.run_or_fail([go.environment["CC"], "-O2", "-I.", "-r", "-nostdlib", "-o", "compiled.syso", *sources], copied)
     for name in sources:
         os.remove(os.path.join(copied, name))
     return copied

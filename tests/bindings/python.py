@@ -42,7 +42,7 @@ import static_library
 from mutants import mutants_of
 from running import build_preload
 from shared_cases import TOP, read, run, write
-from static_library import hold
+from static_library import run_or_fail
 
 USER, CHECKS, INSTALLER = (os.path.join(HERE, f"python_{name}.py") for name in ("user", "checks", "installing"))
 PACKAGE = "minisign_proved"
@@ -80,7 +80,7 @@ def build(sources, programs, **environment):
 def check_loaded(checks, what, compiler, library, before=(), **variables):
     """Checks that a program can load the library and hash with it, and that the library has the installer, except on Windows."""
     program = os.path.join(os.path.dirname(library), "loaded.exe")
-    hold([compiler, "-std=c11", "-w", "-I", os.path.join(TOP, "include"), "-o", program, os.path.join(HERE, "python", "loaded.c")])
+    run_or_fail([compiler, "-std=c11", "-w", "-I", os.path.join(TOP, "include"), "-o", program, os.path.join(HERE, "python", "loaded.c")])
     output = run([*before, program, library], environment=variables)[1].decode()
     expected = rf"\d+ {hashlib.blake2b(bytes([7]) * 1000).hexdigest()} with{'out' if what == 'Windows' else ''} installer\r?\n"
     checks.check(re.fullmatch(expected, output), f"{what}: {output}")
@@ -127,7 +127,7 @@ def build_wheel(checks, room):
     package = shared.unpacked_package("python", room, PYTHON=python())
     archive, = glob.glob(os.path.join(room, "packed", "*.tar.gz"))
     command = [python(), "-m", "pip", "wheel", "-q", "--no-index", "--no-build-isolation", "--no-deps", "-w", room, archive]
-    hold(command, PATH=check_builds(checks, archive, room))
+    run_or_fail(command, PATH=check_builds(checks, archive, room))
     path, = glob.glob(os.path.join(room, "*.whl"))
     with zipfile.ZipFile(path) as wheel:
         names = {name.partition("/")[2] for name in wheel.namelist() if name.startswith(PACKAGE + "/")}
@@ -143,8 +143,8 @@ def build_wheel(checks, room):
 def environment(room, name, wheel, *words):
     """Creates a new environment with the wheel. Returns the paths of its Python and of the installed package."""
     path = os.path.join(room, name)
-    hold([python(), "-m", "venv", "--without-pip", *words, path])
-    hold([python(), "-m", "pip", "--python", f"{path}/bin/python", "install", "-q", "--no-index", wheel])
+    run_or_fail([python(), "-m", "venv", "--without-pip", *words, path])
+    run_or_fail([python(), "-m", "pip", "--python", f"{path}/bin/python", "install", "-q", "--no-index", wheel])
     return os.path.join(path, "bin", "python"), glob.glob(f"{path}/lib/python3*/site-packages/{PACKAGE}")[0]
 
 
@@ -187,7 +187,7 @@ def check_headers(checks, room, python_path, package):
     """Checks that the library is linked with the archives, and that the exceptions, the constants and the structs are those of the headers,
     and those of minisign_installing.h that the package declares."""
     checks.check("v3_minisign_update" in shared.symbols_of(f"{package}/libminisign.so"), "the library is not linked with the archives")
-    errors, places, installer = json.loads(hold([python_path, "-c", DECLARED]))
+    errors, places, installer = json.loads(run_or_fail([python_path, "-c", DECLARED]))
     expected = [[number, "".join(map(str.capitalize, name.split("_"))), shared.error_texts()[name]]
                 for name, number in shared.ERRORS.items()]
     checks.same(sorted(errors), sorted(expected), "the exceptions")
@@ -213,18 +213,18 @@ def user_of(checks, python_path, kind, changed=""):
 
 
 def fields_line(fields):
-    """Returns the line that `read` prints for a case."""
+    """Returns the line that `fields` prints for a case."""
     return f"{shared.key_id_text(fields.key_id)} {shared.key_id_text(fields.signature_key_id)} {fields.is_legacy}"
 
 
 def compare_results(user, minisign, cases):
     """Checks all results of a program that verifies: cases with legacy signatures allowed or not, data in pieces, the error of each
     rejection, Ed25519 vectors, and the fields that can be read before verifying."""
-    user.check_verdicts(minisign, cases, (["answers", "allow"], True), (["answers", "reject"], False))
+    user.check_verdicts(minisign, cases, (["verify", "allow"], True), (["verify", "reject"], False))
     user.check_verdicts(minisign, shared.corpus() + shared.large_cases(minisign), (["pieces"], True))
-    user.check_errors(["answers", "reject"], shared.rejections())
-    user.check_vectors(["answers", "allow"])
-    user.check_fields(["read"], fields_line)
+    user.check_errors(["verify", "reject"], shared.rejections())
+    user.check_vectors(["verify", "allow"])
+    user.check_fields(["fields"], fields_line)
     user.check_lists(minisign)
 
 
@@ -262,13 +262,13 @@ def check_mutants(checks, python_path, package, room, minisign):
     def ask(checks, changed, directory, word):
         # libsodium is used where possible, because it loads faster.
         user = user_of(checks, python_path, "cryptography" if word in ("vectors", "strict") else "libsodium", os.path.dirname(changed))
-        cases = {"answers": lambda: user.check_errors(["answers", "reject"], shared.rejections()),
-                 "read": lambda: user.check_fields(["read"], fields_line),
+        cases = {"verify": lambda: user.check_errors(["verify", "reject"], shared.rejections()),
+                 "fields": lambda: user.check_fields(["fields"], fields_line),
                  "pieces": lambda: user.check_verdicts(minisign, shared.corpus(), (["pieces"], True)),
-                 "vectors": lambda: user.check_vectors(["answers", "allow"]),
+                 "vectors": lambda: user.check_vectors(["verify", "allow"]),
                  "strict": lambda: user.check_pairs(1, "installing", directory),
-                 "listed": lambda: user.check_lists(minisign),
-                 "ids": lambda: shared.check_key_ids(user, os.path.join(directory, "ids"), minisign),
+                 "verify_listed": lambda: user.check_lists(minisign),
+                 "key_ids": lambda: shared.check_key_ids(user, os.path.join(directory, "ids"), minisign),
                  "sign": lambda: shared.check_signing(user, os.path.join(directory, "signed"), minisign)}
         cases.get(word, lambda: user.check_pairs(1, word, directory))()
 

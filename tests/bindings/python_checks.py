@@ -38,7 +38,7 @@ from unittest import mock
 import minisign_proved as minisign
 from minisign_proved import Data, PublicKey, SecretKey, Signature, Text, Verifier, _calls, _header
 from minisign_proved import installing as installer
-from python_user import answer, write
+from python_user import result_of, write
 
 # The number of calls, how many of them come first, and by how many KiB the memory may grow after these.
 CALLS, FIRST_CALLS, MAX_GROWTH = 8_000, 1_000, 96
@@ -108,7 +108,7 @@ def threads(room: str) -> None:
     with concurrent.futures.ThreadPoolExecutor(16) as pool:
         results = pool.map(feed, range(8))
         check(all(pool.map(is_right, range(8))), "a thread got a wrong result")
-    check([*results] == [None] * 8 and answer(shared.finish) == f"accepted {b'by all'.hex()}", "a Verifier that eight threads fed")
+    check([*results] == [None] * 8 and result_of(shared.finish) == f"accepted {b'by all'.hex()}", "a Verifier that eight threads fed")
     rejects(minisign.NotBegun, shared.finish, "a second finish")
 
 
@@ -314,10 +314,10 @@ def parts(room: str) -> None:
             (made, b"what is signed", "one", "one"), (made, b"other", "one", "rejected SIGNATURE_REFUSED"),
             (longer, b"what is signed", "rejected COMMENT_SIGNATURE_REFUSED", "rejected COMMENT_SIGNATURE_REFUSED")):
         verifier = Verifier(key.public_key, signature)
-        before = answer(verifier.trusted_comment)
+        before = result_of(verifier.trusted_comment)
         verifier.update(data_fed)
         expected = [text if text.startswith("rejected") else f"accepted {text.encode().hex()}" for text in (comment, comment, verdict)]
-        check([before, answer(verifier.trusted_comment), answer(verifier.finish)] == expected, f"{data_fed!r}: expected {expected}")
+        check([before, result_of(verifier.trusted_comment), result_of(verifier.finish)] == expected, f"{data_fed!r}: expected {expected}")
         rejects(minisign.NotBegun, verifier.trusted_comment, "the comment of a finished Verifier")
 
     shown = [repr(key), str(key), f"{key}", repr(key.public_key), repr([key]), repr(vars(key)), pydoc.render_doc(key), repr(Verifier(key.public_key, made))]

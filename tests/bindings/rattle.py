@@ -37,7 +37,7 @@ RT_RUN, _, ARGUMENTS = RUNNING.partition(" -- ")
 def build(room, libsodium):
     """Proves and builds the program in a copy, with libraries that are already proved. Returns its path, and the output of the prover."""
     shutil.copytree(os.path.join(TOP, EXAMPLE), room, ignore=shutil.ignore_patterns("out", "*.a"))
-    proved.hold(proved.run(["sh", "-c", RENAMING], room), RENAMING)
+    proved.require_success(proved.run(["sh", "-c", RENAMING], room), RENAMING)
     lines = read(os.path.join(room, "crates.txt")).decode().splitlines()
     crate = proved.Crate(next(line for line in lines if line.startswith(f"{NAME}:")), proved.crates())
     why = proved.supply(crate.below)
@@ -46,11 +46,12 @@ def build(room, libsodium):
     directory, kit, target = os.path.join(room, "crates", NAME), proved.kit(), "x86_64-unknown-linux-gnu"
     made = proved.rattle("build", NAME, directory, "--toolchain", f"{kit}/toolchain", "--backend", "llvm", "--links", f"{NAME}=c",
                          "-o", f"{NAME}.o", crate=crate)
-    proved.hold(made, NAME)
-    proved.hold(proved.run([needs.c_compiler(), "-O2", "-fPIC", "-fno-lto", "-fstack-clash-protection", "-c", "c/sodium.c", "-o",
-                            "sodium.o"], directory), "sodium.c")
-    proved.hold(proved.run([f"{kit}/bin/rattle-link", "--target", target, "--toolchain", f"{kit}/toolchain", "-o", NAME, f"{NAME}.o",
-                            f"{kit}/c/libos_c.a", f"{kit}/c/liblibc_c.a", "sodium.o", libsodium], directory), NAME)
+    proved.require_success(made, NAME)
+    compile_c = [needs.c_compiler(), "-O2", "-fPIC", "-fno-lto", "-fstack-clash-protection", "-c", "c/sodium.c", "-o", "sodium.o"]
+    proved.require_success(proved.run(compile_c, directory), "sodium.c")
+    link = [f"{kit}/bin/rattle-link", "--target", target, "--toolchain", f"{kit}/toolchain", "-o", NAME, f"{NAME}.o",
+            f"{kit}/c/libos_c.a", f"{kit}/c/liblibc_c.a", "sodium.o", libsodium]
+    proved.require_success(proved.run(link, directory), NAME)
     return os.path.join(directory, NAME), made.stdout
 
 

@@ -1,21 +1,25 @@
 #!/usr/bin/env python3
-"""Checks that the Rust crates in bindings/rust and bindings/rust-sys work for a user: they are packed by cargo, unpacked into
-an empty directory, and built by cargo, without network and kit, as dependencies of a program that names bindings/rust
-`minisign-verify`. cargo takes the crates that they use from Debian's packages.
+"""Checks that the Rust crates in bindings/rust and bindings/rust-sys work for a user. cargo packs them; they are unpacked into an
+empty directory, and cargo builds them, without a network and without the Rattle kit, as dependencies of a program that uses
+bindings/rust under the name `minisign-verify`. The crates that they need come from Debian's packages.
 
     tests/bindings/rust.py
 
-They are also built in a path with spaces, with neither make nor objcopy in PATH, with the variables of the crate cc and of
-libsodium, as a git dependency, for Windows, where wine runs them, and for AArch64. The examples of README.md are pasted into
-a crate and run, and the examples in the documentation are run. The results are compared with `c/minisign`, libsodium and the header (`compare_results`), and the layout of structs
-with the header. `unsafe` is in one module only, and without the feature `sodium` nothing of libsodium is linked. Each mutant
-of rust/mutants is detected. It prints a line for each failure; the last line is `N passed, M failed`.
+- The results are compared with those of `c/minisign` and libsodium, and with the header (`compare_results`), which also
+  determines the layout of structs.
+- The crates are built in a path with spaces, with neither make nor objcopy in PATH, with the environment variables of the
+  crate cc and of libsodium, as a git dependency, for Windows (run by wine), and for AArch64 (run by qemu).
+- The examples of README.md, pasted into a crate, and those of the documentation are run.
+- `unsafe` is in one module only. Without the feature `sodium`, no function of libsodium is linked.
+- Each mutant of rust/mutants is detected.
+
+It prints a line for each failure; the last line is `N passed, M failed`.
 
 Needs Python 3.9 or later, cargo, rustc, make, clang, a C compiler, binutils, llvm, libsodium with its header, minisign,
 strace, git, pkg-config, and of Debian librust-cc-dev, librust-pkg-config-dev, librust-rpassword-dev, librust-zeroize-dev,
 libstd-rust-dev-windows, gcc-mingw-w64-x86-64, wine64, gcc-aarch64-linux-gnu, libc6-dev-arm64-cross and qemu-user-static. It
-installs what is missing if it may; apt-get fetches Rust's library for AArch64 once. If another cargo than Debian's comes
-first in PATH, it is tested too.
+installs what is missing if it may, and downloads Rust's standard library for AArch64 once, with apt-get. If PATH has another
+cargo before Debian's, that cargo is tested too.
 """
 
 import glob
@@ -40,26 +44,29 @@ from mutants import mutants_of
 from shared_cases import TOP, Program, read, record_of, run, write
 
 CRATE, SYS = (os.path.join(TOP, "bindings", name) for name in ("rust", "rust-sys"))
-# The files of bindings/rust that are written by hand, of which the first five have no `unsafe`; and the files that tools/bindings.py
-# makes, of bindings/rust and of bindings/rust-sys.
+# The files of bindings/rust that are written by hand, of which only those in src/raw may have `unsafe`. Then the files of bindings/rust and
+# bindings/rust-sys that tools/bindings.py generates.
 BY_HAND = ["src/lib.rs", "src/base64.rs", "src/files.rs", "src/records.rs", "src/signing.rs", "src/raw.rs", "src/raw/sodium.rs", "src/lists.rs",
            "src/raw/lists.rs"]
 GENERATED, GENERATED_SYS = "src/raw/header.rs", "src/header.rs"
+# Symbols of libsodium, which a program without the feature `sodium` must not have.
 NO_SODIUM = dict.fromkeys(("crypto_sign", "sodium_init", "randombytes"), False)
-# The number of calls, and by how many pages of 4 KiB the memory may grow after a tenth of them.
-CALLS, PAGES = 10_000, 16
+# The number of calls, and how many pages of 4 KiB the memory may grow by after the first tenth of the calls.
+CALLS, MAX_PAGES = 10_000, 16
 
+# The dependency of a user's crate: under another name, under its own name, and without the feature `sodium`.
 RENAMED = 'minisign-verify = {{ package = "minisign-proved", path = "{crate}" }}'
 PLAIN = 'minisign-proved = {{ path = "{crate}" }}'
 WITHOUT_SODIUM = 'minisign-proved = {{ path = "{crate}", default-features = false }}'
 
-# The variants of Error for errors of the header, if minisign-verify has a variant for them; and the same for data in pieces.
-KNOWN = dict(line.split() for line in read(HERE, "rust", "known.txt").decode().splitlines())
-IN_PIECES = {**KNOWN, "LEGACY_NOT_ACCEPTED": "UnsupportedLegacyMode"}
+# The variant of Error for each error of the header for which the crate minisign-verify has a variant; then with the variants for data in
+# pieces.
+VARIANTS = dict(line.split() for line in read(HERE, "rust", "known.txt").decode().splitlines())
+STREAM_VARIANTS = {**VARIANTS, "LEGACY_NOT_ACCEPTED": "UnsupportedLegacyMode"}
 
 
 def toolchains():
-    """Returns the paths of Debian's cargo and rustc, and of those that come first in PATH if they are different."""
+    """Returns the paths of Debian's cargo and rustc, followed by those of the first cargo and rustc in PATH if they are different."""
     pairs = [(needs.program("cargo", "cargo"), needs.rust_compiler())]
     first = (shutil.which("cargo"), shutil.which("rustc"))
     if all(first) and not os.path.samefile(first[0], pairs[0][0]):
@@ -68,20 +75,20 @@ def toolchains():
 
 
 def depends_on(form, crate, unpacked=None, used=("minisign-proved-sys",)):
-    """Returns a dependency on a crate, and patches for the packed crates that it uses. They are in the directory `unpacked`, which by
-    default is the directory of the crate."""
+    """Returns the lines of Cargo.toml for a dependency on a crate, with patches for the packed crates that it uses. These are in the
+    directory `unpacked`, by default the directory that contains the crate."""
     unpacked = unpacked or os.path.dirname(crate)
     patches = "".join(f'{name} = {{ path = "{unpacked}/{name}-{shared_cases.VERSION}" }}\n' for name in used)
     return f"{form.format(crate=crate)}\n\n[patch.crates-io]\n{patches}"
 
 
 def patch_options(unpacked, *names):
-    """Returns options of cargo that name unpacked crates in this directory."""
+    """Returns options with which cargo takes these crates from the directory `unpacked`."""
     return [word for name in names for word in ("--config", f'patch.crates-io.{name}.path="{unpacked}/{name}-{shared_cases.VERSION}"')]
 
 
 def new_crate(room, name, dependency, source):
-    """Creates a user's crate in a new directory, with a source file of tests/bindings/rust, and returns the directory."""
+    """Creates a user's crate in a new directory, with a file of tests/bindings/rust as src/main.rs. Returns the directory."""
     directory = os.path.join(room, name)
     os.makedirs(os.path.join(directory, "src"))
     write(directory, "Cargo.toml", read(HERE, "rust", "user.toml") + dependency.encode())
@@ -90,8 +97,8 @@ def new_crate(room, name, dependency, source):
 
 
 class Cargo:
-    """Runs cargo without a network, and with its caches in a separate directory. With `UNOPTIMIZED`, C is compiled without optimization and
-    Rust without debug information, which takes less time."""
+    """Runs cargo without a network, and with its caches in a separate directory. The variables of `UNOPTIMIZED` make builds faster: C is
+    compiled without optimization, and Rust without debug information."""
 
     UNOPTIMIZED = {"CFLAGS": "-O0", "CARGO_PROFILE_DEV_DEBUG": "0", "CARGO_PROFILE_DEV_STRIP": "debuginfo"}
 
@@ -100,7 +107,7 @@ class Cargo:
         self.environment = {"CARGO_NET_OFFLINE": "true", "CARGO_TARGET_DIR": self.target, "CARGO_INCREMENTAL": "0", "RUSTC": rustc,
                             "RUSTFLAGS": "-D warnings", "RUSTDOC": os.path.join(os.path.dirname(rustc), "rustdoc"),
                             "PATH": static_library.path_without_kit()}
-        # Not for rustup, which finds its toolchains in the home directory.
+        # CARGO_HOME is not set for rustup, which finds its toolchains in the home directory.
         if os.path.dirname(cargo) == needs.DEBIAN:
             self.environment["CARGO_HOME"] = os.path.join(room, "home")
         self.environment.update(environment)
@@ -111,48 +118,48 @@ class Cargo:
         return status, output.decode(errors="replace") + errors
 
     def run(self, directory, *words, **environment):
-        return static_library.hold([self.cargo, *words], directory, **{**self.environment, **environment})
+        return static_library.run_or_fail([self.cargo, *words], directory, **{**self.environment, **environment})
 
 
-# The begin of the parts that each README of a Rust crate has, in this order.
-README_ORDER = ["```rust\n", "## (?:How to|Install and) switch\n", "## What is different from ", "## What is proved, and what is not\n",
+# How the sections begin that the README of each Rust crate has, in this order. The first one is an example.
+README_SECTIONS = ["```rust\n", "## (?:How to|Install and) switch\n", "## What is different from ", "## What is proved, and what is not\n",
                 "## Questions\n"]
-# What the table of questions answers: a part of each first cell.
-ANSWERED = ["Licence", "C compiler", "libsodium", "Targets", "`no_std`", "WebAssembly", "async", "[Ss]ize", "[Bb]uild time"]
+# Words of the questions that the table of each README answers.
+README_QUESTIONS = ["Licence", "C compiler", "libsodium", "Targets", "`no_std`", "WebAssembly", "async", "[Ss]ize", "[Bb]uild time"]
 
 
 def check_order(checks, name):
-    """Checks that the README of a crate has the parts of README_ORDER, and answers what ANSWERED lists."""
+    """Checks that the README of a crate has the sections of README_SECTIONS, and answers the questions of README_QUESTIONS."""
     text = read(TOP, "bindings", name, "README.md").decode()
-    places = [[found.start() for found in re.finditer(f"(?m)^{part}", text)][:1] for part in README_ORDER]
-    checks.check(all(places) and places == sorted(places), f"{name}/README.md has the parts of README_ORDER at {places}")
+    places = [[found.start() for found in re.finditer(f"(?m)^{part}", text)][:1] for part in README_SECTIONS]
+    checks.check(all(places) and places == sorted(places), f"{name}/README.md has the sections of README_SECTIONS at {places}")
     cells = "\n".join(re.findall(r"(?m)^\| ([^|]*) \|", text.partition("\n## Questions\n")[2]))
-    missing = [word for word in ANSWERED if not re.search(word, cells)]
+    missing = [word for word in README_QUESTIONS if not re.search(word, cells)]
     checks.check(not missing, f"{name}/README.md does not answer {missing}")
 
 
 def check_sources(checks):
-    """Checks that `unsafe` is in one module only, and checks the READMEs and the list of files."""
+    """Checks that only the module `raw` has `unsafe`, that BY_HAND lists all files, and the READMEs."""
     for name in ("rust", "rust-sys", "rust-minisign"):
         check_order(checks, name)
     code = {name: shared_cases.code_of(read(CRATE, name).decode()) for name in BY_HAND}
     shared_cases.check_readme(checks, "rust")
     for name, lines in code.items():
         words = "\n".join(lines).replace("unsafe_code", "")
-        checks.check(name.startswith("src/raw") or "unsafe" not in words, f"{name}: it has `unsafe`")
+        checks.check(name.startswith("src/raw") or "unsafe" not in words, f"{name}: `unsafe` outside of src/raw")
     files = {os.path.relpath(path, CRATE) for path in glob.glob(f"{CRATE}/src/**", recursive=True) if os.path.isfile(path)}
-    checks.check(files == {*BY_HAND, GENERATED}, f"the crate has the files {sorted(files)}")
+    checks.check(files == {*BY_HAND, GENERATED}, f"the crate has the files {sorted(files)}, expected {sorted({*BY_HAND, GENERATED})}")
 
 
 def check_tests(checks, cargo, crate, least, *options):
-    """Checks that the tests of a crate pass, among them the examples in its documentation, and that there are at least so many."""
+    """Checks that at least `least` tests of a crate pass, and none fails. The examples in its documentation are among them."""
     status, output = cargo.try_to_run(crate, "test", *options, **Cargo.UNOPTIMIZED)
     passed = sum(int(count) for count in re.findall(r"(\d+) passed; 0 failed", output))
     checks.check(status == 0 and passed >= least, f"{os.path.basename(crate)}: {passed} tests passed, at least {least} expected: {output[-1500:]}")
 
 
 def check_archives(checks, sys_crate):
-    """Checks that the symbols in the archives of the packed crate have prefixes, so that whoever links them needs no objcopy."""
+    """Checks that the symbols in the archives of the packed crate have prefixes, so that a user does not need objcopy to link them."""
     archives = glob.glob(f"{sys_crate}/library/dist/calls-*.a")
     for archive in archives:
         prefix, data = re.search(r"(\w+)\.a$", archive)[1], read(archive)
@@ -162,13 +169,13 @@ def check_archives(checks, sys_crate):
 
 
 def check_inside(checks, cargo, crate, room):
-    """Checks that the structs have the layout that a C compiler gives those of the header, and that secret keys are cleared."""
+    """Runs inside.rs within the crate: the structs have the layout of the C structs of the header, and secret keys are cleared."""
     sys_crate = f"{os.path.dirname(crate)}/minisign-proved-sys-{shared_cases.VERSION}"
     source, inside, lines = read(sys_crate, GENERATED_SYS), read(HERE, "rust", "inside.rs").decode(), []
-    for place, number in shared_cases.layout(room).items():
+    for place, expected in shared_cases.layout(room).items():
         struct, _, field = place.partition(".")
         if f"pub struct {struct} " in source.decode():
-            lines.append(f"        {'offset' if field else 'size'}!({struct}, {number}{field and ', '}{field});")
+            lines.append(f"        {'offset' if field else 'size'}!({struct}, {expected}{field and ', '}{field});")
     write(sys_crate, GENERATED_SYS, source + inside.replace("        // STRUCTS", "\n".join(lines)).encode())
     status, output = cargo.try_to_run(sys_crate, "test", "--lib", **Cargo.UNOPTIMIZED)
     is_right = status == 0 and "2 passed; 0 failed" in output and len(lines) >= 15
@@ -180,7 +187,7 @@ def check_inside(checks, cargo, crate, room):
 
 
 def reason(known):
-    """Returns a function that makes the expected line for an error: the variant, the name and number in the header, and the text."""
+    """Returns a function that returns the expected line for an error: the variant of Error, then the name, code and text in the header."""
     def line_of(name):
         kind, text = known.get(name, "InvalidEncoding"), re.escape(shared_cases.error_texts()[name])
         detail = {"InvalidEncoding": rf"\({name}\)", "InvalidSignature": rf"\({name}\)", "IoError": r"\(.*\)"}.get(kind, "")
@@ -189,26 +196,26 @@ def reason(known):
 
 
 def fields_line(fields):
-    """Returns the line that `read` prints: the key IDs of a key and a signature, as bytes and as text, and whether it is legacy."""
+    """Returns the line that `read` prints: the key IDs of a key and a signature, as bytes and as text, and `true` for a legacy signature."""
     ids = fields.key_id, fields.signature_key_id
     return " ".join([*(key_id.hex() for key_id in ids), *map(shared_cases.key_id_text, ids), str(fields.is_legacy).lower()])
 
 
 def compare_results(program, room, minisign, cases):
-    """Checks all results of a program that uses the crate."""
+    """Checks the results of the program answers.rs, which uses the crate."""
     program.check_verdicts(minisign, cases, (["verify"], True), (["strict"], False), (["reader"], False),
                         *((["pieces", str(length)], False) for length in (1, 128, 1000, 0)))
-    program.check_errors(["strict"], shared_cases.rejections(), reason(KNOWN))
-    program.check_errors(["pieces", "7"], shared_cases.rejections(), reason(IN_PIECES))
-    program.check_vectors(["verify"], reason(KNOWN))
-    program.check_comments(["comment"], reason(IN_PIECES))
+    program.check_errors(["strict"], shared_cases.rejections(), reason(VARIANTS))
+    program.check_errors(["pieces", "7"], shared_cases.rejections(), reason(STREAM_VARIANTS))
+    program.check_vectors(["verify"], reason(VARIANTS))
+    program.check_comments(["comment"], reason(STREAM_VARIANTS))
     program.check_fields(["read"], fields_line)
     program.check_libsodium(["accepts"])
     of_length, of_base64 = (f"Err(InvalidEncoding(BARE_PUBLIC_KEY_{why}))" for why in ("LENGTH", "NOT_BASE64"))
     program.check_bare_keys(*map(re.escape, ("Ok(None)", of_length, of_base64, of_length)))
-    # Debug prints nothing secret, and a reason by its name.
+    # The debug output has no secrets, and has the names of reasons.
     program.check_pairs(6, "shown")
-    # Traits, records, bare signatures and keys that are not decrypted yet.
+    # The traits of the types, records, bare signatures, and secret keys before they are decrypted.
     program.check_pairs(36, "types")
     shared_cases.check_signing(program, os.path.join(room, "signed"), minisign, lambda name: f"Err(Rejected({name}))", "Ok(())")
     shared_cases.check_key_ids(program, os.path.join(room, "ids"), minisign)
@@ -216,7 +223,7 @@ def compare_results(program, room, minisign, cases):
 
 
 def check_lists(program, room, minisign):
-    """Checks the results of a program that verifies files with signed lists, and the lists and files that it reads from a directory."""
+    """Checks the results of the program lists.rs, which verifies files with signed lists, for cases and for files in a directory."""
     program.check_lists(minisign, boolean=lambda is_true: str(is_true).lower())
     os.makedirs(room)
     write(room, "app", b"data")
@@ -230,32 +237,31 @@ def check_lists(program, room, minisign):
 
 # ---- Builds ----
 
-# All programs that Debian's cargo runs to build the packed crate and a program that uses it. make and objcopy are not among them.
-NEEDED = ("cargo", "rustc", "gcc", "cc", "ld", "as", "ar", "git", "sh", "sha256sum", "find", "sort", "grep", "xargs", "cut", "dirname")
+# All programs that Debian's cargo runs to build the packed crate and a user's crate. make and objcopy are not among them.
+BUILD_PROGRAMS = ("cargo", "rustc", "gcc", "cc", "ld", "as", "ar", "git", "sh", "sha256sum", "find", "sort", "grep", "xargs", "cut", "dirname")
 WINDOWS, ARM = "x86_64-pc-windows-gnu", "aarch64-unknown-linux-gnu"
-HERE_TRIPLE = "x86_64-unknown-linux-gnu"
-NOT_GNU = "cl does not have GNU options: name gcc or clang for x86_64-unknown-linux-gnu in CC_x86_64_unknown_linux_gnu"
-# A C compiler that records each call, for the variables of the crate cc.
+NOT_GNU_ERROR = "cl does not have GNU options: name gcc or clang for x86_64-unknown-linux-gnu in CC_x86_64_unknown_linux_gnu"
+# A C compiler that records each call, to show that the environment variables of the crate cc choose it.
 RECORDING = '#!/bin/sh\necho called >> "$0-calls"\nexec gcc "$@"\n'
 DEBIAN_LIBRARIES = "/usr/lib/x86_64-linux-gnu"
 
 
 def messages():
-    """Returns the expected output of target.rs: the two messages that Ed25519 verifies for the published signature, which are the digest of
-    other data, and the signature followed by the trusted comment."""
+    """Returns the expected output of target.rs. It verifies data with the published signature, and prints the two messages that it would
+    verify with Ed25519: the digest of its own data, and the signature followed by the trusted comment."""
     signature = shared_cases.PUBLISHED.signature
     second = record_of(signature)[10:] + signature.split(b"\n")[2].removeprefix(b"trusted comment: ")
     return f"{hashlib.blake2b(bytes([7]) * 1000).hexdigest()}\n{second.hex()}\nOk(())\n"
 
 
-# The file of tests/corpus that is `app`, and the status, output and error of the example of README.md that verifies it with the published
-# signature.
-VERIFIED = [("test", 0, "timestamp:1556193335\tfile:test\n", ""), ("hello", 1, "", "InvalidSignature(SIGNATURE_REFUSED)")]
+# A file of tests/corpus, which is copied to `app`; and the status, output and error of the example of README.md that verifies `app` with the
+# published signature.
+README_CASES = [("test", 0, "timestamp:1556193335\tfile:test\n", ""), ("hello", 1, "", "InvalidSignature(SIGNATURE_REFUSED)")]
 
 
 def check_readme(checks, cargo, room, crate, minisign):
-    """Checks the examples of README.md, pasted into one file of a crate that has the dependency of README.md: they compile; accept a file
-    that the key has signed, and reject another one; generate a key, sign with it, and verify a stream."""
+    """Checks that the examples of README.md compile, pasted into one file of a crate with the dependency of README.md; that they accept a
+    signed file and reject another one; and that they generate a key, sign with it, and verify a stream."""
     directory = os.path.join(room, "readme")
     dependency, = re.findall(r"^```toml\n(.*?)^```$", read(CRATE, "README.md").decode(), re.M | re.S)
     os.makedirs(os.path.join(directory, "src", "bin"))
@@ -265,13 +271,13 @@ def check_readme(checks, cargo, room, crate, minisign):
     write(directory, "Cargo.toml", read(HERE, "rust", "user.toml").replace(b"[dependencies]\n", dependency.encode()))
     write(directory, "src/main.rs", shared_cases.readme_examples("rust").encode())
     shutil.copy(os.path.join(HERE, "rust", "readme.rs"), os.path.join(directory, "src", "bin"))
-    # Warnings are allowed, because the program does not call all examples.
+    # RUSTFLAGS is empty because functions that the program does not call cause warnings.
     status, why = cargo.try_to_run(directory, "build", RUSTFLAGS="", **Cargo.UNOPTIMIZED)
     if not checks.check(status == 0, f"the examples of README.md do not compile: {why[-1500:]}"):
         return
     programs = os.path.join(cargo.target, "debug")
     shutil.copy(shared_cases.PUBLISHED_PATHS[2], os.path.join(directory, "app.minisig"))
-    for app, *expected, error in VERIFIED:
+    for app, *expected, error in README_CASES:
         shutil.copy(os.path.join(shared_cases.CORPUS, app), os.path.join(directory, "app"))
         status, output, errors = run([f"{programs}/user"], directory)
         is_right = [status, output.decode()] == expected and error in errors
@@ -282,11 +288,11 @@ def check_readme(checks, cargo, room, crate, minisign):
     checks.check(is_right, f"the examples that sign: {status} {output} {errors}")
     checks.check(os.stat(os.path.join(directory, "new.key")).st_mode & 0o777 == 0o600, "the mode of the key that the example generates")
     verified = run([minisign, "-V", "-Q", "-p", "new.pub", "-m", "app-3"], directory)
-    checks.check(verified[:2] == (0, b"version:3\tfile:app\n"), f"c/minisign verifies what the example has signed: {verified}")
+    checks.check(verified[:2] == (0, b"version:3\tfile:app\n"), f"c/minisign verifies the signature of the example: {verified}")
 
 
 class UserCrate:
-    """A user's crate in a new directory, which is built with few programs in PATH."""
+    """A user's crate in a new directory, which is built with only the given programs in PATH."""
 
     def __init__(self, programs, room, name, dependency):
         self.directory = new_crate(room, name, dependency, "target.rs")
@@ -298,7 +304,8 @@ class UserCrate:
         return self.cargo.try_to_run(self.directory, "build", *words, **{**Cargo.UNOPTIMIZED, **environment})
 
     def check(self, checks, what, names, before=(), target="", ending="", variables=None, **environment):
-        """Builds the crate and runs it with these environment variables. Checks its output, and whether it has each of these symbols."""
+        """Builds the crate, and runs it with the environment variables `variables`. Checks its output, and that it has exactly those symbols
+        of `names` whose value is true."""
         status, output = self.build(target, **environment)
         if not checks.check(status == 0, f"{what}: the build failed: {output[-1000:]}"):
             return
@@ -307,11 +314,11 @@ class UserCrate:
         checks.check(output.decode().replace("\r", "") == messages(), f"{what}: status {status}, {output.decode()}{errors[-500:]}")
         symbols = shared_cases.symbols_of(program)
         for name, is_expected in names.items():
-            checks.check((name in symbols) == is_expected, f"{what}: {name} in its symbols: {not is_expected}, expected {is_expected}")
+            checks.check((name in symbols) == is_expected, f"{what}: the symbol {name} is {'missing' if is_expected else 'there'}")
 
 
 def rust_for_arm():
-    """Fetches Debian's standard library of Rust for AArch64, if it is not there yet, and returns its directory."""
+    """Downloads Debian's standard library of Rust for AArch64 unless this was done before. Returns its directory."""
     directory = os.path.join(TOP, "out", "rust-for-aarch64")
     if not os.path.isdir(f"{directory}/usr/lib/rustlib/{ARM}"):
         emulated.fetch(emulated.AARCH64, directory, "libstd-rust-dev")
@@ -319,33 +326,35 @@ def rust_for_arm():
 
 
 def check_here(checks, programs, crate, room):
-    """Checks the crate on this system, in a path with spaces and without make and libsodium: with the archives, as C, and as a git
-    dependency."""
-    place = UserCrate(programs, room, "a user's crate", depends_on(WITHOUT_SODIUM, crate))
-    for what, has_archives, portable in (("the archives", True, ""), ("C alone", False, "1")):
-        place.check(checks, f"without make, {what}", {"v3_minisign_update": has_archives, **NO_SODIUM}, MINISIGN_PORTABLE=portable)
-    status, why = place.build(CC="cl", MINISIGN_PORTABLE="")
-    checks.check(status != 0 and NOT_GNU in why, f"a compiler without GNU options: {why[-500:]}")
+    """Checks builds for this system, in a path with spaces and without make and libsodium: with the archives, from C, with other compilers,
+    and as a git dependency."""
+    user_crate = UserCrate(programs, room, "a user's crate", depends_on(WITHOUT_SODIUM, crate))
+    for what, has_archives, portable in (("with the archives", True, ""), ("from C", False, "1")):
+        user_crate.check(checks, f"without make, {what}", {"v3_minisign_update": has_archives, **NO_SODIUM}, MINISIGN_PORTABLE=portable)
+    status, why = user_crate.build(CC="cl", MINISIGN_PORTABLE="")
+    checks.check(status != 0 and NOT_GNU_ERROR in why, f"a compiler without GNU options: {why[-500:]}")
     compiler = write(room, "recording", RECORDING.encode())
     os.chmod(compiler, 0o755)
-    status, why = place.build(CC_x86_64_unknown_linux_gnu=compiler, MINISIGN_PORTABLE="")
+    status, why = user_crate.build(CC_x86_64_unknown_linux_gnu=compiler, MINISIGN_PORTABLE="")
     checks.check(status == 0 and os.path.exists(f"{compiler}-calls"), f"a compiler for one target: {why[-500:]}")
     check_libsodium(checks, crate, room)
     dependency = f'minisign-proved = {{ git = "file://{commands.Clone(room).top}", default-features = false }}'
-    place = UserCrate(programs, room, "by git", dependency)
-    place.check(checks, "by git", {"v3_minisign_update": True, "v2_minisign_update": True}, CARGO_NET_OFFLINE="false")
+    user_crate = UserCrate(programs, room, "git dependency", dependency)
+    user_crate.check(checks, "a git dependency", {"v3_minisign_update": True, "v2_minisign_update": True}, CARGO_NET_OFFLINE="false")
 
 
 def check_libsodium(checks, crate, room):
-    """Checks that libsodium is found by pkg-config or in SODIUM_LIB_DIR, and linked as the variables say."""
-    place = UserCrate(static_library.path_without_kit(), room, "with libsodium", depends_on(PLAIN, crate))
+    """Checks that the build finds libsodium with pkg-config or in SODIUM_LIB_DIR, and links the shared or the static library as the variables
+    say. Without pkg-config, the error says what to install."""
+    user_crate = UserCrate(static_library.path_without_kit(), room, "with libsodium", depends_on(PLAIN, crate))
     for variables, is_shared in (({}, True), ({"SODIUM_LIB_DIR": DEBIAN_LIBRARIES}, False),
                                  ({"SODIUM_LIB_DIR": DEBIAN_LIBRARIES, "SODIUM_SHARED": "1"}, True)):
-        place.check(checks, f"with libsodium, {variables}", {}, **variables)
-        needed = run([needs.program("readelf", "binutils"), "-d", f"{place.cargo.target}/debug/user"])[1].decode()
+        user_crate.check(checks, f"with libsodium, {variables}", {}, **variables)
+        needed = run([needs.program("readelf", "binutils"), "-d", f"{user_crate.cargo.target}/debug/user"])[1].decode()
         checks.check(("libsodium.so" in needed) == is_shared, f"with libsodium, {variables}: {needed}")
-    few = UserCrate(shared_cases.path_directory(os.path.join(room, "few"), *NEEDED), room, "without pkg-config", depends_on(PLAIN, crate))
-    status, why = few.build()
+    programs = shared_cases.path_directory(os.path.join(room, "for-libsodium"), *BUILD_PROGRAMS)
+    without_pkg_config = UserCrate(programs, room, "without pkg-config", depends_on(PLAIN, crate))
+    status, why = without_pkg_config.build()
     checks.check(status != 0 and "libsodium was not found: install it" in why and "SODIUM_LIB_DIR" in why, f"without pkg-config: {why[-800:]}")
 
 
@@ -357,26 +366,26 @@ def check_targets(checks, programs, crate, room):
     emulator, compiler, library = emulated.emulator(arm), emulated.compiler(arm), rust_for_arm()
     for name in ("x86_64-w64-mingw32-gcc", os.path.basename(compiler)):
         os.symlink(os.path.join(needs.DEBIAN, name), os.path.join(programs, name))
-    place = UserCrate(programs, room, "for others", depends_on(WITHOUT_SODIUM, crate))
-    place.check(checks, "for Windows", {}, [wine.program], WINDOWS, ".exe", wine.variables)
+    user_crate = UserCrate(programs, room, "other targets", depends_on(WITHOUT_SODIUM, crate))
+    user_crate.check(checks, "for Windows", {}, [wine.program], WINDOWS, ".exe", wine.variables)
     wine.end()
     os.makedirs(f"{room}/sysroot/lib")
     os.symlink(f"{library}/usr/lib/rustlib", f"{room}/sysroot/lib/rustlib")
     linker = {f"CARGO_TARGET_{ARM.upper().replace('-', '_')}_LINKER": compiler}
-    place.check(checks, "for AArch64", {"aarch64_minisign_update": True}, emulator, ARM, RUSTFLAGS=f"--sysroot {room}/sysroot", **linker)
+    user_crate.check(checks, "for AArch64", {"aarch64_minisign_update": True}, emulator, ARM, RUSTFLAGS=f"--sysroot {room}/sysroot", **linker)
 
 
 def check_mutants(checks, cargo, crate, room, minisign):
-    """Checks that a program that uses the crate detects each mutant. A mutant may cause warnings. All mutants are built in one directory,
-    so that cargo compiles only what differs from the previous mutant."""
+    """Checks that the checks of a user's crate fail with each mutant. A mutant may cause warnings. All mutants are built in one directory,
+    so that cargo compiles only the files that differ from the previous mutant."""
     crate_path = os.path.join(room, "changed")
     users = {name: new_crate(room, f"mutants-{name}", depends_on(RENAMED, crate_path, os.path.dirname(crate)), f"{name}.rs")
              for name in ("answers", "lists")}
 
-    def ask(checks, changed, directory, word):
+    def check_mutant(checks, changed, directory, word):
         shutil.rmtree(crate_path, ignore_errors=True)
         os.rename(changed, crate_path)
-        # cargo compares times. A copy without a mutant is older than the build of the previous mutant.
+        # cargo rebuilds files that are newer than the last build. A restored file is older than the build of the previous mutant.
         os.utime(os.path.join(crate_path, "src", "lib.rs"))
         cargo.run(users["lists" if word == "lists" else "answers"], "build", RUSTFLAGS="", CARGO_INCREMENTAL="1", **Cargo.UNOPTIMIZED)
         program = Program(checks, f"{cargo.target}/debug/user")
@@ -385,19 +394,19 @@ def check_mutants(checks, cargo, crate, room, minisign):
         else:
             compare_results(program, directory, minisign, shared_cases.corpus())
 
-    shared_cases.check_mutants(checks, crate, "bindings/rust", mutants_of("bindings", "rust", "mutants"), room, ask)
+    shared_cases.check_mutants(checks, crate, "bindings/rust", mutants_of("bindings", "rust", "mutants"), room, check_mutant)
 
 
 def check_toolchain(checks, room, toolchain, minisign, is_first):
-    """Checks what one cargo builds. With the first cargo, more cases are tried, and also memory, threads, mutants and other targets."""
+    """Checks the builds of one cargo. With the first cargo, it checks more cases, and also memory, threads, mutants and other targets."""
     cargo = Cargo(room, *toolchain, **({} if is_first else Cargo.UNOPTIMIZED))
-    # `cargo package` builds what it packs, so this takes less time without optimization.
+    # UNOPTIMIZED because `cargo package` also builds the crate.
     crate = shared_cases.unpacked_package("rust", room, {**cargo.environment, **Cargo.UNOPTIMIZED}, CARGO=cargo.cargo)
     answers = new_crate(room, "answers", depends_on(RENAMED, crate), "answers.rs")
     cargo.run(answers, "build", "--release")
     program = Program(checks, shutil.copy(os.path.join(cargo.target, "release", "user"), answers))
-    few = shared_cases.corpus() + shared_cases.damaged_cases(60)
-    compare_results(program, room, minisign, shared_cases.all_cases(checks, minisign) if is_first else few)
+    few_cases = shared_cases.corpus() + shared_cases.damaged_cases(60)
+    compare_results(program, room, minisign, shared_cases.all_cases(checks, minisign) if is_first else few_cases)
     lists = new_crate(room, "lists", depends_on(RENAMED, crate), "lists.rs")
     cargo.run(lists, "build", "--release")
     check_lists(Program(checks, shutil.copy(os.path.join(cargo.target, "release", "user"), lists)), os.path.join(room, "listed"), minisign)
@@ -410,10 +419,10 @@ def check_toolchain(checks, room, toolchain, minisign, is_first):
     check_archives(checks, sys_crate)
     check_tests(checks, cargo, sys_crate, 1, "--doc")
     check_tests(checks, cargo, crate, 40, *patch_options(unpacked, "minisign-proved-sys"))
-    program.check_growth(CALLS, PAGES, few)
-    program.check_threads(few)
+    program.check_growth(CALLS, MAX_PAGES, few_cases)
+    program.check_threads(few_cases)
     check_mutants(checks, cargo, crate, room, minisign)
-    programs = shared_cases.path_directory(room, *NEEDED)
+    programs = shared_cases.path_directory(room, *BUILD_PROGRAMS)
     check_here(checks, programs, crate, room)
     check_targets(checks, programs, crate, room)
     shutil.rmtree(os.path.join(sys_crate, "library"))

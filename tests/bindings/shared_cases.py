@@ -35,7 +35,7 @@ from cases import kept_cases, key_errors, signature_errors
 from checks import Checks
 from process import SECONDS, run_program
 from running import Failure, expect, read, write
-from static_library import hold
+from static_library import run_or_fail
 from texts import CORPUS, Limits, record_of, text_of, turned
 
 # How many damaged cases of each kind there are (`damaged_cases` and `line_damaged_cases`).
@@ -55,7 +55,7 @@ def unpacked_package(package, room, environment=None, **chosen):
     out, to = os.path.join(room, "packed"), os.path.join(room, "unpacked")
     words = [f"{name}={value}" for name, value in {"OUT": out, "PYTHON": sys.executable, **chosen}.items()]
     command = [needs.program("make", "make"), "-s", "-C", os.path.join(TOP, "bindings"), package, *words]
-    hold(command, **{"PATH": static_library.path_without_kit(), **(environment or {})})
+    run_or_fail(command, **{"PATH": static_library.path_without_kit(), **(environment or {})})
     archives = [name for name in os.listdir(out) if name.endswith((".crate", ".tar.gz", ".tgz"))]
     for archive in archives:
         shutil.unpack_archive(os.path.join(out, archive), to, "gztar")
@@ -223,8 +223,8 @@ def with_key_id(case, number):
 
 # ---- Signed lists ----
 
-# A key, a list and its signature; the name of the list, or nothing if every trusted comment is accepted; what 128 digits mean on a line that
-# names no hash function; and a file with its name. All parts except for the title are bytes.
+# A key, a list and its signature; the name of the list, or nothing if every trusted comment is accepted; the hash function of a digest of
+# 128 digits on a line that does not name one; and a file with its name. All parts except for the title are bytes.
 ListCase = namedtuple("ListCase", "title key text signature list_name long_digest name data")
 LIST_NAME, LIST_COMMENT = "SHA256SUMS", "version:2\tfile:SHA256SUMS"
 ACCENT = "\u00e9"
@@ -424,13 +424,13 @@ class Program:
         self.check_lines(words, [fields.case for fields in rows], [form(fields) for fields in rows])
 
     def check_lists(self, minisign, boolean=str, form=str):
-        """Checks how the program verifies files with signed lists. `listed` verifies the file of each case in each way of the package, with
-        its own hash too; `entries` prints the entries of each list. `boolean` and `form` make the booleans and names of errors in the
-        expected lines those of the package."""
+        """Checks how the program verifies files with signed lists. `verify_listed` verifies the file of each case with each function of the
+        package, and with a hash of the program; `entries` prints the entries of each list. `boolean` and `form` spell the booleans and the
+        names of errors in the expected lines as the package prints them."""
         rows = list_rows(minisign)
         self.checks.check(len(rows) >= 45, f"there are {len(rows)} cases of lists")
         expected = [re.sub(r"(?<=rejected )\w+", lambda name: form(name[0]), line) for _, line in rows]
-        self.check_lines(["listed"], [case for case, _ in rows], list(map(re.escape, expected)))
+        self.check_lines(["verify_listed"], [case for case, _ in rows], list(map(re.escape, expected)))
         entries = re.sub("True|False", lambda word: boolean(word[0] == "True"), listed_entries())
         self.check_lines(["entries"], [rows[0][0], rows[-1][0]], [re.escape(entries), ""])
 
@@ -534,22 +534,22 @@ def check_signing(program, room, minisign, form=str, success="OK", takes_limits=
 
 
 def check_weak_limits(checks, output_of, room, secret, success):
-    """Checks that a program recognizes key files that are encrypted with weak limits: `opened KEY [PASSWORD]` prints `weak` or `strong`.
-    Checks also that it encrypts no key with weak limits: `sealed OPERATIONS MEMORY` prints WEAK_LIMITS. `success` is None if the package
+    """Checks that a program recognizes key files that are encrypted with weak limits: `strength KEY [PASSWORD]` prints `weak` or `strong`.
+    Checks also that it encrypts no key with weak limits: `encrypt OPERATIONS MEMORY` prints WEAK_LIMITS. `success` is None if the package
     takes no limits."""
-    output = output_of("opened", write(room, "unsealed", secret))
+    output = output_of("strength", write(room, "unsealed", secret))
     checks.check(output == "strong", f"a key that is not encrypted is {output}")
     for limits, is_weak in LIMITS:
-        output, expected = output_of("opened", write(room, "weak", sealed(secret, limits)), PASSWORD), "weak" if is_weak else "strong"
+        output, expected = output_of("strength", write(room, "weak", sealed(secret, limits)), PASSWORD), "weak" if is_weak else "strong"
         checks.check(output == expected, f"a key that is encrypted with {limits} is {output}")
     for limits, is_weak in ENCRYPTED_WITH if success else []:
-        output = output_of("sealed", *map(str, limits))
+        output = output_of("encrypt", *map(str, limits))
         checks.check(output == ("WEAK_LIMITS" if is_weak else success), f"encrypting with {limits}: {output}")
 
 
 def check_key_ids(program, room, minisign):
-    """Checks that a package's program and `c/minisign` print key IDs as Debian's minisign does, also those with leading zeros. `ids KEY`
-    prints the key ID of a secret key and of its public key, and the public key file, whose comment has the key ID."""
+    """Checks that a package's program and `c/minisign` print key IDs as Debian's minisign does, also those with leading zeros.
+    `key_ids KEY` prints the key IDs of a secret key and of its public key, and the public key file, whose comment has the key ID."""
     os.makedirs(room)
     run([minisign, "-G", "-W", "-s", "secret", "-p", "public"], room)
     record = record_of(read(room, "secret"))
@@ -562,7 +562,7 @@ def check_key_ids(program, room, minisign):
         key_id = f"{number:X}"
         program.checks.same(public_keys[0].split("\n")[0], f"untrusted comment: minisign public key {key_id}", "Debian's minisign")
         program.checks.same(public_keys[1], public_keys[0], f"the public key {key_id} of c/minisign")
-        output = program.run("ids", key)[1].decode()
+        output = program.run("key_ids", key)[1].decode()
         program.checks.same(output, f"{key_id} {key_id}\n{public_keys[0]}", f"{program.name}, the key {key_id}")
 
 
@@ -682,8 +682,8 @@ def numbers_in_c(room, includes, rows):
     text = "".join(f"#include {header}\n" for header in ("<stddef.h>", "<stdint.h>", "<stdio.h>", *includes))
     path = write(room, "numbers.c", f"{text}int main(void) {{\n{''.join(lines)}return 0; }}\n".encode())
     words = [f"-I{os.path.join(TOP, directory)}" for directory in ("include", "c")]
-    hold([needs.c_compiler(), *words, "-o", f"{room}/numbers", path])
-    return {name: int(number) for name, _, number in (line.rpartition(" ") for line in hold([f"{room}/numbers"]).splitlines())}
+    run_or_fail([needs.c_compiler(), *words, "-o", f"{room}/numbers", path])
+    return {name: int(number) for name, _, number in (line.rpartition(" ") for line in run_or_fail([f"{room}/numbers"]).splitlines())}
 
 
 def layout(room):

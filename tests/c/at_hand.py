@@ -47,10 +47,10 @@ OLDER = "the sources of the proved calls are not those that dist/ was built from
 VERIFIED = "Signature and comment signature verified\nTrusted comment: timestamp:1556193335\tfile:test\n"
 
 COPY = os.path.join("a b", "c d")
-# The directories with a Makefile: the goals that are built into another directory, and those that are tried with an
+# The directories with a Makefile; for each the goals to build into another directory, and the goals that have to reject an
 # invalid OUT.
 MAKEFILES = {"c": ("all archive C_CALLS=", "all install archive release uninstall clean"), "bindings": ("rust go", "all rust javascript clean")}
-# Where paths of the copy lead if they are split at their spaces.
+# The paths that commands would write to if they split a path of the copy at its spaces.
 NEIGHBOURS = ("a", "a b/c", *(f"{COPY}/{directory}/{name}" for directory in MAKEFILES
                               for name in ("b/c", "d/bindings/out/rust", "d/c/out")))
 FOREIGN_FILE = "a file of others"
@@ -112,7 +112,7 @@ def check_readme_commands(checks, tree):
     commands = re.search(r"^```sh\n(.*?)^```$", read(TOP, "README.md").decode(), re.M | re.S)[1].splitlines()
     checks.check(len(commands) == 2 and commands[0] == MAKE, f"README begins with {commands}, expected {MAKE} and one more command")
     # (other scripts use the object that is compiled here)
-    with static_library.kept_object({"CC": needs.libsodium(), "OUT": os.path.join(tree.top, "c", "out")}, is_taken=False):
+    with static_library.cached_object({"CC": needs.libsodium(), "OUT": os.path.join(tree.top, "c", "out")}, reuse=False):
         began, used = time.monotonic(), processor_seconds()
         said = [checks.ended(command, tree.run(command)) for command in commands]
     took, used = time.monotonic() - began, processor_seconds() - used

@@ -161,12 +161,68 @@ static void set_text(struct text *text, const void *bytes, size_t len)
     }
 }
 
+static void append(struct text *text, const void *bytes, size_t len)
+{
+    if (text->len + len <= SIZE) {
+        memcpy(text->bytes + text->len, bytes, len);
+        text->len += len;
+    }
+}
+
+static void append_string(struct text *text, const char *string)
+{
+    append(text, string, strlen(string));
+}
+
+static void append_decimal(struct text *text, uint64_t number)
+{
+    char digits[20];
+    size_t at = sizeof digits;
+
+    do {
+        digits[--at] = (char) ('0' + number % 10);
+        number /= 10;
+    } while (number > 0);
+    append(text, digits + at, sizeof digits - at);
+}
+
+/* Removes `len` bytes. */
+static void remove_bytes(struct text *text, size_t at, size_t len)
+{
+    memmove(text->bytes + at, text->bytes + at + len, text->len - at - len);
+    text->len -= len;
+}
+
+/* Changes one line: replaces one of its first characters by one of base64, removes its last characters, or removes it. */
+static void change_line(struct text *text)
+{
+    static const char base64[] = "ABCDEFGHIJKLMNOPQRSTUVWXYZabcdefghijklmnopqrstuvwxyz0123456789+/";
+    uint32_t line = random_below(4), change = random_below(4), more = 4 * (1 + random_below(4));
+    size_t begin = 0, end, at = random_below(4);
+    char other = base64[random_below(64)];
+
+    while (line > 0 && begin < text->len) {
+        line -= text->bytes[begin++] == '\n';
+    }
+    for (end = begin; end < text->len && text->bytes[end] != '\n'; end++) {
+    }
+    if (change == 0) {
+        remove_bytes(text, begin, end - begin + (end < text->len));
+    } else if (change == 1 && more <= end - begin) {
+        remove_bytes(text, end - more, more);
+    } else if (change == 2) {
+        text->len = begin;
+    } else if (begin + at < end) {
+        text->bytes[begin + at] = (uint8_t) other;
+    }
+}
+
 /* Replaces the last characters of the last line by padding of base64. */
-static void pad_last_line(struct text *text)
+static void pad_last_line(struct text *text, size_t count)
 {
     size_t end = text->len - (text->bytes[text->len - 1] == '\n');
 
-    for (size_t i = 0, count = 1 + random_below(4); i < count && i < end; i++) {
+    for (size_t i = 0; i < count && i < end; i++) {
         text->bytes[end - 1 - i] = i < 2 ? '=' : 'A';
     }
 }
@@ -191,7 +247,7 @@ static struct text any_text(const struct text texts[COPIES])
     if (!one_in(3) || at >= text.len || text.len + 1 >= SIZE) {
         return text;
     }
-    switch (random_below(7)) {
+    switch (random_below(12)) {
     case 0: text.bytes[at] ^= (uint8_t) (1 << random_below(8)); break;
     case 1: text.bytes[at] = (uint8_t) random_number(); break;
     case 2: text.len = at; break;
@@ -201,7 +257,8 @@ static struct text any_text(const struct text texts[COPIES])
         text.bytes[at] = one_in(3) ? '\n' : (uint8_t) random_number();
         break;
     case 5: text.bytes[text.len++] = (uint8_t) random_number(); break;
-    default: pad_last_line(&text); break;
+    case 6: pad_last_line(&text, 1 + random_below(4)); break;
+    default: change_line(&text); break;
     }
     return text;
 }
@@ -227,16 +284,17 @@ static struct text any_comment(void)
     }
     while (count-- > 0) {
         const char *part = parts[random_below(LENGTH(parts))];
+        uint64_t number = edge_number();
 
-        memcpy(comment.bytes + comment.len, part, strlen(part));
-        comment.len += strlen(part);
+        append_string(&comment, part);
+        if (one_in(8)) {
+            append_decimal(&comment, number);
+        }
     }
-    if (one_in(30)) {
+    if (one_in(12)) {
         const char *part = rare[random_below(LENGTH(rare))];
-        size_t len = *part == 0 ? 1 : strlen(part);
 
-        memcpy(comment.bytes + comment.len, part, len);
-        comment.len += len;
+        append(&comment, part, *part == 0 ? 1 : strlen(part));
     }
     if (one_in(60)) {
         size_t more = 900 + random_below(200);

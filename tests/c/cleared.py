@@ -112,7 +112,7 @@ class Builder:
         made = os.path.join(os.path.dirname(library), "cleared")
         where = ["-I", os.path.join(top, "include"), "-I", self.room, "-I", SHARED, "-o", made]
         sources = [os.path.join(HERE, "cleared.c"), library, *linking]
-        static_library.hold([*compiler.split(), "-std=c11", *STRICT, level, *where, *sources])
+        static_library.run_or_fail([*compiler.split(), "-std=c11", *STRICT, level, *where, *sources])
         return made
 
 

@@ -91,7 +91,7 @@ class Clone:
             self.git(*words, at=origin)
 
     def git(self, *words, at=None):
-        return static_library.hold([needs.git(), *words], at or self.top, GIT_CONFIG_GLOBAL=os.devnull, GIT_CONFIG_NOSYSTEM="1")
+        return static_library.run_or_fail([needs.git(), *words], at or self.top, GIT_CONFIG_GLOBAL=os.devnull, GIT_CONFIG_NOSYSTEM="1")
 
 
 def has_secret_key(path):
@@ -106,7 +106,7 @@ def check_commands(checks, clone, room):
         print(f"commands: left out because {why}: {command}")
         checks.check(any(line.startswith(command) for line in commands), f"no document has the command {command}")
     chosen = [command for command in commands if not command.startswith(tuple(LEFT_OUT))]
-    with static_library.kept_object({"CC": needs.libsodium(), "OUT": os.path.join(clone.top, "c", "out")}):
+    with static_library.cached_object({"CC": needs.libsodium(), "OUT": os.path.join(clone.top, "c", "out")}):
         for command, status, said in run_in_shell(clone.top, chosen, room):
             expected, output = next((ends for begins, ends in ENDS.items() if command.startswith(begins)), (0, said))
             checks.check(status == expected, f"{command}: status {status}, expected {expected}: {said[-600:]}")

@@ -170,6 +170,6 @@ def check_all(checks, built, programs):
     if built.kind.has_sodium:
         testing = ["make", "-s", "-C", static_library.DIRECTORY, *built.flags, f"OUT={built.out}", "test"]
         said = checks.ended(f"{name}: make test", run(testing, RUN=" ".join(built.emulator)))
-        checks.check(static_library.VERIFIED.search(said), f"{name}: make test: {said[-600:]}")
+        checks.check(static_library.TESTS_PASSED.search(said), f"{name}: make test: {said[-600:]}")
         check_keys(checks, built)
         check_installing(checks, built)

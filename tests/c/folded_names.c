@@ -1,36 +1,109 @@
 /* SPDX-License-Identifier: MIT */
-/* Takes letters of either case for the same in the last part of a path, as a file system of macOS or Windows does. It is loaded before
- * the C library; tests/c/macos.py runs the program minisign with it. */
+/* Folds the last part of each path as a file system of macOS does: characters are decomposed, and letters are made lower case. So
+ * k.KEY and k.key are one name, and so are an e with an acute accent (U+00E9) and an e followed by the accent (U+0301). It is
+ * loaded before the C library; tests/c/macos.py runs the program minisign with it, and writes decompositions.h.
+ *
+ * If OTHER_NUMBER is set, the file system is like one in user space: the file has another inode number under the name in
+ * OTHER_NUMBER, and names cannot be exchanged. */
 #define _GNU_SOURCE
 
 #include <ctype.h>
 #include <dlfcn.h>
+#include <errno.h>
 #include <fcntl.h>
 #include <limits.h>
 #include <stdarg.h>
+#include <stdbool.h>
 #include <stdio.h>
+#include <stdlib.h>
 #include <string.h>
 #include <sys/stat.h>
 #include <unistd.h>
 
 #define REAL(name) ((__typeof__(&name)) dlsym(RTLD_NEXT, #name))
 
+enum { MAX_DESCRIPTORS = 1024 };
+
+/* Characters and their decompositions, as UTF-8. */
+static const char *const decompositions[][2] = {
+#include "decompositions.h"
+};
+
+/* The descriptors of files that were opened by the name in OTHER_NUMBER. */
+static bool is_by_other_name[MAX_DESCRIPTORS];
+
 struct path {
     char bytes[PATH_MAX];
 };
 
+static const char *last_part(const char *path)
+{
+    const char *slash = strrchr(path, '/');
+
+    return slash == NULL ? path : slash + 1;
+}
+
+/* Returns how many bytes the first character has. */
+static size_t length_of_character(const char *text)
+{
+    size_t len = 1;
+
+    while (((unsigned char) text[len] & 0xc0) == 0x80) {
+        len++;
+    }
+    return len;
+}
+
 static struct path folded(const char *path)
 {
     struct path folded = { "" };
-    char *part;
+    size_t end = (size_t) (last_part(path) - path);
 
-    snprintf(folded.bytes, sizeof folded.bytes, "%s", path);
-    part = strrchr(folded.bytes, '/');
-    for (part = part == NULL ? folded.bytes : part + 1; *part != 0; part++) {
-        *part = (char) tolower((unsigned char) *part);
+    snprintf(folded.bytes, sizeof folded.bytes, "%.*s", (int) end, path);
+    for (const char *part = path + end; *part != 0 && end + 16 < sizeof folded.bytes;) {
+        size_t len = length_of_character(part), i = 0, count = sizeof decompositions / sizeof *decompositions;
+
+        while (i < count && (strlen(decompositions[i][0]) != len || memcmp(decompositions[i][0], part, len) != 0)) {
+            i++;
+        }
+        end += (size_t) snprintf(folded.bytes + end, sizeof folded.bytes - end, "%.*s", i < count ? 16 : (int) len,
+                                 i < count ? decompositions[i][1] : part);
+        part += len;
+    }
+    for (char *at = folded.bytes + (last_part(folded.bytes) - folded.bytes); *at != 0; at++) {
+        *at = (char) tolower((unsigned char) *at);
     }
     return folded;
 }
+
+/* ---- Inode numbers ---- */
+
+/* Returns true if this is the name in OTHER_NUMBER, or the path in /proc of a descriptor that was opened by it. */
+static bool is_other_name(const char *path)
+{
+    const char *other = getenv("OTHER_NUMBER");
+    int fd = strncmp(path, "/proc/self/fd/", 14) == 0 ? atoi(path + 14) : -1;
+
+    return other != NULL && (fd >= 0 && fd < MAX_DESCRIPTORS ? is_by_other_name[fd] : strcmp(last_part(path), other) == 0);
+}
+
+static int opened(const char *path, int fd)
+{
+    if (fd >= 0 && fd < MAX_DESCRIPTORS) {
+        is_by_other_name[fd] = is_other_name(path);
+    }
+    return fd;
+}
+
+static int inspected(bool is_other, int result, struct stat *found)
+{
+    if (result == 0 && is_other && S_ISREG(found->st_mode)) {
+        found->st_ino ^= (ino_t) 1 << 40;
+    }
+    return result;
+}
+
+/* ---- Calls ---- */
 
 int openat(int directory, const char *path, int flags, ...)
 {
@@ -40,7 +113,7 @@ int openat(int directory, const char *path, int flags, ...)
     va_start(more, flags);
     mode = (flags & (O_CREAT | O_TMPFILE)) != 0 ? va_arg(more, mode_t) : 0;
     va_end(more);
-    return REAL(openat)(directory, folded(path).bytes, flags, mode);
+    return opened(path, REAL(openat)(directory, folded(path).bytes, flags, mode));
 }
 
 int __openat_2(int directory, const char *path, int flags)
@@ -48,19 +121,40 @@ int __openat_2(int directory, const char *path, int flags)
     return openat(directory, path, flags);
 }
 
+int open(const char *path, int flags, ...)
+{
+    va_list more;
+    mode_t mode;
+
+    va_start(more, flags);
+    mode = (flags & (O_CREAT | O_TMPFILE)) != 0 ? va_arg(more, mode_t) : 0;
+    va_end(more);
+    return openat(AT_FDCWD, path, flags, mode);
+}
+
+int __open_2(const char *path, int flags)
+{
+    return openat(AT_FDCWD, path, flags);
+}
+
 int stat(const char *path, struct stat *found)
 {
-    return REAL(stat)(folded(path).bytes, found);
+    return inspected(is_other_name(path), REAL(stat)(folded(path).bytes, found), found);
 }
 
 int lstat(const char *path, struct stat *found)
 {
-    return REAL(lstat)(folded(path).bytes, found);
+    return inspected(is_other_name(path), REAL(lstat)(folded(path).bytes, found), found);
+}
+
+int fstat(int fd, struct stat *found)
+{
+    return inspected(fd >= 0 && fd < MAX_DESCRIPTORS && is_by_other_name[fd], REAL(fstat)(fd, found), found);
 }
 
 int fstatat(int directory, const char *path, struct stat *found, int flags)
 {
-    return REAL(fstatat)(directory, folded(path).bytes, found, flags);
+    return inspected(is_other_name(path), REAL(fstatat)(directory, folded(path).bytes, found, flags), found);
 }
 
 int linkat(int from_directory, const char *from, int directory, const char *path, int flags)
@@ -75,6 +169,10 @@ int renameat(int from_directory, const char *from, int directory, const char *pa
 
 int renameat2(int from_directory, const char *from, int directory, const char *path, unsigned flags)
 {
+    if (getenv("OTHER_NUMBER") != NULL && (flags & RENAME_EXCHANGE) != 0) {
+        errno = EINVAL;
+        return -1;
+    }
     return REAL(renameat2)(from_directory, folded(from).bytes, directory, folded(path).bytes, flags);
 }
 

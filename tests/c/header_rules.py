@@ -1,16 +1,16 @@
 #!/usr/bin/env python3
-"""Checks that compilers warn of wrong pointers and lengths, by the attributes that `tools/header.py` puts into the
-headers, and that the examples follow the headers' rules.
+"""Checks that compilers warn of wrong pointers and lengths, because of the attributes that `tools/header.py` puts into
+the headers, and that the examples follow the rules of the headers.
 
     tests/c/header_rules.py
 
-For each call of the headers with proved calls, and each pointer with a length, gcc must warn of a length that is
-one greater than the buffer; for each other pointer gcc and clang must warn of NULL. Without the attributes none of
-these warnings comes. A program that makes every call correctly compiles without a warning with gcc, g++, clang,
-clang++, tcc and musl-gcc, also with a NULL pointer for each length of 0. Other compilers see no attribute.
+For each pointer with a length, in each call of the headers, gcc must warn of a length that is one greater than the
+buffer. For each other pointer, gcc and clang must warn of NULL. Without the attributes, gcc must not warn of these
+lengths. A program that makes every call correctly, also with NULL for each buffer of length 0, must compile without a
+warning with gcc, g++, clang, clang++, tcc and musl-gcc. The preprocessed headers have no attributes for other compilers.
 
-A parameter that one call marks as a secret with MINISIGN_ROLE is marked in every call. The examples, which the manual
-pages show, and the functions of the headers set each signature and each key to zeros before its first use, as
+If one call marks a parameter as a secret with MINISIGN_ROLE, every call has to mark it. The examples, which the manual
+pages show, and the functions of the headers have to set each signature and each key to zeros before its first use, as
 minisign.h demands. It prints a line for each failure; the last line is `N passed, M failed`.
 
 Needs gcc, g++, clang, tcc and musl-gcc, and installs what is missing if it may.
@@ -35,13 +35,13 @@ INCLUDE = f"{TOP}/include"
 HEADERS = ("minisign.h", "minisign_install.h", "minisign_list.h")
 STRICT = ("-Wall", "-Wextra", "-Wpedantic", "-Wredundant-decls")
 ELEMENTS = 8
-# The types of the elements of arrays with a length.
+# The element types of arrays whose length is the next parameter.
 COUNTED = ("uint8_t", "uint32_t", "char", "void", "minisign_list_entry")
 BLOCK = re.compile(r"/\* Attributes, made by tools/header\.py\. \*/\n.*?/\* The end of the attributes\. \*/\n", re.S)
 
 
 def pointers(call):
-    """Yields the pointer parameters of a call: the index, and whether a length follows."""
+    """Yields the index of each pointer parameter of a call, and True if its length is the next parameter."""
     parameters = call.parameters
     for at, parameter in enumerate(parameters):
         if parameter.star or parameter.count:
@@ -50,12 +50,12 @@ def pointers(call):
             yield at, bool(is_counted and after and after.kind == "size_t" and not after.star)
 
 
-def call_text(name, call, given):
-    """Returns a function that makes a call, with these arguments in place of correct ones."""
+def call_text(name, call, wrong_arguments):
+    """Returns the C function `name`, which makes a call. `wrong_arguments` replaces correct arguments, by index."""
     declared, arguments, counted = [], [], dict(pointers(call))
     for at, parameter in enumerate(call.parameters):
-        if at in given:
-            arguments.append(given[at])
+        if at in wrong_arguments:
+            arguments.append(wrong_arguments[at])
         elif at in counted:
             size = f"[{parameter.count or ELEMENTS}]" if parameter.count or counted[at] else ""
             declared.append(f"    static {'uint8_t' if parameter.kind == 'void' else parameter.kind} p{at}{size};\n")
@@ -71,7 +71,8 @@ def program(functions):
 
 
 def mistakes(calls):
-    """Returns functions with one mistake each, by name: those with a length that is too great, and those with NULL."""
+    """Returns calls with one mistake each, by name: first those with a length that is too great, then those with NULL. A call is a pair, of
+    the declaration and the wrong arguments."""
     too_long, null = {}, {}
     for call in calls:
         for at, is_counted in pointers(call):
@@ -82,8 +83,8 @@ def mistakes(calls):
 
 
 def functions_with_warnings(room, compiler, functions, include):
-    """Returns the functions in which a compiler warns."""
-    texts = {name: call_text(name, *how) for name, how in functions.items()}
+    """Compiles a function for each call of `functions`. Returns the names of those in which the compiler warns."""
+    texts = {name: call_text(name, *call) for name, call in functions.items()}
     text = program(texts.values())
     source = write(room, "mistakes.c", text.encode())
     status, said = run([*compiler, "-std=c11", "-O2", "-Wall", "-Wextra", "-I", include, "-c", "-o", os.devnull, source])
@@ -91,12 +92,12 @@ def functions_with_warnings(room, compiler, functions, include):
         return [said[-500:]]
     lines = text.split("\n")
     numbers = {int(number) for number in re.findall(r"mistakes\.c:(\d+):\d+: warning:", said)}
-    # (the function that contains the line)
+    # Finds the function that contains each line with a warning.
     return {next(found[1] for line in reversed(lines[:number]) if (found := re.match(r"void (\w+)\(void\)$", line))) for number in numbers}
 
 
 def without_attributes(room):
-    """Makes a copy of the headers without their attributes."""
+    """Copies the headers without their attributes into the directory `room`, and returns it."""
     for name in HEADERS:
         text, count = BLOCK.subn("", read(INCLUDE, name).decode())
         if count != 1:
@@ -106,11 +107,11 @@ def without_attributes(room):
 
 
 def check_mistakes(checks, room, calls):
-    """Compilers warn of each mistake."""
+    """Checks that compilers warn of each mistake, and that gcc warns of lengths only because of the attributes."""
     gcc, clang = [needs.program("gcc", "gcc")], [needs.program("clang", "clang")]
     too_long, null = mistakes(calls)
-    # (clang has no attribute for lengths, so it accepts NULL for a pointer with a length)
-    null_without_length = {name: how for name, how in null.items() if f"long_{name[5:]}" not in too_long}
+    # clang has no attribute for lengths, so it accepts NULL for a pointer with a length.
+    null_without_length = {name: call for name, call in null.items() if f"long_{name[5:]}" not in too_long}
     checks.check(len(too_long) > 20 and len(null_without_length) > 40,
                  f"only {len(too_long)} lengths and {len(null_without_length)} pointers were found")
     for compiler, functions in ((gcc, too_long), (gcc, null), (clang, null_without_length)):
@@ -118,12 +119,12 @@ def check_mistakes(checks, room, calls):
         for name in functions:
             checks.check(name in found, f"{compiler[0]} does not warn of {name}")
     found = functions_with_warnings(room, gcc, {**too_long, **null}, without_attributes(room))
-    # (an array of a fixed size has its own warning)
+    # NULL is not checked here, because gcc warns of NULL for an array of fixed size even without attributes.
     checks.check(not [name for name in found if name in too_long], f"without attributes gcc warns of {found}")
 
 
 def check_correct_calls(checks, room, calls):
-    """Correct calls get no warning, and only known compilers see attributes."""
+    """Checks that compilers do not warn of correct calls, and that only compilers that define __GNUC__ see the attributes."""
     functions = [call_text(f"right_{call.name}", call, {}) for call in calls]
     functions += [call_text(f"empty_{call.name}_{at}", call, {at: "NULL", at + 1: "0"})
                   for call in calls for at, is_counted in pointers(call) if is_counted]
@@ -141,13 +142,13 @@ def check_correct_calls(checks, room, calls):
         checks.check("__attribute__" not in own and "__typeof__" not in own and "minisign" in own, f"{name}: {own[:300]}")
 
 
-# Variables that must be zero before their first use: those of these types within a function, unless they are static.
+# Local variables of these types must be set to zeros before their first use. Static variables are zero already.
 ZEROED = re.compile(r"(?m)^ +(minisign_(?:signature|public_key|secret_key|unopened_key)) (\w+(?:, \w+)*)( = \{ 0 \})?;")
 
 
 def not_zeroed(text):
-    """Yields the variables that are not set to zeros where they are declared, or by memset in the same function."""
-    # (fields are set with their struct)
+    """Yields the variables that are set to zeros neither in their declaration nor by memset in the same function."""
+    # Removes the declarations of structs, because fields are set to zeros with their struct.
     text = re.sub(r"(?ms)^(typedef )?(static )?(const )?struct \w* ?\{.*?^\}", "", text)
     for function in re.split(r"(?m)^\}", text):
         for kind, names, is_zero in ZEROED.findall(function):
@@ -155,7 +156,7 @@ def not_zeroed(text):
 
 
 def check_examples(checks):
-    """Examples, and functions of the headers, set these variables to zeros."""
+    """Checks that the examples and the functions of the headers set the variables of ZEROED to zeros."""
     files = [*glob.glob(f"{TOP}/c/examples/*.c"), *glob.glob(f"{INCLUDE}/*.h"), *glob.glob(f"{TOP}/bench/*.c")]
     texts = {os.path.relpath(file, TOP): read(file).decode() for file in files}
     checks.check(sum(len(ZEROED.findall(text)) for text in texts.values()) > 4, "the examples have too few such variables")
@@ -164,8 +165,8 @@ def check_examples(checks):
 
 
 def check_roles(checks, calls, structs):
-    """A parameter that one call marks as a secret is marked in each call, so that the boundary clears memory after each
-    of them."""
+    """Checks that a parameter which one call marks as a secret is marked in every call. The boundary clears memory only
+    after calls with a mark."""
     secrets = {(parameter.name, parameter.kind) for call in calls for parameter in call.parameters if "secret" in parameter.roles}
     checks.check(secrets and structs, f"the headers mark as secrets only the parameters {secrets} and the fields of {structs}")
     for call in calls:

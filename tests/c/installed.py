@@ -80,7 +80,7 @@ def installed_files(checks, root):
 def flags_of(root, room, *options, library="minisign"):
     """Returns pkg-config's flags for an installed library."""
     environment = {"PKG_CONFIG_PATH": f"{root}/lib/pkgconfig", "PKG_CONFIG_SYSROOT_DIR": f"{room}/dest"}
-    return shlex.split(static_library.hold([needs.program("pkg-config", "pkg-config"), *options, library], **environment))
+    return shlex.split(static_library.run_or_fail([needs.program("pkg-config", "pkg-config"), *options, library], **environment))
 
 
 class Installed:

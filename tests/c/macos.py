@@ -1,5 +1,5 @@
 #!/usr/bin/env python3
-"""Checks what can be checked of macOS without a Mac: types, constants, linking, signals, and names that differ only by case.
+"""Checks what can be checked of macOS without a Mac: types, constants, linking, signals, and names that the file system folds.
 
     tests/c/macos.py
 
@@ -11,10 +11,12 @@ Nothing is run on macOS. The last line is `N passed, M failed`.
 - Linking: the makefile builds and installs the library and the programs with LLVM's linker for macOS, against a stub of the system's
   library that has only the functions of these headers.
 - Signals: where SIGINFO exists, the program handles neither SIGINFO nor SIGIO, which are ignored by default there.
-- Names: on a file system that takes k.key and k.KEY for one name, a new key pair of these names is an error, and leaves no file.
-  This is tried with a preloaded library, and, if root may mount it, on vfat, which FUSE provides.
+- Names: on a file system that takes two names for one, such as k.key and k.KEY, or the two Unicode forms of an accented letter, a new
+  key pair of these names is an error and leaves the files as they were. No public key and no signature replaces the secret key.
+  A preloaded library folds the names (folded_names.c), with and without other inode numbers, and the mutants of name_mutants are
+  noticed. If root may mount it, case is also tried on vfat, which FUSE provides.
 
-Needs Python 3.9 or later, clang, lld, make, a C compiler, libsodium with its header, and of Debian librust-libc-dev,
+Needs Python 3.9 or later, git, clang, lld, make, a C compiler, libsodium with its header, and of Debian librust-libc-dev,
 golang-golang-x-sys-dev, llvm, fusefat and dosfstools. It installs what is missing if it may.
 """
 
@@ -22,11 +24,13 @@ import contextlib
 import glob
 import os
 import re
+import shutil
 import signal
 import struct
 import subprocess
 import sys
 import tempfile
+import unicodedata
 
 HERE = os.path.dirname(os.path.realpath(__file__))
 sys.path += [os.path.join(HERE, "..", "shared")]
@@ -34,10 +38,12 @@ sys.path += [os.path.join(HERE, "..", "shared")]
 import emulated
 import ending
 import macos_headers
+import mutants
 import needs
+import program_mutants
 import static_library
 from process import run, run_program
-from running import write
+from running import read, write
 
 C = static_library.DIRECTORY
 INCLUDE = os.path.join(C, "..", "include")
@@ -50,6 +56,8 @@ PROGRAM, LIBRARY = 2, 6
 BY_MANUAL = {"acl_free", "acl_init", "acl_set_fd", "getentropy", "strsep"}
 STANDARD = {"atexit", "pthread_create", "putc", "putchar", "qsort", "strftime", "vfprintf", "vsnprintf"}
 FEWEST_CONSTANTS = 50
+# Pairs of names that are one name there. An accented letter is one character or two.
+SAME_NAMES = (("k.KEY", "k.key"), ("k\u00e9.key", "ke\u0301.key"), ("ke\u0301.key", "k\u00e9.key"), ("K\u00c9.key", "ke\u0301.key"))
 
 
 def sources(*directories, endings="ch"):
@@ -148,21 +156,99 @@ def check_signals(checks, room):
                  f"with SIGINFO: {sorted(programs['with_siginfo'])} are handled, without: {sorted(programs['usual'])}")
 
 
+def folded(name):
+    """Returns the name under which folded_names.c stores a file."""
+    return unicodedata.normalize("NFD", name).lower()
+
+
+class Folding:
+    """Runs a program minisign with names folded by folded_names.c. Each run has a fresh directory."""
+
+    def __init__(self, room, program, preload):
+        self.room, self.program, self.preload = room, program, preload
+
+    def ran(self, words, files, other=None, old=()):
+        """Runs the program in a directory with these files, and returns the run and the files that are there then. The name `other` has
+        another inode number. The files `old` were written in 1970."""
+        place = tempfile.mkdtemp(dir=self.room)
+        for name, content in files.items():
+            write(place, name, content)
+        for name in old:
+            os.utime(os.path.join(place, name), (0, 0))
+        ran = run_program([self.program, *words], place, env={**os.environ, "LD_PRELOAD": self.preload, **({"OTHER_NUMBER": other} if other else {})})
+        return ran, {name: read(place, name) for name in os.listdir(place)}
+
+
+def check_pair(check, folding, public, secret, other):
+    """Two names of one file, on a file system where all names have the same inode number or, with `other`, one has another one."""
+    made, texts = folding.ran(["-G", "-W", "-p", "p", "-s", "s"], {})
+    check(made.status == 0 and sorted(texts) == ["p", "s"], f"two other names: {made}")
+    names = f"{public} and {secret}{' with another inode number' if other else ''}"
+
+    def rejects(status, said, words, files):
+        ran, left = folding.ran(words, files, other)
+        check(ran.status == status and said.encode() in ran.said and left == files, f"{names}: {' '.join(words)} over {[*files]}: {ran}, leaves {[*left]}")
+
+    generating, recreating = ["-p", public, "-s", secret, "-G", "-W"], ["-p", public, "-s", secret, "-R"]
+    # (a new file has the number of the name that it was made under)
+    for force in ([], ["-f"]) if other != public else ():
+        rejects(2, f"error: {secret}: on this file system, this name and that of the other key file are the same\n", [*generating, *force], {})
+    existing = {folded(secret): texts["s"], "data": b"data"}
+    for files in ({folded(secret): texts["p"]}, existing):
+        rejects(1, f"{public} already exists", generating, files)
+        rejects(2, f"error: {secret}: this is the same file as {public}\n", [*generating, "-f"], files)
+    rejects(1, f"{public} already exists", recreating, existing)
+    for words in ([*recreating, "-f"], ["-S", "-s", secret, "-m", "data", "-x", public]):
+        rejects(2, f"error: {public}: this is the secret key, which would be overwritten\n", words, existing)
+    ran, left = folding.ran(["-C", "-W", "-s", public], existing, other)
+    check(ran.status == 0 and sorted(left) == sorted(existing), f"{names}: -C: {ran}, leaves {[*left]}")
+    ran, left = folding.ran(["-R", "-p", "k.pub", "-s", secret], left, other)
+    check(ran.status == 0 and left["k.pub"].splitlines()[1] == texts["p"].splitlines()[1], f"{names}: the key after -C: {ran}")
+
+
+def check_folded(check, folding):
+    """A pair of names that are one name is an error, and loses nothing. Other pairs may replace files of the same length."""
+    for public, secret in SAME_NAMES:
+        for other in (None, secret, public):
+            check_pair(check, folding, public, secret, other)
+    _, texts = folding.ran(["-G", "-W", "-p", "p", "-s", "s"], {})
+    files = {"k.pub": texts["p"], "k.key": texts["p"][::-1]}
+    for other in (None, "k.key"):
+        ran, left = folding.ran(["-G", "-W", "-f", "-p", "k.pub", "-s", "k.key"], files, other)
+        check(ran.status == 0 and sorted(left) == sorted(files) and left["k.key"] != files["k.key"], f"two names over other files: {ran}")
+    # Two files with the same content, written at different times.
+    ran, left = folding.ran(["-G", "-W", "-f", "-p", "k.pub", "-s", "k.key"], {"k.pub": texts["p"], "k.key": texts["p"]}, old=["k.pub"])
+    check(ran.status == 0 and left["k.key"] != texts["p"], f"two names over copies of one file: {ran}")
+    ran, left = folding.ran(["-R", "-f", "-p", "k.pub", "-s", "k.key"], {"k.key": texts["s"], "k.pub": texts["s"]}, old=["k.pub"])
+    check(ran.status == 0 and left["k.pub"].splitlines()[1] == texts["p"].splitlines()[1], f"-R over a copy of the secret key: {ran}")
+    # A file with the length of the secret key.
+    ran, left = folding.ran(["-R", "-f", "-p", "k.pub", "-s", "k.key"], {"k.key": texts["s"], "k.pub": texts["s"][::-1]}, "k.pub")
+    check(ran.status == 0 and left["k.pub"].splitlines()[1] == texts["p"].splitlines()[1], f"-R over another file: {ran}")
+
+
+def built_preload(checks, room):
+    """Builds folded_names.c with the decompositions of Unicode, and returns the path."""
+    preload, literal = os.path.join(room, "folded_names.so"), lambda text: "".join(f"\\{byte:03o}" for byte in text.encode())
+    pairs = [(character, unicodedata.normalize("NFD", character)) for character in map(chr, range(0x80, 0x3000))]
+    write(room, "decompositions.h", "".join(f'{{"{literal(a)}", "{literal(b)}"}},\n' for a, b in pairs if a != b).encode())
+    checks.ended("folded_names.c", run([needs.libsodium(), "-shared", "-fPIC", "-I", room, "-o", preload, f"{HERE}/folded_names.c", "-ldl"]))
+    return preload
+
+
 def check_names(checks, room):
-    """With -f, the second file would replace the first."""
-    preload = os.path.join(room, "folded_names.so")
-    checks.ended("folded_names.c", run([needs.libsodium(), "-shared", "-fPIC", "-o", preload, f"{HERE}/folded_names.c", "-ldl"]))
-    program = os.path.join(room, "usual", "minisign")
-    expected = b"error: k.key: on this file system, this name and that of the other key file are the same\n"
-    for words in ([], ["-f"]):
-        place = os.path.join(room, f"names{''.join(words)}")
-        os.mkdir(place)
-        command = [program, "-G", "-W", *words, "-p", "k.KEY", "-s", "k.key"]
-        ran = run_program(command, place, env={**os.environ, "LD_PRELOAD": preload})
-        checks.check(ran.status == 2 and ran.said.startswith(expected), f"{' '.join(words)} k.KEY and k.key: {ran}")
-        checks.check(not os.listdir(place), f"{' '.join(words)} k.KEY and k.key: {os.listdir(place)} are left")
-        ran = run_program([*command[:-4], "-p", "k.pub", "-s", "k.key"], place, env={**os.environ, "LD_PRELOAD": preload})
-        checks.check(ran.status == 0 and sorted(os.listdir(place)) == ["k.key", "k.pub"], f"two other names: {ran}")
+    """Without a check, the second file of a pair would replace the first."""
+    preload, program = built_preload(checks, room), os.path.join(room, "usual", "minisign")
+    check_folded(checks.check, Folding(room, program, preload))
+    base = mutants.copy_sources(room, "include", "c")
+    os.mkdir(f"{base}/c/out")
+    shutil.copy(os.path.join(room, "usual", "libminisign.a"), f"{base}/c/out")
+    program_mutants.build(base, "minisign")
+    for mutant in mutants.mutants_of("c", "name_mutants"):
+        copy, failures = shutil.copytree(base, tempfile.mkdtemp(dir=room), dirs_exist_ok=True), []
+        mutants.apply(mutant, copy)
+        folding = Folding(room, program_mutants.build(copy, "minisign"), preload)
+        check_folded(lambda holds, what, failures=failures: holds or failures.append(what), folding)
+        checks.check(failures, f"nothing notices the mutant {mutant.name}")
 
 
 @contextlib.contextmanager
@@ -175,7 +261,7 @@ def vfat(room):
     os.mkdir(place)
     write(room, "vfat-image", b"")
     os.truncate(image, 40 << 20)
-    static_library.hold([needs.program("mkfs.vfat", "dosfstools"), "-F", "32", image])
+    static_library.run_or_fail([needs.program("mkfs.vfat", "dosfstools"), "-F", "32", image])
     status, _ = run([needs.program("fusefat", "fusefat"), "-o", "rw+", image, place])
     try:
         yield place if status == 0 and os.path.ismount(place) else None

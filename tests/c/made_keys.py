@@ -167,8 +167,8 @@ def seals_with_other_limits(keys):
 
 
 def respects_limits(keys):
-    """Keys whose limits were changed, so that no password decrypts them: with the rows that they need they are tried,
-    and with one row less they are rejected."""
+    """Checks the limit on the number of rows, with keys that no password decrypts, because their limits were changed. If the rows are
+    enough, the password is wrong; with one row less the key is rejected because of the limit."""
     text = keys.secret(SECRET, "pw")
     # (2^10 rows, computed this many times)
     for times in (2, 32, 1024, 1 << 24):

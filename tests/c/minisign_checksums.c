@@ -1,5 +1,6 @@
 /* Makes random calls of all functions of minisign.h, and prints a checksum of every byte that they return: see
- * call_checksums.h. */
+ * call_checksums.h. It begins with calls for each error number, each point that Ed25519 has to reject, and files, limits and
+ * comments that are rejected. */
 #include "call_checksums.h"
 
 /* Points that Ed25519 has to reject, and the least S that it has to reject. */
@@ -153,11 +154,23 @@ static void any_ed25519_signature(uint8_t signature[64])
     }
 }
 
-/* How many rows may be computed for a key: mostly all that it takes, if these are few. */
+/* Returns an unopened key, mostly a sealed one if there is one. */
+static const minisign_unopened_key *any_unopened_key(void)
+{
+    int i = any_copy();
+
+    for (int n = 0, is_any = one_in(4); n < COPIES && !is_any && unopened_keys[i].is_sealed != 1; n++) {
+        i = (i + 1) % COPIES;
+    }
+    return &unopened_keys[i];
+}
+
+/* How many rows may be computed for a key: sometimes all that it takes, if these are few. Otherwise the key is not derived, which
+ * takes most of the time. */
 static uint64_t any_rows(const minisign_unopened_key *key)
 {
     uint64_t taken = key->log2_rows > 20 ? UINT64_MAX : (UINT64_C(1) << key->log2_rows) * key->work;
-    uint64_t rows = one_in(4) ? edge_number() : one_in(6) ? taken - 1 : MINISIGN_ANY_ROWS;
+    uint64_t edge = edge_number(), rows = one_in(16) ? MINISIGN_ANY_ROWS : one_in(2) ? taken - 1 : edge % MOST_ROWS;
 
     return taken > MOST_ROWS && rows >= taken ? MOST_ROWS : rows;
 }
@@ -170,6 +183,10 @@ static uint64_t any_keep_every(void)
 
     return one_in(8) ? number : usual;
 }
+
+/* A limit of operations with which nothing can be computed, because the low 32 bits of the work are 0, and a limit of memory that
+ * is too high. */
+static const uint64_t impossible_limits[2] = { UINT64_C(1) << 63, (UINT64_C(1) << 30) + 1 };
 
 /* Limits that take few rows, or that are rejected. Rarely limits that minisign_secret_key_text accepts, which take 16384
  * rows. */
@@ -185,14 +202,21 @@ static minisign_sealing any_sealing(int is_strong)
     if (is_strong) {
         sealing.operations_limit = MINISIGN_LEAST_OPERATIONS_LIMIT - one_in(12);
         sealing.memory_limit = MINISIGN_LEAST_MEMORY_LIMIT - one_in(12);
-        return sealing;
+    } else {
+        /* With less memory, scrypt takes longer. */
+        if (one_in(16) && (limit >= 65536 || one_in(4))) {
+            sealing.memory_limit = limit;
+        }
+        if (one_in(16)) {
+            sealing.operations_limit = random_below(70000);
+        }
     }
-    /* With less memory, scrypt takes longer. */
-    if (one_in(16) && (limit >= 65536 || one_in(4))) {
-        sealing.memory_limit = limit;
-    }
-    if (one_in(16)) {
-        sealing.operations_limit = random_below(70000);
+    if (!one_in(is_strong ? 6 : 2)) {
+        if (one_in(2)) {
+            sealing.operations_limit = impossible_limits[0];
+        } else {
+            sealing.memory_limit = impossible_limits[1];
+        }
     }
     return sealing;
 }
@@ -308,7 +332,12 @@ static void call_read_signature_record(void)
 {
     struct text text = any_text(signature_records);
     minisign_signature *signature = &signatures[any_copy()];
+    size_t at = random_below(2);
+    uint8_t other = (uint8_t) random_number();
 
+    if (text.len > at && one_in(6)) {
+        text.bytes[at] = other;
+    }
     CALL(minisign_read_signature_record, bytes_or_null(&text), text.len, signature);
     add_signature(signature);
 }
@@ -330,11 +359,22 @@ static uint32_t any_legacy(void)
     return one_in(20) ? rare : !one_in(3);
 }
 
+/* Returns a key, mostly one with the key ID of this signature if there is one. */
+static const minisign_public_key *any_key_for(const minisign_signature *signature)
+{
+    int i = any_copy();
+
+    for (int n = 0, is_any = one_in(4); n < COPIES && !is_any && memcmp(public_keys[i].key_id, signature->key_id, sizeof signature->key_id) != 0; n++) {
+        i = (i + 1) % COPIES;
+    }
+    return &public_keys[i];
+}
+
 static void call_ask(void)
 {
     minisign_state *state = &states[any_copy()];
     int i = any_copy();
-    const minisign_public_key *key = &public_keys[any_copy()];
+    const minisign_public_key *key = any_key_for(&signatures[i]);
     minisign_questions *asked = &questions[any_copy()];
     struct text text = one_in(16) ? any_text(signature_files) : signed_by[i];
     uint32_t legacy = any_legacy();
@@ -350,7 +390,7 @@ static void call_ask_bare(void)
 {
     minisign_state *state = &states[any_copy()];
     const minisign_signature *signature = &signatures[any_copy()];
-    const minisign_public_key *key = &public_keys[any_copy()];
+    const minisign_public_key *key = any_key_for(signature);
     minisign_questions *asked = &questions[any_copy()];
     uint32_t legacy = any_legacy();
 
@@ -373,22 +413,19 @@ static void call_verdicts(void)
 }
 
 /* Verifies a signature in a row. It succeeds if the key IDs are equal and the answers are yes. */
-static void call_in_a_row(void)
+static void verify(minisign_state *state, const minisign_public_key *key, const minisign_signature *signature, const struct text *file,
+                   int is_bare, uint32_t legacy, enum minisign_answer first, enum minisign_answer second)
 {
-    minisign_state *state = &states[any_copy()];
-    int i = any_copy(), is_bare = one_in(2);
-    const minisign_public_key *key = &public_keys[any_copy()];
     size_t len = random_below(400);
-    enum minisign_answer first = any_answer(), second = any_answer();
     minisign_questions asked;
 
     memset(&asked, 0x5a, sizeof asked);
     memset(output, 0x5a, sizeof output);
     minisign_init(state);
     if (is_bare) {
-        CALL(minisign_ask_bare, state, key, &signatures[i], 1, &asked);
+        CALL(minisign_ask_bare, state, key, signature, legacy, &asked);
     } else {
-        CALL(minisign_ask, state, key, &signatures[i], signed_by[i].bytes, signed_by[i].len, 1, &asked, output, sizeof output);
+        CALL(minisign_ask, state, key, signature, file->bytes, file->len, legacy, &asked, output, sizeof output);
     }
     CALL(minisign_update, state, data, len);
     CALL(minisign_digest, state, asked.digest);
@@ -401,6 +438,17 @@ static void call_in_a_row(void)
         CALL(minisign_verdict, state, first, second);
     }
     add_state(state);
+}
+
+static void call_in_a_row(void)
+{
+    minisign_state *state = &states[any_copy()];
+    int i = any_copy(), is_bare = one_in(2);
+    const minisign_public_key *key = any_key_for(&signatures[i]);
+    enum minisign_answer first = any_answer(), second = any_answer();
+    uint32_t legacy = any_legacy();
+
+    verify(state, key, &signatures[i], &signed_by[i], is_bare, legacy, first, second);
 }
 
 /* ---- Secret keys ---- */
@@ -418,11 +466,17 @@ static void call_read_secret_key(void)
 static void call_read_secret_key_record(void)
 {
     struct text text = any_text(secret_key_records);
-    minisign_unopened_key *key = &unopened_keys[any_copy()];
+    minisign_unopened_key *key = &unopened_keys[any_copy()], *other = &unopened_keys[any_copy()];
     uint64_t limit = edge_number();
     size_t at = one_in(2) ? 38 : 46;
 
-    if (text.len >= MINISIGN_SECRET_KEY_RECORD_BYTES && one_in(6)) {
+    if (other->is_sealed == 1 && !one_in(3)) {
+        set_text(&text, other->bytes, sizeof other->bytes);
+    }
+    if (text.len >= MINISIGN_SECRET_KEY_RECORD_BYTES && one_in(3)) {
+        if (one_in(3)) {
+            limit = impossible_limits[at == 46];
+        }
         for (size_t i = 0; i < 8; i++) {
             text.bytes[at + i] = (uint8_t) (limit >> 8 * i);
         }
@@ -449,7 +503,7 @@ static void call_encode_unopened_key(void)
 
 static void call_test_sealed_key(void)
 {
-    const minisign_unopened_key *key = &unopened_keys[any_copy()];
+    const minisign_unopened_key *key = any_unopened_key();
     uint64_t rows = any_rows(key);
 
     CALL(minisign_test_sealed_key, key, rows);
@@ -466,7 +520,7 @@ static void call_open_unsealed_key(void)
 
 static void call_open_sealed_key(void)
 {
-    const minisign_unopened_key *unopened = &unopened_keys[any_copy()];
+    const minisign_unopened_key *unopened = any_unopened_key();
     minisign_secret_key *key = &secret_keys[any_copy()];
     struct text password = any_password();
     uint64_t keep_every = any_keep_every(), rows = any_rows(unopened);
@@ -475,29 +529,47 @@ static void call_open_sealed_key(void)
     add_secret_key(key);
 }
 
-static void call_open_sealed_key_in_place(void)
+/* Decrypts a key in place. Passes buffers that are `more_words` and `more_bytes` larger than minisign_opening_memory says, or smaller. */
+static void open_in_place(const minisign_unopened_key *unopened, const struct text *password, uint64_t keep_every, uint64_t rows, int more_words,
+                          int more_bytes, minisign_secret_key *key)
 {
-    const minisign_unopened_key *unopened = &unopened_keys[any_copy()];
-    minisign_secret_key *key = &secret_keys[any_copy()];
-    struct text password = any_password();
-    uint64_t keep_every = any_keep_every(), rows = any_rows(unopened), wanted_words = 7, wanted_bytes = 7;
+    uint64_t required_words = 7, required_bytes = 7;
     size_t words_len, bytes_len;
 
-    minisign_opening_memory(unopened, keep_every, rows, &wanted_words, &wanted_bytes);
+    minisign_opening_memory(unopened, keep_every, rows, &required_words, &required_bytes);
     CALLED(minisign_opening_memory);
-    add_number(wanted_words);
-    add_number(wanted_bytes);
-    words_len = (wanted_words > WORDS - 40 ? 0 : (size_t) wanted_words) + (one_in(2) ? random_below(40) : 0);
-    bytes_len = (wanted_bytes > BYTES - 40 ? 0 : (size_t) wanted_bytes) + (one_in(2) ? random_below(40) : 0);
-    words_len -= words_len > 0 && one_in(9);
-    bytes_len -= bytes_len > 0 && one_in(9);
+    add_number(required_words);
+    add_number(required_bytes);
+    words_len = required_words > WORDS - 40 ? 0 : (size_t) required_words;
+    bytes_len = required_bytes > BYTES - 40 ? 0 : (size_t) required_bytes;
+    words_len = more_words >= 0 || words_len > 0 ? words_len + (size_t) more_words : 0;
+    bytes_len = more_bytes >= 0 || bytes_len > 0 ? bytes_len + (size_t) more_bytes : 0;
     memset(words, 0x5a, words_len * sizeof *words);
     memset(bytes, 0x5a, bytes_len);
-    CALL(minisign_open_sealed_key_in_place, unopened, bytes_or_null(&password), password.len, keep_every, rows,
+    CALL(minisign_open_sealed_key_in_place, unopened, bytes_or_null(password), password->len, keep_every, rows,
          words_len == 0 ? NULL : words, words_len, bytes_len == 0 ? NULL : bytes, bytes_len, key);
     add_number((uint64_t) is_zeros(words, words_len * sizeof *words));
     add_number((uint64_t) is_zeros(bytes, bytes_len));
     add_secret_key(key);
+}
+
+/* Returns a number of words or bytes by which a buffer is too large or too small. */
+static int any_more(void)
+{
+    int more = (int) random_below(40);
+
+    return one_in(9) ? -1 : one_in(2) ? more : 0;
+}
+
+static void call_open_sealed_key_in_place(void)
+{
+    const minisign_unopened_key *unopened = any_unopened_key();
+    minisign_secret_key *key = &secret_keys[any_copy()];
+    struct text password = any_password();
+    uint64_t keep_every = any_keep_every(), rows = any_rows(unopened);
+    int more_words = any_more(), more_bytes = any_more();
+
+    open_in_place(unopened, &password, keep_every, rows, more_words, more_bytes, key);
 }
 
 static void call_take_secret_key(void)
@@ -563,10 +635,10 @@ static void call_secret_key_text(void)
 {
     const minisign_secret_key *key = &secret_keys[any_copy()];
     struct text password = any_password(), comment = any_comment(), *file = &secret_key_files[any_copy()];
-    int is_strong = one_in(40);
+    int is_strong = one_in(8);
     minisign_sealing sealing = any_sealing(is_strong);
     uint64_t keep_every = is_strong ? MINISIGN_KEEP_EVERY_ROW : any_keep_every();
-    uint32_t rare = (uint32_t) edge_number(), usual = random_below(5) / 2, with_password = one_in(30) ? rare : usual;
+    uint32_t rare = (uint32_t) edge_number(), with_password = one_in(10) ? 1 : one_in(6) ? rare : 0;
     size_t room = any_room(), len = 0;
 
     if (is_strong || one_in(3)) {
@@ -613,6 +685,195 @@ static void call_encode_public_key(void)
     add_output(file, last_result, len);
 }
 
+/* Calls the functions of an error number, with all numbers that are or may become errors. */
+static void call_with_each_number(void)
+{
+    for (uint32_t number = 0; number < MAX_RESULTS; number++) {
+        memset(output, 0x5a, sizeof output);
+        add_number(minisign_error_text(number, (char *) output, MINISIGN_ERROR_TEXT_BYTES));
+        CALLED(minisign_error_text);
+        add_bytes(output, MINISIGN_ERROR_TEXT_BYTES);
+        CALL(minisign_error_kind, number);
+    }
+}
+
+/* Verifies a legacy signature and a prehashed one with each flag and each pair of answers. */
+static void call_with_each_flag(void)
+{
+    static const char *const files[] = { LEGACY_SIGNATURE, SIGNATURE };
+
+    for (uint32_t i = 0; i < 48; i++) {
+        struct text file = { .len = 0 };
+        enum minisign_answer first = i / 12 % 2 == 0 ? MINISIGN_ANSWER_YES : MINISIGN_ANSWER_NO, second = i < 24 ? MINISIGN_ANSWER_YES : MINISIGN_ANSWER_NO;
+
+        public_keys[0] = key_of(KEY);
+        append_string(&file, files[i % 2]);
+        CALL(minisign_read_signature, file.bytes, file.len, &signatures[0]);
+        verify(&states[0], &public_keys[0], &signatures[0], &file, i / 2 % 2, i / 4 % 3, first, second);
+    }
+}
+
+/* Verifies signatures by and with each point that Ed25519 has to reject, and with points that differ from them in one bit. */
+static void call_with_each_point(void)
+{
+    for (size_t i = 0; i < LENGTH(weak_points); i++) {
+        for (int changed = -1; changed < 32; changed++) {
+            for (int place = 0; place < 3; place++) {
+                minisign_new_key new_key;
+                minisign_secret_key secret_key;
+                minisign_public_key *key = &public_keys[0];
+                minisign_signed_parts parts = { .trusted_comment = data, .trusted_comment_len = 0 };
+                uint8_t *point = place == 0 ? new_key.secret + 32 : place == 1 ? parts.signature : parts.comment_signature;
+                size_t len = 0;
+
+                memset(&new_key, 0x11, sizeof new_key);
+                memset(parts.signature, 0x0a, sizeof parts.signature);
+                memset(parts.comment_signature, 0x0b, sizeof parts.comment_signature);
+                memcpy(point, weak_points[i], 32);
+                if (changed >= 0) {
+                    point[changed] ^= (uint8_t) (1 << changed % 8);
+                }
+                minisign_take_secret_key(&new_key, &secret_key);
+                CALL(minisign_public_key_of, &secret_key, key);
+                CALL(minisign_signed_text, key, &parts, output, sizeof output, &len);
+                if (last_result == MINISIGN_OK) {
+                    set_text(&signed_by[0], output, len);
+                    CALL(minisign_read_signature, output, len, &signatures[0]);
+                    verify(&states[0], key, &signatures[0], &signed_by[0], place == 2, 1, MINISIGN_ANSWER_YES, MINISIGN_ANSWER_YES);
+                }
+            }
+        }
+    }
+}
+
+/* Seals a key and opens it: with the memory that it takes and with other memory, by the right and by a wrong password, and with each of
+ * many limits. */
+static void call_with_each_limit(void)
+{
+    static const uint64_t limits[] = { 0, 32768, 65536, UINT64_C(1) << 20, UINT64_C(1) << 24, UINT64_C(1) << 30, (UINT64_C(1) << 30) + 1, UINT64_C(1) << 63 };
+    static const int more[][2] = { { 0, 0 }, { 1, 9 }, { -1, 0 }, { 0, -1 } };
+    minisign_sealing sealing = { .operations_limit = 32768, .memory_limit = 65536, .salt = { 1 } };
+    minisign_new_key new_key;
+    minisign_secret_key secret_key;
+    minisign_unopened_key *key = &unopened_keys[0];
+    struct text password = { .bytes = "a", .len = 1 }, wrong = { .bytes = "b", .len = 1 }, record;
+    size_t len = 0;
+
+    memset(&new_key, 0x11, sizeof new_key);
+    minisign_take_secret_key(&new_key, &secret_key);
+    CALL(minisign_secret_key_text_with_any_limits, &secret_key, 1, password.bytes, password.len, &sealing, 1, NULL, 0, output, sizeof output, &len);
+    CALL(minisign_read_secret_key, output, len, key);
+    add_unopened_key(key);
+    set_text(&record, key->bytes, sizeof key->bytes);
+    for (size_t i = 0; i < LENGTH(more); i++) {
+        open_in_place(key, &password, 1 + i % 2, MINISIGN_ANY_ROWS, more[i][0], more[i][1], &secret_keys[0]);
+    }
+    open_in_place(key, &wrong, 1, MINISIGN_ANY_ROWS, 0, 0, &secret_keys[0]);
+    open_in_place(key, &password, 3, MINISIGN_ANY_ROWS, 0, 0, &secret_keys[0]);
+    CALL(minisign_open_sealed_key, key, password.bytes, password.len, 2, MINISIGN_ANY_ROWS, &secret_keys[0]);
+    add_secret_key(&secret_keys[0]);
+    CALL(minisign_open_sealed_key, key, wrong.bytes, wrong.len, 3, MINISIGN_ANY_ROWS, &secret_keys[0]);
+    add_secret_key(&secret_keys[0]);
+    CALL(minisign_secret_key_text, &secret_key, 1, (const uint8_t *) "\xff", 1, &sealing, 1, NULL, 0, output, sizeof output, &len);
+    CALL(minisign_secret_key_text_with_any_limits, &secret_key, 1, (const uint8_t *) "\xff", 1, &sealing, 1, NULL, 0, output, sizeof output, &len);
+    CALL(minisign_secret_key_text, &secret_key, 1, NULL, 0, &sealing, 1, NULL, 0, output, sizeof output, &len);
+    CALL(minisign_secret_key_text_with_any_limits, &secret_key, 1, NULL, 0, &sealing, 1, NULL, 0, output, sizeof output, &len);
+    for (size_t i = 0; i < LENGTH(limits) * LENGTH(limits); i++) {
+        uint64_t operations = limits[i / LENGTH(limits)], memory = limits[i % LENGTH(limits)], rows;
+
+        for (size_t n = 0; n < 8; n++) {
+            record.bytes[38 + n] = (uint8_t) (operations >> 8 * n);
+            record.bytes[46 + n] = (uint8_t) (memory >> 8 * n);
+        }
+        CALL(minisign_read_secret_key_record, record.bytes, record.len, key);
+        add_unopened_key(key);
+        rows = any_rows(key);
+        CALL(minisign_test_sealed_key, key, rows);
+        CALL(minisign_open_sealed_key, key, password.bytes, password.len, 1, rows, &secret_keys[0]);
+        add_secret_key(&secret_keys[0]);
+        open_in_place(key, &password, 1, rows, 0, 0, &secret_keys[0]);
+        if (operations == impossible_limits[0] || memory >= impossible_limits[1]) {
+            sealing.operations_limit = operations;
+            sealing.memory_limit = memory;
+            CALL(minisign_secret_key_text, &secret_key, 1, password.bytes, password.len, &sealing, 1, NULL, 0, output, sizeof output, &len);
+            CALL(minisign_secret_key_text_with_any_limits, &secret_key, 1, password.bytes, password.len, &sealing, 1, NULL, 0,
+                 output, sizeof output, &len);
+        }
+    }
+}
+
+/* Reads each file cut off at each length, with one bit changed in each byte, and with padding. */
+static void call_with_each_length(void)
+{
+    static const char *const files[] = { KEY, KEY_LINE, SIGNATURE, LEGACY_SIGNATURE, SECRET_KEY };
+
+    for (size_t file = 0; file < LENGTH(files); file++) {
+        size_t len = strlen(files[file]);
+
+        for (size_t i = 0; i < 2 * len + 5; i++) {
+            struct text text = { .len = 0 };
+
+            append_string(&text, files[file]);
+            if (i < len) {
+                text.len = i;
+            } else if (i < 2 * len) {
+                text.bytes[i - len] ^= 1;
+            } else {
+                pad_last_line(&text, i - 2 * len);
+            }
+            CALL(minisign_read_public_key, bytes_or_null(&text), text.len, &public_keys[0]);
+            add_public_key(&public_keys[0]);
+            CALL(minisign_read_bare_public_key, bytes_or_null(&text), text.len, &public_keys[0]);
+            add_public_key(&public_keys[0]);
+            CALL(minisign_read_signature, bytes_or_null(&text), text.len, &signatures[0]);
+            add_signature(&signatures[0]);
+            CALL(minisign_read_secret_key, bytes_or_null(&text), text.len, &unopened_keys[0]);
+            add_unopened_key(&unopened_keys[0]);
+        }
+    }
+}
+
+/* Writes each file with each of these comments, most of which are rejected. */
+static void call_with_each_comment(void)
+{
+    static const char *const comments[] = { "", "x", "\n", "\r", "\xff", "\xed\xa0\x80", "\xc0\x80", "\xc3\xa9", "\x7f", "\x1b", "\xe2\x80\xa8", "\xc2\x85" };
+    minisign_sealing sealing = { .operations_limit = 32768, .memory_limit = 65536 };
+    minisign_new_key new_key;
+    minisign_secret_key secret_key;
+    minisign_public_key public_key;
+
+    memset(&new_key, 0x11, sizeof new_key);
+    minisign_take_secret_key(&new_key, &secret_key);
+    CALL(minisign_public_key_of, &secret_key, &public_key);
+    for (size_t i = 0; i < LENGTH(comments) + 3; i++) {
+        struct text comment = { .len = 0 };
+        size_t len = 0;
+
+        if (i < LENGTH(comments)) {
+            append_string(&comment, comments[i]);
+        } else {
+            comment.len = i == LENGTH(comments) ? 1 : 1000 * (i - LENGTH(comments)) + 24;
+            memset(comment.bytes, i == LENGTH(comments) ? 0 : 'y', comment.len);
+        }
+        memset(output, 0x5a, sizeof output);
+        CALL(minisign_public_key_text, &secret_key, bytes_or_null(&comment), comment.len, output, sizeof output, &len);
+        add_bytes(output, sizeof output);
+        CALL(minisign_encode_public_key, &public_key, bytes_or_null(&comment), comment.len, output, sizeof output, &len);
+        add_bytes(output, sizeof output);
+        CALL(minisign_secret_key_text_with_any_limits, &secret_key, 0, NULL, 0, &sealing, 1, bytes_or_null(&comment), comment.len,
+             output, sizeof output, &len);
+        add_bytes(output, sizeof output);
+        CALL(minisign_secret_key_text, &secret_key, 0, NULL, 0, &sealing, 1, bytes_or_null(&comment), comment.len,
+             output, sizeof output, &len);
+        add_bytes(output, sizeof output);
+        if (last_result == MINISIGN_OK) {
+            CALL(minisign_read_secret_key, output, len, &unopened_keys[1]);
+        }
+        CALL(minisign_encode_unopened_key, &unopened_keys[1], bytes_or_null(&comment), comment.len, output, sizeof output, &len);
+        add_bytes(output, sizeof output);
+    }
+}
+
 static void call_without_objects(void)
 {
     uint32_t rare = (uint32_t) edge_number(), usual = random_below(100), number = one_in(9) ? rare : usual;
@@ -653,6 +914,12 @@ static void begin(void)
         call_nothing();
         call_take_secret_key();
     }
+    call_with_each_number();
+    call_with_each_flag();
+    call_with_each_point();
+    call_with_each_length();
+    call_with_each_limit();
+    call_with_each_comment();
 }
 
 static void make_calls(void)

@@ -1,5 +1,6 @@
 /* Makes random calls of all functions of minisign_install.h, and prints a checksum of every byte that they return: see
- * call_checksums.h. Most runs are lawful: the call that is due comes next, and what it says is mostly good. */
+ * call_checksums.h. In most installations the call that is due comes next, and what it says is mostly good. Some are whole
+ * runs, one after the other at one target. */
 #include "call_checksums.h"
 
 #include "minisign_install.h"
@@ -9,6 +10,9 @@ static minisign_installation installations[COPIES];
 static minisign_public_key keys[COPIES];
 /* The signature file of each installation, and records. */
 static struct text signature_files[COPIES], records[COPIES];
+/* True while all calls of an installation are made in order, which mostly succeeds, and the record that the last such installation wrote. */
+static int is_whole_run;
+static struct text last_record;
 static uint8_t data[300], output[SIZE];
 
 static size_t any_room(size_t most)
@@ -74,6 +78,53 @@ static void add_installation(const minisign_installation *installation)
 
 /* ---- Calls ---- */
 
+/* Appends a label and a number: mostly a usual one, and sometimes another number or text. */
+static void append_number(struct text *comment, const char *label, uint64_t usual)
+{
+    static const char *const others[] = { "", "+7", "x", "7x", " 7", "-1", "007", "18446744073709551615", "18446744073709551616",
+                                          "99999999999999999999", "184467440737095516150" };
+    const char *other = others[random_below(LENGTH(others))];
+    uint64_t low = random_below(1000), number = random_number(), any = number >> random_below(64);
+
+    append_string(comment, label);
+    if (one_in(10)) {
+        append_string(comment, other);
+    } else {
+        append_decimal(comment, !one_in(8) ? usual : one_in(2) ? low : any);
+    }
+}
+
+/* Returns a trusted comment that is mostly good: fields in some order. */
+static struct text any_fields(void)
+{
+    static const char *const others[] = { "hashed", "x", "expires", "Expires:9", "expire:9", "file:ap", "version:6", "timestamp:6", "size:11", "" };
+    struct text comment = { .len = 0 };
+    int first = (int) random_below(5);
+
+    for (int i = 0; i < 5; i++) {
+        const char *other = others[random_below(LENGTH(others))];
+        size_t len = comment.len;
+        uint64_t number = 7 + random_below(3);
+
+        append_string(&comment, len == 0 ? "" : "\t");
+        switch ((first + i) % 5) {
+        case 0: append_number(&comment, "version:", number); break;
+        case 1: append_number(&comment, "timestamp:", number); break;
+        case 2: append_string(&comment, "file:app"); break;
+        case 3: append_number(&comment, "expires:", number); break;
+        default: append_number(&comment, "size:", 12); break;
+        }
+        if (one_in((first + i) % 5 < 3 ? 12 : 2)) {
+            comment.len = len;
+        }
+        if (one_in(24)) {
+            append_string(&comment, "\t");
+            append_string(&comment, other);
+        }
+    }
+    return comment;
+}
+
 /* Returns a trusted comment that is good, or rejected for one reason, or any comment. */
 static struct text any_update(void)
 {
@@ -88,7 +139,9 @@ static struct text any_update(void)
     struct text comment = any_comment();
     const char *usual = good[random_below(LENGTH(good))], *rare = bad[random_below(LENGTH(bad))];
 
-    if (!one_in(12)) {
+    if (one_in(3)) {
+        comment = any_fields();
+    } else if (!one_in(12)) {
         const char *chosen = one_in(6) ? rare : usual;
 
         set_text(&comment, chosen, strlen(chosen));
@@ -140,13 +193,13 @@ static void call_record_text(const minisign_installation *installation)
     add_number(len);
     add_bytes(output, sizeof output);
     if (len > 0) {
-        set_text(&records[any_copy()], output, len);
+        set_text(is_whole_run ? &last_record : &records[any_copy()], output, len);
     }
 }
 
 static void call_signature(minisign_installation *installation)
 {
-    struct text file = one_in(12) ? any_text(signature_files) : signature_files[installation - installations], name = any_name();
+    struct text file = !is_whole_run && one_in(5) ? any_text(signature_files) : signature_files[installation - installations], name = any_name();
     int64_t now = any_clock();
     size_t room = any_message_room(), len = 0x5a;
 
@@ -165,7 +218,9 @@ static void call_question(const minisign_installation *installation)
 
 static void call_answer(minisign_installation *installation)
 {
-    enum minisign_answer answer = any_answer();
+    int is_other_target = minisign_install_due(installation) == MINISIGN_DUE_CHECK_TARGET && one_in(2);
+    enum minisign_answer usual = is_other_target ? MINISIGN_ANSWER_NO : MINISIGN_ANSWER_YES, other = any_answer();
+    enum minisign_answer answer = is_whole_run && !one_in(8) ? usual : other;
 
     CALL(minisign_install_answer, installation, answer);
 }
@@ -174,17 +229,24 @@ static void call_answer(minisign_installation *installation)
 static void renew_record(void)
 {
     static const char *const texts[] = { "version:7", "7\n", "timestamp:6\n", "version:6", "version:18446744073709551616", "timestamp:7\n", "version:1",
-                                         "timestamp:18446744073709551615", "0", "version:3\n", "" };
+                                         "timestamp:18446744073709551615", "0", "version:3\n", "7x", "7x\n", "version:7x", "version:x", "timestamp:x",
+                                         "x", "18446744073709551619", "99999999999999999999", "184467440737095516150",
+                                         "timestamp:184467440737095516150", "" };
     const char *text = texts[random_below(LENGTH(texts))];
+    struct text *record = &records[any_copy()];
 
-    set_text(&records[any_copy()], text, strlen(text));
+    set_text(record, text, strlen(text));
+    if (one_in(12)) {
+        record->len = random_below(300);
+        memset(record->bytes, '7', record->len);
+    }
 }
 
 static void call_record(minisign_installation *installation)
 {
-    struct text record = one_in(6) ? any_text(records) : records[any_copy()];
+    struct text record = is_whole_run ? last_record : one_in(6) ? any_text(records) : records[any_copy()];
 
-    if (one_in(8)) {
+    if (is_whole_run ? record.len == 0 : one_in(8)) {
         CALL(minisign_install_no_record, installation);
     } else {
         CALL(minisign_install_record, installation, bytes_or_null(&record), record.len);
@@ -275,7 +337,7 @@ static void call_copy(minisign_installation *installation)
 /* Makes a call that reports the operation that is due. */
 static void call_due(minisign_installation *installation)
 {
-    if (one_in(30)) {
+    if (!is_whole_run && one_in(30)) {
         call_failed(installation);
         return;
     }
@@ -306,6 +368,60 @@ static void call_due(minisign_installation *installation)
     }
 }
 
+/* Makes a whole run: it installs an update over the one that such a run has installed before, or rejects it, or one operation fails. */
+static void call_whole_run(void)
+{
+    minisign_installation *installation = &installations[0];
+    int first = one_in(2) ? 0 : 2, second = one_in(2) ? 2 - first : first;
+    static uint64_t last_version;
+    uint64_t other_version = random_below(one_in(2) ? 100 : 100000), version = one_in(3) ? last_version : other_version;
+    minisign_signed_parts parts;
+    minisign_install_options options;
+    struct text comment = { .len = 0 };
+    size_t len = 0;
+    uint32_t failing_step = random_below(60);
+
+    options.numbering = one_in(8);
+    options.is_first = last_record.len == 0 || one_in(4);
+    options.again = one_in(4);
+    options.is_check = one_in(8);
+    options.must_expire = 0;
+    options.new_key = one_in(6);
+    options.roll_back = one_in(6);
+    append_string(&comment, "file:app\tversion:");
+    append_decimal(&comment, version);
+    append_string(&comment, "\ttimestamp:");
+    append_decimal(&comment, version);
+    append_string(&comment, one_in(2) ? "\tsize:12" : "");
+    memset(&parts, 0, sizeof parts);
+    parts.trusted_comment = comment.bytes;
+    parts.trusted_comment_len = comment.len;
+    fill(parts.signature, sizeof parts.signature);
+    fill(parts.comment_signature, sizeof parts.comment_signature);
+    parts.signature[63] &= 0x0f;
+    parts.comment_signature[63] &= 0x0f;
+    CHECK(minisign_signed_text(&keys[first], &parts, output, sizeof output, &len) == MINISIGN_OK);
+    set_text(&signature_files[0], output, len);
+    if (one_in(12)) {
+        last_record.len = 0;
+    }
+    is_whole_run = 1;
+    CALL(minisign_install_init, installation, &keys[first], &keys[second], &options);
+    for (uint32_t step = 0, due = 0; step < 30 && due < MINISIGN_DUE_INSTALLED; step++) {
+        if (step == failing_step) {
+            call_failed(installation);
+        } else {
+            call_due(installation);
+        }
+        add_installation(installation);
+        due = minisign_install_due(installation);
+    }
+    is_whole_run = 0;
+    if (minisign_install_due(installation) == MINISIGN_DUE_INSTALLED) {
+        last_version = version;
+    }
+}
+
 static void make_calls(void)
 {
     minisign_installation *installation = &installations[any_copy()];
@@ -315,6 +431,8 @@ static void make_calls(void)
         minisign_clear(installation, sizeof *installation);
     } else if (one_in(15)) {
         call_judge_comment();
+    } else if (one_in(12)) {
+        call_whole_run();
     } else if (one_in(25)) {
         call_anything(installation);
     } else if (one_in(100) || ((due == MINISIGN_DUE_NOTHING || due >= MINISIGN_DUE_INSTALLED) && !one_in(6))) {

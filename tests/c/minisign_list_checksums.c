@@ -65,24 +65,11 @@ static void add_file(const minisign_list_file *file)
 
 /* ---- Random arguments ---- */
 
-static void append(struct text *text, const void *bytes, size_t len)
-{
-    if (text->len + len <= SIZE) {
-        memcpy(text->bytes + text->len, bytes, len);
-        text->len += len;
-    }
-}
-
-static void append_string(struct text *text, const char *string)
-{
-    append(text, string, strlen(string));
-}
-
 /* Returns one of few names, mostly one that a list may contain. */
 static const char *any_name(void)
 {
     static const char *const good[] = { "a", "b", "./a", "d/e", "x) = y", " c", "*c", "\xc3\xa9", "a b", "..a", "f" };
-    static const char *const bad[] = { "", "/a", "d/../a", "././a", "a\\b", "d//e", "d/", ".", "\xff", "a\tb", "\xc0\x80", "a\nb", "\xc2\x85" };
+    static const char *const bad[] = { "", "/a", "d/../a", "././a", "a\\b", "d//e", "d/", ".", "..", "d/.", "d/..", "d/.x", "a\x7f", "\xff", "a\tb", "\xc0\x80", "a\nb", "\xc2\x85" };
     const char *usual = good[random_below(LENGTH(good))], *rare = bad[random_below(LENGTH(bad))];
 
     return one_in(12) ? rare : usual;
@@ -124,7 +111,7 @@ static void append_line(struct text *list, int is_good)
     int hash = (int) random_below(3), form = (int) random_below(8);
     const char *name = any_name(), *comment = without[random_below(LENGTH(without))], *rare = bad[random_below(LENGTH(bad))];
 
-    if (is_good && (*name == '/' || strpbrk(name, "\\\t\n\xff\xc0\xc2") != NULL || strstr(name, "//") != NULL || *name == 0)) {
+    if (is_good && (*name == '/' || strpbrk(name, "\\\t\n\x7f\xff\xc0\xc2") != NULL || strstr(name, "//") != NULL || *name == 0)) {
         name = "g";
     }
     if (form == 0) {
@@ -142,7 +129,7 @@ static void append_line(struct text *list, int is_good)
 
         append_string(list, is_escaped ? "\\" : "");
         append_digits(list, hash);
-        append_string(list, form < 6 ? "  " : " *");
+        append_string(list, !is_good && one_in(20) ? " x" : form < 6 ? "  " : " *");
         append_string(list, is_escaped ? "q\\nr" : name);
     }
     append_string(list, one_in(6) ? "\r\n" : "\n");

@@ -15,12 +15,13 @@ pass, and no secret is left in memory (RISC-V without the programs, because this
 - systems: all C compiles for the systems of Apple and the BSDs.
 
 The parts compilers, processors and windows compare every byte that random calls of all functions return with what the
-archives return (call_checksums.py). The script prints a line for each failure; the last line is `N passed, M failed`.
+archives return (call_checksums.py). With the mutants of machine_mutants, and on s390x with those of processor_mutants, which show only
+there, these bytes must differ. The script prints a line for each failure; the last line is `N passed, M failed`.
 
 PART may also be Debian's name of another processor that has a cross compiler. CI does not run these, and the library
 does not clear registers on them. On sh4 nothing can be tested, because no program runs under the emulator of Debian 12.
 
-Needs make, binutils, gcc, clang, tcc, musl-gcc, libsodium with its header, minisign, and of Debian qemu-user-static,
+Needs git, make, binutils, gcc, clang, tcc, musl-gcc, libsodium with its header, minisign, and of Debian qemu-user-static,
 wine64, gcc-mingw-w64-x86-64 and cross compilers with their C libraries for arm64, s390x, armhf and riscv64, or for the
 processors that are named, and installs what is missing if it may.
 """
@@ -39,8 +40,9 @@ import ending
 import needs
 import static_library
 from c_library import INCLUDE, LESS, NO_THREADS, PROGRAMS, SANITIZED, STRICT, check_programs, programs_named
-from call_checksums import Checksums
+from call_checksums import Checksums, Mutated
 from emulated import Kind
+from mutants import mutants_of
 from process import run
 from running import read, write
 from texts import CORPUS
@@ -73,9 +75,20 @@ def check_compilers(checks, room, checksums):
         static_library.run_make("CC=gcc", "PORTABLE=1", f"OUT={room}/{what}", *words, library)
         checksums.check(what, compiler, library, *flags)
         check_programs(checks, what, programs, compiler, library, *(LESS if what != "gcc" else []), *flags)
+    check_mutants(checks, room, checksums, [tcc], mutants_of("c", "machine_mutants"))
     static_library.run_make("PORTABLE=1", f"OUT={room}/musl", *musl_words, "all")
     checks.ended("musl: the programs", run(["sh", "check.sh", f"{room}/musl/minisign"], C), says=" passed, 0 failed")
     check_strict(checks, room)
+
+
+def check_mutants(checks, room, checksums, compiler, listed, case=None, before=()):
+    """Checks that the checksums notice mutants of machine.h: all with tcc, which compiles them fastest, and those that show only on
+    another processor there."""
+    place = os.path.join(room, "mutants")
+    os.mkdir(place)
+    tried = Mutated(checksums, place, compiler, before).check(listed, case)
+    print(f"{case or 'this machine'}: {len(tried)} of {len(listed)} mutants change the calls")
+    checks.check(tried, "no mutant changes the calls")
 
 
 def check_strict(checks, room):
@@ -127,6 +140,8 @@ def check_archives(checks, room, _):
 KINDS = [emulated.AARCH64, Kind("s390x", "s390x-linux-gnu", "s390x", "s390x", "IBM S/390"),
          Kind("armhf", "arm-linux-gnueabihf", "armhf", "arm", "ARM", has_32_bits=True),
          Kind("riscv64", "riscv64-linux-gnu", "riscv64", "riscv64", "RISC-V", has_sodium=False)]
+# The processor that has mutants of its own in processor_mutants, because it is big-endian.
+MUTATED = "s390x"
 # Processors that CI does not run, by Debian's name. For some of them gcc has no stack protector.
 MORE_KINDS = {kind.debian: kind for kind in (
     Kind("i386", "i686-linux-gnu", "i386", "i386", "Intel 80386", has_32_bits=True),
@@ -149,6 +164,8 @@ def check_processors(checks, room, checksums, kinds=KINDS):
         built = emulated.Emulated(checks, room, kind, *(["CFLAGS=-O2"] if kind.debian in ("hppa", "alpha") else []))
         emulated.check_all(checks, built, MALLOC_PROGRAMS if kind.has_32_bits else MEMORY_PROGRAMS)
         checksums.check(kind.name, built.compiler, built.library, before=built.emulator)
+        if kind.name == MUTATED:
+            check_mutants(checks, built.room, checksums, [built.compiler, "-static"], mutants_of("c", "processor_mutants"), kind.name, built.emulator)
         if kind in KINDS[1:]:
             program = cleared.Builder(built.room).program(built.compiler, "-O2", library=built.library, linking=["-static"])
             cleared.check_run(checks, kind.name, cleared.Run([*built.emulator, program]))

@@ -31,7 +31,7 @@ import needs
 import static_library
 from command_cases import keys_of
 from command_places import Places
-from command_running import Whole
+from command_running import ProgramPaths
 from command_other_users import OtherUsers
 from installers import NAME, RealInstaller
 from process import run
@@ -111,7 +111,7 @@ def run_all(room):
     lists = [(mutants.mutants_of("installer", "mutants"), NAME, partial(cases_of_installer, preload)),
              (mutants.mutants_of("check", "mutants"), check_running.NAME, partial(cases_of_check, preload))]
     if os.geteuid() == 0:
-        whole = Whole(needs.minisign(), "", build_preload(room, "fixed_sources"))
+        whole = ProgramPaths(needs.minisign(), "", build_preload(room, "fixed_sources"))
         lists.append((mutants.mutants_of("command_line", "mutants"), "minisign", partial(cases_of_minisign, whole, keys_of(whole))))
     else:
         print("skipped: only root can make files of other users")

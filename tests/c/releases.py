@@ -235,11 +235,11 @@ def check_compiler(checks, room, top, name):
     place, compiler = os.path.join(room, f"by-{name}"), needs.program(name, name)
     os.mkdir(place)
     tree = Tree(place, top, compiler, [name], "basename", "date", "env", "gzip", "ldconfig", "mktemp", "mv", "tar")
-    with static_library.kept_object({"CC": compiler, "OUT": f"{place}/out"}):
+    with static_library.cached_object({"CC": compiler, "OUT": f"{place}/out"}):
         for goal in ("all", "check", f"install DESTDIR={place}/dest PREFIX=/usr"):
             said = checks.ended(f"a release by {name}, {goal}", tree.run(f"make -C c CC={name} OUT={place}/out {goal}"))
             checks.check("warning:" not in said, f"a release by {name}, {goal}: {said[-800:]}")
-            checks.check(goal != "check" or static_library.VERIFIED.search(said), f"a release by {name}, {goal}: {said[-300:]}")
+            checks.check(goal != "check" or static_library.TESTS_PASSED.search(said), f"a release by {name}, {goal}: {said[-300:]}")
     root, example = f"{place}/dest/usr", f"{place}/verify"
     building = [compiler, "-I", f"{root}/include", "-o", example, f"{top}/c/examples/verify.c", f"{root}/lib/libminisign.a", "-lsodium"]
     checks.ended(f"the example over what {name} installed", run(building))
@@ -262,7 +262,7 @@ def check_without_archives(checks, room, top):
         os.remove(archive)
     words = [f"CC={needs.libsodium()}", f"OUT={room}/bare", "PORTABLE=1", "CFLAGS=-O0", "CPPFLAGS="]
     said = checks.ended("a release with nothing prebuilt", run(["make", "-s", "-C", f"{top}/c", *words, "all", "test"]))
-    checks.check(static_library.VERIFIED.search(said), f"a release with nothing prebuilt: {said[-600:]}")
+    checks.check(static_library.TESTS_PASSED.search(said), f"a release with nothing prebuilt: {said[-600:]}")
 
 
 def check_debian(checks, room, archive):

@@ -40,7 +40,7 @@ import wasm_to_c
 from mutants import applied_to, mutants_of
 from process import run
 from running import write
-from static_library import hold
+from static_library import run_or_fail
 
 PROVER = os.path.join(HERE, "table_prover.py")
 SHIFTS = ("shl", "shr_u", "shr_s")
@@ -100,7 +100,8 @@ def compiled(room, module, machine, form):
     write(place, "machine.h", machine.encode())
     source = write(place, "rows.c", wasm_to_c.translate(module.bytes(), module.names()).encode())
     made = f"{place}/rows.ll"
-    hold([needs.program("clang", "clang"), "-std=c99", "-O2", "-w", form, "-fno-discard-value-names", "-S", "-emit-llvm", "-o", made, source])
+    run_or_fail([needs.program("clang", "clang"), "-std=c99", "-O2", "-w", form, "-fno-discard-value-names", "-S", "-emit-llvm",
+                 "-o", made, source])
     with open(made, encoding="utf-8") as file:
         text = file.read()
     # (without attribute and metadata numbers, which differ from module to module)
@@ -119,7 +120,7 @@ class Proofs:
         bodies, made = compiled(self.room, module, machine, form)
         new = [row for row in rows if (row[0], bodies[row[0]]) not in self.verdicts]
         listed = write(os.path.dirname(made), "rows.json", json.dumps(new).encode())
-        said = hold([python(), PROVER, made, listed])
+        said = run_or_fail([python(), PROVER, made, listed])
         verdicts = dict(line.split("\t", 1) for line in said.splitlines())
         for name, *_ in new:
             self.verdicts[name, bodies[name]] = verdicts.get(name, "the prover printed nothing about it")

@@ -188,7 +188,7 @@ class Runners:
         files = {"calls.c": wasm_to_c.translate(module.bytes(), module.names()), "machine.h": machine,
                  "runner.c": RUNNER % ("\n".join(declared), BUFFER_BYTES, "\n".join(cases))}
         sources = [write(place, name, words.encode()) for name, words in files.items()]
-        static_library.hold([self.compiler, "-std=c99", "-w", *flags, "-I", place, "-o", f"{place}/run", sources[0], sources[2]])
+        static_library.run_or_fail([self.compiler, "-std=c99", "-w", *flags, "-I", place, "-o", f"{place}/run", sources[0], sources[2]])
         return f"{place}/run"
 
     def in_c(self, program, calls):

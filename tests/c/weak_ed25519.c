@@ -1,29 +1,29 @@
 /*
- * Checks that minisign_ask rejects what strict Ed25519 rejects by its encoding: points of small order or that are not
- * canonically encoded, as the public key or as R of either signature, and S that is not below the group order. This
- * error comes after all others, and changes nothing. The points are those that libsodium 1.0.18 rejects.
+ * Checks that minisign_ask rejects weak encodings of Ed25519 with MINISIGN_WEAK_ED25519: a public key, or R of either
+ * signature, that has small order or is not canonical, and S that is not below the group order. These are the points
+ * that libsodium 1.0.18 rejects. The check comes after all others. After an error, nothing has changed.
  */
 #include "texts_for_tests.h"
 
 static minisign_questions questions;
 static uint8_t message[MESSAGE_LEN];
 
-/* The arguments of minisign_ask. The cases change those of the published key and its signature. */
-struct asked {
+/* The arguments of minisign_ask. Each case starts with those of the published signature, and changes one. */
+struct arguments {
     minisign_public_key key;
     minisign_signature signature;
     const char *text;
     uint32_t allow_legacy;
-    size_t room;
+    size_t message_size;
 };
 
-static struct asked published(void)
+static struct arguments published(void)
 {
-    return (struct asked) { key_of(KEY), signature_of(SIGNATURE), SIGNATURE, 0, sizeof message };
+    return (struct arguments) { key_of(KEY), signature_of(SIGNATURE), SIGNATURE, 0, sizeof message };
 }
 
-/* Asks with a new state. After an error, the state, the questions and the message are unchanged. */
-static enum minisign_error ask(const struct asked *asked)
+/* Calls minisign_ask with a new state. Checks that an error changes neither the state nor the questions nor the message. */
+static enum minisign_error ask(const struct arguments *arguments)
 {
     minisign_state state = fed_with("test"), before = state;
     uint8_t untouched[sizeof questions];
@@ -32,8 +32,8 @@ static enum minisign_error ask(const struct asked *asked)
     memset(untouched, 0xaa, sizeof untouched);
     memset(&questions, 0xaa, sizeof questions);
     memset(message, 0xaa, sizeof message);
-    error = minisign_ask(&state, &asked->key, &asked->signature, bytes_of(asked->text), strlen(asked->text),
-                         asked->allow_legacy, &questions, message, asked->room);
+    error = minisign_ask(&state, &arguments->key, &arguments->signature, bytes_of(arguments->text),
+                         strlen(arguments->text), arguments->allow_legacy, &questions, message, arguments->message_size);
     if (error != MINISIGN_OK) {
         CHECK(memcmp(&state, &before, sizeof state) == 0 && memcmp(&questions, untouched, sizeof questions) == 0);
         CHECK(memcmp(message, untouched, sizeof message) == 0);
@@ -41,8 +41,8 @@ static enum minisign_error ask(const struct asked *asked)
     return error;
 }
 
-/* Decodes 32 bytes in hexadecimal. */
-static void put(uint8_t *to, const char *digits)
+/* Decodes 64 hexadecimal digits to 32 bytes. */
+static void decode_hex(uint8_t *to, const char *digits)
 {
     for (size_t i = 0; i < 32; i++) {
         unsigned byte = 0;
@@ -52,13 +52,13 @@ static void put(uint8_t *to, const char *digits)
     }
 }
 
-/* Points as the public key, and as R of each signature. */
+/* Uses each point as the public key, and as R of each signature. */
 static void rejects_weak_points(void)
 {
     static const struct {
         const char *digits;
         enum minisign_error error;
-    } rows[] = {
+    } cases[] = {
         { "0000000000000000000000000000000000000000000000000000000000000000", MINISIGN_WEAK_ED25519 }, /* order 4 */
         { "0000000000000000000000000000000000000000000000000000000000000080", MINISIGN_WEAK_ED25519 },
         { "0100000000000000000000000000000000000000000000000000000000000000", MINISIGN_WEAK_ED25519 }, /* order 1 */
@@ -78,28 +78,29 @@ static void rejects_weak_points(void)
         { "d75a980182b10ab7d54bfed3c964073a0ee172f3daa62325af021a68f707511a", MINISIGN_OK }, /* RFC 8032, 7.1, test 1 */
     };
 
-    for (size_t i = 0; i < sizeof rows / sizeof rows[0]; i++) {
-        struct asked key = published(), first = published(), second = published(), cut = published();
+    for (size_t i = 0; i < sizeof cases / sizeof cases[0]; i++) {
+        struct arguments key = published(), first = published(), second = published(), cut = published();
 
-        put(key.key.key, rows[i].digits);
-        put(first.signature.signature, rows[i].digits);
-        put(second.signature.comment_signature, rows[i].digits);
-        put(cut.signature.comment_signature, rows[i].digits);
+        decode_hex(key.key.key, cases[i].digits);
+        decode_hex(first.signature.signature, cases[i].digits);
+        decode_hex(second.signature.comment_signature, cases[i].digits);
+        decode_hex(cut.signature.comment_signature, cases[i].digits);
         cut.signature.whole = 0;
-        check(ask(&key) == rows[i].error, "%s as the key: expected error %u", rows[i].digits, rows[i].error);
-        check(ask(&first) == rows[i].error, "%s in the signature: expected error %u", rows[i].digits, rows[i].error);
-        check(ask(&second) == rows[i].error, "%s in the comment signature: expected error %u", rows[i].digits, rows[i].error);
-        check(ask(&cut) == MINISIGN_OK, "%s: a comment signature of fewer than 64 bytes", rows[i].digits);
+        check(ask(&key) == cases[i].error, "%s as the key: expected error %u", cases[i].digits, cases[i].error);
+        check(ask(&first) == cases[i].error, "%s in the signature: expected error %u", cases[i].digits, cases[i].error);
+        check(ask(&second) == cases[i].error, "%s in the comment signature: expected error %u", cases[i].digits,
+              cases[i].error);
+        check(ask(&cut) == MINISIGN_OK, "%s: a comment signature of fewer than 64 bytes", cases[i].digits);
     }
 }
 
-/* S of each signature. */
+/* Uses each number as S of each signature. */
 static void rejects_large_s(void)
 {
     static const struct {
         const char *digits;
         enum minisign_error error;
-    } rows[] = {
+    } cases[] = {
         { "0000000000000000000000000000000000000000000000000000000000000000", MINISIGN_OK },
         { "ecd3f55c1a631258d69cf7a2def9de1400000000000000000000000000000010", MINISIGN_OK },
         { "edd3f55c1a631258d69cf7a2def9de1400000000000000000000000000000010", MINISIGN_WEAK_ED25519 }, /* the order */
@@ -109,20 +110,21 @@ static void rejects_large_s(void)
         { "ffffffffffffffffffffffffffffffffffffffffffffffffffffffffffffffff", MINISIGN_WEAK_ED25519 },
     };
 
-    for (size_t i = 0; i < sizeof rows / sizeof rows[0]; i++) {
-        struct asked first = published(), second = published();
+    for (size_t i = 0; i < sizeof cases / sizeof cases[0]; i++) {
+        struct arguments first = published(), second = published();
 
-        put(first.signature.signature + 32, rows[i].digits);
-        put(second.signature.comment_signature + 32, rows[i].digits);
-        check(ask(&first) == rows[i].error, "%s in the signature: expected error %u", rows[i].digits, rows[i].error);
-        check(ask(&second) == rows[i].error, "%s in the comment signature: expected error %u", rows[i].digits, rows[i].error);
+        decode_hex(first.signature.signature + 32, cases[i].digits);
+        decode_hex(second.signature.comment_signature + 32, cases[i].digits);
+        check(ask(&first) == cases[i].error, "%s in the signature: expected error %u", cases[i].digits, cases[i].error);
+        check(ask(&second) == cases[i].error, "%s in the comment signature: expected error %u", cases[i].digits,
+              cases[i].error);
     }
 }
 
-/* All other errors come first. */
+/* With a weak key and another fault, the other fault is reported. */
 static void reports_other_errors_first(void)
 {
-    struct asked weak = published(), changed;
+    struct arguments weak = published(), changed;
     minisign_state state;
 
     memset(weak.key.key, 0, sizeof weak.key.key);
@@ -137,7 +139,7 @@ static void reports_other_errors_first(void)
     CHECK(ask(&changed) == MINISIGN_DIFFERENT_KEY_IDS);
     changed = weak, changed.signature = signature_of(LEGACY_SIGNATURE), changed.text = LEGACY_SIGNATURE;
     CHECK(ask(&changed) == MINISIGN_LEGACY_NOT_ACCEPTED);
-    changed = weak, changed.room = sizeof message - 1;
+    changed = weak, changed.message_size = sizeof message - 1;
     CHECK(ask(&changed) == MINISIGN_NO_ROOM);
 
     memset(&state, 0, sizeof state);
@@ -149,7 +151,7 @@ static void reports_other_errors_first(void)
                        sizeof message) == MINISIGN_ALREADY_ASKED);
 }
 
-/* A comment signature of fewer than 64 bytes is rejected by the verdict. */
+/* minisign_ask accepts a comment signature of fewer than 64 bytes, and minisign_verdict rejects it. */
 static void leaves_short_comment_signature_to_verdict(void)
 {
     static const char cut[] = SIGNATURE_COMMENT RECORD "\ntrusted comment: " COMMENT "\nAAAA\n";

@@ -82,7 +82,7 @@ class Wine:
         self.program = needs.need(lambda: needs.which("wine64") or next(iter(glob.glob(f"{WINE}/wine64")), None), "wine64", "wine64")
         self.variables = {**os.environ, "WINEPREFIX": os.path.join(room, "wine"), "WINEDEBUG": "-all", "HOME": room, "LC_ALL": "C.UTF-8"}
         self.variables.pop("MINISIGN_CONFIG_DIR", None)
-        static_library.hold([self.program, "cmd", "/c", "exit"], room, **self.variables)
+        static_library.run_or_fail([self.program, "cmd", "/c", "exit"], room, **self.variables)
 
     def end(self):
         """Stops wine's server."""
@@ -603,11 +603,12 @@ class Parts:
         self.room, self.copy, self.built = room, mutants.copy_sources(room, "c", "include"), f"{room}/windows"
         self.compile = [COMPILER, "-std=c11", "-pthread", "-I.", "-I../include", "-DSODIUM_STATIC", f"-I{sodium}/include"]
         self.link = [f"{self.built}/libminisign.a", f"{sodium}/lib/libsodium.a", "-static", "-pthread", "-ladvapi32", "-lshell32"]
-        listed = static_library.hold(["make", "-s", "-C", C, *settings(), f"OUT={self.built}", "--eval=parts: ; @echo $(MINISIGN_WINDOWS_PARTS)", "parts"])
+        printing = "--eval=parts: ; @echo $(MINISIGN_WINDOWS_PARTS)"
+        listed = static_library.run_or_fail(["make", "-s", "-C", C, *settings(), f"OUT={self.built}", printing, "parts"])
         self.sources = [word for word in listed.split() if word.endswith(".c")]
         self.objects = {source: f"{self.copy}/{source.replace('/', '-')}.o" for source in self.sources}
         for source, made in self.objects.items():
-            static_library.hold([*self.compile, "-c", "-o", made, source], f"{self.copy}/c")
+            static_library.run_or_fail([*self.compile, "-c", "-o", made, source], f"{self.copy}/c")
 
     def mutant(self, mutant):
         """Builds a mutant, and returns its path."""
@@ -618,13 +619,13 @@ class Parts:
         source, program, resource = mutant.file.removeprefix("c/"), f"{copy}/minisign.exe", f"{self.built}/minisign.res"
         objects = {**self.objects, source: f"{copy}/changed.o"}
         if source in self.objects:
-            static_library.hold([*self.compile, "-c", "-o", objects[source], source], f"{copy}/c")
+            static_library.run_or_fail([*self.compile, "-c", "-o", objects[source], source], f"{copy}/c")
         else:
             resource = objects.pop(source)
-            static_library.hold(["make", "-s", "-C", f"{copy}/c", *settings(), f"OUT={copy}/c/out", f"{copy}/c/out/minisign.res"])
+            static_library.run_or_fail(["make", "-s", "-C", f"{copy}/c", *settings(), f"OUT={copy}/c/out", f"{copy}/c/out/minisign.res"])
             shutil.move(f"{copy}/c/out/minisign.res", resource)
         clearing = f"{self.built}/clearing.o"
-        static_library.hold([*self.compile, "-o", program, *objects.values(), clearing, resource, *self.link], f"{copy}/c")
+        static_library.run_or_fail([*self.compile, "-o", program, *objects.values(), clearing, resource, *self.link], f"{copy}/c")
         return program
 
 
@@ -674,7 +675,7 @@ def build(room):
     needs.libsodium()
     static_library.run_make(*settings(), f"OUT={room}/windows", "-j4", "all")
     static_library.run_make(f"OUT={room}/linux", "C_CALLS=", f"{room}/linux/minisign")
-    static_library.hold([COMPILER, "-O1", "-o", f"{room}/helper.exe", f"{HERE}/windows_helper.c", "-lversion"])
+    static_library.run_or_fail([COMPILER, "-O1", "-o", f"{room}/helper.exe", f"{HERE}/windows_helper.c", "-lversion"])
     return f"{room}/windows/minisign.exe", f"{room}/helper.exe", f"{room}/linux/minisign"
 
 
@@ -684,7 +685,7 @@ def check_program(checks, programs, _):
     said = run([f"{TARGET}-objdump", "-p", exe])[1]
     checks.same({*re.findall(r"DLL Name: (\S+)", said)}, SYSTEM_LIBRARIES, "the libraries that minisign.exe loads")
     said = checks.ended("check.sh", run(["sh", "check.sh", exe], C, **{**wine.variables, "RUN": wine.program}))
-    checks.check(static_library.VERIFIED.search(said), f"check.sh: {said[-300:]}")
+    checks.check(static_library.TESTS_PASSED.search(said), f"check.sh: {said[-300:]}")
 
 
 def check_install(checks, programs, room):
@@ -713,8 +714,8 @@ def check_release(checks, programs, room):
     out, *words = f"{room}/release", "C_CALLS=", f"RELEASE_KEY={room}/release.key"
     minisign, key = programs[4], f"{room}/release.pub"
     checks.ended("a key pair", run([minisign, "-GW", "-p", key, "-s", f"{room}/release.key"]))
-    static_library.hold([needs.program("make", "make"), "-s", "-C", C, f"OUT={out}", f"CC={needs.c_compiler()}", *settings()[1:], *words, "release"],
-                        PATH=static_library.path_without_kit())
+    make = [needs.program("make", "make"), "-s", "-C", C, f"OUT={out}", f"CC={needs.c_compiler()}"]
+    static_library.run_or_fail([*make, *settings()[1:], *words, "release"], PATH=static_library.path_without_kit())
     archives = glob.glob(f"{out}/*.zip")
     if not checks.check(len(archives) == 1, f"a release has the zip files {archives}"):
         return
@@ -726,16 +727,16 @@ def check_release(checks, programs, room):
         top, entries = name.removesuffix(".zip"), archive.infolist()
         names = [entry.filename for entry in entries]
         checks.same(names, sorted(f"{top}/{file}" for file in ZIPPED), "the files of the zip file, in order")
-        moment = int(static_library.hold(["sh", "packaging/time.sh"], os.path.join(C, "..")))
+        release_time = int(static_library.run_or_fail(["sh", "packaging/time.sh"], os.path.join(C, "..")))
         # (zip files count in steps of two seconds, and zip rounds up)
-        expected = time.gmtime(moment + moment % 2)[:6]
+        expected = time.gmtime(release_time + release_time % 2)[:6]
         checks.same({entry.date_time for entry in entries}, {expected}, "the times in the zip file")
         checks.check(not any(entry.extra for entry in entries), "the zip file has fields that depend on the system")
         checks.check(archive.read(f"{top}/minisign.exe") == read(programs[1]), "another build of minisign.exe differs")
         checks.check(archive.read(f"{top}/minisign.dll") == read(room, "windows/minisign.dll"), "another build of minisign.dll differs")
         checks.check(b"Permission to use, copy, modify" in archive.read(f"{top}/licences/libsodium.txt"), "libsodium's licence is missing")
     first = read(archives[0])
-    static_library.hold(["make", "-s", "-C", C, f"OUT={out}", *settings()[1:], "windows-archive"], TZ="Pacific/Auckland")
+    static_library.run_or_fail(["make", "-s", "-C", C, f"OUT={out}", *settings()[1:], "windows-archive"], TZ="Pacific/Auckland")
     checks.check(read(out, f"windows/{name}") == first, "two zip files of the same commit differ")
 
 

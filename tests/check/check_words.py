@@ -1,4 +1,4 @@
-"""The cases of the command line of `minisign-check`, and of keys, signatures and lists that it rejects."""
+"""Test cases for the command line of `minisign-check`, and for the keys, signatures and lists that it rejects."""
 
 import os
 
@@ -14,8 +14,9 @@ SIGNATURE_HINT = "use -x SIG to name the signature of the list"
 AGAIN = "download the list and its signature again"
 
 
-def misuse(name, arguments, at, why):
-    return f"rejects {name}", arguments, errors((at, why) if at else (why,)) + USAGE + errors("use --help to list the options")
+def misuse(name, arguments, argument, why):
+    """Returns a case: its name, the arguments, and the error output. `argument` is the one that the error names, or None."""
+    return f"rejects {name}", arguments, errors((argument, why) if argument else (why,)) + USAGE + errors("use --help to list the options")
 
 
 MISUSES = (
@@ -38,7 +39,7 @@ MISUSES = (
 
 
 def rejects_usage(checking, arguments, said):
-    """A run with these arguments prints the error, the usage and a hint."""
+    """Checks that a run with these arguments prints the error, the usage and a hint."""
     directory = checking.signed(entries(a=A), {"a": A})
     checking.expect(directory, arguments, MISUSED, b"", said)
 
@@ -51,7 +52,7 @@ def prints_help(checking, option, begins):
     expect(ran.status == UNUSABLE, ran)
 
 
-TAKEN = (
+ACCEPTED_ARGUMENTS = (
     ("-p before the list", [*KEY, LIST, "a"]),
     ("-p after the files", [LIST, "a", *KEY]),
     ("an attached -p", [f"-p{PUBLIC}", LIST, "a"]),
@@ -64,7 +65,7 @@ TAKEN = (
 )
 
 
-def takes_arguments(checking, arguments):
+def accepts_arguments(checking, arguments):
     directory = checking.signed(entries(a=A, b=B), {"a": A})
     if "-x" in arguments:
         os.rename(f"{directory}/{LIST}.minisig", f"{directory}/moved.sig")
@@ -72,7 +73,7 @@ def takes_arguments(checking, arguments):
     checking.expect(directory, given, OK, b"a: OK\n", b"")
 
 
-def takes_file_after_end(checking):
+def accepts_file_after_end_of_options(checking):
     directory = checking.signed(entry("--listed", A), {"--listed": A})
     checking.expect(directory, [*KEY, LIST, "--", "--listed"], OK, b"--listed: OK\n", b"")
 
@@ -81,13 +82,15 @@ def takes_file_after_end(checking):
 
 
 def rejects_files(checking, change, arguments, status, said):
-    """A run after `change` of the directory prints this error, and no result."""
+    """Calls `change` for a directory with a signed list. Checks that a run then prints this error and no result."""
     directory = checking.signed(entries(a=A), {"a": A})
     if change:
         change(checking, directory)
     ran = checking.run(directory, arguments)
     expect(ran.status == status and ran.said == said and not ran.output, ran, f"expected status {status} and {said}")
 
+
+# Each of the following functions returns a function that changes a directory with a signed list.
 
 def replaced(name, data):
     return lambda checking, directory: write(directory, name, data)
@@ -102,7 +105,7 @@ def resigned(**how):
 
 
 def with_byte(name, at):
-    """Returns a function that changes one byte of a file."""
+    """Changes the byte at the offset `at` of a file."""
 
     def change(_, directory):
         data = bytearray(read(directory, name))
@@ -113,7 +116,7 @@ def with_byte(name, at):
 
 
 def changed_signature(line, at=20):
-    """Returns a function that changes a byte on a line of the signature."""
+    """Changes a byte on a line of the signature file."""
 
     def change(_, directory):
         lines = read(directory, f"{LIST}.minisig").split(b"\n")
@@ -125,7 +128,7 @@ def changed_signature(line, at=20):
 
 
 def listing(text, **how):
-    """Returns a function that replaces the list and signs it."""
+    """Replaces the list and signs the new one."""
 
     def change(checking, directory):
         write(directory, LIST, text)
@@ -198,8 +201,7 @@ FILES = (
 
 
 def accepts_any_list(checking):
-    """With --any-list, a list that the comment does not name is accepted, and a warning is printed. A list that it names needs no
-    warning."""
+    """Checks that --any-list accepts a list which the trusted comment does not name, with a warning, and a list which it names, without."""
     warning = f"warning: {LIST}: the trusted comment does not name this list\n".encode()
     for comment, said in (("timestamp:1", warning), (comment_of(), b"")):
         directory = checking.signed(entries(a=A), {"a": A}, comment=comment)
@@ -207,7 +209,7 @@ def accepts_any_list(checking):
         expect((ran.status, ran.output, ran.said) == (OK, b"a: OK\n", said + shown_comment(comment)), ran)
 
 
-def escapes_the_comment(checking):
+def escapes_trusted_comment(checking):
     directory = checking.signed(entries(a=A), {"a": A}, comment=f"file:{LIST}\t\x1b[31mred")
     ran = checking.run(directory, PLAIN)
     expect(ran.status == OK and ran.said == shown_comment(f"file:{LIST}\t\\u{{1b}}[31mred"), ran)
@@ -220,11 +222,11 @@ def word_cases(checking):
     yield "prints the help for --help", prints_help, checking, "--help", USAGE
     yield "prints the help for -h", prints_help, checking, "-h", USAGE
     yield "prints the version", prints_help, checking, "--version", b"minisign-check 0."
-    for name, arguments in TAKEN:
-        yield f"accepts {name}", takes_arguments, checking, arguments
-    yield "accepts a file that begins with a dash", takes_file_after_end, checking
-    for at, (name, change, arguments, status, said) in enumerate(FILES):
+    for name, arguments in ACCEPTED_ARGUMENTS:
+        yield f"accepts {name}", accepts_arguments, checking, arguments
+    yield "accepts a file that begins with a dash after --", accepts_file_after_end_of_options, checking
+    for name, change, arguments, status, said in FILES:
         shown = f"{name}, of one file" if arguments is PLAIN and name.startswith("a list ") else name
         yield f"rejects {shown}", rejects_files, checking, change, arguments, status, said
     yield "accepts a list of another name with --any-list, and warns", accepts_any_list, checking
-    yield "escapes control characters of the trusted comment", escapes_the_comment, checking
+    yield "escapes control characters of the trusted comment", escapes_trusted_comment, checking

@@ -22,7 +22,7 @@ from permissions import list_of
 from process import run_program
 from running import NOBODY, Failure, expect, files_in, read, run_one, set_list
 from command_breaking import is_public, is_secret, is_signature
-from command_running import CLOSED, OPEN, PASSED_THROUGH, PASSWORD, PUBLIC, Programs, case, expect_end, expect_prompt, put_files
+from command_running import CLOSED, OPEN, PARENT_MODE, PASSWORD, PUBLIC, Programs, case, expect_end, expect_prompt, put_files
 
 # A run that takes longer than this many seconds waits for another user.
 SECONDS = 20
@@ -127,7 +127,7 @@ class OtherUsers(Programs):
         pipe in `shared` that a command writes."""
         made = self.fresh({"own/data": b"some data\n", "own/k.key": self.keys[OPEN], "own/k.pub": self.keys[PUBLIC],
                            "own/closed.key": self.keys[CLOSED], "shared": None})
-        os.chmod(made, PASSED_THROUGH)
+        os.chmod(made, PARENT_MODE)
         for path in ("own", *(f"own/{name}" for name in os.listdir(f"{made}/own"))):
             os.chown(f"{made}/{path}", user, user)
         os.chown(f"{made}/shared", parent.owner, parent.owner)

@@ -1,5 +1,5 @@
-"""Runs Minisign's own program and `c/minisign` side by side: each in its own directory with the same files, with the
-same random bytes and at the same time, over pipes or at a terminal.
+"""Runs the program of Minisign and `c/minisign` to compare them: each in its own directory with the same files, with the same
+random bytes and the same current time, with pipes or at a terminal.
 """
 
 import os
@@ -17,28 +17,29 @@ from running import IN_MEMORY, Link, expect, files_in, run_cases, wait_until, wr
 from texts import record_of
 
 HOME = "home"
-# Names of the key files: OPEN and PUBLIC are made of the fixed random bytes by Minisign, CLOSED is OPEN encrypted,
-# OTHER is another key. Then data files.
+# The names of key files. Minisign generates the key pair OPEN and PUBLIC from the fixed random bytes. CLOSED is OPEN, encrypted
+# with PASSWORD. OTHER is the public key of another pair. DATA has the data files.
 OPEN, PUBLIC, CLOSED, OTHER = "first.key", "first.pub", "closed.key", "other.pub"
 PASSWORD = b"correct horse"
 DATA = {"data": b"some data\n", "more": b"more data\n", "empty": b""}
-# The mode of directories that other users pass through. A program built with -DPOSIX_ONLY has to read them.
-PASSED_THROUGH = 0o755 if "--posix-only" in sys.argv else 0o711
-# What is shown at a terminal while a key is derived (a dot each second), and while a large file is read.
+# The mode of directories above the test directories, for runs of other users. A program built with -DPOSIX_ONLY has to read them.
+PARENT_MODE = 0o755 if "--posix-only" in sys.argv else 0o711
+# The output at a terminal while a key is derived (a dot each second), and while a large file is read. It depends on time, so it is
+# removed before outputs are compared.
 DOTS = re.compile(rb"(secret key\.\.\. )\.+(?=done)")
 PROGRESS = re.compile(rb"\r[^\r\n]*\r\x1b\[K|\r\x1b\[K")
 
 
-# One run of a program: its arguments, its standard input, variables besides HOME, and whether it is at a terminal.
+# One run of a program: its arguments, its standard input, environment variables besides HOME, and True for a run at a terminal.
 Step = namedtuple("Step", "arguments typed variables at_terminal", defaults=(b"", {}, False))
-# The paths of the two programs, and of the library that is preloaded into them.
-Whole = namedtuple("Whole", "theirs ours preload")
+# The paths of the program of Minisign and of c/minisign, and of the library that is preloaded into both.
+ProgramPaths = namedtuple("ProgramPaths", "theirs ours preload")
 # The results of a program's runs, and the modes and contents of the files that it left.
-Left = namedtuple("Left", "ran files")
+RunResults = namedtuple("RunResults", "ran files")
 
 
 def run_step(program, preload, directory, step):
-    """Runs a program. At a terminal, a line is typed at each password prompt."""
+    """Runs a program. At a terminal, types the next line of `step.typed` at each password prompt."""
     environment = {"HOME": HOME, "PATH": os.environ.get("PATH", ""), "LD_PRELOAD": preload or None, **step.variables}
     environment = {name: value for name, value in environment.items() if value is not None}
     command = ["minisign", *step.arguments]
@@ -54,7 +55,7 @@ def run_step(program, preload, directory, step):
 
 
 def put_files(directory, files):
-    """Makes files with these contents, links (`Link`), and directories (None)."""
+    """Creates files with these contents, symbolic links (`Link`), and directories (None)."""
     for name, data in files.items():
         path = os.path.join(directory, name)
         os.makedirs(path if data is None else os.path.dirname(path), exist_ok=True)
@@ -69,11 +70,12 @@ def run_steps(program, preload, files, steps):
     with tempfile.TemporaryDirectory(prefix="whole-", dir=IN_MEMORY) as directory:
         put_files(directory, {HOME: None, **files})
         ran = [run_step(program, preload, directory, step) for step in steps]
-        return Left(ran, files_in(directory))
+        return RunResults(ran, files_in(directory))
 
 
 def case(name, *rows):
-    """Marks a method as a case of this name, or as one case for each row of arguments, which the name shows."""
+    """Marks a method as a test case with this name. With `rows`, it is one case for each row of arguments, which are inserted into the
+    name."""
 
     def mark(method):
         method.named = [(name.format(*row).strip(), *row) for row in (row if isinstance(row, tuple) else (row,) for row in rows or [()])]
@@ -83,14 +85,14 @@ def case(name, *rows):
 
 
 class Programs(Disturbing):
-    """Runs the programs in fresh directories that all users may pass through. Subclasses have cases."""
+    """Runs the programs in new directories that other users can reach. Subclasses have the test cases."""
 
     def __init__(self, whole, room, keys):
         super().__init__(shutil.copy(whole.ours, room), room)
         self.whole, self.keys = whole, keys
         self.directories = tempfile.TemporaryDirectory(dir=self.place)
         for path in (room, self.directories.name):
-            os.chmod(path, PASSED_THROUGH)
+            os.chmod(path, PARENT_MODE)
 
     def cases(self):
         """Yields the names of all cases, with their functions and arguments."""
@@ -104,17 +106,17 @@ class Programs(Disturbing):
             return run_cases(self.cases())
 
     def fresh(self, files):
-        """Makes a directory with these files."""
+        """Creates a directory with these files."""
         made = tempfile.mkdtemp(dir=self.directories.name)
         put_files(made, files)
         return made
 
     def directory(self, **files):
-        """Makes a directory with the keys, the data and these files."""
+        """Creates a directory with the keys, the data files and these files."""
         return self.fresh({HOME: None, **self.keys, **DATA, **files})
 
     def signed(self, *flags, **files):
-        """Makes such a directory with a signature of the data."""
+        """Creates a directory as `directory` does, and signs the file `data`."""
         directory = self.directory(**files)
         self.sign(directory, *flags)
         return directory
@@ -129,14 +131,14 @@ class Programs(Disturbing):
         return self.ours(directory, "-Sm", "data", "-s", OPEN, *flags, **how)
 
     def expect_accepted(self, directory, public):
-        """Both programs accept the signature of the data."""
+        """Checks that both programs accept the signature of the file `data`."""
         for run in (self.theirs, self.ours):
             ran = run(directory, "-Vm", "data", "-p", public)
             expect(ran.status == 0, f"{run.__name__} rejects the signature under {public}", ran)
 
     def expect_rejected(self, said, *arguments, files=None, status=2, **how):
-        """Runs c/minisign in a directory with these files. It exits with this status, its error output ends with
-        `said`, and it changes no file."""
+        """Runs c/minisign in a directory with these files. Checks that it exits with this status, that its error output ends with
+        `said`, and that it changes no file."""
         directory = self.directory(**(files or {}))
         before = files_in(directory)
         ran = self.ours(directory, *arguments, **how)
@@ -147,33 +149,33 @@ class Programs(Disturbing):
         return AtTerminal(["minisign", *arguments], self.program, directory, {"HOME": HOME, **environment})
 
     def asked(self, directory, *arguments, **environment):
-        """Starts a run at a terminal, and waits until it asks for a password."""
+        """Starts a run of c/minisign at a terminal, and waits until it asks for a password."""
         terminal = self.at_terminal(directory, *arguments, **environment)
         expect_prompt(terminal)
         return terminal
 
 
 def expect_prompt(terminal):
-    """The next password prompt is shown, and the terminal hides typed text."""
-    expect(terminal.expect(rb"Password[^:\n]*: $"), f"it never asked for a password: {terminal.shown!r}")
+    """Checks that the next password prompt appears and that the terminal hides typed text."""
+    expect(terminal.expect(rb"Password[^:\n]*: $"), f"no password prompt: {terminal.shown!r}")
     wait_until(lambda: not terminal.shows_typed(), "the terminal shows typed text")
 
 
 def expect_end(terminal, status, shown, typed=b""):
-    """Types this. The run exits with this status and has shown something that matches."""
-    found = terminal.finish(typed)
-    expect(found == status and re.search(shown, terminal.shown),
-           f"it exited with status {found} and showed {terminal.shown!r}, expected {status} and {shown!r}")
+    """Types `typed`. Checks that the run then exits with this status, and that its output matches the regular expression `shown`."""
+    actual = terminal.finish(typed)
+    expect(actual == status and re.search(shown, terminal.shown),
+           f"status {actual} and the output {terminal.shown!r}, expected status {status} and {shown!r}")
 
 
-# The least N that Minisign takes. It takes little time.
+# The least N that Minisign accepts, for fast tests.
 FEW_ROWS = 1024
-# A key of this much work is not really encrypted: no password decrypts it.
+# With at least this product of N and p, `sealed` does not derive a key, to save time. No password decrypts such a key.
 MUCH_WORK = 1 << 22
 
 
 def sealed(text, password, memory=1 << 24, rows=FEW_ROWS, times=1):
-    """Encrypts an unencrypted key under limits that lead to this N (rows) and p (times) of scrypt. The number of
-    operations determines N, unless the memory is that of N rows: then the memory determines N, and the operations p."""
+    """Encrypts an unencrypted key with limits from which Minisign computes N = `rows` and p = `times` of scrypt. The operations limit
+    determines N, unless the memory limit is that of N rows. Then the memory limit determines N, and the operations limit p."""
     limits = texts.Limits(memory, times * 8 * 4 * rows, rows, times)
     return texts.text_of(texts.sealed(record_of(text), password if times * rows < MUCH_WORK else None, limits))

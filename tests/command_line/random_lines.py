@@ -38,7 +38,7 @@ from texts import record_of, text_of, turned
 from command_breaking import TEMPORARY, is_secret
 from command_cases import keys_of
 from command_line import build_program, heed_signals
-from command_running import CLOSED, DATA, HOME, OPEN, OTHER, PASSWORD, PUBLIC, Step, Whole, put_files, run_steps
+from command_running import CLOSED, DATA, HOME, OPEN, OTHER, PASSWORD, PUBLIC, ProgramPaths, Step, put_files, run_steps
 
 LINES = 2000
 # After this many seconds no more lines are started. Fewer lines than FEWEST are a failure.
@@ -213,7 +213,7 @@ def failure_of_line(whole, before, seed, end, number):
 
 def run_all(seed, numbers, room):
     """Tries the lines, several at a time. Returns the failures and the number of lines."""
-    whole = Whole(needs.minisign(), build_program(room, f"CFLAGS={SANITIZED}", "C_CALLS="), build_preload(room, "fixed_sources"))
+    whole = ProgramPaths(needs.minisign(), build_program(room, f"CFLAGS={SANITIZED}", "C_CALLS="), build_preload(room, "fixed_sources"))
     failure_of = partial(failure_of_line, whole, files_before(whole), seed, time.time() + SECONDS)
     with concurrent.futures.ProcessPoolExecutor() as pool:
         tried = [failure for failure in pool.map(failure_of, numbers) if failure is not None]

@@ -33,12 +33,12 @@ WORD = "refused_allocations"
 # must fail (0: not checked). A key with the usual limits is decrypted with all scrypt rows, 32 MiB, in memory once. A key with
 # Minisign's limits is decrypted with every 16th row of 1 GiB. Limits that are rejected allocate no rows.
 WITHIN = [
-    ("a_key_with_the_usual_limits_opens_within_one_part", 40, 32),
-    ("a_key_of_the_c_program_opens_in_less_memory", 80, 64),
-    ("limits_are_refused_behind_a_typed_password", 8, 0),
+    ("opens_key_with_default_limits_within_one_part", 40, 32),
+    ("opens_key_of_minisign_in_less_memory", 80, 64),
+    ("rejects_limits_only_after_password_was_typed", 8, 0),
 ]
 # A test that makes exactly this many allocations: one for all rows of scrypt, and one for the buffer in which they are mixed.
-RESERVES, REQUESTS = "rows_are_reserved_in_one_request", 2
+RESERVES, REQUESTS = "reserves_all_rows_in_a_single_request", 2
 
 
 def listed_tests():

@@ -29,16 +29,16 @@ import named_errors
 import needs
 import real_runs
 import rows
-from asking import BY_NAME, rejected, spelled
+from asking import BY_NAME, encoded, rejected
 from process import run
 from sources import read
 
 LIST = "tests/library/vectors.txt"
 # The number of vectors in the list, so that removing one also means changing this.
 COUNT = 372
-# Made-up vectors, each with a fault: no such test, a wrong value, a value that only a comment has, a function that is not a test, a
-# test without any of the values, a row outside of a range, no value, and no test.
-FAULTY = (
+# Invalid vectors, which the checks have to reject. They name a test that does not exist, a wrong value, a value that occurs only in a
+# comment, a function that is not a test, a test without any of the values, a test case outside of a range, no value, or no test.
+INVALID_VECTORS = (
     "no row | 255\n    row hashing: number stored: -255",
     "no module | 255\n    row hash: number stored: 255",
     "no error | `out of memory`\n    error OutOfTime",
@@ -50,7 +50,7 @@ FAULTY = (
     "in a comment | The status lines after success\n    test signatures::published::copies_published_legacy_signature_without_seeking",
     "in a comment of a fact | RFC 7693, appendix A\n    fact minisign_hash: digest_of_abc",
     "no test | ToyScheme::with_table\n    test signatures::published::verified",
-    "in another test | sixteen == bytes\n    test hash::sizes_of_blake2b",
+    "in another test | sixteen == bytes\n    test hash::blake2b_sizes_are_those_of_the_rfc",
     "out of the range | ok\n    row public_keys: public box: the first {113..115} bytes",
     "in one of two tests | eq=1\n    row hashing: equal: b'abc' and b'abc'\n    row hashing: equal: b'abc' and b'abd'",
     "not in all of the range | ok\n    row public_keys: public box: the first {112..114} bytes",
@@ -60,11 +60,11 @@ FAULTY = (
 # The crate of the tests in Rattle, and the crates whose items these tests use.
 VECTORS = "minisign_vectors"
 USED = (VECTORS, "minisign_fixtures", "minisign_examples")
-# The script that runs the tests of each kind. `rt ci` runs the tests and the facts of all crates.
+# The script that runs the tests of each kind. The tests in Rattle and the facts of all crates are run by `rt ci`.
 RUN_BY = {"row": "tests/rows/rows.py", "error": "tests/rows/rows.py", "case": "tests/tool/real_runs.py",
           "edit": "tests/proofs/wrong_bodies.py", "fact": "tests/proofs/wrong_facts.py", "memory": "tests/library/refused_memory.py"}
-# Values of at least this length may occur inside of words.
-LONG = 12
+# Values of at least this length may be a part of a longer word.
+MIN_SUBSTRING = 12
 
 RATTLE = re.compile(r'//[^\n]*|b?"(?:[^"\\]|\\.)*"|b?\'(?:[^\'\\]|\\.)\'', re.S)
 ITEM = re.compile(r"(?m)^(?:#\[[^\n]*\]\n)*(?:pub )?(?:const fn|fn|const|static|type|struct|enum|trait|impl|mod|use|ghost use)\b")
@@ -99,10 +99,10 @@ def read_list(text):
     return [Vector(block) for block in re.split(r"\n(?=\S)", "\n".join(filter(None, lines)))]
 
 
-# == Rows and errors ==
+# == Test cases of tests/rows, and named errors ==
 
 def decoded(word):
-    """Returns a word of a request or response, followed by the text that it encodes if it is in hexadecimal."""
+    """Returns a word of a request or response. If its value is in hexadecimal, the text that it encodes follows."""
     name, is_value, value = word.rpartition("=")
     if not re.fullmatch(r"x(?:[0-9a-f]{2})*", value):
         return word
@@ -116,7 +116,7 @@ def rows_of(module):
     for row in importlib.import_module(module).ROWS if module in rows.MODULES else []:
         answer = rejected(row.answer) if isinstance(row.answer, str) else row.answer
         words = [*row.request.split(" "), "->", *answer.head.split(" "),
-                 *(f"{name}={spelled(value)}" for name, value in answer.values.items())]
+                 *(f"{name}={encoded(value)}" for name, value in answer.values.items())]
         text = " ".join(map(decoded, words))
         errors = [named[said] for said in re.findall(r" '(.*?)'|\"(.*?)\"", text) for said in said if said in named]
         texts[row.name] = " ".join([texts.get(row.name, ""), text, *errors, *([row.answer] if isinstance(row.answer, str) else [])])
@@ -145,13 +145,13 @@ def text_of_case(name):
 
 
 def text_of_run(crate):
-    """Returns the stored run of a program: its arguments, its input, its files, and its exit status if that is stored."""
+    """Returns the text of the stored run of a crate's program: its arguments, input and files, and its exit status if this is stored."""
     if not os.path.exists(f"crates/{crate}/args"):
         return None
-    with_files = [f"crates/{crate}/{name}" for name in ("args", "stdin", "stdout", "status")]
-    with_files += [f"crates/{crate}/data/{name}" for name in sorted(os.listdir(f"crates/{crate}/data"))]
+    paths = [f"crates/{crate}/{name}" for name in ("args", "stdin", "stdout", "status")]
+    paths += [f"crates/{crate}/data/{name}" for name in sorted(os.listdir(f"crates/{crate}/data"))]
     contents = []
-    for path in filter(os.path.exists, with_files):
+    for path in filter(os.path.exists, paths):
         with open(path, "rb") as file:
             data = file.read()
         contents += [os.path.basename(path), data.hex(), data.decode(errors="replace")]
@@ -180,7 +180,7 @@ def items_of(text):
 
 
 def imported(tree, before=""):
-    """Returns the names that a `use` imports, with their paths. `before` is the path in front of the tree."""
+    """Returns the paths of the names that a `use` imports, by name. `before` is the path that precedes the tree of names."""
     tree = " ".join(tree.split())
     head, brace, inner = tree.partition("{")
     if not brace:
@@ -230,7 +230,7 @@ def resolved(crate, module, name):
 
 
 def text_of_test(path):
-    """Returns the text of a test in Rattle and of all items that it uses. Its lists of bytes follow as hexadecimal digits."""
+    """Returns the text of a test in Rattle, with all items that it uses. The lists of bytes in it follow as hexadecimal digits."""
     module, _, name = path.rpartition("::")
     item = modules_of(VECTORS).get(module, ({}, {}))[0].get(name)
     if item is None or not item.startswith("#[test]\n"):
@@ -245,10 +245,10 @@ def text_of_test(path):
     return " ".join([" ".join(text.split()), *("".join(re.findall("0x([0-9a-f]{2})", listed)) for listed in BYTES.findall(text))])
 
 
-# == Facts and edits ==
+# == Facts and mutants ==
 
 def text_of_fact(name):
-    """Returns the text of a fact, given as `CRATE: NAME`. Its strings of spaced hexadecimal bytes follow without the spaces."""
+    """Returns the text of a fact (a proved equation), given as `CRATE: NAME`. Its strings of hexadecimal bytes follow without spaces."""
     crate, _, fact = name.partition(": ")
     path = f"crates/{crate}/proofs/Facts.antt"
     text = re.sub(r"(?m)(?<!\S)--(?=\s).*$", "", read(path)) if os.path.exists(path) else ""
@@ -258,14 +258,14 @@ def text_of_fact(name):
 
 
 def text_of_edit(name):
-    """Returns the text of a must-fail edit, given by crate and name, without the line that explains it."""
+    """Returns the text of a mutant that a proof must reject, given by crate and name, without the line that explains it."""
     crate, _, edit = name.partition("/")
     path = next(filter(os.path.exists, (f"crates/{crate}/{kind}/{edit}.edit" for kind in ("wrong-bodies", "must-fail"))), None)
     return path and " ".join(line for line in read(path).splitlines() if not line.startswith("why:"))
 
 
 def text_of_memory(path):
-    """Returns the text of a test in Rattle whose allocations `refused_memory.py` lets fail: its name has the word of that script."""
+    """Returns the text of a test in Rattle in which `refused_memory.py` makes allocations fail. Its name contains WORD of that script."""
     tree = ast.parse(read(RUN_BY["memory"]))
     word = next((ast.literal_eval(node.value) for node in tree.body
                  if isinstance(node, ast.Assign) and ast.unparse(node.targets[0]) == "WORD"), None)
@@ -280,14 +280,14 @@ TEXT_OF = {"row": text_of_row, "error": text_of_error, "case": text_of_case, "ru
 
 def occurs(value, text):
     """Returns true if a text contains a value: a long one anywhere, a short one as a separate word."""
-    if len(value) >= LONG:
+    if len(value) >= MIN_SUBSTRING:
         return value in text
     return re.search(rf"(?<!\w){re.escape(value)}(?!\w)", text) is not None
 
 
 def faults_of(vector):
-    """Yields the faults of a vector. Each value has to occur in one of the tests, or in all tests of one range, and each test has to
-    contain one of the values."""
+    """Yields a text for each fault of a vector. Each value has to occur in one of the tests, or in all tests of a range, and each test has
+    to contain one of the values."""
     if not vector.covers:
         yield "no test covers it"
     if not vector.values and any(kind != "edit" for kind, _ in vector.covers):
@@ -308,7 +308,7 @@ def faults_of(vector):
 
 
 def missing_in_ci(kinds):
-    """Yields a text for each of these kinds of tests that CI does not run."""
+    """Yields a text for each of these kinds of tests that CI does not run, and for each missing crate of tests."""
     listed = run([needs.program("make", "make"), "-s", "-f", "tests/Makefile", "list"])[1].split()
     for kind in kinds:
         if kind in RUN_BY and RUN_BY[kind] not in listed:
@@ -333,8 +333,8 @@ def check_all(checks, _):
     for vector in vectors:
         faults = [*faults_of(vector)]
         checks.check(not faults, vector.name, "; ".join(faults))
-    for vector in map(Vector, FAULTY):
-        checks.check([*faults_of(vector)], f"the faulty vector `{vector.name}` is accepted")
+    for vector in map(Vector, INVALID_VECTORS):
+        checks.check([*faults_of(vector)], f"the invalid vector `{vector.name}` is accepted")
     covers = {(kind, each) for vector in vectors for kind, name in vector.covers for each in expanded(name)}
     print(f"{len(vectors)} vectors, covered by {len(covers)} tests")
 

@@ -1,5 +1,5 @@
-"""Checks what only Chromium's DevTools protocol can observe: network requests, browsers with missing features, narrow
-screens, the keyboard and screen readers, and dropped directories.
+"""Checks that need Chromium's DevTools protocol: network requests, browsers that lack a feature, narrow screens, the
+keyboard, screen readers, and dropped directories.
 """
 
 import os
@@ -12,7 +12,7 @@ from views import NARROW
 
 
 def check_network(person):
-    """The page works without a network, and with one it requests nothing but itself."""
+    """The page works without a network. With a network, it requests only its own address."""
     paths = person.signed("data", b"data", trusted="t")
     person.command("Network.enable")
     network = {"latency": 0, "downloadThroughput": -1, "uploadThroughput": -1}
@@ -33,8 +33,9 @@ def check_network(person):
 
 
 def check_missing_features(person):
-    """If the browser lacks a feature, the page names it and accepts no files. (help_texts.py has features that a server forbids.)"""
-    for script, wanted, unwanted in (
+    """If the browser lacks a feature, the page names this feature and accepts no files. (help_texts.py has features that a server
+    forbids.)"""
+    for script, named, not_named in (
             ("WebAssembly.validate = () => false;", "WebAssembly", "Ed25519"),
             ("delete globalThis.WebAssembly;", "WebAssembly", "Ed25519"),
             ("crypto.subtle.importKey = async () => { throw new DOMException('no', 'NotSupportedError'); };", "Ed25519", "WebAssembly"),
@@ -43,45 +44,45 @@ def check_missing_features(person):
             ("WebAssembly.instantiate = async () => { throw new RangeError('memory'); };", "cannot run the proved library", "lacks")):
         number = person.command("Page.addScriptToEvaluateOnNewDocument", source=script)["identifier"]
         person.open()
-        person.says("lacking", f"after {script}", wanted, lacks=[unwanted])
+        person.says("lacking", f"after {script}", named, lacks=[not_named])
         person.same((*map(person.is_shown, STATES), person.rows()), (True, False, []),
-                    f"after {script}: if {STATES} are shown, and the rows")
+                    f"after {script}: True for each of {STATES} that is shown, and the rows")
         person.command("Page.removeScriptToEvaluateOnNewDocument", identifier=number)
 
 
 def check_narrow_screen(person):
-    """Nothing is cut off on a narrow screen with letters of twice the size, and all texts have enough contrast, also in forced
+    """On a narrow screen, even with a font of twice the size, no text is cut off. All texts have enough contrast, also with forced
     colours."""
     person.open()
     person.choose_key(person.put(f"{'k' * 60}.pub", person.first.text))
     person.choose(*person.signed(f"Update-1.0-{'long' * 20}.tar.gz", b"data", trusted=f"timestamp:1\tfile:{'y' * 80}"),
                   *person.signed("foreign", b"data", key="second"), person.put("alone", b"x"), person.put("other.pub", person.first.text))
     person.same(len(person.settled("a narrow screen")), 3, "a narrow screen: the number of rows")
-    for letters in ("", "200%"):
-        person.run("document.documentElement.style.fontSize = arguments[0]", letters)
+    for font_size in ("", "200%"):
+        person.run("document.documentElement.style.fontSize = arguments[0]", font_size)
         for size in ((), NARROW):
             person.resize(*size)
-            what = f"letters of {letters or '100%'} at {size}"
+            what = f"a font size of {font_size or '100%'} in a window of {size}"
             person.same((person.see("fits"), person.see("cutOffParts")), (True, []),
-                        f"{what}: if rows fit, and the elements that are cut off")
+                        f"{what}: True if the rows fit, and the elements that are cut off")
     person.resize()
     person.run("document.documentElement.style.fontSize = ''")
     person.same(person.wrong_looks(), [], "low contrasts and missing borders")
 
 
 def check_keyboard_and_screen_reader(person):
-    """The page can be used by keyboard and with a screen reader, and its two sentences about what it does not show are complete.
-    (views.py has the order of elements for the keyboard.)"""
+    """The page can be used by keyboard and with a screen reader. It has both sentences about what it does not show. (views.py checks the
+    order in which Tab moves the focus.)"""
     person.open()
-    for name, wanted in (("of-the-key", "that the key is the right one"), ("of-the-page", "that the page itself is genuine")):
+    for name, words in (("of-the-key", "that the key is the right one"), ("of-the-page", "that the page itself is genuine")):
         text = person.text_of(name)
-        person.check(wanted in text and text.endswith("."),
-                     f"what the page does not show: {text!r}, expected sentences with {wanted!r}")
+        person.check(words in text and text.endswith("."),
+                     f"the list of what the page does not show has {text!r}, expected a sentence with {words!r}")
     person.run("document.body.focus()")
-    person.same(person.tab(), "key-text", "the first element for the keyboard")
+    person.same(person.tab(), "key-text", "the element with the focus after the first Tab")
     person.press(person.first.line)
     person.says("key-said", "a key that is typed", begins="Key ")
-    person.same(person.tab(), "key-file", "the second element for the keyboard")
+    person.same(person.tab(), "key-file", "the element with the focus after the second Tab")
     outline = person.run("return getComputedStyle(document.querySelector('#key-file + label')).outlineStyle")
     person.same(outline, "solid", "the outline of the element with the focus")
     person.choose(*person.signed("data", b"data", trusted="t"), *person.pair("bad", b"bad", person.sign(b"data", trusted="t")))
@@ -90,7 +91,7 @@ def check_keyboard_and_screen_reader(person):
     wanted = {("textbox", "Paste the content of the public key file, or only its line of 56 characters", None), ("button", "Clear the list", None),
               ("main", "", None), ("heading", "3. The result", 2), ("heading", "Verified data", 3), ("heading", "NOT verified bad", 3)}
     announced = {(role, name, properties.get("level")) for role, name, properties in nodes}
-    person.same(wanted - announced, set(), "the nodes that are missing for screen readers")
+    person.same(wanted - announced, set(), "the nodes that screen readers do not find")
     focusable = [(role, name.strip()) for role, name, properties in nodes if properties.get("focusable")]
     for part in ("minisign.pub", ".minisig"):
         person.check(any(part in name for _, name in focusable), f"no focusable element for screen readers names {part}: {focusable}")
@@ -103,11 +104,11 @@ def check_keyboard_and_screen_reader(person):
     person.check(re.fullmatch(form, log), f"the log for screen readers is {log!r}, expected {form!r}")
     person.run("document.getElementById('clear').focus()")
     person.press(person.ENTER)
-    person.same((person.rows(), person.focus()), ([], "files"), "a list that was cleared by the keyboard, and the focus after that")
+    person.same((person.rows(), person.focus()), ([], "files"), "the rows after the list was cleared by keyboard, and the element with the focus")
 
 
 def check_release_for_screen_readers(person):
-    """Screen readers find the files of a release with their states and links, and each field of the form for a project's page by its name."""
+    """Screen readers find the files of a release with their states and links, and the name of each field in the form that saves a page."""
     release = Release(person)
     person.open(built(release, "--name", "Example", "--version", "1.2.3", "--link", f"{ZIP}={LINK}"))
     release.drop(ZIP, None, "screen readers", verdict="good")
@@ -125,11 +126,11 @@ def check_release_for_screen_readers(person):
     person.click("own-save")
     person.wait(lambda: person.text_of("own-said") != "")
     person.check(any(role == "status" and properties.get("live") == "polite" for role, _, properties in person.nodes()),
-                 "the form: what is said is not read by screen readers")
+                 "the form: screen readers do not announce its messages")
 
 
 def check_dropped_directories(person):
-    """The page reports a dropped directory, and removes the message when the next files come."""
+    """The page shows a message if a directory is dropped, and removes the message when files are dropped."""
     path = person.put("data", b"data")
     person.open()
     for place in ("downloads", "downloads", "key"):
@@ -138,4 +139,4 @@ def check_dropped_directories(person):
                     ("This page cannot verify a folder. Open the folder, select the files in it, and drop those here.", []),
                     f"a directory that is dropped on {place}")
     person.drop("downloads", path)
-    person.same((person.text_of("files-said"), len(person.rows())), ("", 1), "the message after the next files")
+    person.same((person.text_of("files-said"), len(person.rows())), ("", 1), "the message and the number of rows after a file was dropped")

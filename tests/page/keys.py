@@ -1,5 +1,5 @@
-"""Checks that a key that the user gave is kept, that each verdict says if the key came with the files or the link, and what
-the page reads in trusted comments.
+"""Checks that no other key replaces a key that the user gave, that each verdict says if the key came with the files or the link,
+and that the page compares the file name in the trusted comment.
 """
 
 from person import WITH_FILES, Key
@@ -15,7 +15,8 @@ def with_key_id_of(own, foreign):
 
 
 def attack(person, good):
-    """Writes an attacker's file, signature and key, all with the key ID of the project's key. Returns their paths and the key."""
+    """Writes an attacker's file, signature and key. The signature and the key have the key ID of the project's key. Returns the paths, and
+    the key."""
     foreign = with_key_id_of(person.first.text, person.second.text)
     harmful = with_key_id_of(good, person.sign(b"harmful", key="second", trusted="t"))
     data, sig = person.pair("update.zip", b"harmful", harmful)
@@ -23,8 +24,8 @@ def attack(person, good):
 
 
 def check_given_key_is_kept(person):
-    """A key that the user gave is not replaced by a key that comes with files, and a different key with the same key ID is not
-    mistaken for it."""
+    """A key that the user gave is not replaced by a key that comes with the files. A different key with the same key ID is not taken for
+    it."""
     own, good, my_key = person.first, person.sign(b"update", trusted="t"), person.put("my.pub", person.first.text)
     theirs, _ = attack(person, good)
     person.open()
@@ -43,7 +44,7 @@ def check_given_key_is_kept(person):
 
 
 def check_key_with_files(person):
-    """If the user gave no key, a single key that comes with files is used, and each verdict first says so."""
+    """If the user gave no key and one key comes with the files, the page uses it, and each verdict begins with a warning about that."""
     good, my_key = person.sign(b"update", trusted="t"), person.put("my.pub", person.first.text)
     theirs, foreign = attack(person, good)
     person.open()
@@ -77,8 +78,8 @@ def check_key_with_files(person):
 
 
 def check_key_field(person):
-    """The text in the key's field is kept, even if it is not a key. As long as it is there, no key that comes with files is used, and the
-    page says so."""
+    """The page does not change the text in the field for the key, even if it is not a key. As long as the field has a text, the page ignores
+    keys that come with the files, and says so."""
     own, paths = person.first, person.signed("update.zip", b"update", trusted="t")
     keys = [person.put(name, own.text) for name in ("minisign.pub", "other.pub")]
     person.open()
@@ -93,7 +94,7 @@ def check_key_field(person):
             person.same(seen, (text, said, False), f"{what}: the field")
             ignored = "{} came with the files and was ignored: the text in the field above is not a key. Correct that text, or clear the field."
             person.says("files-said", what, *(ignored.format(name) for name in ("minisign.pub", "other.pub")[:len(given)]))
-    # White space counts as an empty field, because the user cannot see it.
+    # White space is treated like an empty field, because the user cannot see it.
     person.type_key(" \n")
     person.drop("downloads", keys[0])
     person.only("an empty field", verdict="unchecked")
@@ -104,8 +105,8 @@ def check_key_field(person):
 
 
 def check_keys_in_links(person):
-    """Only the 56 letters of a key are read from a link, and a link that changes later resets the page. (project_page.py has links
-    with a signature.)"""
+    """The page takes only the 56 characters of a key from a link, and no other text. If the link changes later, the page starts again.
+    (project_page.py has links with a signature.)"""
     first, second = person.first.line, person.second.line
     escaped = first.replace("+", "%2B").replace("/", "%2F")
     for part in (escaped, f"key={first}", f"key={escaped}", f"key={first}&later=more", f"later=more&key={first}"):
@@ -131,8 +132,9 @@ def check_keys_in_links(person):
     person.uses(person.second, what)
 
 
-# File names and trusted comments. In DIFFERENT the signed name is different. In SIMILAR it differs only by directories in the signed
-# name, or by the suffix of a second download, a number of at most two digits, which is allowed. In SAME it is the same, or missing.
+# File names, and trusted comments with the signed names. In DIFFERENT the names are different. In SIMILAR the signed name has directories, or
+# the file name has the suffix of a second download, a number of at most two digits; these differences are allowed. In SAME the names are
+# the same, or the comment has no name.
 DIFFERENT = {"b.zip": "timestamp:1700000000\tfile:a.zip", "c.zip": "file:\u202ec.zip", "l (1).zip": "file:m.zip", "n.zip": "file:n.zip.exe",
              "o1.zip": "file:o (1).zip", "p.zip": "file:p.zip/q", "App (2025).zip": "file:App (2024).zip", "q (2024).zip": "file:q.zip",
              "r (100).zip": "file:r.zip", "s (1) (2).zip": "file:s.zip", "t(1)(2).tar.gz": "file:t.tar.gz", "u.zip": "file:u (1).zip",
@@ -146,8 +148,8 @@ SAME = {"a.zip": "timestamp:1700000000\tfile:a.zip\thashed", "caf\u00e9": "file:
 
 
 def check_signed_names(person):
-    """A file with another name than the signed one is not reported as verified, but the page shows its signer and the comment. White
-    space at the ends of a signed comment is rejected."""
+    """A file whose name differs from the signed name is not reported as verified, but the page shows the signer and the comment. A signed
+    comment with white space at its beginning or end is rejected."""
     data = b"update"
     person.begin(person.first.line)
     for name, comment in {**DIFFERENT, **SIMILAR, **SAME}.items():
@@ -163,7 +165,7 @@ def check_signed_names(person):
     for name, words in (("a.zip", "signed on 2023-11-14, 22:13 UTC."), ("b.zip", f"{NAMED}a.zip."), ("c.zip", "U+202Ec.zip"),
                         ("i.zip", f"{NAMED}dist/i.zip.")):
         person.expect(rows[name], f"the signed name of {name}, or the time", has=[words])
-    # If the user did not give the key, this is said first.
+    # If the key came with the files, the warning about that comes before the one about the name.
     what = "another name, under a key that came with the files"
     person.begin("", *person.signed("b.zip", data, trusted="file:a.zip"), person.put("minisign.pub", person.first.text), anew=False)
     person.only(what, verdict="unchecked", number=0, has=[f"{NAMED}a.zip. {OTHER_FILE}"])

@@ -3,10 +3,11 @@
 
     tests/page/page.py [PAGE] [WORD ..]
 
-PAGE is by default the one of `dist/`; `tools/dist.py --check` compares that with what `page/build.py` builds, and wide_module.py
+By default PAGE is that of `dist/`. `tools/dist.py --check` checks that `page/build.py` builds the same page, and wide_module.py
 compares its module with the proved one. The modules of this directory contain the tests. With words, only the steps run whose
-names contain one of them. To test changed sources of the page, pass a PAGE that `page/build.py` has built from them; it needs no kit. The
-patches of the directory `mutants` each break one thing in the sources; a step has to detect each of them. It prints a line for each failure; the last line is `N passed, M failed`.
+names contain one of them. To test changed sources of the page, pass a PAGE that `page/build.py` has built from them, without the Rattle
+kit. Each patch of the directory `mutants` breaks one thing in the sources, and a step has to detect it. The script prints a
+line for each failure; the last line is `N passed, M failed`.
 
 Needs Python 3.9 or later, chromium, chromium-driver, firefox-esr, binaryen, clang, a C compiler, make, libsodium with its header and
 minisign 0.11. It installs what is missing if it may.
@@ -67,7 +68,7 @@ def run_step(person, step, begin):
 
 
 def run_in(begin):
-    """Starts a browser by `begin` and runs all selected steps. The mutants are tried in Chromium."""
+    """Starts a browser by `begin` and runs all selected steps. In Chromium it also checks the mutants."""
     person = begin()
     try:
         for what, step in steps_in(person):

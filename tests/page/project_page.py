@@ -141,8 +141,8 @@ def check_signature_by_name(person, release):
 
 
 def check_given_signatures(person, release):
-    """Built-in signatures are tried before one that is dropped or in the link. A file that only the latter fits is reported as signed by
-    this key, but not part of this release. A key that comes with the files is ignored."""
+    """Built-in signatures are used before one that is dropped or in the link. A file for which only a signature of the second kind is valid
+    is reported as signed by this key, but not part of this release. A key that comes with the files is ignored."""
     old, other_key = release.sign(ZIP, b"older"), release.sign(ZIP, b"older", "second")
     older = {"verdict": "unlisted", "number": 0, "cautions": [UNLISTED]}
     signature = with_record(old, 1, b"XX" + record_of(old)[2:])

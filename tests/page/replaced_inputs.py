@@ -1,9 +1,9 @@
-"""Checks that verdicts disappear at once when the key, the file, the signature or the pasted signature is replaced, even
-while the replacement is still being read, and that the page never asks for an input that is being read.
+"""Checks that old verdicts disappear at once when the user replaces the key, a file, its signature or the pasted signature,
+even while the replacement is still being read, and that the page never asks for an input that is being read.
 """
 
 from person import NEXT, WAIT as WAITS
-from robustness import HOW_FAR, LONG_BYTES
+from robustness import LONG_BYTES, VERDICT_OR_PROGRESS
 
 MISSING = "Its signature is missing"
 
@@ -15,8 +15,8 @@ def verdicts(person):
 
 
 def check_replaced_files(person):
-    """With a slow disk: if a file, its signature or the key is replaced, the rows that the replacement may affect have no verdict until
-    the page has read it. Other rows keep their verdicts."""
+    """If a file, its signature or the key is replaced and the disk is slow, the rows that the replacement may affect have no verdict until the
+    page has read it. Other rows keep their verdicts."""
     good, other = person.signed("a.zip", b"good", trusted="t"), person.signed("b.zip", b"other", trusted="t")
     evil = person.pair("a.zip", b"evil", person.sign(b"good", trusted="t"))
     renamed = person.put("a.zip.sig", person.sign(b"x", trusted="t")), person.put("A (1).ZIP.minisig", person.sign(b"x", trusted="t"))
@@ -34,13 +34,13 @@ def check_replaced_files(person):
              {"a.zip": "good", "b.zip": "good", "c.zip": "waiting"}),
             ("the key", person.choose_key, (second,), both, {"a.zip": "bad", "b.zip": "bad"}),
             ("the key, dropped", person.drop, ("key", second), both, {"a.zip": "bad", "b.zip": "bad"}),
-            ("the key by another file", person.choose_key, (no_key,), both, {"a.zip": "waiting", "b.zip": "waiting"})):
+            ("the key, by a file without a key", person.choose_key, (no_key,), both, {"a.zip": "waiting", "b.zip": "waiting"})):
         person.begin(person.first.line, *good, *other, anew=what == "a file and its signature")
         person.expect_each("verdict", {"a.zip": "good", "b.zip": "good"}, f"before {what} is replaced")
         with person.with_held_files():
             act(*given)
             seen, step = verdicts(person)
-            # A row may already be read. Neither state is a verdict.
+            # A file that was queued may already be being read. Neither state is a verdict.
             seen = {name: "queued" if verdict == "reading" else verdict for name, verdict in seen.items()}
             person.same(seen, at_once, f"{what} is replaced, and being read")
             several = sum(verdict == "queued" for verdict in at_once.values()) > 1
@@ -75,8 +75,8 @@ def check_queued_actions(person):
 
 
 def check_while_verifying(person):
-    """While a large file is verified, the user chooses a file as the key that is not a key, or drops the large file again. Then no old
-    verdict is left, and no row is without a state. The band names the file that is being read and asks to wait, although another file
+    """While a large file is verified, the user chooses a key file that has no key, or drops the large file again. Then no old verdict is
+    left, and every row has a state. While the large file is read, the band names it and tells the user to wait, although another file
     lacks its signature."""
     paths, small = person.sparse("long", LONG_BYTES), person.signed("small", b"small", trusted="t")
     lone, no_key = person.put("lone.txt", b"lone"), person.put("photo.jpg", b"\xff" * 70000)
@@ -86,8 +86,9 @@ def check_while_verifying(person):
         person.expect_each("verdict", {"small": "good", "lone.txt": "waiting"}, "before the large file")
         person.choose(*paths)
         person.wait(lambda: person.run("return (document.querySelector('progress')?.value ?? 0) > 0"))
-        person.check(person.see("band") == ["reading", "\u2026 Not verified yet (1 of 3 files): long", WAITS[0]] or person.run(HOW_FAR) is True,
-                     f"the band while a large file is read: {person.see('band')}")
+        band = ["reading", "\u2026 Not verified yet (1 of 3 files): long", WAITS[0]]
+        person.check(person.see("band") == band or person.run(VERDICT_OR_PROGRESS) is True,
+                     f"the band while a large file is read: {person.see('band')}, expected {band}")
 
     begin()
     person.choose_key(no_key)
@@ -100,7 +101,7 @@ def check_while_verifying(person):
 
 
 def check_signature_field(person):
-    """Any change of a pasted signature removes its verdict, and pasting the signature again restores it."""
+    """Any change of the pasted signature removes the verdict, and pasting the valid signature again restores it."""
     path, text = person.put("update.zip", b"data"), person.sign(b"data", trusted="t").decode()
     person.begin(person.first.line, path)
     for what, typed, verdict, has in (

@@ -1,5 +1,5 @@
-"""Checks that the page verifies files with a signed list, such as SHA256SUMS: on the general page, on the page of a release, and on a saved
-page. A renamed file is found by its digest, and the page says which file of the list it is.
+"""Checks that the page verifies files with a signed list, such as SHA256SUMS, on the general page, the page of a release, and a saved page.
+A renamed file is found by its digest, and the page shows its name in the list.
 """
 
 import hashlib
@@ -17,15 +17,15 @@ TWICE = "twice.txt"
 
 
 def line_of(name, data, kind="sha256"):
-    """Returns an entry: in the form of sha256sum, or with the name of the hash function."""
+    """Returns a line of a list: for SHA-256 as sha256sum writes it, otherwise with the name of the hash function."""
     digest = getattr(hashlib, kind)(data).hexdigest()
     return f"{digest}  {name}\n" if kind == "sha256" else f"{kind.upper().replace('BLAKE2B', 'BLAKE2b')} ({name}) = {digest}\n"
 
 
-# The entries have all hash functions. One name is listed twice.
+# A list with all hash functions, in which one name occurs twice.
 TEXT = "# a release\n" + "".join(line_of(name, data, kind) for (name, data), kind in zip(FILES.items(), (
     "sha256", "sha512", "blake2b", "sha256", "sha512"))) + 2 * line_of(TWICE, b"twice")
-# Files that are dropped, without signatures, and the verdict, the error number and words of the row of each.
+# Files without signatures that are dropped: the name, the data, and the verdict, the error code and words of the row that the page shows.
 ROWS = (
     (NEW, FILES[NEW], "good", 0, [f"the list {LIST} has as {NEW}", "signed on 2023-11-14"]),
     ("app-1.0 (1).zip", FILES[OLD], "good", 0, [f"has as {OLD}"]),
@@ -51,7 +51,7 @@ def put_list(person, text=TEXT, name=LIST, comment=COMMENT, key="first"):
 
 
 def check_listed_files(person):
-    """Each file is verified by the list, and neither the name alone nor the content alone is enough."""
+    """Each file is verified with the list. A file is not reported as verified if only its name or only its content is in the list."""
     paths = put_list(person)
     person.begin(person.first.line, *paths)
     person.named(LIST, "a list", verdict="good", number=0, cautions=[], has=["This is a list of 7 files."])
@@ -63,7 +63,7 @@ def check_listed_files(person):
 
 
 def check_order_of_files(person):
-    """The order in which the list and the files come makes no difference. Without the list, or under another key, nothing is verified."""
+    """The list and its files can be dropped in any order. Without the list, or with another key, no file is verified."""
     data, (list_path, signature) = person.put(NEW, FILES[NEW]), put_list(person)
     person.begin(person.first.line, data)
     person.only("a file before its list", verdict="waiting", has=["Its signature is missing."])
@@ -81,7 +81,7 @@ def check_order_of_files(person):
     person.expect_each("verdict", {NEW: "waiting", LIST: "bad"}, "a list that was changed")
     person.begin(person.first.line, data, list_path, signature)
     person.expect_each("verdict", {NEW: "good", LIST: "good"}, "all at once")
-    # A file with its own signature is verified by that.
+    # A file with its own signature is verified with this signature.
     person.begin(person.first.line, list_path, signature, *person.signed("own.zip", b"own", trusted="file:own.zip"))
     person.expect_each("verdict", {"own.zip": "good", LIST: "good"}, "a file with its own signature")
     person.begin("", data, list_path, signature, person.put("minisign.pub", person.first.text))
@@ -89,7 +89,7 @@ def check_order_of_files(person):
 
 
 def check_lists_that_are_not_used(person):
-    """A file that is signed but is not a list under its name verifies no other file, and the page says why."""
+    """A signed file with a malformed line, or whose trusted comment does not name it, is not used as a list, and the page says why."""
     data = person.put(NEW, FILES[NEW])
     for what, how, words in (
             ("a malformed line", {"text": TEXT + "MD5 (b) = 00\n"}, ["Line 9: ", "It is not a line of a list."]),
@@ -112,7 +112,7 @@ def built(person, release, *words, text=TEXT, comment=COMMENT):
 
 
 def check_release_with_list(person):
-    """The page of a release with a list asks only for the downloads, and marks each file of the list."""
+    """The page of a release with a list asks only for the downloads, and shows the state of each file of the list."""
     release, names = Release(person), [*FILES, TWICE, TWICE]
     address, _ = built(person, release, "--name", "Example", "--version", "2", "--link", f"{NEW}=dl/{NEW}")
     person.open(address)
@@ -129,7 +129,7 @@ def check_release_with_list(person):
     states = {name: verdict for name, verdict, *_ in person.see("releaseList")[1]}
     person.same(states, {**dict.fromkeys(names, "waiting"), NEW: "good", OLD: "bad"}, "several files of a release: the states")
     person.click("clear")
-    # Neither a file with its own signature nor one of an older list is part of the release.
+    # Files that are not in the list of the release are not reported as part of it, even with their own signature or an older list.
     person.drop("downloads", *person.signed("own.zip", b"own", trusted="file:own.zip"))
     person.only("a file with its own signature", verdict="unlisted")
     person.drop("downloads", *put_list(person, line_of("older.zip", b"older"), name="OLDSUMS", comment="file:OLDSUMS"), person.put("older.zip", b"older"))
@@ -137,7 +137,7 @@ def check_release_with_list(person):
 
 
 def check_invalid_built_in_lists(person):
-    """A page with a list that is not valid verifies no file of it, and says so. build.py rejects what it can see to be wrong."""
+    """A page with an invalid list verifies no file of it, and says so. build.py rejects the errors that it can detect without Ed25519."""
     release = Release(person)
     path, signature = put_list(person)
     changed = person.put(LIST, TEXT.replace("version", "x").encode() + line_of("more", b"").encode())
@@ -160,7 +160,7 @@ def check_invalid_built_in_lists(person):
 
 
 def check_saved_list(person):
-    """A page that is saved with a list has the bytes of build.py. A list that is not valid is not saved."""
+    """A page that is saved with a list has the same bytes as the page that build.py writes. No page is saved with an invalid list."""
     release = Release(person)
     _, path = built(person, release, "--name", "Example", "--link", f"{NEW}=dl/{NEW}", f"{OTHER}=x")
     signature = f"{path}.minisig"

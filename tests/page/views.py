@@ -1,5 +1,5 @@
-"""Checks how verdicts look: the first one scrolls into view, and verdicts can be told apart in light, dark and forced
-colours, in low windows and on paper.
+"""Checks that users can see verdicts: the first one scrolls into view, and different verdicts look different in light, dark and forced
+colours, in windows of little height, and on paper.
 """
 
 import contextlib
@@ -7,10 +7,10 @@ import contextlib
 from person import MIN_CONTRAST, HEADINGS
 from texts import lines
 
-# The window sizes of a small phone, a larger phone and a computer; and a narrow screen.
+# The window sizes of a small phone, a larger phone and a computer; and that of a narrow screen, for other modules.
 WINDOWS, NARROW = ((360, 640), (390, 844), (1366, 657)), (320, 640)
-# The rows and the band, and the side on which each has a border.
-PLACES = (("#verdicts > li", "Left"), ("#band", "Bottom"))
+# Selectors of the rows and the band, and the side on which they have a border in the colour of the verdict.
+BORDERS = (("#verdicts > li", "Left"), ("#band", "Bottom"))
 
 
 def check_verdict_in_view(person):
@@ -38,11 +38,11 @@ def check_verdict_in_view(person):
 
 
 def check_band(person):
-    """The worst verdict is always at the top of the window. The three verdicts differ in colours, words, signs and lines; with forced
-    colours they still differ in words, signs and lines."""
+    """The band at the top of the window always shows the worst verdict. The three verdicts have different colours, words, signs and borders.
+    With forced colours they still have different words, signs and borders."""
     key, fits = person.first.line, person.signed("fits", b"x", trusted="t")
     fails = person.pair("fails", b"y", person.sign(b"x", trusted="t"))
-    seen = {(place, is_forced): {} for place in PLACES for is_forced in (False, True)}
+    seen = {(place, is_forced): {} for place in BORDERS for is_forced in (False, True)}
     person.open()
     person.expect_each("verdict", {}, "the band without a file")
     person.choose(*fits)
@@ -72,8 +72,8 @@ def check_band(person):
 
 
 def check_low_window(person):
-    """With every verdict the band takes at most a quarter of the window, and shows the verdict, the first file and the next step. A
-    window of 320 by 256 is one of 1280 by 1024 with a zoom of 400 %."""
+    """With every verdict, the band covers at most a quarter of a window of little height, and shows the verdict, the first file and the next
+    step. A window of 320 by 256 pixels is what remains of 1280 by 1024 with a zoom of 400 %."""
     person.begin(person.first.line, *person.signed("Example-1.0-x86_64.tar.gz", b"x", trusted="t"),
                  *person.signed("b.zip", b"x", trusted="t"))
     person.settled("a low window")
@@ -82,11 +82,13 @@ def check_low_window(person):
         for verdict in HEADINGS:
             share, wrong = person.see("bandWith", verdict)
             person.check(share <= 0.25 and not wrong,
-                         f"the band with the verdict {verdict} at {size} takes {share:.3f} of the window: {wrong}")
+                         f"the band with the verdict {verdict} at {size} covers {share:.3f} of the window, expected at most 0.25, "
+                         f"and has these faults: {wrong}")
 
 
 def check_printed(person):
-    """On paper, where browsers print no backgrounds, the texts of each verdict have enough contrast, and the band covers nothing."""
+    """When the page is printed, where browsers omit backgrounds, the texts of each verdict have enough contrast, and the band does not cover
+    other elements."""
     person.begin(person.first.line, *person.signed("fits", b"x", trusted="t"))
     person.settled("on paper")
     for verdict in HEADINGS:
@@ -102,7 +104,7 @@ def check_printed(person):
 
 
 def check_focus(person):
-    """The element with the focus is not hidden by the band, also when the user moves backwards by keyboard."""
+    """The band does not cover the element with the focus, even when the user moves backwards with Shift+Tab."""
     paths = [path for name in "abcd" for path in person.signed(name, b"x")]
     for size in WINDOWS:
         person.resize(*size)
@@ -111,21 +113,21 @@ def check_focus(person):
         person.run("document.getElementById('clear').focus()")
         for name in ("comment",) * 4 + ("signature-text", "files", "key-remove", "key-file", "key-text"):
             focused = person.tab(held=person.SHIFT)
-            # (a browser may scroll a moment after it has moved the focus)
+            # A browser may scroll some time after it has moved the focus.
             with contextlib.suppress(TimeoutError):
                 person.wait(lambda: not person.see("isFocusBehind"), seconds=10)
             seen = focused, person.see("isFocusBehind")
-            person.same(seen, (name, False), f"Shift+Tab at {size}: the element with the focus, and if the band hides it")
+            person.same(seen, (name, False), f"Shift+Tab at {size}: the element with the focus, and True if the band covers it")
 
 
 def check_labels(person):
-    """Names, keys and comments are excluded from translation, sizes have the right plural, and all buttons look the same."""
+    """Browsers do not translate names, keys and comments. Sizes have the correct plural, and all buttons have the same style."""
     key_id, other_id = (lines(key.text)[0].rpartition(b" ")[2].decode() for key in (person.first, person.second))
     person.begin(person.first.line, *person.signed("namewise", b"x", trusted="commentwise"), person.put("otherwise.pub", person.first.text))
     person.choose(*person.signed("badwise", b"xy", key="second"))
     person.choose(person.put("alonewise", b""))
     rows = {row.name: row for row in person.settled("words")}
-    person.same(rows["badwise"].text.count(other_id), 1, "how often the row has the signature's key ID")
+    person.same(rows["badwise"].text.count(other_id), 1, "the number of times that the row has the signature's key ID")
     words = ["namewise", "badwise", "alonewise", "otherwise", "commentwise", "minisign.pub", ".minisig", key_id, other_id]
     person.same(person.see("translatableTexts", [*words, person.first.line]), [], "texts that a browser may translate")
     for name, length in (("namewise", "1 byte"), ("badwise", "2 bytes"), ("alonewise", "0 bytes")):

@@ -1,7 +1,7 @@
 """Encodes requests to the program `minisign_compare`, and the expected responses.
 
-compare/oracle/README.md describes the requests. Their words are given here as bytes or texts, which are sent in
-hexadecimal, as numbers, flags or None, or as one of the devices below.
+compare/oracle/README.md describes requests and responses. A request is a name followed by words. In the test cases a word
+is bytes or a text, which are sent in hexadecimal digits; a number, a flag or None; or a `Word`, such as a data source.
 """
 
 import base64
@@ -15,34 +15,34 @@ class Word(str):
 
 
 NOTHING_TYPED = Word("-")
-# Random bytes that count up from 0 and wrap around.
+# A source of random bytes that returns 0, 1, 2 .. 255, 0 ..
 COUNTING = Word("c0")
 
 
 def typed(*lines):
-    """Returns typed lines, each of which ends with a line feed."""
-    return Word(",".join(map(spelled, lines)))
+    """Returns the lines that the user types at a prompt. Each must end with a line feed."""
+    return Word(",".join(map(encoded, lines)))
 
 
-def data(content, **devices):
-    """Returns a data source. `pos` is the offset of the first read, `chunk` the most bytes that a read returns, `fail` the number of
-    the read that fails, counted from 1, and `second` the content after rewinding. Those that are None are left out."""
-    parts = [f"{name}={spelled(value)}" for name, value in devices.items() if value is not None]
-    return Word(",".join([spelled(content), *parts]))
+def data(content, **options):
+    """Returns a reader for data. `pos` is the offset of the first read, `chunk` the maximum number of bytes that a read returns, `fail`
+    the number of the read that fails, counted from 1, and `second` the content after rewinding. Options that are None are not sent."""
+    parts = [f"{name}={encoded(value)}" for name, value in options.items() if value is not None]
+    return Word(",".join([encoded(content), *parts]))
 
 
-def sink(room=None, is_flushed=True):
-    """Returns a sink that takes `room` bytes, or any number. Its flush fails if `is_flushed` is false."""
-    return Word(("" if is_flushed else "f") + ("-" if room is None else str(room)))
+def sink(size=None, flushes=True):
+    """Returns a writer on which writes beyond `size` bytes fail, unless `size` is None. If `flushes` is false, flushing it fails."""
+    return Word(("" if flushes else "f") + ("-" if size is None else str(size)))
 
 
 def bones(record):
-    """Returns a signature without comments."""
-    return Word(f"bones:{spelled(record)}")
+    """Returns a bare signature, which has no comments. The crate minisign calls it SignatureBones."""
+    return Word(f"bones:{encoded(record)}")
 
 
-def spelled(value):
-    """Returns a word as it is encoded in a request or response."""
+def encoded(value):
+    """Returns the encoding of a word in a request or response."""
     if value is None:
         return "-"
     if isinstance(value, (Word, int)):
@@ -50,53 +50,55 @@ def spelled(value):
     return "x" + (value.encode() if isinstance(value, str) else value).hex()
 
 
-def ask(name, *words):
-    """Returns a request."""
-    return " ".join([name, *map(spelled, words)])
+def encode_request(name, *words):
+    """Returns the line of a request."""
+    return " ".join([name, *map(encoded, words)])
 
 
-# A test case: its name, a request, and the expected response. The name of an error stands for the response `rejected(error)`.
+# A test case: its name, a request, and the expected response, which is an `Answer` or the name of an error.
 Row = namedtuple("Row", "name request answer")
-# An expected response: its first word, or the whole error, and the values that are compared, including what the call wrote and left
-# unread.
+# An expected response. `head` is "ok" or another first word, or a whole error (`err`, its kind and its text). `values` has the values to
+# compare by name. They include the output of the call, and the number of typed lines that it did not read.
 Answer = namedtuple("Answer", "head values")
 # The kind and the text of each named error.
 BY_NAME = {error["name"]: (error["kind"], error["text"]) for error in ERRORS}
 
 
 def rows(what, request, *cases):
-    """Returns a test case for each of `cases`: its name, the words of its request, and its response."""
-    return [Row(f"{what}: {name}", ask(request, *words), answer) for name, *words, answer in cases]
+    """Returns a test case for each of `cases`, which has a name, the words of the request, and the expected response. `what` precedes the
+    name."""
+    return [Row(f"{what}: {name}", encode_request(request, *words), answer) for name, *words, answer in cases]
 
 
-def gives(head="ok", **values):
-    """Expects success, with these values. In `verify`, `stdout` is the copied data and `stderr` the status; in other requests,
-    `stdout` is what the prompt showed."""
+def response(head="ok", **values):
+    """Returns an expected response, by default of a call that succeeds. In `verify`, `stdout` is the copied data and `stderr` the status
+    lines; in other requests, `stdout` is the text of the prompts."""
     return Answer(head, {"stdout": b"", "stderr": b"", "typed_left": 0, **values})
 
 
 def rejected(error, text=None, **values):
-    """Expects this named error. Its text is given if it contains key IDs."""
-    kind, usual = BY_NAME[error]
-    return gives(f"err {kind} {spelled(text or usual)}", **values)
+    """Returns the expected response for a named error. `text` is given for errors whose text contains key IDs."""
+    kind, default_text = BY_NAME[error]
+    return response(f"err {kind} {encoded(text or default_text)}", **values)
 
 
-# Expects that the request violates the call's precondition, so that no caller can make the call.
-OUTSIDE = gives("outside")
+# The expected response to a request that violates the precondition of the call. No proved caller can make this call.
+OUTSIDE_PRECONDITION = response("outside")
 
 
 def public_key(record, **tail):
-    """Expects the public key of a record."""
-    return gives(raw=record, keynum=record[2:10], base64=base64.b64encode(record), **tail)
+    """Returns the expected response with the public key of a record."""
+    return response(raw=record, keynum=record[2:10], base64=base64.b64encode(record), **tail)
 
 
 def secret_key(record, is_encrypted=False, **tail):
-    """Expects the secret key of a record. The debug output shows its secret bytes without leading zeros."""
+    """Returns the expected response with the secret key of a record. Its debug output has each secret byte in hexadecimal digits, without
+    leading zeros."""
     debug = "".join(f"{byte:x}" for byte in record[62:126])
-    return gives(raw=record, keynum=record[54:62], encrypted=is_encrypted, debug=debug, **tail)
+    return response(raw=record, keynum=record[54:62], encrypted=is_encrypted, debug=debug, **tail)
 
 
 def signature(record, text, trusted=b"t", untrusted=b"c", **tail):
-    """Expects a signature with this record, text and comments."""
-    return gives(bones=record, keynum=record[2:10], prehashed=record[:2] == b"ED", untrusted=untrusted, trusted=trusted,
+    """Returns the expected response with a signature: its record, file and comments."""
+    return response(bones=record, keynum=record[2:10], prehashed=record[:2] == b"ED", untrusted=untrusted, trusted=trusted,
                  text=text, **tail)

@@ -3,7 +3,7 @@ and of Python's hashlib (OpenSSL)."""
 
 import hashlib
 
-from asking import gives, rows
+from asking import response, rows
 
 # The first three vectors of the RFC: password, salt, the logarithm of N, r, p, and the key. (The fourth one takes 1 GB of memory.)
 VECTORS = (
@@ -27,7 +27,7 @@ def derived(password, salt, n_log2, r, p, length=64, key=None):
     """Returns the name, the words of a request and the expected response, for a key of this many bytes."""
     key = key or hashlib.scrypt(password, salt=salt, n=1 << n_log2, r=r, p=p, dklen=length, maxmem=1 << 26)
     name = f"{n_log2}, {r}, {p}, {length} bytes of {password[:12]} and {salt[:12]}"
-    return name, n_log2, r, p, length, password, salt, gives(out=key)
+    return name, n_log2, r, p, length, password, salt, response(out=key)
 
 
 ROWS = [
@@ -50,7 +50,7 @@ ROWS = [
     # The parameters that follow from limits of memory and operations, worked out by hand. The number of parts is computed from the low
     # 32 bits of a quotient, as in the Rust crate; in the first rejected case these are all zero.
     *rows("limits", "raw_scrypt_params",
-          *((f"{memory} and {operations}", memory, operations, 20, gives(n_log2=n_log2, r=8, p=p))
+          *((f"{memory} and {operations}", memory, operations, 20, response(n_log2=n_log2, r=8, p=p))
             for memory, operations, n_log2, p in (
                 (33554432, 1048576, 15, 1), (1073741824, 33554432, 20, 1), (2147483648, 0, 10, 1), (0, 0, 1, 512),
                 (33554432, 1048575, 14, 1), (0, (1 << 64) - 1, 1, 134217727))),

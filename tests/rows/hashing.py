@@ -3,7 +3,7 @@ hashlib; one is that of RFC 7693."""
 
 import hashlib
 
-from asking import OUTSIDE, Word, gives, rows
+from asking import OUTSIDE_PRECONDITION, Word, response, rows
 from toy import some_data
 
 # The digest of `abc`, from RFC 7693, appendix A.
@@ -22,7 +22,7 @@ def hashed(name, message, cuts=WHOLE, length=64, digest=None):
     """Returns the words and the response of a request for a digest of this many bytes: of the whole message, of its pieces, and
     finalized a second time."""
     digest = digest or hashlib.blake2b(message, digest_size=length).digest()
-    return name, length, cuts, message, gives(whole=digest, pieces=digest, again=digest)
+    return name, length, cuts, message, response(whole=digest, pieces=digest, again=digest)
 
 
 ROWS = [
@@ -34,15 +34,15 @@ ROWS = [
           *(hashed(f"{length} bytes cut after {cut}", some_data(length), cut) for length in range(386) for cut in CUTS),
           *(hashed(f"{length} bytes one by one", some_data(length), Word(",".join(map(str, range(1, length)))))
             for length in (127, 128, 129, 255, 256, 257, 385)),
-          *((f"no digest of {length} bytes", length, WHOLE, b"abc", OUTSIDE) for length in (0, 65))),
+          *((f"no digest of {length} bytes", length, WHOLE, b"abc", OUTSIDE_PRECONDITION) for length in (0, 65))),
     # Texts of different lengths are not equal.
-    *rows("equal", "fixed_time_eq", *((f"{left} and {right}", left, right, gives(eq=left == right)) for left, right in PAIRS)),
+    *rows("equal", "fixed_time_eq", *((f"{left} and {right}", left, right, response(eq=left == right)) for left, right in PAIRS)),
     # Bytes after those of the integer are ignored.
-    *rows("number stored", "store_u64_le", *((value, value, gives(out=stored)) for value, stored in NUMBERS)),
-    *rows("number loaded", "load_u64_le", *((value, stored, gives(out=value)) for value, stored in NUMBERS),
-          *((f"{value}, from more bytes", stored + b"\7", gives(out=value)) for value, stored in NUMBERS),
-          ("of seven bytes", bytes(7), OUTSIDE)),
+    *rows("number stored", "store_u64_le", *((value, value, response(out=stored)) for value, stored in NUMBERS)),
+    *rows("number loaded", "load_u64_le", *((value, stored, response(out=value)) for value, stored in NUMBERS),
+          *((f"{value}, from more bytes", stored + b"\7", response(out=value)) for value, stored in NUMBERS),
+          ("of seven bytes", bytes(7), OUTSIDE_PRECONDITION)),
     # Times around the limits of signed (2038) and unsigned (2106) 32-bit integers, and a clock that cannot be read.
-    *rows("clock", "unix_timestamp", ("a failing clock", -1, "ClockIncorrect"), *((time, time, gives(out=time))
+    *rows("clock", "unix_timestamp", ("a failing clock", -1, "ClockIncorrect"), *((time, time, response(out=time))
           for time in (0, 1, 1700000000, (1 << 31) - 1, 1 << 31, (1 << 32) - 1, 1 << 32, (1 << 63) - 1))),
 ]

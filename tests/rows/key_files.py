@@ -6,7 +6,7 @@ from collections import namedtuple
 
 import public_keys
 import toy
-from asking import Row, ask, rejected, rows, secret_key, signature, typed
+from asking import Row, encode_request, rejected, rows, secret_key, signature, typed
 from made_pairs import OPENED, sealed
 from running import unreadable
 from sealed_keys import DONE, MARKED
@@ -81,7 +81,7 @@ FILES = {"not encrypted": toy.secret_text(), "with a password": COMMENT + base64
 
 ROWS = [
     # No password is asked for if the file has no key.
-    *(Row(f"{kind.name} file: {path}", ask(kind.request, path, *kind.words),
+    *(Row(f"{kind.name} file: {path}", encode_request(kind.request, path, *kind.words),
           rejected(answer, typed_left=kind.left) if isinstance(answer, str) else answer)
       for kind, path, _, answer in CASES),
     *rows("secret file", "sk_from_file",

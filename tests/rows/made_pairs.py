@@ -2,7 +2,7 @@
 verify."""
 
 import toy
-from asking import (COUNTING, NOTHING_TYPED, data, gives, public_key, rejected, rows, secret_key, signature, sink,
+from asking import (COUNTING, NOTHING_TYPED, data, public_key, rejected, response, rows, secret_key, signature, sink,
                     typed)
 from signing import made as signed
 from toy import DEFAULT_COMMENT, KEY_A, SCRYPT, USUAL, Key, secret_text
@@ -48,7 +48,7 @@ def sealed(password):
 
 def made(key, record, is_encrypted, **tail):
     """A pair of this key is answered, whose secret key has this record."""
-    return gives(pk=key.public_record, sk=record, encrypted=is_encrypted, drawn=DRAWN if is_encrypted else DRAWN_RAW, **tail)
+    return response(pk=key.public_record, sk=record, encrypted=is_encrypted, drawn=DRAWN if is_encrypted else DRAWN_RAW, **tail)
 
 
 def made_sealed(password, comment=b"rsign encrypted secret key", **tail):
@@ -96,7 +96,7 @@ def under_password(password):
     yield "gen_sealed", name, COUNTING, password, typed("typed"), made(PAIR, record, True, typed_left=1)
     yield ("sign", name, None, record, data(b"test"), *BY_DEFAULT,
            rejected("EncryptedKeyRefused", drawn=0, reads=0, pos=0))
-    yield "sk_to_box", name, record, None, gives(text=secret_text(record))
+    yield "sk_to_box", name, record, None, response(text=secret_text(record))
     yield "sk_open", name, secret_text(record), password, typed("typed"), secret_key(OPENED, typed_left=1)
 
 
@@ -142,7 +142,7 @@ CASES = [
     ("gen_plain", "its bytes", COUNTED[:DRAWN_RAW], made(PAIR, RECORD, False)),
     ("pk_from_secret_key", "of its secret key", RECORD, public_key(PUBLIC)),
     ("sk_from_bytes", "its bytes", RECORD, secret_key(RECORD)),
-    ("sk_to_box", "its text", RECORD, None, gives(text=TEXT)),
+    ("sk_to_box", "its text", RECORD, None, response(text=TEXT)),
     ("sk_plain", "its text", TEXT, secret_key(RECORD)),
     ("sk_open", "not encrypted", TEXT, "", typed("typed"), rejected("KeyNotEncrypted", typed_left=1)),
     *signs("an unencrypted pair", RECORD),

@@ -1,6 +1,6 @@
 """Test cases for typed passwords: one line without its line feed, of at most 1024 bytes."""
 
-from asking import NOTHING_TYPED, gives, rejected, rows, typed
+from asking import NOTHING_TYPED, rejected, response, rows, typed
 
 ASKED = b"Password: "
 EMPTY = ASKED + b"<empty>\n"
@@ -9,16 +9,16 @@ EMPTY = ASKED + b"<empty>\n"
 # 1026th byte and everything after it are left unread.
 ROWS = rows(
     "a password", "get_password",
-    ("a line", typed("password"), gives(out="password", stdout=ASKED)),
-    ("a line, and one more", typed("pppppppp", "more"), gives(out="pppppppp", stdout=ASKED, typed_left=1)),
-    ("a space at the end, and a carriage return", typed("pass word \r"), gives(out="pass word ", stdout=ASKED)),
-    ("two carriage returns", typed("a\r\r"), gives(out="a\r", stdout=ASKED)),
-    ("a carriage return inside", typed("a\rb"), gives(out="a\rb", stdout=ASKED)),
-    ("an empty line", typed(""), gives(out="", stdout=EMPTY)),
-    ("only a carriage return", typed("\r"), gives(out="", stdout=EMPTY)),
-    ("an empty line, and one more", typed("", "password"), gives(out="", stdout=EMPTY, typed_left=1)),
-    ("1024 bytes", typed("a" * 1024), gives(out="a" * 1024, stdout=ASKED)),
-    ("1024 bytes and a carriage return", typed("a" * 1024 + "\r"), gives(out="a" * 1024, stdout=ASKED)),
+    ("a line", typed("password"), response(out="password", stdout=ASKED)),
+    ("a line, and one more", typed("pppppppp", "more"), response(out="pppppppp", stdout=ASKED, typed_left=1)),
+    ("a space at the end, and a carriage return", typed("pass word \r"), response(out="pass word ", stdout=ASKED)),
+    ("two carriage returns", typed("a\r\r"), response(out="a\r", stdout=ASKED)),
+    ("a carriage return inside", typed("a\rb"), response(out="a\rb", stdout=ASKED)),
+    ("an empty line", typed(""), response(out="", stdout=EMPTY)),
+    ("only a carriage return", typed("\r"), response(out="", stdout=EMPTY)),
+    ("an empty line, and one more", typed("", "password"), response(out="", stdout=EMPTY, typed_left=1)),
+    ("1024 bytes", typed("a" * 1024), response(out="a" * 1024, stdout=ASKED)),
+    ("1024 bytes and a carriage return", typed("a" * 1024 + "\r"), response(out="a" * 1024, stdout=ASKED)),
     *((name, typed(line), rejected("PasswordTooLong", stdout=ASKED, typed_left=left)) for name, line, left in (
         ("1024 bytes, a carriage return, and more", "a" * 1024 + "\rb", 1), ("1025 bytes", "a" * 1025, 0),
         ("1025 bytes and a carriage return", "a" * 1025 + "\r", 1), ("1027 bytes", "a" * 1027, 1))),

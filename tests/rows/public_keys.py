@@ -3,7 +3,7 @@
 import base64
 
 import toy
-from asking import gives, public_key, rows
+from asking import public_key, response, rows
 from texts import text_of
 
 RECORD = toy.RECORD
@@ -40,8 +40,8 @@ def of_prefix(length):
 
 
 ROWS = [
-    *rows("public key", "pk_to_box", ("the text of a record", RECORD, gives(text=TEXT)),
-          ("the text of the upstream tool", UPSTREAM_RECORD, gives(text=UPSTREAM_TEXT))),
+    *rows("public key", "pk_to_box", ("the text of a record", RECORD, response(text=TEXT)),
+          ("the text of the upstream tool", UPSTREAM_RECORD, response(text=UPSTREAM_TEXT))),
     # The public key of a secret key's record whose checksum does not match, with and without a key derivation.
     *rows("public half", "pk_from_secret_key", *(
         (f"key derivation {derivation}", toy.KEY_A.record(derivation, other=bytes(32)), KEY_A)

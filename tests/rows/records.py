@@ -3,7 +3,7 @@
 import public_keys
 import secret_keys
 import toy
-from asking import gives, rows, secret_key
+from asking import response, rows, secret_key
 
 
 def read_and_compared(name, kind, record, answer, begin, end):
@@ -13,9 +13,9 @@ def read_and_compared(name, kind, record, answer, begin, end):
     changed = record[:end - 1] + b"\x5b" + record[end:]
     yield from rows(f"record of {name}", f"{kind}_from_bytes", ("its bytes", record, answer),
                     ("one byte more", record + b"!", answer), ("one byte less", record[:-1], "RecordTooShort"))
-    yield from rows(f"equal: {name}", f"{kind}_eq", ("with the same record", record, record, gives(eq=True)),
-                    ("with other fields", record, renamed, gives(eq=True)),
-                    ("with another last byte of the key", record, changed, gives(eq=False)))
+    yield from rows(f"equal: {name}", f"{kind}_eq", ("with the same record", record, record, response(eq=True)),
+                    ("with other fields", record, renamed, response(eq=True)),
+                    ("with another last byte of the key", record, changed, response(eq=False)))
 
 
 ROWS = [

@@ -3,11 +3,11 @@
 
     tests/rows/rows.py [MODULE..]
 
-The program `minisign_compare`, which `rt ci` or `rt run` has built, makes the calls. Each expected value comes from
-outside: from a standard, from Python's hashlib and base64, from the upstream tool, or worked out by hand from a
-definition. None was computed by a crate of this repository. A module has its test cases in `ROWS`, and the files that
-they name in `FILES`; these are created in a separate directory for each module. The script also compares the named
-errors of docs/FORMATS.md. The last line is `N passed, M failed`.
+The program `minisign_compare`, which `rt ci` or `rt run` has built, makes the calls. No expected value was computed by a
+crate of this repository: they come from standards, from Python's hashlib and base64, from the upstream program minisign,
+or were worked out by hand from a definition. A module has its test cases in `ROWS`, and the files that they name in
+`FILES`. These files are created in a new directory for each module. The script also compares the named errors with
+docs/FORMATS.md. The last line is `N passed, M failed`.
 
 Needs Python 3.9 or later.
 """
@@ -22,7 +22,7 @@ HERE = os.path.dirname(os.path.realpath(__file__))
 sys.path.append(os.path.join(HERE, "..", "shared"))
 
 import named_errors
-from asking import rejected, spelled
+from asking import encoded, rejected
 from checks import Checks
 from running import make_files
 
@@ -31,8 +31,8 @@ SECONDS = 120
 MODULES = sorted({name[:-3] for name in os.listdir(HERE) if name.endswith(".py")} - {"asking", "named_errors", "rows"})
 
 
-def answers_of(requests, directory):
-    """Returns the program's responses, one line for each request. Paths in requests are relative to the directory."""
+def responses_to(requests, directory):
+    """Runs the program in a directory with these requests. Returns its responses, one line for each request."""
     ran = subprocess.run([PROGRAM], input="\n".join(requests) + "\n", cwd=directory, stdout=subprocess.PIPE,
                          stderr=subprocess.STDOUT, text=True, timeout=SECONDS)
     lines = ran.stdout.splitlines()
@@ -43,14 +43,14 @@ def answers_of(requests, directory):
 
 
 def difference(answer, line):
-    """Returns the differences between a response and the expected one, or an empty text."""
-    before_bar, _, tail = line.partition(" | ")
-    head, *words = [before_bar] if before_bar.startswith("err ") else before_bar.split(" ")
+    """Returns a text with the differences between the response `line` and the expected one. It is empty if they are the same."""
+    result, _, tail = line.partition(" | ")
+    head, *words = [result] if result.startswith("err ") else result.split(" ")
     values = dict(word.partition("=")[::2] for word in [*words, *tail.split()])
-    wrong = [] if head == answer.head else [f"got `{head}`, expected `{answer.head}`"]
-    wrong += [f"{name} is {values.get(name)}, expected {spelled(value)}" for name, value in answer.values.items()
-              if values.get(name) != spelled(value)]
-    return "; ".join(wrong)
+    differences = [] if head == answer.head else [f"got `{head}`, expected `{answer.head}`"]
+    differences += [f"{name} is {values.get(name)}, expected {encoded(value)}" for name, value in answer.values.items()
+              if values.get(name) != encoded(value)]
+    return "; ".join(differences)
 
 
 def main(names):
@@ -60,9 +60,9 @@ def main(names):
         with tempfile.TemporaryDirectory(prefix="minisign-rows-") as directory:
             module = importlib.import_module(name)
             make_files(directory, getattr(module, "FILES", {}))
-            for row, line in zip(module.ROWS, answers_of([row.request for row in module.ROWS], directory)):
-                wrong = difference(rejected(row.answer) if isinstance(row.answer, str) else row.answer, line)
-                checks.check(not wrong, name, row.name, wrong, row.request[:300])
+            for row, line in zip(module.ROWS, responses_to([row.request for row in module.ROWS], directory)):
+                differences = difference(rejected(row.answer) if isinstance(row.answer, str) else row.answer, line)
+                checks.check(not differences, name, row.name, differences, row.request[:300])
         print(f"{name}: {len(module.ROWS)} cases")
     return checks.end()
 

@@ -5,7 +5,7 @@
 import base64
 
 import toy
-from asking import NOTHING_TYPED, gives, rejected, rows, secret_key, typed
+from asking import NOTHING_TYPED, rejected, response, rows, secret_key, typed
 from passwords import ASKED, EMPTY
 from toy import KEY_A, NEVER_SEALED, NO_LIMITS, SCRYPT, SMALL, USUAL, Limits, secret_text
 
@@ -86,7 +86,7 @@ ROWS = [
       for row in rows(f"limits: {name}", "sk_open", ("typed", text, None, typed("p"), rejected(error, stdout=shown)),
                       ("passed in", text, "p", typed("typed"), rejected(error, typed_left=1)))),
     # A decrypted key is written unencrypted, but is not accepted as a key without encryption, because it names scrypt.
-    *rows("a decrypted key", "sk_to_box", ("is written unchanged", OPENED, None, gives(text=OPENED_TEXT))),
+    *rows("a decrypted key", "sk_to_box", ("is written unchanged", OPENED, None, response(text=OPENED_TEXT))),
     *rows("rejected as an unencrypted key", "sk_plain", ("decrypted", OPENED_TEXT, "KeyMightBeEncrypted"),
           ("encrypted", SEALED, "KeyMightBeEncrypted")),
 ]

@@ -1,31 +1,30 @@
-"""Test cases for parsing unencrypted secret keys from files (a "box"), and for writing them."""
+"""Test cases for reading and writing unencrypted secret key files, which the crate minisign calls boxes."""
 
 import base64
 
 import toy
-from asking import gives, rows, secret_key
+from asking import response, rows, secret_key
 from public_keys import COMMENTS
 from toy import secret_text
 
 RECORD = toy.SECRET_RECORD
 LINE = base64.b64encode(RECORD)
 TEXT = secret_text()
-# The encoding of the first 157 bytes, which has the same number of characters.
+# The base64 of a record that lacks its last byte. It has as many characters as that of the whole record.
 SHORT_LINE = base64.b64encode(RECORD[:157])
 
 KEY_A = secret_key(RECORD)
 NO_KEY, NOT_BASE64, TOO_SHORT = "MissingEncodedSecretKey", "SecretKeyNotBase64", "RecordTooShort"
 
 
-def of_prefix(length):
-    """Returns the response for this many bytes of key A's file. Its first line has 46 bytes; the base64 letters, in groups of 4, end
-    with the 258th byte."""
-    of_line = TOO_SHORT if (length - 46) % 4 == 0 else NOT_BASE64
-    return "MissingSecretKeyComment" if length == 0 else NO_KEY if length <= 46 else of_line if length <= 257 else KEY_A
+def response_to_prefix(length):
+    """Returns the expected response for the first `length` bytes of key A's file. Its comment line has 46 bytes, and the base64, in groups
+    of 4 characters, ends with the 258th byte."""
+    error_in_base64 = TOO_SHORT if (length - 46) % 4 == 0 else NOT_BASE64
+    return "MissingSecretKeyComment" if length == 0 else NO_KEY if length <= 46 else error_in_base64 if length <= 257 else KEY_A
 
 
-# A name, a record, a comment or None for the default one, the file that is written, and the response if this is parsed as an
-# unencrypted key.
+# A name, a record, a comment or None for the default one, the file that `sk_to_box` writes, and the response of `sk_plain` to this file.
 WRITTEN = [
     *((name, record, None, secret_text(record), answer) for name, record, answer in (
         ("no key derivation", RECORD, KEY_A),
@@ -37,11 +36,12 @@ WRITTEN = [
 ]
 
 ROWS = [
-    *rows("secret key", "sk_to_box", *((name, record, comment, gives(text=text)) for name, record, comment, text, _ in WRITTEN)),
-    # The length of a text decides which error it has. The first line may be anything. Only the line ending is removed from the second.
+    *rows("secret key", "sk_to_box", *((name, record, comment, response(text=text)) for name, record, comment, text, _ in WRITTEN)),
+    # Every prefix of a file has the error for its length. The first line may have any content. From the second line only the line ending
+    # is removed, so any white space in it is an error.
     *rows("secret box", "sk_plain",
           *((name, text, answer) for name, _, _, text, answer in WRITTEN),
-          *((f"the first {length} bytes", TEXT[:length], of_prefix(length)) for length in range(len(TEXT))),
+          *((f"the first {length} bytes", TEXT[:length], response_to_prefix(length)) for length in range(len(TEXT))),
           ("no first line", LINE, NO_KEY),
           ("carriage returns", b"c\r\n" + LINE + b"\r\n", KEY_A),
           ("an empty comment", b"\n" + LINE + b"\n", KEY_A),

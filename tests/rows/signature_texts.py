@@ -4,7 +4,7 @@ and data of many sizes."""
 import base64
 
 import toy
-from asking import gives, public_key, rows, signature
+from asking import public_key, response, rows, signature
 from public_keys import SIZES
 from signing import signed
 from texts import record_of, text_of, with_line, with_record
@@ -15,7 +15,7 @@ from verifying import (ACCEPTED, AT_ONCE, LEGACY_RECORD, LEGACY_TEXT, PREHASHED_
 # The lines of the signature file for `abc` by key A, with the comments `c` and `t` (the "worked" signature).
 FIRST, SECOND, THIRD, FOURTH = PREHASHED_TEXT.splitlines()
 COMMENT_SIGNATURE = record_of(PREHASHED_TEXT, 3)
-BARE, BARE_LEGACY = gives(bones=PREHASHED_RECORD, prehashed=True), gives(bones=LEGACY_RECORD, prehashed=False)
+BARE, BARE_LEGACY = response(bones=PREHASHED_RECORD, prehashed=True), response(bones=LEGACY_RECORD, prehashed=False)
 # The letters of base64 in order.
 ALPHABET = b"ABCDEFGHIJKLMNOPQRSTUVWXYZabcdefghijklmnopqrstuvwxyz0123456789+/"
 
@@ -96,7 +96,7 @@ ROWS = [row for rows_of in (
            ("unknown algorithm", UNKNOWN_RECORD, "UnsupportedSignatureAlgorithm"),
            ("short, unknown algorithm", UNKNOWN_RECORD[:73], "RecordTooShort"))
       for request, answer in (
-          ("sig_from_bytes", None), ("bones_untrusted", gives(untrusted=b"")), ("bones_trusted", "TrustedCommentAbsent"),
+          ("sig_from_bytes", None), ("bones_untrusted", response(untrusted=b"")), ("bones_trusted", "TrustedCommentAbsent"),
           ("bones_to_string", "SignatureBoxIncomplete"))),
     *map(prefix, range(len(PREHASHED_TEXT) + 1)),
     # Missing lines are reported before malformed lines, and these in the order of the lines. The last line has no line feed.

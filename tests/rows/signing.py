@@ -5,7 +5,7 @@ case one byte per read.
 """
 
 import toy
-from asking import Row, ask, data, rejected, signature
+from asking import Row, data, encode_request, rejected, signature
 from toy import DEFAULT_COMMENT, KEY_A, OTHER_RECORD, RECORD, SCRYPT, SECRET_RECORD
 from verifying import ACCEPTED, BOTH, BY_BYTES, in_pieces, judged, reads_of
 
@@ -31,7 +31,7 @@ def signed(name, content=b"abc", trusted=b"t", untrusted=b"c", error=None, rando
     says = b"timestamp:%d" % moment if trusted is None else trusted
     below = DEFAULT_COMMENT if untrusted is None else untrusted
     for chunk in chunks:
-        request = ask("sign", public, key, data(content, chunk=chunk, fail=fail), trusted, untrusted, random, moment)
+        request = encode_request("sign", public, key, data(content, chunk=chunk, fail=fail), trusted, untrusted, random, moment)
         deeds = {"drawn": len(random) // 64 * 64, "reads": reads_of(len(content), chunk), "pos": len(content)}
         if error == "EncryptedKeyRefused":
             deeds = {"drawn": 0, "reads": 0, "pos": 0}

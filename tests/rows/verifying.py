@@ -4,7 +4,7 @@ the data is read."""
 from itertools import product
 
 import toy
-from asking import Row, ask, bones, data, gives, rejected
+from asking import Row, bones, data, encode_request, rejected, response
 from public_keys import UPSTREAM_RECORD, UPSTREAM_TEXT
 from texts import lines, record_of
 from toy import OTHER_RECORD, RECORD
@@ -58,7 +58,7 @@ def judged(name, outcome, signature=PREHASHED_TEXT, content=b"abc", key=None, tr
     copied = second if second is not None and goes_back else content
     for chunk in chunks:
         source = data(front + content, pos=len(front) or None, second=second, chunk=chunk, fail=fail)
-        asked = ask(request, key, bones(signature) if is_bare else signature, source, quiet, output, legacy)
+        asked = encode_request(request, key, bones(signature) if is_bare else signature, source, quiet, output, legacy)
         reads = reads_of(len(content), chunk)
         both = reads + (reads_of(len(copied), chunk) if goes_back else 0)
         if outcome == "ReadingFailed" and fail <= reads:
@@ -71,7 +71,7 @@ def judged(name, outcome, signature=PREHASHED_TEXT, content=b"abc", key=None, tr
             answer = rejected(outcome, says, reads=reads, pos=len(front + content))
         elif outcome in (ACCEPTED, "DataChanged"):
             deeds = {"stdout": copied if output else b"", "stderr": status, "reads": both, "pos": len(front + copied)}
-            answer = rejected("DataChanged", **deeds) if outcome else gives(**deeds)
+            answer = rejected("DataChanged", **deeds) if outcome else response(**deeds)
         else:
             answer = rejected(outcome)
         yield Row(in_pieces(name, chunk), asked, answer)
@@ -176,7 +176,7 @@ ROWS = [row for rows in (
     judged("toy: a zero byte appended to the trusted comment", ACCEPTED,
            PREHASHED_TEXT.replace(b"comment: t\n", b"comment: t\0\n"), trusted=b"t\0"),
     # The scheme also accepts the upstream tool's signatures from a table, until the table is cleared.
-    [Row("upstream: a signature is added to the table", ask("table_add", signed, UPSTREAM_RECORD[10:], signature), gives())
+    [Row("upstream: a signature is added to the table", encode_request("table_add", signed, UPSTREAM_RECORD[10:], signature), response())
      for text, message in UPSTREAM_MESSAGES.items() for record, trusted, of_comment in [upstream_parts(text)]
      for signed, signature in ((message, record[10:]), (record[10:] + trusted, of_comment))],
     *(each_run(f"upstream: {name}", UPSTREAM_TEXT, text, content, *outcomes, trusted=upstream_parts(text)[1])
@@ -185,6 +185,6 @@ ROWS = [row for rows in (
           ("legacy, other data", UPSTREAM_LEGACY, b"test2", "SignatureRefused", "LegacyNotAccepted"),
           ("prehashed", UPSTREAM_PREHASHED, b"test", ACCEPTED),
           ("prehashed, other data", UPSTREAM_PREHASHED, b"test2", "SignatureRefused"))),
-    [Row("upstream: the table is cleared", ask("table_clear"), gives())],
+    [Row("upstream: the table is cleared", encode_request("table_clear"), response())],
     each_run("upstream: without a table", UPSTREAM_TEXT, UPSTREAM_PREHASHED, b"test", "SignatureRefused"),
 ) for row in rows]

@@ -219,8 +219,8 @@ static int open_in(const char *call, int directory, const char *path, int flags,
         return open_in(call, directory, path, flags, mode);                               \
     }
 
-OPENS(open, "open", AT_FDCWD, MODE_BEHIND(flags), (const char *path, int flags, ...))
-OPENS(openat, "openat", directory, MODE_BEHIND(flags), (int directory, const char *path, int flags, ...))
+OPENS(open, "open", AT_FDCWD, MODE_ARGUMENT(flags), (const char *path, int flags, ...))
+OPENS(openat, "openat", directory, MODE_ARGUMENT(flags), (int directory, const char *path, int flags, ...))
 /* Programs built with _FORTIFY_SOURCE call these. */
 OPENS(__open_2, "open", AT_FDCWD, 0, (const char *path, int flags))
 OPENS(__openat_2, "openat", directory, 0, (int directory, const char *path, int flags))

@@ -1,5 +1,6 @@
-/* Macros for preloaded libraries: REAL is the function that an interposed one replaces, and MODE_BEHIND is the mode
-   argument of open and openat, or 0 if the flags cannot create a file. */
+/* Macros for libraries that LD_PRELOAD loads to replace functions of the C library. REAL(name) is the replaced function.
+   MODE_ARGUMENT(flags), in a replacement of open or openat, is the argument `mode`, or 0 if the flags cannot create a
+   file, because the caller then need not pass this argument. */
 #ifndef PRELOAD_H
 #define PRELOAD_H
 
@@ -16,7 +17,7 @@
 
 #define REAL(name) ((__typeof__(name) *)dlsym(RTLD_NEXT, #name))
 
-#define MODE_BEHIND(flags)                                                                                         \
+#define MODE_ARGUMENT(flags)                                                                                       \
     ({                                                                                                             \
         va_list more;                                                                                              \
         mode_t passed;                                                                                             \

@@ -149,7 +149,7 @@ def build_archive(name, archive, *flags, compilers=None):
     os.makedirs(os.path.dirname(archive), exist_ok=True)
     words = ["--toolchain", compilers or toolchain(), "--backend", "llvm", *flags, "-o", archive]
     ran = rattle("build", name, f"{ROOT}/crates/{name}", *words)
-    hold(ran, name)
+    require_success(ran, name)
     verdicts[name] = re.findall(r"(?m)^logic=proved .*$", ran.stdout)[-1]
     return verdicts[name]
 
@@ -157,10 +157,10 @@ def build_archive(name, archive, *flags, compilers=None):
 def link_module(archive, module, memory):
     """Links a static library for WebAssembly into a module with `memory` bytes of memory."""
     words = ["--target", WASM, "--toolchain", toolchain(), "--memory", str(memory), "-o", module, archive]
-    hold(run([f"{kit()}/bin/rattle-link", *words], ROOT), module)
+    require_success(run([f"{kit()}/bin/rattle-link", *words], ROOT), module)
 
 
-def hold(ran, what):
+def require_success(ran, what):
     """Raises `NotBuilt` if a build command failed."""
     if ran.returncode:
         raise NotBuilt(f"{what} was not built: {ran.stdout[-1000:]}")

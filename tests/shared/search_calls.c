@@ -63,13 +63,13 @@ __attribute__((destructor)) static void end(void)
 int open(const char *name, int flags, ...)
 {
     LOOK("open");
-    return (int) syscall(SYS_openat, AT_FDCWD, name, flags, MODE_BEHIND(flags));
+    return (int) syscall(SYS_openat, AT_FDCWD, name, flags, MODE_ARGUMENT(flags));
 }
 
 int openat(int directory, const char *name, int flags, ...)
 {
     LOOK("open");
-    return (int) syscall(SYS_openat, directory, name, flags, MODE_BEHIND(flags));
+    return (int) syscall(SYS_openat, directory, name, flags, MODE_ARGUMENT(flags));
 }
 
 ssize_t write(int fd, const void *bytes, size_t len)

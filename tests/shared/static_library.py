@@ -1,5 +1,5 @@
-"""Builds the library and the programs of `c/` as a user without the kit does: by make, from `dist/`, with no `rt` in PATH.
-`tools/dist.py --check` checks that `dist/` is what was proved.
+"""Builds the library and the programs of `c/` as a user without the Rattle kit does: with make, from `dist/`, and without `rt` in
+PATH. `tools/dist.py --check` checks that `dist/` was built from the proved sources.
 """
 
 import contextlib
@@ -19,58 +19,60 @@ DIRECTORY = os.path.join(proved.ROOT, "c")
 DIST = os.path.join(proved.ROOT, "dist")
 # Warnings are errors in tests only, because a user's compiler may have other warnings.
 STRICT = "WARNINGS=-std=c11 -Wall -Wextra -Wpedantic -Werror"
-# The last line of `make test`.
-VERIFIED = re.compile(r"(?m)^(2[5-9]|[3-9]\d) passed, 0 failed$")
+# The last line of `make test`, which has at least 25 checks.
+TESTS_PASSED = re.compile(r"(?m)^(2[5-9]|[3-9]\d) passed, 0 failed$")
 
 
 def path_without_kit():
-    """Returns the directories of PATH that have no `rt`, with Debian's compilers first."""
+    """Returns PATH without the directories that contain `rt`. Debian's directories come first."""
     without_rt = (directory for directory in needs.directories() if not os.path.exists(os.path.join(directory, "rt")))
     return os.pathsep.join(without_rt) or "/usr/bin:/bin"
 
 
-# Compiling dist/calls.c takes seven seconds. Scripts share the object files in this directory; each is named after a digest of
-# everything that determines it.
-KEPT = os.path.join(proved.ROOT, "out", "kept-objects")
-# The variables of make that determine the object file, in addition to the compiler and the preprocessed source.
-DECIDING = ("CFLAGS", "HAS_PAGES", "WARNINGS")
+# The cache of object files of dist/calls.c, which all scripts share because compiling this file takes seven seconds. The name of an
+# object file is a digest of everything that determines its content.
+OBJECT_CACHE = os.path.join(proved.ROOT, "out", "object-cache")
+# The variables of make that determine an object file, in addition to the compiler and the preprocessed source.
+COMPILE_VARIABLES = ("CFLAGS", "HAS_PAGES", "WARNINGS")
 MAKEFILE = f"{DIRECTORY}/Makefile"
 
 
-def sum_of(words):
+def object_digest(variables):
     """Returns a digest of the compiler, the variables of make, the makefile, and the preprocessed source."""
-    compiler, given = words["CC"].split(), words.get("CPPFLAGS", "-D_FORTIFY_SOURCE=2").split()
-    settings = [run_apart([*compiler, "--version"])[1], os.path.realpath(shutil.which(compiler[0]) or ""), *map(words.get, DECIDING)]
-    calls = hold([*compiler, "-O2", *given, "-E", "-P", "-I", f"{DIRECTORY}/library/portable", f"{DIST}/calls.c"])
-    return hashlib.sha256(repr(settings).encode() + read(MAKEFILE) + calls.encode()).hexdigest()
+    compiler, flags = variables["CC"].split(), variables.get("CPPFLAGS", "-D_FORTIFY_SOURCE=2").split()
+    settings = [run_apart([*compiler, "--version"])[1], os.path.realpath(shutil.which(compiler[0]) or ""),
+                *map(variables.get, COMPILE_VARIABLES)]
+    source = run_or_fail([*compiler, "-O2", *flags, "-E", "-P", "-I", f"{DIRECTORY}/library/portable", f"{DIST}/calls.c"])
+    return hashlib.sha256(repr(settings).encode() + read(MAKEFILE) + source.encode()).hexdigest()
 
 
 @contextlib.contextmanager
-def kept_object(words, is_taken=True):
-    """Copies the object file of calls.c to where make would build it, if another script has built it and `is_taken` is true. Otherwise
-    shares the one that make builds. A lock keeps other scripts from building the same file meanwhile."""
-    out = os.path.join(DIRECTORY, words.get("OUT", ""))
-    made = os.path.join(out, "portable-calls.o")
-    # Without OUT, with C_CALLS, or if the object exists, make does not compile dist/calls.c.
-    if "OUT" not in words or "C_CALLS" in words or os.path.exists(made):
+def cached_object(variables, reuse=True):
+    """Runs the body, which calls make with these variables, with the cache of object files of dist/calls.c. If the cache has the object
+    file and `reuse` is true, it is copied to where make would build it. If the cache does not have it, the file that make builds is
+    added. Meanwhile a lock keeps other scripts from building the same file."""
+    out = os.path.join(DIRECTORY, variables.get("OUT", ""))
+    built = os.path.join(out, "portable-calls.o")
+    # Without OUT, with C_CALLS, or if the object file exists, make does not compile dist/calls.c.
+    if "OUT" not in variables or "C_CALLS" in variables or os.path.exists(built):
         yield
         return
-    os.makedirs(KEPT, exist_ok=True)
-    stored = os.path.join(KEPT, f"{sum_of(words)}.o")
-    with open(f"{stored}.lock", "w", encoding="ascii") as lock:
+    os.makedirs(OBJECT_CACHE, exist_ok=True)
+    cached = os.path.join(OBJECT_CACHE, f"{object_digest(variables)}.o")
+    with open(f"{cached}.lock", "w", encoding="ascii") as lock:
         fcntl.flock(lock, fcntl.LOCK_EX)
-        if os.path.exists(stored):
+        if os.path.exists(cached):
             fcntl.flock(lock, fcntl.LOCK_UN)
-            if is_taken:
+            if reuse:
                 os.makedirs(out, exist_ok=True)
-                shutil.copyfile(stored, made)
+                shutil.copyfile(cached, built)
         yield
-        if not os.path.exists(stored) and os.path.exists(made):
-            shutil.copyfile(made, f"{stored}.new")
-            os.replace(f"{stored}.new", stored)
+        if not os.path.exists(cached) and os.path.exists(built):
+            shutil.copyfile(built, f"{cached}.new")
+            os.replace(f"{cached}.new", cached)
 
 
-def hold(command, directory=None, seconds=SECONDS, **environment):
+def run_or_fail(command, directory=None, seconds=SECONDS, **environment):
     """Runs a command, raises `NotBuilt` if it fails, and returns its standard output."""
     status, said, why = run_apart(command, directory, seconds=seconds, **environment)
     if status != 0:
@@ -80,9 +82,9 @@ def hold(command, directory=None, seconds=SECONDS, **environment):
 
 def run_make(*arguments):
     """Runs make in `c/`, with these arguments."""
-    given = [STRICT, f"CC={needs.c_compiler()}", *arguments]
-    with kept_object(dict(argument.split("=", 1) for argument in given if "=" in argument)):
-        hold([needs.program("make", "make"), "-s", "-C", DIRECTORY, *given], PATH=path_without_kit())
+    words = [STRICT, f"CC={needs.c_compiler()}", *arguments]
+    with cached_object(dict(word.split("=", 1) for word in words if "=" in word)):
+        run_or_fail([needs.program("make", "make"), "-s", "-C", DIRECTORY, *words], PATH=path_without_kit())
 
 
 def library(out, *arguments):

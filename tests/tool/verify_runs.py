@@ -1,5 +1,5 @@
-"""Test cases for `minisign_tool verify` and `cat`, which take the same files, and for `verify-raw`, which real_runs.py runs:
-their messages, and the data that `cat` copies."""
+"""Test cases for the commands `verify`, `cat` and `verify-raw` of `minisign_tool`: their messages and exit statuses, and the data
+that `cat` copies. real_runs.py runs them. `verify` and `cat` have the same arguments and share most cases."""
 
 import os
 from dataclasses import replace
@@ -35,7 +35,7 @@ CUT_SHORT = {"status": 1, "stderr": RoomFor(len(WARNING) + 5)}
 
 
 def verify(name, *said, files=None, arguments=(PK, FILE, SIG), **how):
-    """Returns a case of `verify`. `files` replaces good files."""
+    """Returns a case of `verify`. By default its files are GOOD, in which `files` replaces or adds some."""
     return command(name, ["verify", *arguments], said, files={**GOOD, **(files or {})}, **how)
 
 
@@ -45,13 +45,13 @@ def cat(name, *said, output=b"", **how):
 
 
 def as_cat(case, output=None):
-    """Turns a case of `verify` into one of `cat`. By default it has to copy the data if it succeeds."""
+    """Turns a case of `verify` into one of `cat`. By default the expected output is the data if `verify` succeeds."""
     output = (case.files[FILE] if case.status == 0 else b"") if output is None else output
     return replace(case, arguments=["cat", *case.arguments[1:]], output=output)
 
 
 def signed(data=b"abc", **how):
-    """Returns the files for data and its signature. `how` changes parts of the signature."""
+    """Returns the data file and its signature file. `how` replaces parts of the signature."""
     return {FILE: data, SIG: toy.signature_text(data, **how)}
 
 
@@ -60,7 +60,7 @@ COMMENT = toy.signature_of(RECORD[10:] + b"t")
 FIRST, SECOND, THIRD, FOURTH = GOOD[SIG].splitlines(keepends=True)
 LARGE = toy.some_data(300_000)
 
-# A name, the files, and the message.
+# The name of a case, the files that differ from GOOD, and the expected message.
 VERDICTS = [
     ("a good signature", {}, VERIFIED),
     ("no data", {FILE: b""}, REJECTED),
@@ -99,8 +99,9 @@ VERDICTS = [
     ("last lines without a line feed", {PK: GOOD[PK][:-1], SIG: GOOD[SIG][:-1]}, VERIFIED),
 ]
 
-# The cases for both commands. The files are opened in the order of the arguments, and nothing is read before all are open. First the key
-# is read, then the signature, then both are checked, and then the data is read.
+# The cases for both commands. `in_order` combines faults, of which the first one has to be reported. The files are opened in the order of
+# the arguments, and nothing is read before all are open. Then the key is read, then the signature, then both are checked, and then the
+# data is read.
 BOTH = [
     *(verify(name, line, files=files) for name, files, line in VERDICTS),
     *in_order(
@@ -119,14 +120,14 @@ BOTH = [
 
 
 def over_streams(make, *cases):
-    """Returns the cases with standard input closed or empty, and standard output closed or open."""
+    """Returns each case four times: with standard input empty or closed, and standard output open or closed."""
     return [make(f"{what}, stdin {stdin or 'empty'}, stdout {stdout or 'open'}", *said, files=files, stdin=stdin, stdout=stdout)
             for stdin, stdout in [(b"", None), (CLOSED, None), (b"", CLOSED), (CLOSED, CLOSED)]
             for what, files, *said in cases]
 
 
 def failing_allocations(make, *more_lines):
-    """Returns cases in which each allocation fails."""
+    """Returns cases in which each allocation fails in turn."""
     named_files = [("a good signature", {}), ("other data", {FILE: b"abd"}), ("an empty key", {PK: b""})]
     return out_of_memory(OneOf(([WARNING, OUT_OF_MEMORY], *more_lines)),
                          *((name, make("", OUT_OF_MEMORY, files=files)) for name, files in named_files), output=PrefixOf(b"abc"))
@@ -146,12 +147,12 @@ VERIFY = [
 
 
 def holding(name, data):
-    """Expects this content of a file, and no new file."""
+    """Returns the expected files after a run: this content of one file, and no new file."""
     return Leaves({name: data}, others={*GOOD, "other"} - {name})
 
 
 APPEND = os.O_WRONLY | os.O_APPEND
-# Data that changes between the two readings.
+# Data that is large enough to be changed after it was verified and before all of it was copied.
 LONG = toy.some_data(2_000_000)
 CHANGED = toy.turned(LONG)
 
@@ -168,7 +169,7 @@ CAT = [
     cat("data from a pipe before another key ID", GOING_BACK_FAILED, files={PK: OTHER_KEY, FILE: Pipe(b"abc")}),
     cat("an empty signature before data from a pipe", NO_SIGNATURE, files={SIG: b"", FILE: Pipe(b"abc")}),
     cat("key and signature from pipes", VERIFIED, files={PK: Pipe(GOOD[PK]), SIG: Pipe(GOOD[SIG])}, output=b"abc"),
-    # A failed write of the copy is reported after the status.
+    # If the copy cannot be written, the error comes after the status line.
     cat("stdin closed", VERIFIED, output=b"abc", stdin=CLOSED),
     cat("stdout takes two bytes", VERIFIED, WRITING_FAILED, output=b"ab", stdout=RoomFor(2)),
     cat("stderr takes five bytes after the warning", WARNING + VERIFIED[:5], **CUT_SHORT),
@@ -177,7 +178,7 @@ CAT = [
       for what, files, *said in (("a good signature", {}, VERIFIED, WRITING_FAILED), ("no data", signed(b""), VERIFIED),
                                  ("other data", {FILE: b"abd"}, REJECTED))),
     *without_stderr(over_streams(cat, ("a good signature", {})), status=1),
-    # If standard output is the data's own file, this is reported after all files were opened and before anything is read or written.
+    # If standard output is the data file, this is reported after all files were opened and before anything is read or written.
     *(cat(name, said, files=files, arguments=(PK, data, SIG), stdout=IntoFile(into, flags), left=holding(FILE, left))
       for name, said, data, into, flags, files, left in [
           ("stdout appends to the data", INPUT_IS_OUTPUT, FILE, FILE, APPEND, {}, b"abc"),
@@ -190,8 +191,8 @@ CAT = [
           ("a missing signature, before stdout appends to the data", READING_FAILED, FILE, FILE, APPEND, {SIG: MISSING}, b"abc")]),
     cat("stdout appends to another file", VERIFIED, files={"other": b"abc"}, stdout=IntoFile("other", APPEND),
         left=holding("other", b"abcabc")),
-    # The data is changed while it is copied: after the status was written, and before more than a pipe holds could be copied, because the
-    # output is not read until then.
+    # The data is changed after the status was written and before all of it was copied. The output is not read until then, so the program
+    # could not copy more than a pipe holds.
     *(cat(f"while it is copied, {name}", VERIFIED, *([] if output == LONG else [DATA_CHANGED]), files=signed(LONG), output=output,
           stdout=ReadLate(2, lambda directory, change=change: change(os.path.join(directory, FILE))))
       for name, change, output in [
@@ -209,9 +210,9 @@ CAT = [
 # == verify-raw ==
 
 KEY = toy.RECORD
-# The prehashed signature of `abc` by this key, with a first half of zeros.
+# A prehashed signature of `abc` under the key of toy.py, whose first 32 bytes (R) are zeros.
 SIGNATURE = b"ED" + toy.KEYNUM + bytes(32) + bytes.fromhex("9d5d3a5ce8ed6e7af22f1832807b60260ea8ffe6e9f10cb7a86b67d855a561a8")
-UNKNOWN, SAYS_LEGACY = b"Ex" + SIGNATURE[2:], b"Ed" + SIGNATURE[2:]
+UNKNOWN_ALGORITHM, LEGACY_ALGORITHM = b"Ex" + SIGNATURE[2:], b"Ed" + SIGNATURE[2:]
 
 
 def verify_raw(name, *said, files=None, arguments=(PK, SIG), **how):
@@ -240,7 +241,7 @@ RAW = [
         ("an empty signature", {SIG: b""}, TOO_SHORT),
         ("a longer signature", {SIG: SIGNATURE + b"\xff"}, VERIFIED_RAW),
         ("a much longer signature", {SIG: SIGNATURE + bytes(200_000)}, VERIFIED_RAW),
-        ("a short signature of an unknown algorithm", {SIG: UNKNOWN[:73]}, TOO_SHORT),
+        ("a short signature of an unknown algorithm", {SIG: UNKNOWN_ALGORITHM[:73]}, TOO_SHORT),
         ("data that cannot be read", {FILE: WRITE_ONLY}, READING_FAILED),
         ("stdin closed", {FILE: CLOSED}, READING_FAILED))),
     # The key is opened first, then the signature, and nothing is read before both are open. Then the key is read, then the signature, then
@@ -252,10 +253,10 @@ RAW = [
         (PK, [("a directory as key", DIRECTORY, READING_FAILED)]),
         (SIG, [("a directory as signature", DIRECTORY, READING_FAILED)]),
         (PK, [("a short key", KEY[:41], TOO_SHORT)]),
-        (SIG, [("a short signature", SIGNATURE[:73], TOO_SHORT), ("an unknown algorithm", UNKNOWN, UNSUPPORTED)]),
+        (SIG, [("a short signature", SIGNATURE[:73], TOO_SHORT), ("an unknown algorithm", UNKNOWN_ALGORITHM, UNSUPPORTED)]),
         (FILE, [("a directory as data", DIRECTORY, READING_FAILED)]),
         (PK, [("another key ID", toy.OTHER_RECORD, OTHER_KEYNUM)]),
-        (SIG, [("a prehashed signature with the algorithm of a legacy signature", SAYS_LEGACY, LEGACY),
+        (SIG, [("a prehashed signature with the algorithm of a legacy signature", LEGACY_ALGORITHM, LEGACY),
                ("a changed signature", toy.turned(SIGNATURE), REJECTED)])),
     # Each read of the key, of the signature and of data that comes byte by byte fails in turn, including the one that finds the end. This
     # is reported before any verdict, and with a short key before the contents of the two files are checked.
@@ -283,7 +284,7 @@ RAW = [
         ("large data", MUCH, OF_MUCH, VERIFIED_RAW),
         ("large data from a file", FromFile(MUCH), OF_MUCH, VERIFIED_RAW),
         ("large data and one more byte", MUCH + b"\0", OF_MUCH, REJECTED))),
-    # Of all messages only a status line that cannot be written changes the exit status.
+    # The exit status depends on standard error only if the status line cannot be written.
     *without_stderr([verify_raw(name, files=files) for name, files in (
         ("good data", {}), ("other data", {FILE: b"abd"}), ("a missing key", {PK: MISSING}))], status=1),
     *(verify_raw(f"good data, stdout {stdout}", VERIFIED_RAW, stdout=stdout) for stdout in (CLOSED, FULL)),

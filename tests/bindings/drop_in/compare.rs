@@ -7,11 +7,15 @@
 //! requests, and an example. The last line is `N requests, A accepted by both`. DIFFERENCES in tests/bindings/drop_in.py lists the
 //! intended differences.
 
+use std::cell::RefCell;
 use std::collections::BTreeMap;
+use std::io::{self, Cursor, Read, Seek, SeekFrom};
 use std::panic::{catch_unwind, AssertUnwindSafe};
+use std::rc::Rc;
 
 #[link(name = "sodium")]
 extern "C" {
+    fn crypto_generichash_blake2b(digest: *mut u8, len: usize, data: *const u8, data_len: u64, key: *const u8, key_len: usize) -> i32;
     fn crypto_sign_detached(signature: *mut u8, len: *mut u64, message: *const u8, message_len: u64, secret: *const u8) -> i32;
 }
 
@@ -21,6 +25,19 @@ fn ed25519(message: &[u8], secret: &[u8]) -> [u8; 64] {
     assert_eq!(secret.len(), 64);
     unsafe { crypto_sign_detached(signature.as_mut_ptr(), std::ptr::null_mut(), message.as_ptr(), message.len() as u64, secret.as_ptr()) };
     signature
+}
+
+/// Returns the BLAKE2b digest, of this length.
+fn blake2b(data: &[u8], len: usize) -> Vec<u8> {
+    let mut digest = vec![0; len];
+    unsafe { crypto_generichash_blake2b(digest.as_mut_ptr(), len, data.as_ptr(), data.len() as u64, std::ptr::null(), 0) };
+    digest
+}
+
+/// Writes the right checksum into the record of a secret key that is not encrypted.
+fn write_checksum(record: &mut [u8]) {
+    let checksum = blake2b(&[&record[..2], &record[54..126]].concat(), 32);
+    record[126..].copy_from_slice(&checksum);
 }
 
 const ALPHABET: &[u8; 64] = b"ABCDEFGHIJKLMNOPQRSTUVWXYZabcdefghijklmnopqrstuvwxyz0123456789+/";
@@ -83,6 +100,40 @@ impl Rng {
     }
 }
 
+/// A reader that counts how often it is read and moved. The first read can be interrupted, and moving it can fail.
+pub struct Counted {
+    inner: Cursor<Vec<u8>>,
+    is_interrupted: bool,
+    can_seek: bool,
+    counts: Rc<RefCell<(u32, u32)>>,
+}
+
+impl Counted {
+    fn new(data: &[u8], is_interrupted: bool, can_seek: bool) -> Counted {
+        Counted { inner: Cursor::new(data.into()), is_interrupted, can_seek, counts: Rc::default() }
+    }
+}
+
+impl Read for Counted {
+    fn read(&mut self, to: &mut [u8]) -> io::Result<usize> {
+        self.counts.borrow_mut().0 += 1;
+        if std::mem::take(&mut self.is_interrupted) {
+            return Err(io::ErrorKind::Interrupted.into());
+        }
+        self.inner.read(to)
+    }
+}
+
+impl Seek for Counted {
+    fn seek(&mut self, to: SeekFrom) -> io::Result<u64> {
+        self.counts.borrow_mut().1 += 1;
+        if !self.can_seek {
+            return Err(io::Error::new(io::ErrorKind::Other, "illegal seek"));
+        }
+        self.inner.seek(to)
+    }
+}
+
 /// The result of a call, as text: the returned values, or the kind and text of the error.
 type Outcome = Result<String, String>;
 
@@ -101,7 +152,7 @@ pub struct Pair {
 macro_rules! calls {
     ($name:ident, $krate:ident) => {
         mod $name {
-            use super::{outcome, Outcome, Pair};
+            use super::{outcome, Counted, Outcome, Pair};
             use std::io::Cursor;
             use $krate::*;
 
@@ -176,6 +227,54 @@ macro_rules! calls {
                     Ok($krate::sign(pk.as_ref(), &sk, Cursor::new(data), Some(trusted), Some(untrusted))?.into_string())
                 })
             }
+            /// The result of `verify`, and how often the reader was read and moved.
+            pub fn verify_counted(key: &str, text: &str, data: Counted, output: bool, allow_legacy: bool) -> Outcome {
+                let counts = data.counts.clone();
+                let result = run(|| {
+                    let (key, read) = (PublicKey::from_base64(key)?, SignatureBox::from_string(text)?);
+                    $krate::verify(&key, &read, data, true, output, allow_legacy)?;
+                    Ok(String::from("valid"))
+                });
+                let (reads, seeks) = *counts.borrow();
+                let with_counts = |text| format!("{text} after {reads} reads and {seeks} seeks");
+                result.map(with_counts).map_err(with_counts)
+            }
+            pub fn sign_interrupted(sk: &[u8]) -> Outcome {
+                run(|| Ok($krate::sign(None, &SecretKey::from_bytes(sk)?, Counted::new(b"data", true, true), Some("t"), None)?.into_string()))
+            }
+            pub fn opened(text: &str, password: &str) -> Vec<u8> {
+                SecretKeyBox::from_string(text).unwrap().into_secret_key(Some(password.into())).unwrap().to_bytes()
+            }
+            /// Decrypts a key, and signs with it. `verify` accepts the signature.
+            pub fn sign_opened(text: &str, password: &str) -> Outcome {
+                run(|| {
+                    let key = SecretKeyBox::from_string(text)?.into_secret_key(Some(password.into()))?;
+                    let (pk, signature) = (PublicKey::from_secret_key(&key)?, $krate::sign(None, &key, &b"data"[..], Some("t"), None)?);
+                    $krate::verify(&pk, &signature, Cursor::new("data"), true, false, false)?;
+                    Ok(signature.into_string())
+                })
+            }
+            pub fn sk_comment(sk: &[u8], comment: &str) -> Outcome {
+                run(|| Ok(SecretKey::from_bytes(sk)?.to_box(Some(comment))?.into_string()))
+            }
+            pub fn debug(pair: &Pair, item: &str) -> Outcome {
+                run(|| {
+                    let (pk, sk) = (PublicKey::from_bytes(&pair.pk)?, SecretKey::from_bytes(&pair.sk)?);
+                    Ok(match item {
+                        "PublicKey" => format!("{pk:?}"),
+                        "PublicKeyBox" => format!("{:?}", pk.to_box()?),
+                        "SecretKey" => format!("{sk:?}"),
+                        "SecretKeyBox" => format!("{:?}", sk.to_box(None)?),
+                        "ErrorKind" => format!("{:?}", ErrorKind::KDF),
+                        _ => format!("{:?}", SignatureBox::from_string("").err()),
+                    })
+                })
+            }
+            /// The text of an error in base64, which `run` makes equal.
+            pub fn base64_text() -> Outcome {
+                let error = SecretKeyBox::from_string("c\n!").and_then(SecretKeyBox::into_unencrypted_secret_key).unwrap_err();
+                Ok(error.to_string())
+            }
             pub fn pair(password: Option<&str>) -> Pair {
                 let key_pair = match password {
                     None => KeyPair::generate_unencrypted_keypair(),
@@ -218,7 +317,7 @@ impl Report {
         }
         // If both results are Ok, the values differ, so they are printed in full.
         let (our_result, their_result) = match (&ours, &theirs) {
-            (Ok(our_values), Ok(their_values)) => (format!("Ok {our_values}"), format!("Ok {their_values}")),
+            (Ok(our_values), Ok(their_values)) => (format!("Ok {our_values:?}"), format!("Ok {their_values:?}")),
             _ => (class(&ours), class(&theirs)),
         };
         let entry = self.differences.entry((call.into(), our_result, their_result)).or_insert((0, request.into()));
@@ -326,10 +425,99 @@ fn encrypted(report: &mut Report, rng: &mut Rng, number: usize) {
     report.add("sealed, public key", ours::pk_box(&pair.pk_box), theirs::pk_box(&pair.pk_box), &pair.pk_box);
 }
 
+/// Compares the results of requests that random changes hardly ever make, once each.
+fn rare(report: &mut Report) {
+    let (pair, other, sealed) = (theirs::pair(None), theirs::pair(None), theirs::pair(Some("p")));
+    let (key, other_key) = (base64(&pair.pk), base64(&other.pk));
+    // Readers. The data is empty, because its copy goes to standard output.
+    let [prehashed, legacy] = [true, false].map(|is_prehashed| {
+        let message = if is_prehashed { blake2b(b"", 64) } else { vec![] };
+        let first = ed25519(&message, &pair.sk[62..126]);
+        let record = [if is_prehashed { b"ED" } else { b"Ed" }, &pair.sk[54..62], &first].concat();
+        let second = ed25519(&[&first[..], b"t"].concat(), &pair.sk[62..126]);
+        format!("untrusted comment: x\n{}\ntrusted comment: t\n{}\n", base64(&record), base64(&second))
+    });
+    for (what, key, text, is_interrupted, can_seek, output, allow) in [
+        ("counted", &key, &prehashed, false, true, false, false),
+        ("counted, other key", &other_key, &prehashed, false, true, false, false),
+        ("counted, legacy", &key, &legacy, false, true, false, true),
+        ("counted, legacy, other key", &other_key, &legacy, false, true, false, true),
+        ("counted, legacy, not allowed", &key, &legacy, false, true, false, false),
+        ("counted, legacy, output", &key, &legacy, false, true, true, true),
+        ("counted, legacy, output, no seek", &key, &legacy, false, false, true, true),
+        ("counted, output", &key, &prehashed, false, true, true, false),
+        ("counted, output, no seek", &key, &prehashed, false, false, true, false),
+        ("counted, interrupted", &key, &prehashed, true, true, false, false),
+        ("counted, legacy, interrupted", &key, &legacy, true, true, false, true),
+    ] {
+        let data = || Counted::new(b"", is_interrupted, can_seek);
+        let results = [ours::verify_counted, theirs::verify_counted].map(|verify| verify(key, text, data(), output, allow));
+        let [by_ours, by_theirs] = results;
+        report.add(what, by_ours, by_theirs, "");
+    }
+    report.add("sign, interrupted", ours::sign_interrupted(&pair.sk), theirs::sign_interrupted(&pair.sk), "");
+    // Secret keys with a right checksum: of another algorithm, and with two halves that do not belong together.
+    let mut record = pair.sk.clone();
+    record[..2].copy_from_slice(b"XX");
+    write_checksum(&mut record);
+    let file = |record: &[u8]| format!("untrusted comment: k\n{}\n", base64(record));
+    report.add("algorithm, plain", ours::sk_plain(&file(&record)), theirs::sk_plain(&file(&record)), "");
+    report.add("algorithm, sign", ours::sign(Some(&pair.pk), &record, b"", "t", "u"), theirs::sign(Some(&pair.pk), &record, b"", "t", "u"), "");
+    let mut record = pair.sk.clone();
+    record[94..126].copy_from_slice(&other.sk[94..126]);
+    write_checksum(&mut record);
+    report.add("halves, plain", ours::sk_plain(&file(&record)), theirs::sk_plain(&file(&record)), "");
+    for pk in [None, Some(&pair.pk[..])] {
+        report.add("halves, sign", ours::sign(pk, &record, b"", "t", "u"), theirs::sign(pk, &record, b"", "t", "u"), "");
+    }
+    // A checksum of zeros, which Minisign's own program writes in a key that is not encrypted.
+    let mut record = pair.sk.clone();
+    record[126..].fill(0);
+    report.add("zeros, plain", ours::sk_plain(&file(&record)), theirs::sk_plain(&file(&record)), "");
+    report.add("zeros, sign", ours::sign(Some(&pair.pk), &record, b"", "t", "u"), theirs::sign(Some(&pair.pk), &record, b"", "t", "u"), "");
+    // An encrypted key of another algorithm: what the password derives is added to the changed key again.
+    let opened = ours::opened(&sealed.sk_box, "p");
+    let derived: Vec<u8> = opened[54..].iter().zip(&sealed.sk[54..]).map(|(one, another)| one ^ another).collect();
+    let encrypted = |mut record: Vec<u8>| {
+        record[54..].iter_mut().zip(&derived).for_each(|(byte, other)| *byte ^= other);
+        file(&record)
+    };
+    let mut record = opened.clone();
+    record[..2].copy_from_slice(b"XX");
+    write_checksum(&mut record);
+    let text = encrypted(record);
+    report.add("algorithm, sealed", ours::sk_open(&text, "p"), theirs::sk_open(&text, "p"), "");
+    report.add("algorithm, sign with the opened key", ours::sign_opened(&text, "p"), theirs::sign_opened(&text, "p"), "");
+    let mut record = opened.clone();
+    record[126..].fill(0);
+    report.add("zeros, opened", ours::sk_bytes(&record), theirs::sk_bytes(&record), "");
+    let text = encrypted(record);
+    report.add("zeros, sealed", ours::sk_open(&text, "p"), theirs::sk_open(&text, "p"), "");
+    // Limits of scrypt: a little more work than for a key of minisign -G, and limits that no memory is needed for.
+    for (operations, memory) in [((1_u64 << 25) + (1 << 15), 1_u64 << 20), (1 << 63, 0), (0, 0), (0, u64::MAX), (1 << 20, (1 << 32) + (1 << 25))] {
+        let record = [&sealed.sk[..38], &operations.to_le_bytes(), &memory.to_le_bytes(), &sealed.sk[54..]].concat();
+        report.add("limits", ours::sk_open(&file(&record), "p"), theirs::sk_open(&file(&record), "p"), "");
+    }
+    // Comments of secret keys, and long comments.
+    let long = [1003, 1004, 8173, 8174].map(|len| "x".repeat(len));
+    for comment in ["", " a ", "a\nb", "a\r", "a\0", &long[0], &long[1]] {
+        report.add("comment of a secret key", ours::sk_comment(&pair.sk, comment), theirs::sk_comment(&pair.sk, comment), comment);
+    }
+    for (trusted, untrusted) in [("t", &*long[0]), ("t", &long[1]), (&long[2], "u"), (&long[3], "u")] {
+        let sign = |sign: fn(Option<&[u8]>, &[u8], &[u8], &str, &str) -> Outcome| sign(None, &pair.sk, b"", trusted, untrusted);
+        report.add("sign", sign(ours::sign), sign(theirs::sign), "a long comment");
+    }
+    for item in ["PublicKey", "PublicKeyBox", "SecretKey", "SecretKeyBox", "ErrorKind", "PError"] {
+        report.add(&format!("Debug of {item}"), ours::debug(&pair, item), theirs::debug(&pair, item), "");
+    }
+    report.add("text of base64 errors", ours::base64_text(), theirs::base64_text(), "");
+}
+
 fn main() {
     std::panic::set_hook(Box::new(|_| {}));
     let words: Vec<u64> = std::env::args().skip(1).map(|word| word.parse().unwrap()).collect();
     let (mut rng, mut report) = (Rng(words[1]), Report::default());
+    rare(&mut report);
     let mut pair = theirs::pair(None);
     for number in 0..words[0] as usize {
         if number % 50 == 0 {

@@ -1,5 +1,5 @@
-//! Uses each public item of the crate minisign 0.10: its type (`types`, which only has to compile), and what it does. It panics if an item
-//! does something else. `interface DIRECTORY STEP` runs one step, in an empty directory.
+//! Checks that each public item of the crate minisign 0.10 exists here with the same type (`types`, which only has to compile) and the same
+//! behaviour. `interface DIRECTORY STEP` runs the checks of one step, with files in an empty directory, and panics if one fails.
 
 use minisign::*;
 use std::error::Error as StdError;
@@ -21,11 +21,17 @@ trusted comment: timestamp:1556193335\tfile:test
 y/rUw2y8/hOUYjZU71eHp/Wo1KZ40fGy2VJEDl34XMJM+TX48Ss/17u3IvIfbVR1FkZZSNCisQbuQY+bHwhEBg==
 ";
 
-fn is<T: Debug + Display + Send + Sync + 'static>() {}
-fn shared<T: Send + Sync + 'static>() {}
-fn cloned<T: Clone>() {}
+// A secret key with the unknown algorithm `XX` and a correct checksum, encrypted with the password `p`; and its public key, with `Ed`.
+const OTHER_ALGORITHM: &str = "untrusted comment: rsign encrypted secret key
+WFhTY0IyIUmKmrROCcev0qEoVqPJFIpZNBnnO9n4T+DVxB7Q2O0AABAAAAAAAAAAAAIAAAAAyI4sbgHgFNO5V8XexgeqzFtloF2Jpufc9X2Du2cB9B0CA8dxiVMSzDZ+Y/k2koyzIwiAgXZlyoMevrX4HJXFPjYbC7ygHuznPoR92E1vWSZY6J/wXf9oDhQ3QclbGVU0gHvwfJrFqmw=
+";
+const KEY_OF_OTHER_ALGORITHM: &str = "RWQJzgoKhCRy0x7LMyJaDMNK8D8Z0BCZ/tIae/w4+tr31iTj4szjeVPj";
 
-/// Each function and conversion has the type that it has in the crate.
+fn implements_display<T: Debug + Display + Send + Sync + 'static>() {}
+fn implements_sync<T: Send + Sync + 'static>() {}
+fn implements_clone<T: Clone>() {}
+
+/// Compiles only if each function, conversion and trait has the same type as in the crate minisign.
 #[allow(dead_code)]
 fn types() {
     type File = Cursor<&'static [u8]>;
@@ -86,14 +92,15 @@ fn types() {
     let _: fn(ErrorKind, String) -> PError = PError::new;
     let _: fn(ErrorKind, io::Error) -> PError = PError::new;
     let _: fn(&PError) -> &ErrorKind = PError::kind;
+    let _: fn(&PError) -> ! = PError::exit;
     let _: fn(io::Error) -> PError = From::from;
     let _: fn(std::fmt::Error) -> PError = From::from;
     let _: fn(std::string::FromUtf8Error) -> PError = From::from;
     let _: std::result::Result<u8, PError> = Result::<u8>::Ok(1);
-    is::<PError>();
-    is::<PublicKeyBox>();
-    shared::<(KeyPair, SecretKeyBox, SignatureBox, SignatureBones, PublicKey)>();
-    cloned::<(KeyPair, PublicKey, PublicKeyBox, SecretKey, SecretKeyBox, SignatureBox, SignatureBones)>();
+    implements_display::<PError>();
+    implements_display::<PublicKeyBox>();
+    implements_sync::<(KeyPair, SecretKeyBox, SignatureBox, SignatureBones, PublicKey)>();
+    implements_clone::<(KeyPair, PublicKey, PublicKeyBox, SecretKey, SecretKeyBox, SignatureBox, SignatureBones)>();
     let _ = |key: &PublicKey, other: &PublicKey, error: &dyn StdError| (key == other, error.source().is_some());
     let KeyPair { pk: PublicKey { .. }, sk: SecretKey { .. } } = KeyPair::generate_unencrypted_keypair().unwrap();
 }
@@ -139,18 +146,19 @@ fn public_keys(directory: &str) {
     assert_eq!(key.to_base64(), KEY);
     assert_eq!(key.keynum(), [0x1f, 0xe8, 0xb4, 0x42, 0x18, 0x0f, 0x62, 0xe7]);
     assert_eq!(key.to_box().unwrap().to_string(), text);
-    let of = PublicKeyBox::from_string(&text).unwrap();
-    assert_eq!((of.to_bytes(), of.clone().into_string(), String::from(of.clone())), (text.clone().into_bytes(), text.clone(), text.clone()));
+    let key_box = PublicKeyBox::from_string(&text).unwrap();
+    assert_eq!((key_box.to_bytes(), key_box.clone().into_string(), String::from(key_box.clone())),
+               (text.clone().into_bytes(), text.clone(), text.clone()));
     let path = format!("{directory}/key.pub");
     std::fs::write(&path, &text).unwrap();
-    let keys = [of.clone().into_public_key().unwrap(), PublicKey::from_box(of.clone()).unwrap(), of.into(), PublicKey::from_file(path).unwrap(),
-                PublicKey::from_bytes(&key.to_bytes()).unwrap(), PublicKey::from_bytes(&[key.to_bytes(), vec![1]].concat()).unwrap()];
+    let keys = [key_box.clone().into_public_key().unwrap(), PublicKey::from_box(key_box.clone()).unwrap(), key_box.into(),
+                PublicKey::from_file(path).unwrap(), PublicKey::from_bytes(&key.to_bytes()).unwrap(), PublicKey::from_bytes(&[key.to_bytes(), vec![1]].concat()).unwrap()];
     assert!(keys.iter().all(|each| *each == key && each.keynum() == key.keynum()));
     let mut bytes = key.to_bytes();
     assert_eq!((bytes.len(), &bytes[..2], &bytes[2..10]), (42, &b"Ed"[..], key.keynum()));
     bytes[2] ^= 1;
     let renamed = PublicKey::from_bytes(&bytes).unwrap();
-    assert!(renamed == key && renamed.keynum() != key.keynum(), "keys are equal whatever their key IDs are");
+    assert!(renamed == key && renamed.keynum() != key.keynum(), "keys with different key IDs are equal");
     bytes[10] ^= 1;
     assert!(PublicKey::from_bytes(&bytes).unwrap() != key);
     fails(PublicKey::from_bytes(&bytes[..41]), ErrorKind::Io, "failed to fill whole buffer");
@@ -178,25 +186,32 @@ fn secret_keys(directory: &str) {
     assert_eq!(SecretKey::from_bytes(&record).unwrap().to_bytes(), record);
     let path = format!("{directory}/key");
     std::fs::write(&path, &text).unwrap();
-    let of = SecretKeyBox::from_string(&text).unwrap();
-    assert_eq!((of.to_bytes(), of.clone().into_string(), String::from(of.clone())), (text.clone().into_bytes(), text.clone(), text.clone()));
-    for opened in [of.clone().into_secret_key(password()), SecretKey::from_box(of.clone(), password()), SecretKey::from_file(&path, password())] {
+    let key_box = SecretKeyBox::from_string(&text).unwrap();
+    assert_eq!((key_box.to_bytes(), key_box.clone().into_string(), String::from(key_box.clone())),
+               (text.clone().into_bytes(), text.clone(), text.clone()));
+    for opened in [key_box.clone().into_secret_key(password()), SecretKey::from_box(key_box.clone(), password()),
+                   SecretKey::from_file(&path, password())] {
         let opened = opened.unwrap();
         assert!(!opened.is_encrypted() && opened.keynum() == pk.keynum() && PublicKey::from_secret_key(&opened).unwrap() == pk);
-        assert_eq!(opened.to_bytes()[..54], record[..54], "a decrypted key names the key derivation");
+        assert_eq!(opened.to_bytes()[..54], record[..54], "the record of a decrypted key still has the key derivation, the salt and the limits");
         assert!(SecretKey::from_bytes(&opened.to_bytes()).unwrap() == opened && opened != sk);
     }
-    let wrong = of.clone().into_secret_key(Some("password".into()));
+    // A key with an unknown algorithm can be decrypted and signs. Its record then has the algorithm `Ed`.
+    let other = SecretKeyBox::from_string(OTHER_ALGORITHM).unwrap().into_secret_key(Some("p".into())).unwrap();
+    assert_eq!((&other.to_bytes()[..4], other.is_encrypted()), (&b"EdSc"[..], false));
+    let key = PublicKey::from_base64(KEY_OF_OTHER_ALGORITHM).unwrap();
+    verify(&key, &sign(Some(&key), &other, data(), None, None).unwrap(), data(), true, false, false).unwrap();
+    let wrong = key_box.clone().into_secret_key(Some("password".into()));
     fails(wrong, ErrorKind::Verify, "Wrong password for that key");
-    fails(of.clone().into_unencrypted_secret_key(), ErrorKind::Io, "Key might be encrypted");
+    fails(key_box.clone().into_unencrypted_secret_key(), ErrorKind::Io, "Key might be encrypted");
     let plain = KeyPair::generate_unencrypted_keypair().unwrap();
     assert!(!plain.sk.is_encrypted());
-    let of_plain = plain.sk.to_box(Some("my comment")).unwrap();
-    assert!(of_plain.to_string().starts_with("untrusted comment: my comment\nRWQAAEIy"));
-    for read in [of_plain.clone().into_unencrypted_secret_key(), SecretKey::from_unencrypted_box(of_plain.clone())] {
+    let plain_box = plain.sk.to_box(Some("my comment")).unwrap();
+    assert!(plain_box.to_string().starts_with("untrusted comment: my comment\nRWQAAEIy"));
+    for read in [plain_box.clone().into_unencrypted_secret_key(), SecretKey::from_unencrypted_box(plain_box.clone())] {
         assert_eq!(read.unwrap().to_bytes(), plain.sk.to_bytes());
     }
-    fails(of_plain.clone().into_secret_key(password()), ErrorKind::Io, "Key is not encrypted");
+    fails(plain_box.clone().into_secret_key(password()), ErrorKind::Io, "Key is not encrypted");
     fails(SecretKeyBox::from(String::new()).into_unencrypted_secret_key(), ErrorKind::Io, "Missing comment in secret key");
     fails(SecretKeyBox::from(String::from("c")).into_unencrypted_secret_key(), ErrorKind::Io, "Missing encoded key in secret key");
     fails(SecretKey::from_bytes(&record[..157]), ErrorKind::Io, "failed to fill whole buffer");
@@ -211,10 +226,13 @@ fn secret_keys(directory: &str) {
     fails(changed(&plain.sk.to_bytes(), 130, &[1, 2, 3]).into_unencrypted_secret_key(), ErrorKind::Verify, "Corrupted key");
     fails(plain.sk.to_box(Some("a\nb")).map(|_| ()), ErrorKind::Sign,
           "a comment contains a line break, or the trusted comment begins or ends with white space");
-    // Debug prints nothing secret.
-    let shown = format!("{plain:?} {of_plain:?} {:?}", plain.sk);
+    // Unencrypted keys that the program minisign writes have a checksum of zeros.
+    let zeros = changed(&plain.sk.to_bytes(), 126, &[0; 32]).into_unencrypted_secret_key().unwrap();
+    verify(&plain.pk, &sign(Some(&plain.pk), &zeros, data(), None, None).unwrap(), data(), true, false, false).unwrap();
+    // The debug output contains no secret bytes, neither in hexadecimal nor in base64 nor as a list of numbers.
+    let shown = format!("{plain:?} {plain_box:?} {:?}", plain.sk);
     let secret: Vec<String> = plain.sk.to_bytes()[62..70].iter().map(|byte| format!("{byte:x}")).collect();
-    let base64 = of_plain.to_string().lines().nth(1).unwrap()[84..100].to_string();
+    let base64 = plain_box.to_string().lines().nth(1).unwrap()[84..100].to_string();
     let numbers = format!("{:?}", &plain.sk.to_bytes()[62..70]);
     let is_shown = |text: &str| shown.contains(text);
     assert!(!is_shown(&secret.concat()) && !is_shown(&base64) && !is_shown(numbers.trim_matches(&['[', ']'][..])), "{shown}");
@@ -223,11 +241,11 @@ fn secret_keys(directory: &str) {
     assert!(empty.sk.is_encrypted() && empty.sk.to_box(None).unwrap().into_secret_key(Some(String::new())).is_ok());
 }
 
-/// A writer that records whether it was flushed.
+/// A writer that stores the bytes, and true if it was flushed after the last write.
 #[derive(Default)]
-struct Written(Vec<u8>, bool);
+struct Recorder(Vec<u8>, bool);
 
-impl Write for &mut Written {
+impl Write for &mut Recorder {
     fn write(&mut self, bytes: &[u8]) -> io::Result<usize> {
         self.1 = false;
         self.0.extend(bytes);
@@ -239,7 +257,7 @@ impl Write for &mut Written {
     }
 }
 
-/// A writer that fails.
+/// A writer on which every write fails.
 struct Full;
 
 impl Write for Full {
@@ -252,31 +270,31 @@ impl Write for Full {
 }
 
 fn written_keys() {
-    let (mut public, mut secret) = (Written::default(), Written::default());
+    let (mut public, mut secret) = (Recorder::default(), Recorder::default());
     let pair = KeyPair::generate_and_write_encrypted_keypair(&mut public, &mut secret, Some("mine"), Some("p".into())).unwrap();
     assert_eq!((public.0, public.1), (pair.pk.to_box().unwrap().to_bytes(), true));
     assert_eq!((secret.0, secret.1), (pair.sk.to_box(Some("mine")).unwrap().to_bytes(), true));
-    let (mut public, mut secret) = (Written::default(), Written::default());
+    let (mut public, mut secret) = (Recorder::default(), Recorder::default());
     let pair = KeyPair::generate_and_write_unencrypted_keypair(&mut public, &mut secret).unwrap();
     assert_eq!((public.0, public.1, secret.0, secret.1), (pair.pk.to_bytes(), true, pair.sk.to_bytes(), true));
     fails(KeyPair::generate_and_write_unencrypted_keypair(Full, vec![]), ErrorKind::Io, "disk full");
     fails(KeyPair::generate_and_write_encrypted_keypair(vec![], Full, None, Some("p".into())), ErrorKind::Io, "disk full");
 }
 
-/// Data that fails when it is read, or that changes when it is read again.
-struct Odd {
+/// A reader that returns an error if `fails`, or whose data is different after it was rewound if `changes`.
+struct FaultyReader {
     inner: Cursor<Vec<u8>>,
     fails: bool,
     changes: bool,
 }
 
-impl Read for Odd {
+impl Read for FaultyReader {
     fn read(&mut self, to: &mut [u8]) -> io::Result<usize> {
         if self.fails { Err(io::Error::new(io::ErrorKind::Other, "bad sector")) } else { self.inner.read(to) }
     }
 }
 
-impl Seek for Odd {
+impl Seek for FaultyReader {
     fn seek(&mut self, to: SeekFrom) -> io::Result<u64> {
         if self.changes && matches!(to, SeekFrom::Start(_)) {
             self.inner.get_mut()[0] ^= 1;
@@ -285,8 +303,12 @@ impl Seek for Odd {
     }
 }
 
-fn odd(fails: bool, changes: bool) -> Odd {
-    Odd { inner: Cursor::new(b"test".to_vec()), fails, changes }
+fn unreadable() -> FaultyReader {
+    FaultyReader { inner: Cursor::new(b"test".to_vec()), fails: true, changes: false }
+}
+
+fn changing() -> FaultyReader {
+    FaultyReader { inner: Cursor::new(b"test".to_vec()), fails: false, changes: true }
 }
 
 fn signing() {
@@ -301,7 +323,7 @@ fn signing() {
     let signature = sign(None, &sk, &b"test"[..], Some("trusted \u{e9}"), Some("untrusted")).unwrap();
     let lines: Vec<String> = signature.to_string().lines().map(String::from).collect();
     assert_eq!((&*lines[0], &*lines[2], lines.len()), ("untrusted comment: untrusted", "trusted comment: trusted \u{e9}", 4));
-    // A reader is read from where it is.
+    // Signing reads from the current position of the reader.
     let mut later = Cursor::new(b"not test".to_vec());
     later.set_position(4);
     let again = sign(None, &sk, later, Some("trusted \u{e9}"), Some("untrusted")).unwrap();
@@ -311,12 +333,12 @@ fn signing() {
         "Could not verify signature with the provided public key ID: {:016X}", u64::from_le_bytes(other.pk.keynum().try_into().unwrap())));
     let error = sign(None, &other.sk, data(), None, None).err().unwrap();
     assert!(*error.kind() == ErrorKind::EncryptedKey && error.to_string().starts_with("Cannot sign with an encrypted secret key. The key must"));
-    fails(sign(None, &sk, odd(true, false), None, None).map(|_| ()), ErrorKind::Io, "bad sector");
+    fails(sign(None, &sk, unreadable(), None, None).map(|_| ()), ErrorKind::Io, "bad sector");
     for comment in ["a\nb", " a", "a\t", "a\0", "a\rb"] {
         let error = sign(None, &sk, data(), Some(comment), None).err().expect(comment);
         assert_eq!(*error.kind(), ErrorKind::Sign, "{comment:?}");
     }
-    // A key whose checksum is wrong does not sign.
+    // A key with a wrong checksum is rejected.
     let mut record = sk.to_bytes();
     record[130] ^= 1;
     fails(sign(None, &SecretKey::from_bytes(&record).unwrap(), data(), None, None).map(|_| ()), ErrorKind::Verify, "Corrupted key");
@@ -338,10 +360,10 @@ fn verifying() {
                 fails(strict, ErrorKind::Verify, "Legacy signatures are not accepted");
             } else {
                 strict.unwrap();
-                fails(verify(&key, signature, odd(true, false), true, false, false), ErrorKind::Io, "bad sector");
+                fails(verify(&key, signature, unreadable(), true, false, false), ErrorKind::Io, "bad sector");
             }
         }
-        // Another comment, a short comment signature, and none.
+        // A changed trusted comment, a short comment signature, and an empty one.
         let lines: Vec<&str> = text.lines().collect();
         let with = |comment: &str, second: &str| SignatureBox::from_string(&[lines[0], lines[1], comment, second].join("\n")).unwrap();
         for damaged in [with("trusted comment: other", lines[3]), with(lines[2], "AAAA"), with(lines[2], " ")] {
@@ -350,7 +372,8 @@ fn verifying() {
     }
 }
 
-/// Prints the status lines of both kinds of signatures to standard error, and copies of the data to standard output.
+/// Verifies with `quiet` and `output` set and not set. drop_in.py compares the status lines on standard error, and the copies of the data on
+/// standard output.
 fn printing() {
     let key = PublicKey::from_base64(KEY).unwrap();
     let file = SignatureBox::from_string(PREHASHED).unwrap();
@@ -359,13 +382,13 @@ fn printing() {
     verify(&key, &file, data(), false, false, false).unwrap();
     verify(&key, &bare, data(), false, true, false).unwrap();
     verify(&key, &legacy, data(), true, true, true).unwrap();
-    // The copy begins where the data began, and is verified.
+    // The copy begins at the position from which the data was verified.
     let mut later = Cursor::new(b"not test".to_vec());
     later.set_position(4);
     verify(&key, &file, later, true, true, false).unwrap();
     let changed = "Data changed between verification and output";
-    fails(verify(&key, &file, odd(false, true), true, true, false), ErrorKind::Verify, changed);
-    fails(verify(&key, &bare, odd(false, true), true, true, false), ErrorKind::Verify, changed);
+    fails(verify(&key, &file, changing(), true, true, false), ErrorKind::Verify, changed);
+    fails(verify(&key, &bare, changing(), true, true, false), ErrorKind::Verify, changed);
     fails(verify(&key, &file, Cursor::new(b"Test"), false, true, false), ErrorKind::Verify, "Signature verification failed");
 }
 
@@ -392,7 +415,7 @@ fn signatures(directory: &str) {
     let calls: [fn(&SignatureBox) -> String; 4] =
         [|it| it.to_string(), |it| it.clone().into_string(), |it| format!("{:?}", it.to_bytes()), |it| it.clone().into()];
     for call in calls {
-        assert!(catch_unwind(AssertUnwindSafe(|| call(&bare))).is_err(), "a bare signature has no text");
+        assert!(catch_unwind(AssertUnwindSafe(|| call(&bare))).is_err(), "a bare signature cannot be encoded as a file");
     }
     assert!(catch_unwind(|| SignatureBox::from(String::new())).is_err());
     fails(SignatureBones::from_bytes(&bytes[..73]), ErrorKind::Io, "failed to fill whole buffer");
@@ -408,24 +431,25 @@ fn signatures(directory: &str) {
 }
 
 fn main() {
-    let words: Vec<String> = std::env::args().skip(1).collect();
+    let arguments: Vec<String> = std::env::args().skip(1).collect();
+    // Prints only the panics of failed checks, which are in this file, and not those of the crate, which the checks expect.
     std::panic::set_hook(Box::new(|info| {
         if std::thread::panicking() && info.location().map_or(false, |at| at.file().ends_with("main.rs")) {
             eprintln!("{info}");
         }
     }));
-    match &*words[1] {
+    match &*arguments[1] {
         "constants" => constants(),
         "errors" => errors(),
-        "public keys" => public_keys(&words[0]),
-        "secret keys" => secret_keys(&words[0]),
+        "public keys" => public_keys(&arguments[0]),
+        "secret keys" => secret_keys(&arguments[0]),
         "written keys" => written_keys(),
         "signing" => signing(),
         "verifying" => verifying(),
         "printing" => printing(),
-        "signatures" => signatures(&words[0]),
+        "signatures" => signatures(&arguments[0]),
         "exit" => PError::new(ErrorKind::Misc, "the end").exit(),
-        step => panic!("no step {step}"),
+        step => panic!("unknown step {step}"),
     }
-    println!("\nended");
+    println!("\ncompleted");
 }

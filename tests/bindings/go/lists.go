@@ -1,4 +1,4 @@
-// A test program that verifies files with signed lists. `listed` verifies the file of each case on standard input in each way
+// A test program that verifies files with signed lists. `verify_listed` verifies the file of each case on standard input in each way
 // of the module, and `entries` prints the entries of each list. `files DIRECTORY` verifies files and lists that it writes to a
 // directory, and checks what its functions do with wrong arguments. tests/bindings/go.py compares the output.
 package main
@@ -113,7 +113,7 @@ func answer(testCase listCase, verify way) string {
 	return fmt.Sprintf("rejected %s %d", name, line)
 }
 
-func listed() {
+func verifyListed() {
 	for _, testCase := range cases() {
 		expected := answer(testCase, ways[0])
 		for index, verify := range ways {
@@ -284,8 +284,8 @@ func sharedByGoroutines(list *minisign.SignedList) bool {
 
 func main() {
 	switch os.Args[1] {
-	case "listed":
-		listed()
+	case "verify_listed":
+		verifyListed()
 	case "entries":
 		entries()
 	case "files":

@@ -103,7 +103,7 @@ func sign(file, data, to, comment string, password []byte) error {
 	return err
 }
 
-func opened(file string, password []byte) string {
+func strength(file string, password []byte) string {
 	key, err := minisign.NewSecretKeyFromFile(file, password, minisign.Work{})
 	if err != nil {
 		return nameOf(err)
@@ -114,7 +114,7 @@ func opened(file string, password []byte) string {
 	return "strong"
 }
 
-func sealed(words []string) string {
+func encrypt(words []string) string {
 	operations, _ := strconv.ParseUint(words[0], 10, 64)
 	memory, _ := strconv.ParseUint(words[1], 10, 64)
 	key, err := minisign.GenerateKey()
@@ -184,8 +184,8 @@ func wrong() {
 	printPair("NOT_BEGUN", nameOf(err))
 }
 
-// ids prints the key ID of a secret key and of its public key, and the public key file.
-func ids(file string) {
+// keyIDs prints the key IDs of a secret key and of its public key, and the content of the public key file.
+func keyIDs(file string) {
 	key, err := minisign.NewSecretKeyFromFile(file, nil, minisign.Work{})
 	must(err)
 	public, err := key.PublicKey()
@@ -260,16 +260,16 @@ func main() {
 		fmt.Println(nameOf(makePair(words[0], password(words[1:]))))
 	case "sign":
 		fmt.Println(nameOf(sign(words[0], words[1], words[2], words[3], password(words[4:]))))
-	case "ids":
-		ids(words[0])
+	case "key_ids":
+		keyIDs(words[0])
 	case "write":
 		// Without this, a write beyond the file size limit would end the program instead of returning an error.
 		signal.Ignore(syscall.SIGXFSZ)
 		fmt.Println(nameOf(minisign.WriteNew(words[0], []byte(words[1]))))
-	case "opened":
-		fmt.Println(opened(words[0], password(words[1:])))
-	case "sealed":
-		fmt.Println(sealed(words))
+	case "strength":
+		fmt.Println(strength(words[0], password(words[1:])))
+	case "encrypt":
+		fmt.Println(encrypt(words))
 	case "shown":
 		shown()
 	case "wrong":

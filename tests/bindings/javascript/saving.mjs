@@ -1,9 +1,9 @@
-// Checks `saveVerified` in Node: what is in the directory before the verdict and after each way to end. javascript.py copies this program into
-// a user's directory, beside `node_modules`.
+// Checks that `saveVerified` in Node writes the target only after the data was verified, and that after any error the old file is unchanged
+// and no temporary file is left. javascript.py copies this program into a user's directory, beside `node_modules`.
 //
-//     node saving.mjs DIRECTORY KEY DATA SIGNATURE    with an empty directory, and files that verify
+//     node saving.mjs DIRECTORY KEY DATA SIGNATURE
 //
-// Each line has the expected result, a tab, and the result.
+// DIRECTORY is empty, and SIGNATURE is valid for DATA. For each check the program prints the expected result, a tab, and the actual result.
 
 import {createReadStream, existsSync, mkdirSync, readdirSync, readFileSync, statSync, symlinkSync, chmodSync, writeFileSync} from "node:fs";
 import {join} from "node:path";
@@ -14,31 +14,33 @@ import {saveVerified} from "minisign-proved/node";
 
 const [directory, ...paths] = process.argv.slice(2);
 const [key, data, signature] = paths.map(path => readFileSync(path));
-const target = join(directory, "app"), rows = [];
-const ended = promise => promise.then(() => "saved", why => why instanceof TypeError ? `${why.name} ${why.code}` : why.code ?? why.name ?? why);
+const target = join(directory, "app"), results = [];
+// Returns "saved", or the error with which saving failed.
+const outcomeOf = promise => promise.then(() => "saved", why => why instanceof TypeError ? `${why.name} ${why.code}` : why.code ?? why.name ?? why);
 const modeOf = path => (statSync(path).mode & 0o777).toString(8);
-const listed = () => readdirSync(directory).join(" ");
-// Returns the content of the target, or "none", and the names in the directory.
-const state = () => `${existsSync(target) ? readFileSync(target, "latin1") : "none"} [${listed()}]`;
+const namesInDirectory = () => readdirSync(directory).join(" ");
+// Returns the content of the target, or "none", and the names of all files in the directory.
+const state = () => `${existsSync(target) ? readFileSync(target, "latin1") : "none"} [${namesInDirectory()}]`;
+const save = (source, options) => outcomeOf(saveVerified(source, target, signature, key, options));
 process.umask(0);
 
-// Before the verdict, the directory has a temporary file that only its owner can read, and nothing else.
-async function* slow(...pieces) {
+// Yields pieces of data. After each piece, checks that the directory contains only a temporary file, which only its owner can read.
+async function* checkedPieces(...pieces) {
   for (const piece of pieces) {
     yield piece;
     await wait(50);
     const names = readdirSync(directory);
-    rows.push(["1 true 600 none", `${names.length} ${/^\.minisign-[0-9a-f]{16}\.tmp$/.test(names[0])} ${modeOf(join(directory, names[0]))} ${
-      existsSync(target) ? "there" : "none"}`]);
+    results.push(["1 true 600 none", `${names.length} ${/^\.minisign-[0-9a-f]{16}\.tmp$/.test(names[0])} ${modeOf(join(directory, names[0]))} ${
+      existsSync(target) ? "target" : "none"}`]);
   }
 }
 
-rows.push(["SIGNATURE_REFUSED none []", `${await ended(saveVerified(slow(data, Buffer.from("x")), target, signature, key))} ${state()}`]);
-rows.push(["saved test [app] 644", `${await ended(saveVerified(slow(data.subarray(0, 2), data.subarray(2)), target, signature, key))} ${state()} ${
+results.push(["SIGNATURE_REFUSED none []", `${await save(checkedPieces(data, Buffer.from("x")))} ${state()}`]);
+results.push(["saved test [app] 644", `${await save(checkedPieces(data.subarray(0, 2), data.subarray(2)))} ${state()} ${
   modeOf(target)}`]);
-const before = () => { writeFileSync(target, "old"); chmodSync(target, 0o711); };
-// Any failure leaves the old file, and no other.
-for (const [wanted, run] of [
+const writeOldFile = () => { writeFileSync(target, "old"); chmodSync(target, 0o711); };
+// After an error, the old file has the same content and mode as before, and the directory has no other file.
+for (const [error, run] of [
   ["SIGNATURE_REFUSED", () => saveVerified(Buffer.from("x"), target, signature, key)],
   ["SIGNATURE_REFUSED", () => saveVerified([data, data], target, signature, key)],
   ["DIFFERENT_KEY_IDS", () => saveVerified(data, target, signature, "RWSQ" + key.toString().split("\n")[1].slice(4))],
@@ -49,35 +51,35 @@ for (const [wanted, run] of [
   ["ENOENT", () => saveVerified(createReadStream(join(directory, "absent")), target, signature, key)],
   ["GONE", () => saveVerified((async function* () { yield data; throw Object.assign(new Error(), {code: "GONE"}); })(), target, signature, key)],
 ]) {
-  before();
-  rows.push([`${wanted} old [app] 711`, `${await ended(run())} ${state()} ${modeOf(target)}`]);
+  writeOldFile();
+  results.push([`${error} old [app] 711`, `${await outcomeOf(run())} ${state()} ${modeOf(target)}`]);
 }
-// An abort while data is still coming, and before the temporary file is made.
+// Aborts before the temporary file is created (after 0 ms), and while data is being received (after 30 ms).
 for (const milliseconds of [0, 30]) {
-  before();
-  const controller = new AbortController(), gone = Object.assign(new Error(), {code: "ABORTED"});
+  writeOldFile();
+  const controller = new AbortController(), reason = Object.assign(new Error(), {code: "ABORTED"});
   const endless = async function* () { for (;;) { yield Buffer.alloc(65536); await wait(1); } };
-  const saving = ended(saveVerified(endless(), target, signature, key, {signal: controller.signal}));
+  const saving = save(endless(), {signal: controller.signal});
   await wait(milliseconds);
-  controller.abort(gone);
+  controller.abort(reason);
   const result = await saving;
   await wait(100);
-  rows.push(["ABORTED old [app]", `${result} ${state()}`]);
+  results.push(["ABORTED old [app]", `${result} ${state()}`]);
 }
-before();
-rows.push(["saved test [app] 711", `${await ended(saveVerified(createReadStream(paths[1]), pathToFileURL(target), signature, key))} ${state()} ${
+writeOldFile();
+results.push(["saved test [app] 711", `${await outcomeOf(saveVerified(createReadStream(paths[1]), pathToFileURL(target), signature, key))} ${state()} ${
   modeOf(target)}`]);
-before();
-rows.push(["saved test [app] 755", `${await ended(saveVerified(new Blob([data]), target, signature, key, {mode: 0o755}))} ${state()} ${modeOf(target)}`]);
+writeOldFile();
+results.push(["saved test [app] 755", `${await save(new Blob([data]), {mode: 0o755})} ${state()} ${modeOf(target)}`]);
 const changing = Buffer.from(data);
-rows.push(["saved test [app]", `${await ended(saveVerified((function* () { yield changing; changing.fill(0); })(), target, signature, key))} ${state()}`]);
-// What is not a regular file is not replaced.
+results.push(["saved test [app]", `${await save((function* () { yield changing; changing.fill(0); })())} ${state()}`]);
+// Directories and symbolic links are not replaced.
 mkdirSync(join(directory, "d"));
 symlinkSync(target, join(directory, "l"));
-for (const [wanted, path] of [["TypeError INVALID_ARGUMENT", join(directory, "d")], ["TypeError INVALID_ARGUMENT", join(directory, "l")],
+for (const [error, path] of [["TypeError INVALID_ARGUMENT", join(directory, "d")], ["TypeError INVALID_ARGUMENT", join(directory, "l")],
                               ["ENOENT", join(directory, "absent", "app")], ["TypeError INVALID_ARGUMENT", 7]]) {
-  rows.push([`${wanted} [app d l]`, `${await ended(saveVerified(data, path, signature, key))} [${listed()}]`]);
+  results.push([`${error} [app d l]`, `${await outcomeOf(saveVerified(data, path, signature, key))} [${namesInDirectory()}]`]);
 }
 const result = await saveVerified(data, target, signature, key);
-rows.push(["test", result.fields.file]);
-console.log(rows.map(([wanted, got]) => `${wanted}\t${got}`).join("\n"));
+results.push(["test", result.fields.file]);
+console.log(results.map(([expected, actual]) => `${expected}\t${actual}`).join("\n"));

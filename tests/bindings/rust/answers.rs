@@ -202,13 +202,13 @@ fn sign(key: &str, data: &str, to: &str, comment: &str, password: Option<&str>) 
     key.public_key()?.verify(&data, &signature, false)
 }
 
-/// Returns whether a key file was encrypted with weak limits.
-fn opened(key: &str, password: Option<&str>) -> Result<&'static str, Error> {
+/// Returns `weak` for a key that is encrypted with limits below the minimum, otherwise `strong`.
+fn strength(key: &str, password: Option<&str>) -> Result<&'static str, Error> {
     Ok(if SecretKey::from_file(key, password, &Work::USUAL)?.is_weak() { "weak" } else { "strong" })
 }
 
 /// Encrypts a key with these limits.
-fn sealed(operations: &str, memory: &str) -> Result<(), Error> {
+fn encrypt(operations: &str, memory: &str) -> Result<(), Error> {
     let work = Work::new(operations.parse().unwrap(), memory.parse().unwrap());
     let key = SecretKey::generate(&Sodium)?;
     key.encode(&Sodium, None, &work)?;
@@ -381,14 +381,14 @@ fn main() {
             let key = PublicKey::from_base64(base64);
             println!("{:?}", key.map(|key| key.untrusted_comment().map(String::from)));
         }
-        ["opened", key] => println!("{}", opened(key, None).unwrap()),
-        ["opened", key, password] => println!("{}", opened(key, Some(password)).unwrap()),
-        ["sealed", operations, memory] => match sealed(operations, memory) {
+        ["strength", key] => println!("{}", strength(key, None).unwrap()),
+        ["strength", key, password] => println!("{}", strength(key, Some(password)).unwrap()),
+        ["encrypt", operations, memory] => match encrypt(operations, memory) {
             Err(weak @ Error::WeakLimits) => println!("WEAK_LIMITS{}", if weak.to_string().contains("limits") { "" } else { ", unsaid" }),
             other => println!("{other:?}"),
         },
         ["write", path, text] => println!("{:?}", write_new(path, text)),
-        ["ids", key] => {
+        ["key_ids", key] => {
             let key = SecretKey::from_file(key, None, &Work::USUAL).unwrap();
             println!("{} {}", key.key_id_text(), key.public_key().unwrap().key_id_text());
             print!("{}", key.public_key_text().unwrap());
@@ -397,6 +397,6 @@ fn main() {
         ["make", directory, password] => println!("{:?}", make(directory, Some(password))),
         ["sign", key, data, to, comment] => println!("{:?}", sign(key, data, to, comment, None)),
         ["sign", key, data, to, comment, password] => println!("{:?}", sign(key, data, to, comment, Some(password))),
-        _ => panic!("no such words"),
+        _ => panic!("unknown arguments {words:?}"),
     }
 }

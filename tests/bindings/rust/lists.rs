@@ -1,6 +1,6 @@
-//! A test program that verifies files with signed lists, by the crate under the name `minisign-verify`. `listed` verifies the file of each
-//! case on standard input in each way of the crate, and `entries` prints the entries of each list. `files DIRECTORY` uses lists and files
-//! that are there. `tests/bindings/rust.py` compares the output.
+//! A test program that verifies files with signed lists, with the crate under the name `minisign-verify`. `verify_listed` verifies the file
+//! of each case on standard input with each function of the crate, and `entries` prints the entries of each list. `files DIRECTORY` reads
+//! lists and files from this directory. `tests/bindings/rust.py` compares the output.
 
 use minisign_verify::{Error, ListEntry, ListError, ListHash, LongDigest, PublicKey, Reason, Signature, SignedList};
 use std::io::{self, Read, Write};
@@ -50,6 +50,7 @@ fn digest_of(hash: ListHash, data: &[u8]) -> Vec<u8> {
         ListHash::Sha256 => "sha256sum",
         ListHash::Sha512 => "sha512sum",
         ListHash::Blake2b => "b2sum",
+        other => panic!("no program computes {other:?}"),
     };
     let mut child = Command::new(program).stdin(Stdio::piped()).stdout(Stdio::piped()).spawn().unwrap();
     child.stdin.take().unwrap().write_all(data).unwrap();
@@ -76,7 +77,7 @@ fn rejected(error: &ListError) -> String {
     format!("rejected {reason:?} {line}")
 }
 
-fn listed() {
+fn verify_listed() {
     for case in cases() {
         let list = match verified(&case) {
             Ok(list) => list,
@@ -156,7 +157,7 @@ fn files(directory: &Path) {
 
 fn main() {
     match env::args().nth(1).as_deref() {
-        Some("listed") => listed(),
+        Some("verify_listed") => verify_listed(),
         Some("entries") => entries(),
         _ => files(Path::new(&env::args().nth(2).unwrap())),
     }
