@@ -268,7 +268,7 @@ void reject_secret_key_as_output(const struct options *options, const char *file
 
     if (stat(options->secret_file, &key) == 0 && stat(file, &status) == 0 && S_ISREG(key.st_mode)
         && (is_same_file(&key, &status)
-            || (has_same_size_and_times(&key, &status) && are_copies(options->secret_file, file)))) {
+            || (has_same_attributes(&key, &status) && are_copies(options->secret_file, file)))) {
         fail_error(file, "this is the secret key, which would be overwritten", hint);
     }
 }

@@ -307,7 +307,7 @@ bool have_same_place(const struct replacement *first, const struct replacement *
 
     return is_same_place(place, second_place)
            || (first->fd >= 0 && second->fd >= 0 && place->has_existing && second_place->has_existing
-               && has_same_size_and_times(&place->existing.status, &second_place->existing.status)
+               && has_same_attributes(&place->existing.status, &second_place->existing.status)
                && have_same_content(place, second_place));
 }
 

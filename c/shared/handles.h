@@ -21,11 +21,12 @@ struct handle {
 
 bool is_same_file(const struct stat *first, const struct stat *second);
 
-/* Returns true if size and times are the same. With FUSE, a file may have different inode numbers under two names. Then
- * size, times and content show that it is one file. */
-static inline bool has_same_size_and_times(const struct stat *first, const struct stat *second)
+/* Returns true if mode, owner, number of links, size and times are the same. With FUSE, a file may have different inode
+ * numbers under two names. Then these attributes and the content show that it is one file. */
+static inline bool has_same_attributes(const struct stat *first, const struct stat *second)
 {
-    return first->st_size == second->st_size && first->st_mtime == second->st_mtime
+    return first->st_mode == second->st_mode && first->st_uid == second->st_uid && first->st_nlink == second->st_nlink
+           && first->st_size == second->st_size && first->st_mtime == second->st_mtime
            && first->st_ctime == second->st_ctime;
 }
 
