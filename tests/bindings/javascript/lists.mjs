@@ -1,6 +1,6 @@
 // Checks the verifying of files with signed lists. javascript.py copies this program into a user's directory, beside `node_modules`.
 //
-//     node lists.mjs listed               verifies the file of each case on standard input with data of each kind
+//     node lists.mjs verify_listed        verifies the file of each case on standard input with data of each kind
 //     node lists.mjs entries              prints the entries of the list of each case
 //     node lists.mjs arguments            arguments of wrong types, and the properties of a list; takes one case
 //     node lists.mjs files DIRECTORY      files and lists that it writes to the directory
@@ -59,7 +59,7 @@ async function answerOf(verify) {
 const verified = ([key, text, signature, listName, longDigest]) =>
   verifyList(text, signature, key, listName.length === 0 ? null : listName, {longDigest: textOf(longDigest)});
 
-async function listed() {
+async function verifyListed() {
   for (const parts of await cases()) {
     const [name, data] = parts.slice(5), isText = Buffer.from(textOf(name)).equals(name);
     const names = isText ? [name, textOf(name)] : [name];
@@ -188,5 +188,5 @@ async function checkFiles(directory) {
 }
 
 const [word, directory] = process.argv.slice(2);
-await {listed, entries, arguments: checkArguments, files: () => checkFiles(directory)}[word]();
+await {verify_listed: verifyListed, entries, arguments: checkArguments, files: () => checkFiles(directory)}[word]();
 rows.forEach(row => console.log(row.join("\t")));

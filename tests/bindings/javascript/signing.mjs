@@ -2,7 +2,7 @@
 //
 //     node signing.mjs make DIRECTORY [PASSWORD]                   writes a key pair there
 //     node signing.mjs sign KEY DATA TO COMMENT [PASSWORD]         signs a file, passed in each way
-//     node signing.mjs opened KEY [PASSWORD]                       prints `weak` or `strong`
+//     node signing.mjs strength KEY [PASSWORD]                     prints `weak` or `strong`
 //     node signing.mjs growth COUNT                                prints by how many bytes the memory grows after a tenth of COUNT keys
 //     node signing.mjs threads                                     prints whether three threads can sign at once
 //
@@ -59,7 +59,7 @@ async function signFile(file, data, to, trustedComment, password) {
   return verified.trustedComment === trustedComment && expected.startsWith(`untrusted comment: ${OTHER}\n`) ? "OK" : "another comment";
 }
 
-async function opened(file, password) {
+async function strength(file, password) {
   return (await readSecretKey(readFileSync(file), {password, lowMemory: true})).isWeak ? "weak" : "strong";
 }
 
@@ -166,7 +166,7 @@ if (isMainThread) {
     return (await Promise.all([manySigned(), ...workers])).every(Boolean);
   };
   const checks = async path => [...await shown(), ...await wrong(), ...await streams(path)];
-  const run = {make, sign: signFile, opened, checks, growth, threads}[what];
+  const run = {make, sign: signFile, strength, checks, growth, threads}[what];
   const lines = await run(...words).catch(codeOf);
   console.log([lines].flat().join("\n"));
 } else {
