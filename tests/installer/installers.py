@@ -6,7 +6,7 @@ import hashlib
 import subprocess
 
 import needs
-from running import SECONDS, read, write
+from running import read, write
 from texts import record_of
 
 # The data of an older update, of a newer one, and of one after that.
@@ -43,8 +43,9 @@ class RealInstaller:
         self.call("-G", "-W", "-p", PK, "-s", "key.key")
 
     def call(self, *arguments):
+        # (signing a file above 2 GiB takes long on a busy machine)
         subprocess.run([self.minisign, *arguments], cwd=self.room, stdin=subprocess.DEVNULL, stdout=subprocess.DEVNULL, check=True,
-                       timeout=SECONDS)
+                       timeout=600)
 
     def public_text(self):
         return read(self.room, PK)
