@@ -74,12 +74,15 @@ NEVER_RETURNED = {
 }
 # Errors that the comment of a call names but the call does not return, and why.
 ONE_COMMENT = "two calls share the comment"
+PASSED_IN = "the comment names it as an argument of minisign_install_failed"
 NAMED_APART = {
     "minisign_read_public_key": [("BARE_PUBLIC_KEY_LENGTH BARE_PUBLIC_KEY_NOT_BASE64", ONE_COMMENT)],
     "minisign_read_bare_public_key": [("MISSING_PUBLIC_KEY MISSING_PUBLIC_KEY_COMMENT PUBLIC_KEY_LENGTH PUBLIC_KEY_NOT_BASE64", ONE_COMMENT)],
     "minisign_open_sealed_key_in_place": [("OUT_OF_MEMORY", "the comment says that it is never returned")],
     "minisign_test_sealed_key": [("NOT_UTF8 OUT_OF_MEMORY WRONG_PASSWORD", "the comment says that opening can still return them")],
     "minisign_secret_key_text_with_any_limits": [("WEAK_SEALING", "the comment says that it is never returned")],
+    "minisign_install_record": [("READING_FAILED", PASSED_IN)],
+    "minisign_install_no_record": [("READING_FAILED", PASSED_IN)],
 }
 
 # The calls whose contract is an equation with the installer's step function, and the events of it that they report, or calls
