@@ -161,7 +161,7 @@ static void check_verdicts(void)
               == MINISIGN_DIFFERENT_KEY_IDS, "another key ID was accepted");
 }
 
-/* What finding a name returns in LIST and in lists with one bad line. */
+/* The results of finding a name in LIST and in lists with one bad line. */
 static void check_finding(void)
 {
     static const struct {

@@ -169,7 +169,7 @@ for row_number, (row, row_status, *row_given) in enumerate(updates.JUDGED):
 
 # == Faults ==
 
-# What is offered over what: the fields of `updates.Update`, and `source`.
+# The installed update and the offered one: the fields of `updates.Update`, and `source`.
 SITUATIONS = {
     "a newer update": {},
     "a newer update from a pipe": dict(source=FROM_PIPE),
@@ -333,7 +333,7 @@ def remove(directory, name):
         os.remove(directory.path_of(name))
 
 
-# What another process does once, before any call of a run, and in which situations. Without the lock it leaves the record alone,
+# Changes that another process makes once, before any call of a run, and the situations. Without the lock it leaves the record alone,
 # so only a check finds another record.
 CHANGES = (
     ("another file is put at the target", lambda directory: put_at_target(directory, b"other"), ("a newer update", "the same update", "a check")),

@@ -42,7 +42,7 @@ TARGET_IN_USE = int(NUMBERS["TARGET_IN_USE"])
 ANSWERS = {int(NUMBERS["ANSWER_YES"], 16): "accepted", int(NUMBERS["ANSWER_NO"], 16): "refused"}
 # Effects for which `trace_reader` has no name. No operation has one of them.
 NAMELESS = ("target_changed", "record_changed", "data_overwritten", "another_file_synced")
-# What failed operations may leave in the temporary files, which is not recorded.
+# Changes that failed operations may leave in the temporary files. They are not recorded.
 OF_DATA, OF_RECORD = ("data_created", "data_grown", "data_synced"), ("record_created", "record_written", "record_synced")
 LEFT_OUT = {**dict.fromkeys(("CREATE_FILE", "COPY_DATA", "SET_PERMISSIONS", "SYNC_FILE"), OF_DATA),
             **dict.fromkeys(("CREATE_RECORD", "WRITE_RECORD", "SYNC_RECORD"), OF_RECORD)}
@@ -57,7 +57,7 @@ GREATEST_SIZE = 1 << 40
 # A file: its inode number and its bytes.
 File = namedtuple("File", "number data")
 Stage = namedtuple("Stage", "name data mode")
-# What is in the directory: the installed file and its mode, the record, the number of the lock file, and the temporary files
+# The content of the directory: the installed file and its mode, the record, the number of the lock file, and the temporary files
 # by number.
 Files = namedtuple("Files", "target mode record lock stages")
 # A call that a run is about to make: of the machine or of the system, its name, and its bytes.

@@ -85,7 +85,7 @@ COPIED = re.compile(r"&(?!(?:'\w+ )?mut )|Option<&(?!mut )|(?:[iu]\d+|[iu]size|b
 UNNAMED = re.compile(r"&(?!')|'_|\bSelf\b")
 # The values that reset a field of a type.
 VALUES = {"()": "()", "bool": "false", "&str": '""', "&[u8]": "&[]"}
-# What an exported function for C returns for an error: its number.
+# The result of an exported function for C after an error: the number of the error.
 NUMBER = re.compile(r"\.number\(\)|\bnumber_of(?P<macro>!)?\(|(?<=[>{])\s+(?P<constant>[A-Z][A-Z0-9_]{3,})(?=\s*[,}])")
 # An error of the sources, as the prover reports it.
 AT = re.compile(r"(?m)^(?:\./)?(src/[\w/]+\.rt):(\d+)(?::\d+)?: error")
