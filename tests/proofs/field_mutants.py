@@ -28,6 +28,7 @@ nothing is a failure too, and so is a mutant that does not compile.
 No mutants are made of
 
   * functions without `ensures`, which promise nothing (a method of a trait has the clauses of the trait);
+  * modules that are compiled only for tests, which the prover does not check;
   * fields that the module of the function cannot set, because they are private to another module or crate;
   * fields of a generic type, and enums of other crates or without a plain variant, for which there is no value;
   * the end of a function that returns a reference into the struct, because the borrow checker rejects the reset;
@@ -35,8 +36,11 @@ No mutants are made of
     they cannot have a second name;
   * functions that report a failure as `None` or `false`: these are results and not errors.
 
-tests/proofs/field_mutants.txt records each crate of which all mutants are rejected, with a digest of the crate, of those that it
-depends on, and of its mutants. Only crates whose digest differs are tried, or those that are named; --all tries all.
+tests/proofs/field_mutants.txt records each function of which all mutants are rejected or change nothing. The digest of a function
+covers the kit's logic, its body, its written proof and its mutants, and everything else on which the outcomes can depend: the
+definitions, the lemmas and the contracts of the crate and of the crates below, but not the bodies of other functions. Only
+functions whose digest differs are tried, or that are named as CRATE/FUNCTION; --all tries all. The record is written after each
+group of functions, so that a run that was interrupted continues where it ended.
 
 --list only prints the mutants. --unchanged tries each mutant without its reset or success, but with the code around it. All of
 these have to be proved, which shows that the change itself is rejected and not the code around it. A run over all crates takes
@@ -44,6 +48,7 @@ hours, so it is part of a release and not of CI. The last line is `N passed, M f
 """
 
 import functools
+import hashlib
 import os
 import re
 import shutil
@@ -60,7 +65,8 @@ import proved
 import tried_mutants
 from running import write
 from sources import NAME, ROOT, Reader, files_below, read, read_source
-from wrong_bodies import APART, FAILED, GAVE_UP, REJECTED, WELL, Places, Trial, Verdict, WrongBody, assume, functions_in
+from wrong_bodies import APART, FAILED, GAVE_UP, REJECTED, WELL, Places, Trial, Verdict, WrongBody
+from wrong_bodies import assume, functions_in, loops, replaced
 
 # The outcomes of a trial besides those of wrong_bodies.py.
 PROVED, SAME, UNFIT = "PROVED", "the same function", "does not compile"
@@ -70,13 +76,17 @@ ONE_VALUE = "rejected by a contract that allows one value"
 GOOD = (ONE_VALUE, REJECTED, AROUND, SAME)
 OUTCOMES = (*GOOD, GAVE_UP, APART, UNFIT, PROVED, FAILED)
 LIST = "tests/proofs/field_mutants.txt"
-HEAD = """# The outcomes of the mutants that tests/proofs/field_mutants.py generates. For each crate of which all are rejected: a digest
-# of everything that decides this, their numbers, and the mutants that change nothing.
+HEAD = """# The outcomes of the mutants that tests/proofs/field_mutants.py generates, for each function of which all are rejected or change
+# nothing: a digest of everything that decides this, and their numbers. Below it are the mutants that change nothing.
 """
+# The files of the written proof of a function, in a directory of their own.
+OF_FUNCTION = ("Answers.antt", "Invariants.antt", "Proof.antt")
 # The largest number of mutants that share a check.
 GROUP = 40
 # Stands for the suffix of a name until it is known.
 SUFFIX = "_@"
+# The names that the clause of a probe may need.
+PROBED = ("◌≡◌", "◌<◌", "OnOk", "OnErr", "replicate", "None", "false")
 INTEGER = re.compile(r"[iu](?:8|16|32|64|128|size)")
 FIELD = re.compile(r"(?m)^[ \t]*(?P<public>pub(?:\([^)]*\))?\s+)?(?P<name>\w+): (?P<type>[^\n]+?),?$")
 # A type of parameters that can be passed twice.
@@ -177,16 +187,22 @@ class Structs:
 
     def __init__(self, crate):
         self.crate, self.by_name, self.files = crate, {}, {}
-        for each in (crate, *proved.crates()[crate].below):
+        for each in (crate, *proved.crates()[crate].dependencies):
+            files = {}
             for file in files_below(f"{ROOT}/crates/{each}/src", ".rt"):
                 path = os.path.relpath(file, f"{ROOT}/crates/{each}")
                 reader = Reader(f"crates/{each}/{path}")
-                source = reader.read()
+                files[path] = reader, reader.read()
+            tests = test_modules(files)
+            for path, (reader, source) in files.items():
+                module = module_of(path)
+                if f"{module}::".startswith(tests):
+                    continue
                 if each == crate:
                     self.files[path] = (reader, source)
                 for item in source.items:
                     if item.what in ("struct", "enum"):
-                        self.by_name.setdefault(item.name, (each, module_of(path), item))
+                        self.by_name.setdefault(item.name, (each, module, item))
 
     def declared(self, name, module):
         """Yields the fields of a struct that a module may set, as name and type."""
@@ -268,6 +284,12 @@ def in_parts(text):
     return [part for part in (*parts, text[begin:].strip()) if part]
 
 
+def test_modules(files):
+    """Returns the modules, each with `::` behind it, that are compiled only for tests."""
+    return tuple("::".join(filter(None, (module_of(path), item.name, ""))) for path, (_, source) in files.items()
+                 for item in source.items if item.what == "mod" and "#[cfg(test)]" in item.comment)
+
+
 def module_of(path):
     """Returns the module of a source file."""
     return re.sub(r"^src/|\.rt$", "", path).replace("/", "::").replace("lib", "", path == "src/lib.rt").replace(
@@ -295,7 +317,7 @@ class Generator:
         owner = structs.by_name.get(item.owner)
         home = owner[1] if item.owner and owner and owner[0] == structs.crate else self.module
         self.function = "::".join(filter(None, (home, item.owner, item.name)))
-        if names and self.function not in names or item.trait:
+        if item.owner and (names and self.function not in names or item.trait):
             # In the prover's name of a method of a trait, the name of the trait follows that of the type, without a separator. The
             # name of a generic type may have arguments, each after a plus sign.
             wanted = rf"(?:\w+::)*{item.owner}[\w+]*{item.trait}\w*::{item.name}"
@@ -340,7 +362,7 @@ class Generator:
             for field, reset, type_ in self.structs.fields(kind, self.module) if kind else ():
                 yield from self.resets(name, field, reset, type_)
         yield from self.successes()
-        if 'extern "C"' in self.reader.text[self.item.begin:self.item.body] and INTEGER.fullmatch(self.result):
+        if self.returns_number():
             yield from self.zeros()
 
     def call(self):
@@ -403,13 +425,40 @@ class Generator:
             around = f"{{ {self.call()}; {sets} }}"
             yield self.mutant([(end, end, f"{between} {sets}")], f"{does} at the end", f"{name}{field}", is_clause("new"), around)
         elif not re.search(r"&(?!')|'_", self.result):
-            wrapped = [(body, body, f" let returned: {self.result} = {{"), (end, end, f"}}; {sets} returned")]
-            around = f"{{ let returned: {self.result} = {self.call()}; {sets} returned }}"
-            yield self.mutant(wrapped, f"{does} at the end", f"{name}{field}", is_clause("new"), around)
+            for when, ending, clause in self.endings(sets):
+                wrapped = [(body, body, f" let returned: {self.result} = {{"), (end, end, f"}}; {ending}")]
+                around = f"{{ let returned: {self.result} = {self.call()}; {ending} }}"
+                holds = is_clause("new")
+                yield self.mutant(wrapped, f"{does} at the end{when}", f"{name}{field}", holds and clause.format(holds), around)
         for number, (begin, stop) in enumerate(self.returns(), 1):
             value = self.reader.text[begin + len("return"):stop].strip()
             early = (f"{{ let returned: {self.result} = {value}; {sets} return returned }}" if value else f"{{ {sets} return }}")
             yield self.mutant([(begin, stop, early)], f"{does} before early return {number}", f"{name}{field}", is_clause("new"))
+
+    def endings(self, sets):
+        """Yields the ways to reset a field at the end of a function that returns a value: when, the text after the value has the name
+        `returned`, and a clause that a condition holds then. After a success and after an error there are different promises, so
+        these are separate mutants."""
+        last = self.bare[self.item.body + 1:self.item.end - 1]
+        last = last[self.last_statement(last):].strip()
+        if success_of(self.result):
+            if not last.startswith("Err("):
+                yield (" after a success", f"match returned {{ Ok(passed) => {{ {sets} Ok(passed) }}, Err(failed) => Err(failed) }}",
+                       "OnOk result ({})")
+            if not last.startswith("Ok("):
+                yield (" after an error", f"match returned {{ Ok(passed) => Ok(passed), Err(failed) => {{ {sets} Err(failed) }} }}",
+                       "OnErr result ({})")
+        elif self.returns_number():
+            if not re.fullmatch(r"[\w:]+(?:\.number\(\))?", last) or last == "0":
+                yield " after a success", f"if returned == 0 {{ {sets} }} returned", "result ≡ 0 → {}"
+            if last != "0":
+                yield " after an error", f"if returned != 0 {{ {sets} }} returned", "0 < result → {}"
+        else:
+            yield "", f"{sets} returned", "{}"
+
+    def returns_number(self):
+        """Returns true for an exported function for C that returns a number."""
+        return 'extern "C"' in self.reader.text[self.item.begin:self.item.body] and bool(INTEGER.fullmatch(self.result))
 
     def sets_first(self, name, field):
         """Returns true if the first use of the parameter assigns this field or the whole struct, so that a reset at entry has no effect."""
@@ -486,11 +535,12 @@ class Generator:
             yield self.mutant([(begin, stop, new)], f"0 instead of error number {number}", "result")
 
     def last_statement(self, text):
-        """Returns the offset of what follows the last statement that ends in a semicolon, outside of brackets."""
+        """Returns the offset of what follows the last statement, which ends in a semicolon, or in a brace at the end of a line."""
         depth, last = 0, 0
         for at, sign in enumerate(text):
             depth += (sign in "([{") - (sign in ")]}")
-            if sign == ";" and depth == 0:
+            is_block = sign == "}" and re.match(r" *\n\s*(?![.?)]|else\b|\s|\Z)", text[at + 1:])
+            if depth == 0 and (sign == ";" or is_block):
                 last = at + 1
         return last
 
@@ -539,7 +589,7 @@ class FieldTrial(Trial):
             known, (text, verdicts, lines) = len(self.proved), self.try_once(group)
             if "\nonly=" not in f"\n{text}":
                 unfit = {body for path, line in AT.findall(text) for body in lines(path, int(line))}
-                why = proved.first_of(text)
+                why = proved.first_error(text)
                 if not unfit:
                     return settled + [Verdict(body, FAILED, f"the group did not reach the prover: {why}") for body in group]
                 settled += [Verdict(body, UNFIT, why) for body in unfit]
@@ -589,9 +639,10 @@ class FieldTrial(Trial):
         super().copy_into(directory, group)
         for path in {body.path for body in group}:
             imports = read_source(f"crates/{self.crate}/{path}").imports
-            needed = [name for name in ("◌≡◌", "replicate", "None", "false") if name not in imports]
+            needed = [name for name in PROBED if name not in imports]
             text = read(f"{directory}/{path}")
-            at = re.search(r"(?m)^(?!//!|$)", text).start()
+            # An import follows the comment of the module and its attributes.
+            at = re.search(r"(?m)^(?!//!|#!|$)", text).start()
             if needed:
                 write(directory, path, f"{text[:at]}ghost use Rattle.std.specs.Prelude.{{{', '.join(needed)}}};\n{text[at:]}".encode())
 
@@ -611,15 +662,24 @@ def copies_in(file):
     return [(item.name, item.line, reader.text.count("\n", 0, item.end) + 1) for item in functions_in(reader.read())]
 
 
-@functools.lru_cache(maxsize=None)
-def names_of(crate):
-    """Returns the prover's names of the functions in those modules that have methods of traits to mutate, from a check in which all
-    bodies are endless loops."""
+def supply(crate):
+    """Has the crates below a crate built."""
+    why = proved.build_libraries(proved.crates()[crate].dependencies)
+    if why:
+        raise SystemExit(f"the crates below {crate} are not proved: {why}")
+
+
+def names_of(crate, known):
+    """Returns the prover's names of the functions of a crate, as far as they are needed for methods of traits. Those that are not among
+    the names in `known` are read from a check in which all bodies are endless loops."""
     structs = structs_of(crate)
     items = [(path, item) for path, (_, source) in structs.files.items() for item in functions_in(source) if item.trait]
-    modules = {module_of(path) for path, item in items if Generator(structs, path, item, False).would_have_mutants()}
+    unnamed = [generator for path, item in items for generator in [Generator(structs, path, item, False, known)]
+               if not generator.function and generator.would_have_mutants()]
+    modules = {generator.module for generator in unnamed}
     if not modules:
-        return ()
+        return known
+    supply(crate)
     with tempfile.TemporaryDirectory(prefix="field-mutants-names-") as room:
         FieldTrial(crate).copy_into(room, [])
         shutil.rmtree(f"{room}/proofs", ignore_errors=True)
@@ -627,8 +687,8 @@ def names_of(crate):
         output = proved.rattle("check", crate, room, *(words if all(modules) else ()), "--allow-holes").stdout
     names = re.findall(rf"(?m)^fn {crate}::(.+?): ", output)
     if not names:
-        raise SystemExit(f"{crate}: the prover names no function: {proved.first_of(output)}")
-    return tuple(names)
+        raise SystemExit(f"{crate}: the prover names no function: {proved.first_error(output)}")
+    return (*known, *names)
 
 
 def generators_of(crate, is_unchanged=False, names=()):
@@ -659,23 +719,26 @@ def determined(trial, generators, mutants, pool):
     return known
 
 
-def try_crate(crate, generators, mutants, places, pool, is_unchanged):
-    """Tries the mutants of a crate, and returns their verdicts."""
+def begun(crate, mutants, places):
+    """Returns a trial for a crate, and the verdicts that are known before any mutant is tried: on all if the unchanged functions are
+    not proved, and otherwise on those of functions for which the prover uses other names, which are generic."""
     trial, unnamed = FieldTrial(crate, places), []
     why = trial.lacks_proof(mutants)
     while unknown := re.search(r"has no function `([^`]+)`", why):
-        # The prover uses other names for functions of generic types.
         unnamed += [Verdict(body, UNFIT, why) for body in mutants if body.function == unknown[1]]
         mutants = [body for body in mutants if body.function != unknown[1]]
         why = trial.lacks_proof(mutants)
-    if why:
-        return unnamed + [Verdict(body, FAILED, f"not tried: {why}") for body in mutants]
+    return trial, unnamed + [Verdict(body, FAILED, f"not tried: {why}") for body in mutants if why]
+
+
+def try_functions(trial, generators, mutants, pool, is_unchanged):
+    """Tries the mutants of some functions of a crate, and returns their verdicts."""
     if is_unchanged:
-        return unnamed + in_groups(trial, mutants, pool)
+        return in_groups(trial, mutants, pool)
     known = determined(trial, generators, mutants, pool)
     settled = [body for body in mutants if body.is_settled(known.get(body.function, frozenset()))]
     others = in_groups(trial, [body for body in mutants if body not in settled], pool)
-    return unnamed + [Verdict(body, ONE_VALUE, "") for body in settled] + looked_at_again(trial, others, pool)
+    return [Verdict(body, ONE_VALUE, "") for body in settled] + looked_at_again(trial, others, pool)
 
 
 def looked_at_again(trial, verdicts, pool):
@@ -716,71 +779,161 @@ def in_slices(bodies):
 # ---- The record of earlier runs ----
 
 
-def digest_of(crate, mutants):
-    """Returns a digest of everything that decides the outcomes of these mutants."""
-    text = "".join(body.text() for body in mutants)
-    return tried_mutants.digest(crate, proved.crates(), ROOT, f"{tried_mutants.kit()}\n{text}", own="")
+class Digests:
+    """The digests of a crate's functions, each of everything that decides the outcomes of the function's mutants."""
+
+    def __init__(self, crate):
+        self.crate = crate
+        self.common = hashlib.sha256(tried_mutants.kit().encode())
+        # The texts of the written proofs by the directory of the function.
+        self.proofs = {}
+        for each in (*proved.crates()[crate].dependencies, crate):
+            self.common.update(f"\0{each} {proved.crates()[each].direct_dependencies} {proved.crates()[each].kit_dependencies}".encode())
+            for file in files_below(f"{ROOT}/crates/{each}/src", ".rt"):
+                source = read_source(file)
+                self.add(file, replaced(source.text, loops(source, [])))
+            for file in (*files_below(f"{ROOT}/crates/{each}/specs"), *files_below(f"{ROOT}/crates/{each}/proofs")):
+                place, name = os.path.split(os.path.relpath(file, f"{ROOT}/crates/{each}/proofs"))
+                if name not in OF_FUNCTION:
+                    self.add(file, read(file))
+                elif each == crate:
+                    self.proofs[place] = self.proofs.get(place, "") + read(file)
+
+    def add(self, file, text):
+        bare = tried_mutants.COMMENT.sub(b"", text.encode())
+        self.common.update(f"\0{os.path.relpath(file, ROOT)} {len(bare)}\0".encode() + bare)
+
+    def of(self, generator, mutants):
+        """Returns the digest of a function with these mutants."""
+        digest = self.common.copy()
+        item = generator.item
+        parts = (item.text, self.proofs.get(generator.function.replace("::", "/"), ""), *(body.text() for body in mutants))
+        for part in parts:
+            bare = tried_mutants.COMMENT.sub(b"", part.encode())
+            digest.update(f"\0{len(bare)}\0".encode() + bare)
+        return digest.hexdigest()[:32]
 
 
 def recorded():
-    """Returns the recorded digest and text of each crate."""
-    text = read(LIST) if os.path.exists(LIST) else ""
-    return {found[1]: (found[2], found[0]) for found in re.finditer(r"(?m)^(\w+): ([0-9a-f]{64})\n(?:    .*\n)*", text)}
+    """Returns the record: for each crate and function, the digest and the lines below it."""
+    text, record, crate = read(LIST) if os.path.exists(LIST) else "", {}, ""
+    for found in re.finditer(r"(?m)^(?P<crate>\w+):$|^    (?P<function>\S+): (?P<digest>\w+)\n(?P<lines>(?:        .*\n)*)", text):
+        crate = found["crate"] or crate
+        if found["function"]:
+            record.setdefault(crate, {})[found["function"]] = found["digest"], found["lines"]
+    return record
 
 
-def record(crate, digest, verdicts):
-    """Writes the outcomes for a crate into the record: their numbers, and the mutants that change nothing."""
-    outcomes = Counter(verdict.outcome for verdict in verdicts)
-    lines = [f"{crate}: {digest}\n    {counted(outcomes)}\n"]
-    lines += [f"    {verdict.body.label.partition('/')[2]}: {verdict.outcome}\n" for verdict in verdicts
-              if verdict.outcome not in (ONE_VALUE, REJECTED, AROUND)]
-    texts = {**{name: text for name, (_, text) in recorded().items()}, crate: "".join(lines)}
-    write(ROOT, LIST, (HEAD + "".join(texts[name] for name in proved.crates() if name in texts)).encode())
+def record(crate, names, entries):
+    """Writes functions of a crate into the record: their digests, and the lines below them. `names` are all functions of the crate
+    that have mutants; others are dropped."""
+    every = recorded()
+    every[crate] = {name: value for name, value in {**every.get(crate, {}), **entries}.items() if name in names}
+    text = HEAD
+    for each in (each for each in proved.crates() if every.get(each)):
+        text += f"{each}:\n" + "".join(f"    {name}: {digest}\n{lines}" for name, (digest, lines) in sorted(every[each].items()))
+    write(ROOT, LIST, text.encode())
+
+
+def lines_of(verdicts):
+    """Returns the lines of the record for a function: the numbers of outcomes, and the mutants that change nothing."""
+    lines = [f"        {counted(Counter(verdict.outcome for verdict in verdicts))}\n"]
+    return "".join(lines + [f"        {verdict.body.does}: {verdict.outcome}\n" for verdict in verdicts
+                            if verdict.outcome not in (ONE_VALUE, REJECTED, AROUND)])
 
 
 def counted(outcomes):
     return ", ".join([f"{sum(outcomes.values())} mutants", *(f"{outcomes[kind]} {kind}" for kind in OUTCOMES if outcomes[kind])])
 
 
+def parts_of(tried, most):
+    """Splits functions into lists with at most so many mutants, or of one function with more."""
+    parts, number = [[]], 0
+    for generator, bodies in tried.items():
+        if parts[-1] and number + len(bodies) > most:
+            parts.append([])
+            number = 0
+        parts[-1].append(generator)
+        number += len(bodies)
+    return [part for part in parts if part]
+
+
+def report(verdicts, good):
+    """Prints the mutants that are failures."""
+    for verdict in verdicts:
+        if verdict.outcome not in good:
+            print(f"{verdict.body.label}: {verdict.outcome}: {verdict.why}", flush=True)
+
+
+class Run:
+    """A run of this script: its words and flags, and its results so far."""
+
+    def __init__(self, names, flags, pool, places):
+        self.names, self.flags, self.pool, self.places = names, flags, pool, places
+        self.is_unchanged = "--unchanged" in flags
+        self.good = {PROVED} if self.is_unchanged else {*GOOD}
+        self.outcomes, self.skipped = Counter(), 0
+
+    def mutants_of(self, crate):
+        """Returns the functions of a crate that have mutants, each with its mutants, and those of them that are named."""
+        generators = generators_of(crate, self.is_unchanged, names_of(crate, tuple(recorded().get(crate, ()))))
+        every = {generator: bodies for generator in generators if (bodies := list(generator.all()))}
+        wanted = [generator for generator in every
+                  if not self.names or {crate, f"{crate}/{generator.function}"} & {*self.names}]
+        return every, wanted
+
+    def try_crate(self, crate, every, wanted):
+        """Tries the mutants of a crate, except those of functions that are recorded and not named, and records the results."""
+        digests = Digests(crate)
+        digest = {generator: digests.of(generator, bodies) for generator, bodies in every.items()}
+        known = {name: value for name, (value, _) in recorded().get(crate, {}).items()}
+        tried = {generator: every[generator] for generator in wanted
+                 if self.flags or f"{crate}/{generator.function}" in self.names
+                 or known.get(generator.function) != digest[generator]}
+        skipped = sum(len(every[generator]) for generator in wanted if generator not in tried)
+        self.skipped += skipped
+        if not tried:
+            print(f"{crate}: {f'{skipped} mutants, which are recorded' if skipped else 'no mutants'}", flush=True)
+            return
+        supply(crate)
+        trial, early = begun(crate, [body for bodies in tried.values() for body in bodies], self.places)
+        report(early, self.good)
+        outcomes, untried = Counter(verdict.outcome for verdict in early), {verdict.body.function for verdict in early}
+        tried = {generator: bodies for generator, bodies in tried.items() if generator.function not in untried}
+        for part in parts_of(tried, GROUP * self.places.most):
+            bodies = [body for generator in part for body in tried[generator]]
+            verdicts = try_functions(trial, part, bodies, self.pool, self.is_unchanged)
+            report(verdicts, self.good)
+            outcomes += Counter(verdict.outcome for verdict in verdicts)
+            own = {generator: [verdict for verdict in verdicts if verdict.body in tried[generator]] for generator in part}
+            if not self.is_unchanged:
+                record(crate, {generator.function for generator in every},
+                       {generator.function: (digest[generator], lines_of(own[generator])) for generator in part
+                        if {verdict.outcome for verdict in own[generator]} <= self.good})
+        print(f"{crate}: {counted(outcomes)}{f', and {skipped} that are recorded' if skipped else ''}", flush=True)
+        self.outcomes += outcomes
+
+
 def main(words):
     names, flags = [word for word in words if not word.startswith("--")], {word for word in words if word.startswith("--")}
     if not any(flags <= each for each in ({"--list"}, {"--unchanged"}, {"--all"})):
         raise SystemExit(__doc__)
-    is_list, is_unchanged = "--list" in flags, "--unchanged" in flags
-    good = {PROVED} if is_unchanged else {*GOOD}
     os.chdir(ROOT)
-    crates = [crate for crate in proved.crates() if not names or any(name.partition("/")[0] == crate for name in names)]
-    places, total, skipped = Places(), Counter(), 0
+    places = Places()
     with ThreadPoolExecutor(places.most) as pool:
-        for crate in crates:
-            why = proved.supply(proved.crates()[crate].below)
-            if why:
-                raise SystemExit(f"the crates below {crate} are not proved: {why}")
-            generators = generators_of(crate, is_unchanged, names_of(crate))
-            every = [body for generator in generators for body in generator.all()]
-            mutants = [body for body in every if not names or crate in names or f"{crate}/{body.function}" in names]
-            digest = digest_of(crate, every)
-            if is_list:
-                print("".join(f"{body.label}\n" for body in mutants), end="")
-                continue
-            if not mutants or not names and not flags and recorded().get(crate, ("",))[0] == digest:
-                print(f"{crate}: {'not tried, because nothing has changed since the last run' if mutants else 'no mutants'}")
-                skipped += bool(mutants)
-                continue
-            verdicts = try_crate(crate, generators, mutants, places, pool, is_unchanged)
-            for verdict in verdicts:
-                if verdict.outcome not in good:
-                    print(f"{verdict.body.label}: {verdict.outcome}: {verdict.why}", flush=True)
-            outcomes = Counter(verdict.outcome for verdict in verdicts)
-            print(f"{crate}: {counted(outcomes)}", flush=True)
-            if len(mutants) == len(every) and not is_unchanged and {*outcomes} <= good:
-                record(crate, digest, verdicts)
-            total += outcomes
-    passed = sum(total[kind] for kind in good)
-    failed = sum(total.values()) - passed
-    if not is_list:
-        print(f"{passed + skipped} passed, {failed} failed")
-    return 1 if failed or not is_list and not passed + skipped else 0
+        run = Run(names, flags, pool, places)
+        for crate in (each for each in proved.crates() if not names or each in {name.partition("/")[0] for name in names}):
+            every, wanted = run.mutants_of(crate)
+            if "--list" in flags:
+                print("".join(f"{body.label}\n" for generator in wanted for body in every[generator]), end="")
+            else:
+                run.try_crate(crate, every, wanted)
+    if "--list" in flags:
+        return 0
+    passed = sum(run.outcomes[kind] for kind in run.good)
+    failed = sum(run.outcomes.values()) - passed
+    print(f"{passed + run.skipped} passed, {failed} failed")
+    return 1 if failed or not passed + run.skipped else 0
 
 
 if __name__ == "__main__":
