@@ -6,7 +6,7 @@ use Rattle.std.specs.Prelude.{length, take, drop, ◌^◌}
 use Rattle.std.specs.Option.{unwrap_or}
 use Rattle.std.proofs.Common.{refl, sym, ap, ◌∙◌, arith, lit<, true≢false, subst}
 use Rattle.std.proofs.lemmas.Option.{none-some, same_Some}
-use Rattle.minisign_base.specs.Fault.{Fault, Named, Worded}
+use Rattle.minisign_base.specs.Fault.{Fault, Named, Custom}
 use Rattle.minisign_base.specs.Faults.{fault_row}
 use Rattle.minisign_base.specs.declared.faults.NamedFault.{NamedFault}
 use Rattle.minisign_base.specs.declared.faults.NamedFault.TheVariants.{OutOfMemory, SignatureRefused}
@@ -23,7 +23,8 @@ use Rattle.minisign_install.specs.Installations.{IsNewRecord, IsWritten}
 use Rattle.hex.specs.Hex.{IsBytes}
 use Rattle.minisign_hash.specs.Blake2b.{blake2b_digest}
 use Rattle.minisign_install.proofs.RecordTexts.{digest_bytes, length_digest, reads_back}
-use Rattle.minisign_install.specs.Installations.{HoldsState, IsOwnNumber, IsStored, IsStoredIf, RunLeadsTo}
+use Rattle.minisign_install.specs.Installations.{HoldsState, IsOwnNumber, Represents, RepresentsIf}
+use Rattle.minisign_install.specs.Installations.{RunLeadsTo}
 use Rattle.minisign_install.specs.Installations.{Steps}
 use Rattle.minisign_install.specs.Installations.{begun_mark, error_number, is_copying}
 use Rattle.minisign_install.specs.Installations.{is_locking, is_over, is_reading, is_reading_target}
@@ -74,7 +75,7 @@ named_positive _ = lit< tt
 
 library_positive : (e : Fault) → 0 < fault_number e
 library_positive (Named f) = named_positive f
-library_positive (Worded kind text) = lit< tt
+library_positive (Custom kind text) = lit< tt
 
 positive : (e : InstallFault) → 0 < install_number e
 positive (Library f) = library_positive f
@@ -351,19 +352,19 @@ no_answer_at _ a s comment recorded target data_is = refl
 
 -- == An installation ==
 
-pub stored : (i : Installation) (s : State) → (i.mark == begun_mark) ≡ true → IsStored i s
+pub stored : (i : Installation) (s : State) → (i.mark == begun_mark) ≡ true → Represents i s
     → HoldsState i.progress s
-stored i s is held = subst (λ (b : Bool). IsStoredIf b i.progress s) is held
+stored i s is held = subst (λ (b : Bool). RepresentsIf b i.progress s) is held
 
-pub unbegun : (i : Installation) (s : State) → (i.mark == begun_mark) ≡ false → IsStored i s
+pub unbegun : (i : Installation) (s : State) → (i.mark == begun_mark) ≡ false → Represents i s
     → (s.due ≡ due.Nothing) × (s.is_signed ≡ false) × (s.error ≡ None)
-unbegun i s is held = subst (λ (b : Bool). IsStoredIf b i.progress s) is held
+unbegun i s is held = subst (λ (b : Bool). RepresentsIf b i.progress s) is held
 
 pub begun_steps : (i : Installation) (p : Progress) (s : State) (e : Event)
     (r : Result Unit (Refusal InstallFault)) → (i.mark == begun_mark) ≡ true → Steps e s r p
-    → IsStored (record i { progress = p }) (step s e).1 × (r ≡ (step s e).0)
+    → Represents (record i { progress = p }) (step s e).1 × (r ≡ (step s e).0)
 begun_steps i p s e r is (state_held, result) =
-    (subst (λ (b : Bool). IsStoredIf b p (step s e).1) (sym is) state_held, result)
+    (subst (λ (b : Bool). RepresentsIf b p (step s e).1) (sym is) state_held, result)
 
 nothing_at : (e : Event) (s : State) → after due.Nothing e s ≡ None
 nothing_at Done s = refl
@@ -371,11 +372,11 @@ nothing_at (Failed f) s = refl
 nothing_at _ s = refl
 
 pub unbegun_steps : (i : Installation) (s : State) (e : Event) (r : Result Unit (Refusal InstallFault))
-    → (i.mark == begun_mark) ≡ false → IsStored i s → r ≡ Err (WrongUse NotDue)
-    → IsStored i (step s e).1 × (r ≡ (step s e).0)
+    → (i.mark == begun_mark) ≡ false → Represents i s → r ≡ Err (WrongUse NotDue)
+    → Represents i (step s e).1 × (r ≡ (step s e).0)
 unbegun_steps i s e r is held wrong =
     let at = (unbegun i s is held).0 in
-    subst (λ (o : Option State). IsStored i (answer s o).1 × (r ≡ (answer s o).0))
+    subst (λ (o : Option State). Represents i (answer s o).1 × (r ≡ (answer s o).0))
     (sym (ap (λ (op : Operation). after op e s) at ∙ nothing_at e s)) (held, wrong)
 
 pub done_at : (op : Operation) (s : State) → is_copying op ≡ false → after op Done s ≡ proceed (next op) s

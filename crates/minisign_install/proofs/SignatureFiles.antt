@@ -18,10 +18,10 @@ use Rattle.minisign_external.specs.declared.state.Refusal.TheVariants.{Refused, 
 use Rattle.minisign_install.specs.Decisions.{Options, comment_fault, judge_keys, judge_text, size_in}
 use Rattle.minisign_install.specs.Decisions.{version_in}
 use Rattle.minisign_install.specs.Faults.{Fault, InstallFault, Library, Named}
-use Rattle.minisign_install.specs.Installations.{HasMessage, IsJudgedAs, HoldsState, IsReadAs, IsStored}
+use Rattle.minisign_install.specs.Installations.{HasMessage, IsJudgedAs, HoldsState, IsReadAs, Represents}
 use Rattle.minisign_install.specs.Installations.{RunLeadsTo}
 use Rattle.minisign_install.specs.Installations.{SignatureLeads, SignatureSteps, begun_mark}
-use Rattle.minisign_install.specs.Installations.{IsStoredIf, first_key, given, is_reading_signature}
+use Rattle.minisign_install.specs.Installations.{RepresentsIf, first_key, given, is_reading_signature}
 use Rattle.minisign_install.specs.Installations.{judge_form}
 use Rattle.minisign_install.specs.Installations.{operation_of, options_of, plain, reads_into, recorded_of}
 use Rattle.minisign_install.specs.Installations.{signature_read, state_of}
@@ -240,11 +240,11 @@ signature_steps p q s text time r before after state_held is leads = record {
 pub begun_signature : (i : Installation) (p : Progress) (s : State) (text : List ℕ) (time : Option ℕ)
     (r : Result ℕ (Refusal InstallFault)) (before after : List ℕ) → (i.mark == begun_mark) ≡ true
     → SignatureSteps text time s r (HoldsState p) before after
-    → SignatureSteps text time s r (IsStored (record i { progress = p })) before after
+    → SignatureSteps text time s r (Represents (record i { progress = p })) before after
 begun_signature i p s text time r before after is steps = record {
   steps = λ no_short.
       let (state_held, result) = steps.steps no_short in (
-        subst (λ (b : Bool). IsStoredIf b p (step s (signature_read text time)).1)
+        subst (λ (b : Bool). RepresentsIf b p (step s (signature_read text time)).1)
             (sym is) state_held,
         result,
       );
@@ -253,8 +253,8 @@ begun_signature i p s text time r before after is steps = record {
 }
 
 pub unbegun_signature : (i : Installation) (s : State) (text : List ℕ) (time : Option ℕ) (m : List ℕ)
-    → (i.mark == begun_mark) ≡ false → IsStored i s
-    → SignatureSteps text time s (Err (WrongUse NotDue)) (IsStored i) m m
+    → (i.mark == begun_mark) ≡ false → Represents i s
+    → SignatureSteps text time s (Err (WrongUse NotDue)) (Represents i) m m
 unbegun_signature i s text time m is held = record {
   steps = λ no_short. unbegun_steps i s (signature_read text time) (Err (WrongUse NotDue)) is held refl;
   message = tt;

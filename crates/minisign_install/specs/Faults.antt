@@ -5,7 +5,7 @@ use Rattle.minisign_base.specs.Fault.{kind_of, text_of}
 use Rattle.minisign_base.specs.Faults.{FaultRow, row}
 use Rattle.minisign_base.specs.declared.errors.ErrorKind.TheVariants.{Io, Verify}
 pub use Rattle.minisign_base.specs.Fault.{Fault, Named}
-pub use Rattle.minisign_base.specs.Devices.{Rose}
+pub use Rattle.minisign_base.specs.Devices.{ErrorCountRises}
 pub use Rattle.minisign_base.specs.declared.faults.NamedFault.TheVariants.{NotUtf8, OutOfMemory}
 pub use Rattle.minisign_base.specs.declared.faults.NamedFault.TheVariants.{RandomSourceFailed, ReadingFailed}
 pub use Rattle.minisign_base.specs.declared.faults.NamedFault.TheVariants.{WritingFailed}

@@ -136,14 +136,14 @@ pub record HoldsState (p : Progress) (s : State) : Type 0 where
 abbrev pub begun_mark : ℕ
 begun_mark = 7812726606361684333
 
-abbrev pub IsStoredIf : Bool → Progress → State → Type 0
-IsStoredIf true p s = HoldsState p s
-IsStoredIf false p s = (s.due ≡ Nothing) × (s.is_signed ≡ false) × (s.error ≡ None)
+abbrev pub RepresentsIf : Bool → Progress → State → Type 0
+RepresentsIf true p s = HoldsState p s
+RepresentsIf false p s = (s.due ≡ Nothing) × (s.is_signed ≡ false) × (s.error ≡ None)
 
 -- **The installation represents the state. An installation that was never begun represents every state in
 -- which nothing is due, nothing is signed and no error was found.**
-abbrev pub IsStored : Installation → State → Type 0
-IsStored i s = IsStoredIf (i.mark == begun_mark) i.progress s
+abbrev pub Represents : Installation → State → Type 0
+Represents i s = RepresentsIf (i.mark == begun_mark) i.progress s
 
 -- == Operations ==
 
@@ -372,4 +372,4 @@ pub record SignatureSteps (sig_text : List ℕ) (time : Option ℕ) (s : State)
 -- event, and the result is that of the step.**
 abbrev pub CallSteps : Event → Installation → Installation → Result Unit (Refusal InstallFault) → Type 0
 CallSteps e old new result =
-    (s : State) → IsStored old s → IsStored new (step s e).1 × (result ≡ (step s e).0)
+    (s : State) → Represents old s → Represents new (step s e).1 × (result ≡ (step s e).0)

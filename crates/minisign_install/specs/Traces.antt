@@ -13,7 +13,7 @@ use Rattle.minisign_install.specs.Applications.{Others, empty_file, grown, names
 use Rattle.minisign_install.specs.Applications.{record_renamed}
 use Rattle.minisign_install.specs.Applications.{synced, synced_if, written}
 use Rattle.minisign_install.specs.Decisions.{Options}
-use Rattle.minisign_install.specs.Installations.{IsStored, question_due, record_due}
+use Rattle.minisign_install.specs.Installations.{Represents, question_due, record_due}
 use Rattle.minisign_install.specs.Step.{Event, Operation, State, after, begin, new_record, step}
 use Rattle.minisign_install.specs.Step as due
 use Rattle.minisign_install.specs.StepRuns.{World}
@@ -316,7 +316,7 @@ IsWhole w op n message =
 -- The follower represents the state and the files.
 pub record FollowerHolds (w : World) (f : Follower) (message : List ℕ) (s : State)
     (m : Snapshot) : Type 0 where
-  pub stored : IsStored f.installation s
+  pub stored : Represents f.installation s
   pub read : f.read.now ≡ s.read
   pub seen : IsSeen f.files m
   pub asked : IsAsked w f.message_len message
@@ -331,7 +331,7 @@ HasFollowed w file e did old new before now =
 
 -- The event was reported to the installer, and it fitted.
 pub record HasReported (w : World) (e : Event) (s : State) (new : Follower) (message : List ℕ) : Type 0 where
-  pub stored : IsStored new.installation (step s e).1
+  pub stored : Represents new.installation (step s e).1
   pub fits : is_some (after s.due e s) ≡ true
   pub asked : IsAsked w new.message_len message
   pub whole : IsWhole w (step s e).1.due new.message_len message

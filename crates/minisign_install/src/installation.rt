@@ -6,7 +6,7 @@ ghost use Rattle.std.specs.Prelude.{if◌then◌else◌, true, false, ℕ, ◌<�
 ghost use Rattle.minisign_external.specs.Numbers.{answer_yes, is_answer};
 ghost use Rattle.minisign_external.specs.declared.state.Misuse.TheVariants.{BadAnswer, NoRoom, NotDue};
 ghost use Rattle.minisign_external.specs.declared.state.Refusal.TheVariants.{WrongUse};
-ghost use Rattle.minisign_install.specs.Installations.{CallSteps, IsStored, are_flags, choices_fit};
+ghost use Rattle.minisign_install.specs.Installations.{CallSteps, Represents, are_flags, choices_fit};
 ghost use Rattle.minisign_install.specs.Installations.{SignatureSteps};
 ghost use Rattle.minisign_install.specs.Installations.{begun_mark, choices_misuse, error_number};
 ghost use Rattle.minisign_install.specs.Installations.{options_by, piece_event};
@@ -155,7 +155,7 @@ impl Installation {
     ) -> Result<Installation, Misuse>
         ensures { MatchResult result
             (λ i. (choices_misuse choices.now ≡ None) × ((file : List ℕ)
-            → IsStored i (begin (options_by key.now other.now choices.now file))))
+            → Represents i (begin (options_by key.now other.now choices.now file))))
             (λ m. choices_misuse choices.now ≡ Some m) }
     {
         match choices.test() {
@@ -177,7 +177,7 @@ impl Installation {
 
     /// Returns the operation that is due, or the end of the run.
     pub fn due(&self) -> Operation
-        ensures { (s : State) → IsStored self.now s → result ≡ s.due }
+        ensures { (s : State) → Represents self.now s → result ≡ s.due }
     {
         if self.is_begun() {
             self.progress.due()
@@ -279,8 +279,8 @@ impl Installation {
 
     /// Reports the next bytes of the file that is being read, or its end, if `bytes` is empty.
     pub fn piece(&mut self, bytes: &[u8]) -> Result<(), Refusal<InstallFault>>
-        ensures steps { (s : State) → IsStored self.old s
-            → IsStored self.new (step s (piece_event s.due bytes.now)).1
+        ensures steps { (s : State) → Represents self.old s
+            → Represents self.new (step s (piece_event s.due bytes.now)).1
             × (result ≡ (step s (piece_event s.due bytes.now)).0) }
         // After `NotDue` the installation is unchanged.
         ensures misuse { result ≡ Err (WrongUse NotDue) → self.new ≡ self.old }
@@ -323,8 +323,8 @@ impl Installation {
         // If the installation represents a state with the file name `file` in its options, the result and
         // the new state are those that `step` computes from it and this event. After `NoRoom` and `NotDue`
         // the installation is unchanged, and after every error the buffer.
-        ensures steps { (s : State) → IsStored self.old s → s.options.file ≡ file.now
-            → SignatureSteps sig_text.now time s result (IsStored self.new) message.old message.new }
+        ensures steps { (s : State) → Represents self.old s → s.options.file ≡ file.now
+            → SignatureSteps sig_text.now time s result (Represents self.new) message.old message.new }
         ensures unchanged { OnErr result (message.new ≡ message.old) }
         ensures misuse { result ≡ Err (WrongUse NotDue) → self.new ≡ self.old }
         ensures short { result ≡ Err (WrongUse NoRoom) → self.new ≡ self.old }
@@ -338,7 +338,7 @@ impl Installation {
 
     /// Returns the question for Ed25519 that is due, or `None` if none is due.
     pub fn question(&self) -> Option<Question>
-        ensures { (s : State) → IsStored self.now s → result ≡ question_due s }
+        ensures { (s : State) → Represents self.now s → result ≡ question_due s }
     {
         if self.is_begun() {
             self.progress.question()
@@ -381,7 +381,7 @@ impl Installation {
 
     /// Returns true once one of the keys has been found to have signed the trusted comment.
     pub fn is_signed(&self) -> bool
-        ensures { (s : State) → IsStored self.now s → result ≡ s.is_signed }
+        ensures { (s : State) → Represents self.now s → result ≡ s.is_signed }
     {
         if self.is_begun() {
             self.progress.is_signed == 1
@@ -392,7 +392,7 @@ impl Installation {
 
     /// Returns the version number of the update, or 0 unless `is_signed` is true.
     pub fn version(&self) -> u64
-        ensures { (s : State) → IsStored self.now s → result ≡ (if s.is_signed then s.version else 0) }
+        ensures { (s : State) → Represents self.now s → result ≡ (if s.is_signed then s.version else 0) }
     {
         if self.is_begun() {
             self.progress.version()
@@ -403,7 +403,7 @@ impl Installation {
 
     /// Returns the signed size, if the comment has one and `is_signed` is true.
     pub fn size(&self) -> Option<u64>
-        ensures { (s : State) → IsStored self.now s → result ≡ (if s.is_signed then s.size else None) }
+        ensures { (s : State) → Represents self.now s → result ≡ (if s.is_signed then s.size else None) }
     {
         if self.is_begun() {
             self.progress.size()
@@ -415,11 +415,11 @@ impl Installation {
     /// Writes the new record to the start of `to`, if writing it is due. Returns its length, or 0 if writing
     /// it is not due or the buffer is too short. A record has at most 224 bytes.
     pub fn record_text(&self, to: &mut [u8]) -> usize
-        ensures written { (s : State) → IsStored self.now s
+        ensures written { (s : State) → Represents self.now s
             → written_if (record_due s) result to.old to.new }
         // The bytes that were written parse to the version number, the key and the digest that the run
         // records: those of the update, or after a roll-back the recorded version and its key.
-        ensures reads_back { (s : State) → IsStored self.now s → 0 < result
+        ensures reads_back { (s : State) → Represents self.now s → 0 < result
             → IsNewRecord s (take result to.new) }
         // The rest of the buffer is unchanged, in every case.
         ensures rest { drop result to.new ≡ drop result to.old }
@@ -433,7 +433,7 @@ impl Installation {
 
     /// Returns the number of the error because of which the run is rejected, or 0.
     pub fn error(&self) -> u32
-        ensures { (s : State) → IsStored self.now s → result ≡ error_number s.error }
+        ensures { (s : State) → Represents self.now s → result ≡ error_number s.error }
     {
         if self.is_begun() {
             self.progress.error

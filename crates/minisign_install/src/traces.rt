@@ -11,7 +11,7 @@ ghost use Rattle.minisign_external.specs.declared.state.Misuse.{Misuse};
 ghost use Rattle.minisign.specs.SignatureText.{read_signature};
 ghost use Rattle.minisign_external.specs.PublicKeys.{read_utf8};
 ghost use Rattle.minisign_install.specs.Applications.{Snapshot, Others, Performs, grown};
-ghost use Rattle.minisign_install.specs.Installations.{IsStored, choices_misuse, options_by, question_due};
+ghost use Rattle.minisign_install.specs.Installations.{Represents, choices_misuse, options_by, question_due};
 ghost use Rattle.minisign_install.specs.Step.{Answered, Done, Failed, InUse, PieceCopied, PieceRead, State};
 ghost use Rattle.minisign_install.specs.Step.{CopyData, Lock, ReadRecord, ReadSignature, ReadTarget, begin};
 ghost use Rattle.minisign_install.specs.Step.{RecordRead, SignatureRead, TargetMissing, WriteRecord, after};
@@ -348,10 +348,10 @@ fn was_due(outcome: Result<(), Refusal<InstallFault>>) -> bool
 // Reports an event to the installer. Returns true if it fits the operation that was due. The signature file
 // is reported elsewhere.
 fn has_reported(installation: &mut Installation, report: &Report) -> bool
-    ensures taken { result ≡ true → (s : State) → IsStored installation.old s
-        → IsStored installation.new (step s (event_of report.now)).1
+    ensures taken { result ≡ true → (s : State) → Represents installation.old s
+        → Represents installation.new (step s (event_of report.now)).1
         × (is_some (after s.due (event_of report.now) s) ≡ true) }
-    ensures fits { (s : State) → IsStored installation.old s
+    ensures fits { (s : State) → Represents installation.old s
         → is_some (after s.due (event_of report.now) s) ≡ true → is_reported report.now ≡ true
         → result ≡ true }
 {
@@ -373,9 +373,9 @@ fn has_reported(installation: &mut Installation, report: &Report) -> bool
 impl<'a> Follower<'a> {
     // Returns true if these bytes are the new record.
     fn is_new_record(&self, bytes: &[u8]) -> bool
-        ensures is { result ≡ true → (s : State) → IsStored self.now.installation s → s.due ≡ WriteRecord
+        ensures is { result ≡ true → (s : State) → Represents self.now.installation s → s.due ≡ WriteRecord
             → bytes.now ≡ new_record s }
-        ensures finds { (s : State) → IsStored self.now.installation s → IsRecordDue s bytes.now
+        ensures finds { (s : State) → Represents self.now.installation s → IsRecordDue s bytes.now
             → result ≡ true }
     {
         let mut room = [0u8; 224];
@@ -389,9 +389,10 @@ impl<'a> Follower<'a> {
 
     // Returns true if the new record was written.
     fn has_written(&self, effect: &Effect<'a>) -> bool
-        ensures is { result ≡ true → (w : World) (s : State) (m : Snapshot) → IsStored self.now.installation s
+        ensures is { result ≡ true → (w : World) (s : State) (m : Snapshot)
+            → Represents self.now.installation s
             → s.due ≡ WriteRecord → Performs w s WriteRecord Done m (affected effect.now m) }
-        ensures finds { (s : State) → IsStored self.now.installation s → HasWritten s effect.now
+        ensures finds { (s : State) → Represents self.now.installation s → HasWritten s effect.now
             → result ≡ true }
     {
         match *effect {
@@ -420,7 +421,7 @@ impl<'a> Follower<'a> {
     fn is_in_use(&self, effect: &Effect<'a>) -> bool
         ensures is { result ≡ true → (w : World) (message : List ℕ) (s : State) (m : Snapshot)
             → FollowerHolds w self.now message s m → Performs w s s.due InUse m (affected effect.now m) }
-        ensures finds { (s : State) → IsStored self.now.installation s → s.due ≡ Lock
+        ensures finds { (s : State) → Represents self.now.installation s → s.due ≡ Lock
             → self.now.files.is_busy ≡ true → is_nothing effect.now ≡ true → result ≡ true }
     {
         self.installation.due() == Operation::Lock && self.files.is_busy && effect.is_nothing()
@@ -431,7 +432,7 @@ impl<'a> Follower<'a> {
         ensures is { result ≡ true → (w : World) (message : List ℕ) (s : State) (m : Snapshot)
             → FollowerHolds w self.now message s m
             → Performs w s s.due (Failed fault) m (affected effect.now m) }
-        ensures finds { (s : State) → IsStored self.now.installation s
+        ensures finds { (s : State) → Represents self.now.installation s
             → has_failed s.due effect.now ≡ true → result ≡ true }
     {
         effect.has_failed(self.installation.due())
@@ -442,7 +443,7 @@ impl<'a> Follower<'a> {
         ensures is { result ≡ true → (message : List ℕ) (s : State) (m : Snapshot)
             → FollowerHolds (world_of inputs.now) self.now message s m
             → Performs (world_of inputs.now) s s.due (RecordRead (option_map (λ r. r.now) record.entry)) m m }
-        ensures finds { (s : State) → IsStored self.now.installation s → s.due ≡ ReadRecord
+        ensures finds { (s : State) → Represents self.now.installation s → s.due ≡ ReadRecord
             → option_map (λ r. r.now) record.entry ≡ (world_of inputs.now).found_record
             → option_map (λ r. r.now) record.entry ≡ option_map (λ v. v.bytes.now) self.now.files.recorded
             → result ≡ true }
@@ -458,7 +459,7 @@ impl<'a> Follower<'a> {
             → FollowerHolds (world_of inputs.now) self.now message s m
             → Performs (world_of inputs.now) s s.due
             (SignatureRead (read_utf8 read_signature text.now) time) m m }
-        ensures finds { (s : State) → IsStored self.now.installation s → s.due ≡ ReadSignature
+        ensures finds { (s : State) → Represents self.now.installation s → s.due ≡ ReadSignature
             → text.now ≡ inputs.now.sig_text.now → result ≡ true }
     {
         self.installation.due() == Operation::ReadSignature && *text == *inputs.sig_text
@@ -468,7 +469,7 @@ impl<'a> Follower<'a> {
     fn has_no_target(&self) -> bool
         ensures is { result ≡ true → (w : World) (message : List ℕ) (s : State) (m : Snapshot)
             → FollowerHolds w self.now message s m → Performs w s s.due TargetMissing m m }
-        ensures finds { (s : State) → IsStored self.now.installation s → s.due ≡ ReadTarget
+        ensures finds { (s : State) → Represents self.now.installation s → s.due ≡ ReadTarget
             → self.now.files.target ≡ None → result ≡ true }
     {
         self.installation.due() == Operation::ReadTarget && self.files.target.is_none()
@@ -534,7 +535,7 @@ impl<'a> Follower<'a> {
             → w.update ≡ update.now → FollowerHolds w self.now message s m
             → (r.now ≡ bytes_seen self.now.files.data_file ++ piece.now)
             × Performs w s s.due (PieceCopied len) m (record m { data_file = grown piece.now m.data_file })) }
-        ensures finds { (s : State) → IsStored self.now.installation s → s.due ≡ CopyData → 0 < len
+        ensures finds { (s : State) → Represents self.now.installation s → s.due ≡ CopyData → 0 < len
             → length piece.now ≡ len → IsPieceOf update.now (bytes_seen self.now.files.data_file) piece.now
             → is_some result ≡ true }
     {
@@ -549,7 +550,7 @@ impl<'a> Follower<'a> {
         ensures is { result ≡ true → (w : World) (message : List ℕ) (s : State) (m : Snapshot)
             → w.update ≡ update.now → FollowerHolds w self.now message s m
             → Performs w s s.due (PieceCopied len) m (affected effect.now m) }
-        ensures finds { (s : State) → IsStored self.now.installation s → s.due ≡ CopyData
+        ensures finds { (s : State) → Represents self.now.installation s → s.due ≡ CopyData
             → HasCopied update.now (bytes_seen self.now.files.data_file) len effect.now → result ≡ true }
     {
         match *effect {
@@ -601,7 +602,7 @@ impl<'a> Follower<'a> {
     fn next_files(&self, inputs: &RunInputs<'a>, effect: &Effect<'a>) -> Option<Files<'a>>
         ensures is { IfSome result (λ f. (message : List ℕ) (s : State) (m : Snapshot)
             → FollowerHolds (world_of inputs.now) self.now message s m → IsSeen f (affected effect.now m)) }
-        ensures finds { (s : State) → IsStored self.now.installation s
+        ensures finds { (s : State) → Represents self.now.installation s
             → CanGrow s inputs.now.update.now (bytes_seen self.now.files.data_file) effect.now
             → is_some result ≡ true }
     {
@@ -656,10 +657,10 @@ impl<'a> Follower<'a> {
         text: &[u8],
         time: Option<u64>,
     ) -> bool
-        ensures taken { result ≡ true → (w : World) (s : State) → IsStored self.old.installation s
+        ensures taken { result ≡ true → (w : World) (s : State) → Represents self.old.installation s
             → s.options.file ≡ file.now → w.text ≡ read_utf8 read_signature text.now
             → HasReported w (SignatureRead (read_utf8 read_signature text.now) time) s self.new message.new }
-        ensures fits { (w : World) (s : State) → IsStored self.old.installation s
+        ensures fits { (w : World) (s : State) → Represents self.old.installation s
             → s.options.file ≡ file.now → w.text ≡ read_utf8 read_signature text.now
             → MessageFits w message.old → s.due ≡ ReadSignature → result ≡ true }
         ensures unchanged { (self.new.files ≡ self.old.files) × (self.new.read ≡ self.old.read)
@@ -698,7 +699,7 @@ impl<'a> Follower<'a> {
 
     // Stores the bytes that were read, or discards them if the update is to be installed now.
     fn keep_read(&mut self, read: &'a [u8])
-        ensures read { (s : State) → IsStored self.old.installation s
+        ensures read { (s : State) → Represents self.old.installation s
             → self.new.read.now ≡ (if installs s.due then [] else read.now) }
         ensures unchanged { (self.new.installation ≡ self.old.installation)
             × (self.new.files ≡ self.old.files) × (self.new.message_len ≡ self.old.message_len)
