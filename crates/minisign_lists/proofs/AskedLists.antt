@@ -12,10 +12,12 @@ use Rattle.minisign.specs.Texts as texts
 use Rattle.minisign_external.specs.PublicKeys.{is_public_key}
 use Rattle.minisign_external.specs.Questions.{Answers, has_whole_signature, read_under}
 use Rattle.minisign_external.specs.Signatures.{IsReadFrom, comment_of, signature_of_value}
-use Rattle.minisign_external.specs.States.{AreAsked, IsBlank, IsFedState, asked_of, asked_under}
+use Rattle.minisign_external.specs.States.{AreQuestionsWithoutDigest, IsBlank, IsFedState, asking_checks}
+use Rattle.minisign_external.specs.States.{asked_under}
 use Rattle.minisign_external.specs.States.{asking_misuse}
-use Rattle.minisign_external.specs.States.{asking_result, asking_under, judged_before, may_ask, placed_before}
-use Rattle.minisign_external.specs.States.{room_for, with_public_key}
+use Rattle.minisign_external.specs.States.{asking_result, asking_under, after_key_check, may_ask}
+use Rattle.minisign_external.specs.States.{after_comment_check}
+use Rattle.minisign_external.specs.States.{check_buffer, with_public_key}
 use Rattle.minisign_external.specs.StrictCalls.{asked_strictly}
 use Rattle.minisign_external.specs.declared.public_keys.PublicKeyValue.{PublicKeyValue}
 use Rattle.minisign_external.specs.declared.signatures.SignatureValue.{SignatureValue}
@@ -27,7 +29,7 @@ use Rattle.minisign_external.specs.declared.state.Refusal.TheVariants.{WrongUse}
 use Rattle.minisign_external.specs.declared.state.State.{State}
 use Rattle.minisign_external.proofs.Laws.{decided}
 use Rattle.minisign_lists.specs.Comments.{names_list}
-use Rattle.minisign_lists.specs.Faults.{ListFault, OtherList, and_then, of_library}
+use Rattle.minisign_lists.specs.Faults.{ListFault, OtherList, and_then, wrap_library_error}
 use Rattle.minisign_lists.specs.Values.{HasAskedList, asked_list, given_list, judged_list, list_verdict_under}
 use Rattle.minisign_lists.specs.Values.{named_number, list_verdict_outcome}
 use Rattle.minisign_lists.specs.Verdicts.{check_list_name}
@@ -40,9 +42,9 @@ module _ (s : State) (fed : IsFedState s []) (blank : IsBlank s) where
   may = rw (fed.mark, blank.asked) refl
 
   pub asks : (v : PublicKeyValue) (signature : SignatureValue) (text : List ℕ) (room : ℕ)
-      → asking_result s v signature text false room ≡ asked_of v signature text false room
+      → asking_result s v signature text false room ≡ asking_checks v signature text false room
   asks v signature text room =
-      ap (λ (b : Bool). if b then asked_of v signature text false room else Err (WrongUse
+      ap (λ (b : Bool). if b then asking_checks v signature text false room else Err (WrongUse
       (asking_misuse s))) may
 
   pub asks_under : (v : PublicKeyValue) (text : List ℕ) (room : ℕ)
@@ -58,7 +60,7 @@ fits s true h = refl
 fits s false h = cc h
 
 has_room : (s p : Bool) (c : Result (List ℕ) Misuse) (j : Result ⊤ Fault) (n room : ℕ)
-    → asked_strictly s (if p then placed_before c (judged_before j (room_for n room))
+    → asked_strictly s (if p then after_comment_check c (after_key_check j (check_buffer n room))
     else Err (WrongUse PublicKeyNotRead)) ≡ Ok true
     → 64 + n ≤ room
 has_room s true (Ok c) (Ok j) n room h = leb-true _ _ (fits s (nat_le (64 + n) room) h)
@@ -68,7 +70,8 @@ has_room s false c j n room h = cc h
 
 -- If asking succeeds, the buffer has room for the message.
 pub roomy : (s : Bool) (v : PublicKeyValue) (signature : SignatureValue) (text : List ℕ) (room : ℕ)
-    → asked_strictly s (asked_of v signature text false room) ≡ Ok true → 64 + signature.comment_len ≤ room
+    → asked_strictly s (asking_checks v signature text false room) ≡ Ok true
+    → 64 + signature.comment_len ≤ room
 roomy s v signature text room h =
     has_room s (is_public_key v) (comment_of signature text)
     (judge_key v.key_id (signature_of_value signature) false) signature.comment_len room h
@@ -77,7 +80,7 @@ roomy s v signature text room h =
 
 -- The bytes after the data signature are the trusted comment.
 pub comment_after : (s : SignatureValue) (text : List ℕ) (t : SignatureTextRecord) → IsReadFrom s text t
-    → (q : Questions) (v : PublicKeyValue) (message : List ℕ) → AreAsked q message v t
+    → (q : Questions) (v : PublicKeyValue) (message : List ℕ) → AreQuestionsWithoutDigest q message v t
     → take s.comment_len (drop 64 message) ≡ t.comments.trusted
 comment_after s text t from q v message asked =
     let trusted : List ℕ = t.comments.trusted in
@@ -112,8 +115,8 @@ named_as true trusted l = refl
 named_as false trusted l = refl
 
 judged_as : (j : Result ⊤ Fault) (name : Option (List ℕ)) (trusted : List ℕ) (l : ListValue)
-    → (judged_list (and_then (of_library j) (λ _. named (named_number name trusted == 1))) l).0
-    ≡ given_list (and_then (of_library (texts.and_then j (λ _. Ok trusted)))
+    → (judged_list (and_then (wrap_library_error j) (λ _. named (named_number name trusted == 1))) l).0
+    ≡ given_list (and_then (wrap_library_error (texts.and_then j (λ _. Ok trusted)))
     (λ comment. and_then (check_list_name name comment) (λ _. Ok comment)))
 judged_as (Err e) name trusted l = refl
 judged_as (Ok t) None trusted l = refl
@@ -134,6 +137,6 @@ list_decided l v sig_text text name accepts first second r new returned has answ
     ap (λ p. p.0) returned
     ∙ ap (λ (x : ListValue). (list_verdict_outcome x first second).0) has.is
     ∙ judged_as (judge_answers first ((s.whole == 1) && second)) name t.comments.trusted asked
-    ∙ ap (λ r. given_list (and_then (of_library r)
+    ∙ ap (λ r. given_list (and_then (wrap_library_error r)
     (λ comment. and_then (check_list_name name comment) (λ _. Ok comment))))
     (sym (decided accepts v sig_text text false t (s.whole == 1) first second has.read whole answers))

@@ -7,7 +7,7 @@ use Rattle.std.proofs.lemmas.Bool.{cases_Bool}
 use Rattle.minisign.specs.Texts.{IsReading}
 use Rattle.minisign_lists.specs.Faults.{ListFault, BadName, and_then}
 use Rattle.minisign_lists.specs.Lines.{Entry, LongDigest}
-use Rattle.minisign_lists.specs.Lists.{IsListed, is_of, listed_entry, read_list, the_only}
+use Rattle.minisign_lists.specs.Lists.{IsListed, has_name, listed_entry, read_list, only_entry}
 use Rattle.minisign_lists.specs.Names.{is_name, without_dot}
 
 -- The position of the only entry that passes.
@@ -75,12 +75,12 @@ got (Ok e) _ = e
 got (Err f) e = e
 
 one : (long : LongDigest) (list name : List ℕ) (e : Entry) (es found : List Entry) → is_name name ≡ true
-    → read_list long list ≡ Ok es → filter (is_of (without_dot name)) es ≡ found → the_only found ≡ Ok e
+    → read_list long list ≡ Ok es → filter (has_name (without_dot name)) es ≡ found → only_entry found ≡ Ok e
     → IsListed long list name e
 one long list name e es [] named read is h = absurd (cc h)
 one long list name e es (x ∷ []) named read is h =
     let same : x ≡ e = ap (λ r. got r e) h in
-    let s = split (is_of (without_dot name)) es e (is ∙ ap (λ y. y ∷ []) same) in
+    let s = split (has_name (without_dot name)) es e (is ∙ ap (λ y. y ∷ []) same) in
     record {
       named = named;
       before = s.before;
@@ -93,7 +93,8 @@ one long list name e es (_ ∷ _ ∷ _) named read is h = absurd (cc h)
 
 listed : (long : LongDigest) (list name : List ℕ) (e : Entry) (named : Bool)
     (r : Result (List Entry) ListFault) → is_name name ≡ named → read_list long list ≡ r
-    → cond named (and_then r (λ es. the_only (filter (is_of (without_dot name)) es))) (Err BadName) ≡ Ok e
+    → cond named (and_then r (λ es. only_entry (filter (has_name (without_dot name)) es))) (Err BadName)
+    ≡ Ok e
     → IsListed long list name e
 listed long list name e false r named read h = absurd (cc h)
 listed long list name e true (Err f) named read h = absurd (cc h)
@@ -104,7 +105,7 @@ given : (long : LongDigest) (list name : List ℕ) (e : Entry) → IsListed long
 unfolding listed_entry
 given long list name e l =
     rw (l.named, l.entries)
-    (ap the_only (joined (is_of (without_dot name)) l.before e l.after l.of_name l.others))
+    (ap only_entry (joined (has_name (without_dot name)) l.before e l.after l.of_name l.others))
 
 pub decided : (long : LongDigest) (list name : List ℕ)
     → IsReading (IsListed long list name) (listed_entry long list name)

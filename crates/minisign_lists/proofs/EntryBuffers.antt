@@ -10,7 +10,7 @@ use Rattle.std.proofs.lemmas.List.{drop_more, append_assoc, append-nil, length-a
 use Rattle.std.proofs.Math.Seq.{set-append_seam}
 use Rattle.minisign_lists.specs.Faults.{ListFault, and_then, map_ok}
 use Rattle.minisign_lists.specs.Lines.{Entry, LongDigest, NamedDigest, entry_of, if_escaped, is_comment}
-use Rattle.minisign_lists.specs.Lines.{is_marked, read_line, written_in}
+use Rattle.minisign_lists.specs.Lines.{begins_with_backslash, read_line, written_in}
 use Rattle.minisign_lists.specs.Lists.{read_entries, read_list}
 use Rattle.minisign_lists.specs.Names.{is_control, is_path, without_dot}
 use Rattle.minisign_lists.specs.Positions.{after_line, line_start, without_lines}
@@ -37,7 +37,7 @@ line_of long n line = elim (cases_Bool (list_any is_control line)) [
   | inl bad ↦ rw bad refl
   | inr good ↦ elim (cases_Bool (is_comment line)) [
     | inl is ↦ rw (good, is) refl
-    | inr is ↦ elim (cases_Bool (is_marked line)) [
+    | inr is ↦ elim (cases_Bool (begins_with_backslash line)) [
       | inl marked ↦ rw (good, is, marked) (entry_line n true 1 (if_escaped (written_in long (drop 1 line))))
       | inr plain ↦ rw (good, is, plain) (entry_line n false 0 (written_in long line))
     ]
@@ -55,7 +55,7 @@ pub record IsWritten (long : LongDigest) (text : List ℕ) (old new : List Entry
   pub done : List Entry
   pub more : List Entry
   pub all : es ≡ done ++ more
-  pub ahead : read_entries long (n + 1) (lines rest) ≡ Ok more
+  pub unread_entries : read_entries long (n + 1) (lines rest) ≡ Ok more
   pub counted : count ≡ length done
   pub written : new ≡ map (value_in text) done ++ drop (length done) old
 
@@ -110,7 +110,7 @@ module _ (long : LongDigest) (text : List ℕ) (old new : List EntryValue) (n co
     done = w.done;
     more = w.more;
     all = w.all;
-    ahead = skipped (read_entries long (n + 1 + 1) (lines more)) w.more read;
+    unread_entries = skipped (read_entries long (n + 1 + 1) (lines more)) w.more read;
     counted = ap (λ p. p.0) put ∙ w.counted;
     written = ap (λ p. p.1) put ∙ w.written;
   }
@@ -141,7 +141,7 @@ module _ (long : LongDigest) (text : List ℕ) (old new : List EntryValue) (n co
         done = w.done ++ e ∷ [];
         more = behind.tail;
         all = whole;
-        ahead = behind.is;
+        unread_entries = behind.is;
         counted = ap (λ p. p.0) returned ∙ more_done;
         written = ap (λ p. p.1) returned
             ∙ ap (λ k. slice_set new k v) (w.counted ∙ sym size)
@@ -159,12 +159,12 @@ module _ (long : LongDigest) (text : List ℕ) (old new : List EntryValue) (n co
       → IsWritten long text old to (n + 1) next more es
   line_written line next to w first at room len put =
       step (read_line long (n + 1) line) next to w (line_of long (n + 1) line)
-      (ap (read_entries long (n + 1)) (sym first) ∙ w.ahead) at room len put
+      (ap (read_entries long (n + 1)) (sym first) ∙ w.unread_entries) at room len put
 
   pub all_written : IsWritten long text old new n count rest es → lines rest ≡ []
       → new ≡ map (value_in text) es ++ drop (length es) old
   all_written w end =
-      let none : w.more ≡ [] = ap rest_of (sym w.ahead ∙ ap (read_entries long (n + 1)) end) in
+      let none : w.more ≡ [] = ap rest_of (sym w.unread_entries ∙ ap (read_entries long (n + 1)) end) in
       let whole : es ≡ w.done = w.all ∙ ap (λ l. w.done ++ l) none ∙ append-nil w.done in
       w.written ∙ ap (λ l. map (value_in text) l ++ drop (length l) old) (sym whole)
 
@@ -175,7 +175,7 @@ none_written long text old es read = record {
   done = [];
   more = es;
   all = refl;
-  ahead = read;
+  unread_entries = read;
   counted = refl;
   written = refl;
 }

@@ -12,7 +12,7 @@ use Rattle.std.proofs.lemmas.List.Splits.{slice_split_at}
 use Rattle.minisign_lists.specs.Faults.{ListFault, and_then, map_ok}
 use Rattle.std.specs.Option.{option_or}
 use Rattle.minisign_lists.specs.Lines.{Entry, LongDigest, NamedDigest, entry_of, if_escaped, is_comment}
-use Rattle.minisign_lists.specs.Lines.{is_marked}
+use Rattle.minisign_lists.specs.Lines.{begins_with_backslash}
 use Rattle.minisign_lists.specs.Lines.{long_form, plain_form, read_line, tagged_form, written_in}
 use Rattle.minisign_lists.specs.declared.digests.Algorithm.TheVariants as algorithm
 use Rattle.minisign_lists.specs.declared.lines.LongDigest.TheVariants as long
@@ -190,7 +190,7 @@ read_strictly l n line o h = elim (cases_Bool (list_any is_control line)) [
   | inl bad ↦ absurd (cc (rw bad at h))
   | inr good ↦ elim (cases_Bool (is_comment line)) [
     | inl is ↦ rw (good, is) (rw (good, is) at h)
-    | inr is ↦ elim (cases_Bool (is_marked line)) [
+    | inr is ↦ elim (cases_Bool (begins_with_backslash line)) [
       | inl marked ↦ rw (good, is, marked) (same_entry n true 1
           (if_escaped (written_in strict (drop 1 line))) (if_escaped (written_in l (drop 1 line))) o
           (same_escaped (written_in strict (drop 1 line)) (written_in l (drop 1 line)) (written_strictly l

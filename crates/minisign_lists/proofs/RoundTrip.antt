@@ -18,9 +18,9 @@ use Rattle.minisign_lists.specs.Faults.{ListFault, BadName, DigestMismatch, Libr
 use Rattle.minisign_lists.specs.Faults.{MalformedLine}
 use Rattle.minisign_lists.specs.Faults.{NotListed, OtherList, and_then, map_ok}
 use Rattle.minisign_lists.specs.Lines.{Entry, LongDigest, read_line, entry_of, if_escaped, is_comment}
-use Rattle.minisign_lists.specs.Lines.{is_marked, written_in, NamedDigest}
+use Rattle.minisign_lists.specs.Lines.{begins_with_backslash, written_in, NamedDigest}
 use Rattle.minisign_lists.specs.declared.lines.LongDigest.TheVariants as long
-use Rattle.minisign_lists.specs.Lists.{is_of, listed_entry, read_entries, read_list, the_only}
+use Rattle.minisign_lists.specs.Lists.{has_name, listed_entry, read_entries, read_list, only_entry}
 use Rattle.minisign_lists.specs.Names.{is_backslash, is_control, is_name, is_path, without_dot}
 use Rattle.minisign_lists.specs.Values.{go_on, not_utf8, of_lists}
 use Rattle.minisign_lists.specs.Writing.{IsReadBack, append_check, appended, appended_line, bytes_of}
@@ -57,7 +57,7 @@ record IsFree (list name : List ℕ) : Type 0 where
   pub named : is_name name ≡ true
   pub entries : List Entry
   pub read : read_list long.Rejected list ≡ Ok entries
-  pub none : filter (is_of (without_dot name)) entries ≡ []
+  pub none : filter (has_name (without_dot name)) entries ≡ []
 
 -- The result is that a name is not listed.
 abbrev is_missing : {V : Type 0} → Result V ListFault → Bool
@@ -83,7 +83,7 @@ line_found l n line = elim (cases_Bool (list_any is_control line)) [
   | inl bad ↦ rw bad refl
   | inr good ↦ elim (cases_Bool (is_comment line)) [
     | inl is ↦ rw (good, is) refl
-    | inr is ↦ elim (cases_Bool (is_marked line)) [
+    | inr is ↦ elim (cases_Bool (begins_with_backslash line)) [
       | inl marked ↦ rw (good, is, marked) (entry_found n true 1 (if_escaped (written_in l (drop 1 line))))
       | inr plain ↦ rw (good, is, plain) (entry_found n false 0 (written_in l line))
     ]
@@ -105,14 +105,14 @@ entries_found l n [] = refl
 entries_found l n (x ∷ ls) = then_found (read_line l n x) _ (line_found l n x)
     (λ o. map_found _ (read_entries l (n + 1) ls) (entries_found l (n + 1) ls))
 
-nothing : (es : List Entry) → the_only es ≡ Err NotListed → es ≡ []
+nothing : (es : List Entry) → only_entry es ≡ Err NotListed → es ≡ []
 nothing [] h = refl
 nothing (e ∷ []) h = absurd (cc h)
 nothing (e ∷ second ∷ es) h = absurd (cc (ap is_missing h))
 
 free : (list name : List ℕ) (named : Bool) (r : Result (List Entry) ListFault) → is_name name ≡ named
     → read_list long.Rejected list ≡ r → is_missing r ≡ false
-    → cond named (and_then r (λ es. the_only (filter (is_of (without_dot name)) es))) (Err BadName)
+    → cond named (and_then r (λ es. only_entry (filter (has_name (without_dot name)) es))) (Err BadName)
     ≡ Err NotListed
     → IsFree list name
 free list name false r named read found h = absurd (cc (ap is_missing h))
@@ -121,7 +121,7 @@ free list name true (Ok es) named read found h = record {
   named = named;
   entries = es;
   read = read;
-  none = nothing (filter (is_of (without_dot name)) es) h;
+  none = nothing (filter (has_name (without_dot name)) es) h;
 }
 
 -- The facts that follow from a successful check of appending.
@@ -212,14 +212,14 @@ module _ (l : LongDigest) (list name : List ℕ) (d : ListedDigest) (are : IsByt
       ∙ lines_more list x ended some (line_clean d m are m_clean) in
       let new : read_list l (list ++ written_line d m) ≡ Ok (given.entries ++ e ∷ []) =
       ap (read_entries l 1) new_lines ∙ entries_more l 1 (lines list) x given.entries e given.read line in
-      let only : filter (is_of m) (given.entries ++ e ∷ []) ≡ e ∷ [] =
-      filter-append (is_of m) given.entries (e ∷ []) ∙ rw (given.none, same m) refl in
+      let only : filter (has_name m) (given.entries ++ e ∷ []) ≡ e ∷ [] =
+      filter-append (has_name m) given.entries (e ∷ []) ∙ rw (given.none, same m) refl in
       record {
         before = given.entries;
         was = given.read;
         free = given.none;
         is = new;
-        found = rw (given.named, new) (ap the_only only);
+        found = rw (given.named, new) (ap only_entry only);
       }
 
 -- The length in a successful result of appending.

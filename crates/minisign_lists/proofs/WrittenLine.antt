@@ -15,7 +15,7 @@ use Rattle.minisign_lists.specs.declared.digests.Algorithm.TheVariants as algori
 use Rattle.minisign_lists.specs.declared.digests.ListedDigest.TheVariants as listed
 use Rattle.minisign_lists.specs.Lines.{LongDigest, NamedDigest, digit_count, label, named}
 use Rattle.minisign_lists.specs.Lines.{read_line}
-use Rattle.minisign_lists.specs.Lines.{is_comment, is_marked, tagged_form, written_in}
+use Rattle.minisign_lists.specs.Lines.{is_comment, begins_with_backslash, tagged_form, written_in}
 use Rattle.minisign_lists.specs.Names.{is_control, is_path, without_dot}
 use Rattle.minisign_lists.specs.Values.{algorithm_of}
 use Rattle.minisign_lists.specs.Writing.{bytes_of, digest_size, line_end, written_entry, written_line}
@@ -202,7 +202,7 @@ not_comment (listed.Sha256 bytes) m = refl
 not_comment (listed.Sha512 bytes) m = refl
 not_comment (listed.Blake2b bytes) m = refl
 
-not_marked : (d : ListedDigest) (m : List ℕ) → is_marked (line_text d m) ≡ false
+not_marked : (d : ListedDigest) (m : List ℕ) → begins_with_backslash (line_text d m) ≡ false
 not_marked (listed.Sha256 bytes) m = refl
 not_marked (listed.Sha512 bytes) m = refl
 not_marked (listed.Blake2b bytes) m = refl

@@ -17,9 +17,9 @@ and_then (Ok v) more = more v
 and_then (Err e) more = Err e
 
 -- Wraps the error of the library in an error of this crate.
-abbrev pub of_library : {V : Type 0} → Result V Fault → Result V ListFault
-of_library (Ok v) = Ok v
-of_library (Err e) = Err (Library e)
+abbrev pub wrap_library_error : {V : Type 0} → Result V Fault → Result V ListFault
+wrap_library_error (Ok v) = Ok v
+wrap_library_error (Err e) = Err (Library e)
 
 -- Applies a function to the value, or returns the error.
 abbrev pub map_ok : {V W : Type 0} → (V → W) → Result V ListFault → Result W ListFault
@@ -56,12 +56,12 @@ list_fault_numbered n =
     else if n == 94 then Some DigestMismatch else None
 
 -- The error is a list error, not one of the library.
-abbrev pub is_own : ListFault → Bool
-is_own (Library fault) = false
-is_own e = true
+abbrev pub is_list_error : ListFault → Bool
+is_list_error (Library fault) = false
+is_list_error e = true
 
 -- The number of the line at fault, or 0 if no line is at fault.
-abbrev pub with_line : ListFault → ℕ
-with_line (MalformedLine line) = line
-with_line (ListedTwice line) = line
-with_line e = 0
+abbrev pub line_of_fault : ListFault → ℕ
+line_of_fault (MalformedLine line) = line
+line_of_fault (ListedTwice line) = line
+line_of_fault e = 0

@@ -116,9 +116,9 @@ is_comment [] = true
 is_comment (b ∷ rest) = b == 35
 
 -- The line begins with a backslash.
-abbrev pub is_marked : List ℕ → Bool
-is_marked [] = false
-is_marked (b ∷ rest) = b == 92
+abbrev pub begins_with_backslash : List ℕ → Bool
+begins_with_backslash [] = false
+begins_with_backslash (b ∷ rest) = b == 92
 
 -- The entry of line n, or nothing if the line is empty or a comment. A backslash at the beginning
 -- means that the name contains escapes, which begin with backslashes. A line with a control
@@ -127,5 +127,5 @@ abbrev pub read_line : LongDigest → ℕ → List ℕ → Result (Option Entry)
 read_line long n line =
     if list_any is_control line then Err (MalformedLine n)
     else if is_comment line then Ok None
-    else if is_marked line then entry_of n true 1 (if_escaped (written_in long (drop 1 line)))
+    else if begins_with_backslash line then entry_of n true 1 (if_escaped (written_in long (drop 1 line)))
     else entry_of n false 0 (written_in long line)

@@ -21,21 +21,21 @@ abbrev pub read_list : LongDigest → List ℕ → Result (List Entry) ListFault
 read_list long list = read_entries long 1 (lines list)
 
 -- The entry has this name.
-abbrev pub is_of : List ℕ → Entry → Bool
-is_of name e = bytes_eq e.name name
+abbrev pub has_name : List ℕ → Entry → Bool
+has_name name e = bytes_eq e.name name
 
 -- The entry, if there is exactly one.
-abbrev pub the_only : List Entry → Result Entry ListFault
-the_only [] = Err NotListed
-the_only (e ∷ []) = Ok e
-the_only (_ ∷ second ∷ _) = Err (ListedTwice second.line)
+abbrev pub only_entry : List Entry → Result Entry ListFault
+only_entry [] = Err NotListed
+only_entry (e ∷ []) = Ok e
+only_entry (_ ∷ second ∷ _) = Err (ListedTwice second.line)
 
 -- The entry of a name in a list, or the first check that fails. Every line of the list must be well
 -- formed. A name on two lines is an error, even if both lines have the same digest.
 unfoldable pub listed_entry : LongDigest → List ℕ → List ℕ → Result Entry ListFault
 listed_entry long list name =
     if is_name name
-    then and_then (read_list long list) (λ entries. the_only (filter (is_of (without_dot name)) entries))
+    then and_then (read_list long list) (λ entries. only_entry (filter (has_name (without_dot name)) entries))
     else Err BadName
 
 -- Looking up a name as a relation: the name can be looked up, every line of the list is well
@@ -45,5 +45,5 @@ pub record IsListed (long : LongDigest) (list name : List ℕ) (entry : Entry) :
   pub before : List Entry
   pub after : List Entry
   pub entries : read_list long list ≡ Ok (before ++ entry ∷ after)
-  pub of_name : is_of (without_dot name) entry ≡ true
-  pub others : list_any (is_of (without_dot name)) (before ++ after) ≡ false
+  pub of_name : has_name (without_dot name) entry ≡ true
+  pub others : list_any (has_name (without_dot name)) (before ++ after) ≡ false

@@ -15,13 +15,13 @@ abbrev pub is_backslash : ℕ → Bool
 is_backslash b = b == 92
 
 -- A valid part of a path, between slashes: neither empty nor . nor ..
-abbrev pub is_part : List ℕ → Bool
-is_part part = not (bytes_eq part [] || bytes_eq part (codes ".") || bytes_eq part (codes ".."))
+abbrev pub is_path_part : List ℕ → Bool
+is_path_part part = not (bytes_eq part [] || bytes_eq part (codes ".") || bytes_eq part (codes ".."))
 
 -- A relative path of valid parts, so that no two paths name the same file, and none leads out of
 -- its directory.
 abbrev pub is_path : List ℕ → Bool
-is_path name = list_all is_part (slice_split is_slash name)
+is_path name = list_all is_path_part (slice_split is_slash name)
 
 -- The name without one leading ./
 abbrev pub without_dot : List ℕ → List ℕ

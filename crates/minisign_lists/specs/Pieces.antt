@@ -8,7 +8,7 @@ use Rattle.minisign_lists.specs.Digests.{ListedDigest, has_digest}
 use Rattle.minisign_lists.specs.declared.digests.ListedDigest.TheVariants as listed
 use Rattle.minisign_lists.specs.Faults.{ListFault, DigestMismatch, map_ok}
 use Rattle.minisign_lists.specs.Lines.{Entry}
-use Rattle.minisign_lists.specs.Lists.{is_of, read_entries}
+use Rattle.minisign_lists.specs.Lists.{has_name, read_entries}
 use Rattle.minisign_lists.specs.declared.digests.FileCheck.{FileCheck}
 use Rattle.minisign_lists.specs.declared.digests.FileCheck.TheVariants as check
 use Rattle.minisign_lists.specs.declared.entries.Entries.{Entries}
@@ -42,17 +42,17 @@ is_feed b = b == 10
 
 -- The entries that were not read yet, or the error of the first malformed line among the unread
 -- ones.
-abbrev pub ahead : Entries → Result (List Entry) ListFault
-ahead s = read_entries s.long (s.line + 1) (lines s.rest.now)
+abbrev pub unread_entries : Entries → Result (List Entry) ListFault
+unread_entries s = read_entries s.long (s.line + 1) (lines s.rest.now)
 
--- The number of unread bytes of the list.
-abbrev pub left : Entries → ℕ
-left s = length s.rest.now
+-- The number of bytes of the list that were not read yet.
+abbrev pub unread_len : Entries → ℕ
+unread_len s = length s.rest.now
 
 -- The numbers of the unread lines fit into 64 bits.
 abbrev pub IsNumbered : Entries → Type 0
-IsNumbered s = s.line + left s ≤ 2 ^ 64 - 1
+IsNumbered s = s.line + unread_len s ≤ 2 ^ 64 - 1
 
 -- The unread entries with this name, or the error of the first malformed unread line.
-abbrev pub ahead_of : List ℕ → Entries → Result (List Entry) ListFault
-ahead_of name s = map_ok (filter (is_of name)) (ahead s)
+abbrev pub unread_entries_named : List ℕ → Entries → Result (List Entry) ListFault
+unread_entries_named name s = map_ok (filter (has_name name)) (unread_entries s)

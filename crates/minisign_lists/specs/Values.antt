@@ -25,7 +25,8 @@ use Rattle.minisign_lists.specs.Comments.{names_list}
 use Rattle.minisign_lists.specs.Digests.{Algorithm, ListedDigest}
 use Rattle.minisign_lists.specs.declared.digests.Algorithm.TheVariants as algorithm
 use Rattle.minisign_lists.specs.declared.digests.ListedDigest.TheVariants as listed
-use Rattle.minisign_lists.specs.Faults.{ListFault, Library, OtherList, DigestMismatch, and_then, of_library}
+use Rattle.minisign_lists.specs.Faults.{ListFault, Library, OtherList, DigestMismatch, and_then}
+use Rattle.minisign_lists.specs.Faults.{wrap_library_error}
 use Rattle.minisign_lists.specs.Lines.{Entry, LongDigest}
 use Rattle.minisign_lists.specs.Lists.{listed_entry, read_list}
 use Rattle.minisign_lists.specs.Numbers.{hash_number}
@@ -82,7 +83,7 @@ pub record HasAskedList (l : ListValue) (v : PublicKeyValue) (sig_text : List �
 abbrev pub list_verdict_under : Verifier → PublicKeyValue → List ℕ → Option (List ℕ) → List ℕ
     → Result (List ℕ) ListFault
 list_verdict_under accepts v sig_text list_name text =
-    and_then (of_library (verdict_under accepts v sig_text text false)) (λ comment.
+    and_then (wrap_library_error (verdict_under accepts v sig_text text false)) (λ comment.
     and_then (check_list_name list_name comment) (λ _. Ok comment))
 
 -- The verdict without the trusted comment, which the caller already has.
@@ -93,7 +94,7 @@ given_list (Err e) = Err (Refused e)
 -- The verdict on a list from the results of the two checks.
 abbrev pub list_judgement : ListValue → Bool → Bool → Result ⊤ ListFault
 list_judgement l first second =
-    and_then (of_library (judge_answers first ((l.whole == 1) && second))) (λ _.
+    and_then (wrap_library_error (judge_answers first ((l.whole == 1) && second))) (λ _.
     if l.is_named == 1 then Ok tt else Err OtherList)
 
 -- The result of a verdict, and the list after it, which is verified only if the verdict is success.

@@ -4,7 +4,7 @@ use Rattle.minisign.specs.Acceptance.{Verifier}
 use Rattle.minisign.specs.Headline.{verdict}
 use Rattle.minisign_lists.specs.Comments.{names_list}
 use Rattle.minisign_lists.specs.Digests.{ListedDigest, has_digest}
-use Rattle.minisign_lists.specs.Faults.{ListFault, OtherList, DigestMismatch, and_then, of_library}
+use Rattle.minisign_lists.specs.Faults.{ListFault, OtherList, DigestMismatch, and_then, wrap_library_error}
 use Rattle.minisign_lists.specs.Lines.{LongDigest}
 use Rattle.minisign_lists.specs.Lists.{listed_entry}
 
@@ -24,7 +24,7 @@ check_digest digest m = if has_digest digest m then Ok tt else Err DigestMismatc
 unfoldable pub listed_verdict : Verifier → List ℕ → List ℕ → Option (List ℕ) → LongDigest → List ℕ → List ℕ
     → List ℕ → Result (List ℕ) ListFault
 listed_verdict accepts pk_text sig_text list_name long list name m =
-    and_then (of_library (verdict accepts pk_text sig_text list false)) (λ comment.
+    and_then (wrap_library_error (verdict accepts pk_text sig_text list false)) (λ comment.
     and_then (check_list_name list_name comment) (λ _.
     and_then (listed_entry long list name) (λ entry.
     and_then (check_digest entry.digest m) (λ _. Ok comment))))

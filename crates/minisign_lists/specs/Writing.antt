@@ -12,7 +12,7 @@ use Rattle.minisign_lists.specs.declared.digests.ListedDigest.TheVariants as lis
 use Rattle.minisign_lists.specs.Faults.{ListFault, ListedTwice, MalformedLine, NotListed}
 use Rattle.minisign_lists.specs.Lines.{Entry, LongDigest, label}
 use Rattle.minisign_lists.specs.declared.lines.LongDigest.TheVariants as long
-use Rattle.minisign_lists.specs.Lists.{is_of, listed_entry, read_list}
+use Rattle.minisign_lists.specs.Lists.{has_name, listed_entry, read_list}
 use Rattle.minisign_lists.specs.Names.{without_dot}
 use Rattle.minisign_lists.specs.Values.{algorithm_of, go_on, of_lists, utf8_text}
 
@@ -87,7 +87,7 @@ pub record IsReadBack (l : LongDigest) (list longer : List ℕ) (digest : Listed
   where
     pub before : List Entry
     pub was : read_list long.Rejected list ≡ Ok before
-    pub free : filter (is_of (without_dot name)) before ≡ []
+    pub free : filter (has_name (without_dot name)) before ≡ []
     pub is : read_list l longer
         ≡ Ok (before ++ written_entry (1 + length (lines list)) digest (without_dot name) ∷ [])
     pub found : listed_entry l longer name

@@ -7,7 +7,7 @@ ghost use Rattle.std.specs.List.{slice_split};
 ghost use Rattle.std.specs.Str.Lines.{lines, strip_carriage_return};
 ghost use Rattle.minisign_lists.specs.Faults.{map_ok};
 ghost use Rattle.minisign_lists.specs.Lists.{read_list};
-ghost use Rattle.minisign_lists.specs.Pieces.{IsNumbered, ahead, is_feed, left};
+ghost use Rattle.minisign_lists.specs.Pieces.{IsNumbered, unread_entries, is_feed, unread_len};
 ghost use Rattle.minisign_lists.specs.Positions.{after_line};
 
 use crate::faults::Result;
@@ -27,7 +27,7 @@ impl<'a> Entries<'a> {
     /// its hash function.
     pub fn new(long: LongDigest, list: &'a str) -> Entries<'a>
         // No entry has been returned yet: those that are still to come are all entries of the list, in order.
-        ensures ahead { ahead result ≡ read_list long list.now }
+        ensures unread_entries { unread_entries result ≡ read_list long list.now }
         ensures numbered { IsNumbered result }
     {
         Entries {
@@ -44,10 +44,10 @@ impl<'a> Entries<'a> {
         // The entries are returned in the order of their lines, and nothing at the end of the list. An error
         // means that one of the remaining lines is malformed. If there is such a line, the end is never
         // reported.
-        ensures entry { IfOk result (λ next. MatchOption next (ahead self.old ≡ Ok [])
-            (λ e. ahead self.old ≡ map_ok (λ es. e ∷ es) (ahead self.new))) }
-        ensures refused { IfErr result (λ e. ahead self.old ≡ Err e) }
-        ensures shorter { IfOk result (λ next. OnSome next (left self.new < left self.old)) }
+        ensures entry { IfOk result (λ next. MatchOption next (unread_entries self.old ≡ Ok [])
+            (λ e. unread_entries self.old ≡ map_ok (λ es. e ∷ es) (unread_entries self.new))) }
+        ensures refused { IfErr result (λ e. unread_entries self.old ≡ Err e) }
+        ensures shorter { IfOk result (λ next. OnSome next (unread_len self.new < unread_len self.old)) }
         ensures numbered { IsNumbered self.new }
     {
         'lines: while let Some((line, more)) = next_line(self.rest) {

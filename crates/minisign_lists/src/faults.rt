@@ -3,8 +3,8 @@
 ghost use Rattle.std.specs.Prelude.{◌≡◌, ◌<◌, Some, true, IfOk, MatchResult, length};
 ghost use Rattle.minisign_base.specs.Fault.{Named};
 ghost use Rattle.minisign_base.specs.Faults.{row};
-ghost use Rattle.minisign_lists.specs.Faults.{Library, is_own, list_fault_numbered, list_number};
-ghost use Rattle.minisign_lists.specs.Faults.{list_row, with_line};
+ghost use Rattle.minisign_lists.specs.Faults.{Library, is_list_error, list_fault_numbered, list_number};
+ghost use Rattle.minisign_lists.specs.Faults.{list_row, line_of_fault};
 
 use minisign_base::ErrorKind::{self, Misc, Verify};
 use minisign_base::{NamedFault, PError};
@@ -50,7 +50,7 @@ impl ListFault {
     pub fn line(&self) -> u64
         // The result is the number of the malformed line, or of the second line with the name. For every
         // other error it is 0.
-        ensures { result ≡ with_line self.now }
+        ensures { result ≡ line_of_fault self.now }
     {
         match self {
             ListFault::MalformedLine { line } => *line,
@@ -79,7 +79,7 @@ impl ListFault {
     /// Returns the number, the kind and the text of a list error, or `Err` with the error of the library.
     pub fn row(&self) -> std::result::Result<&'static (u32, ErrorKind, &'static str), &PError>
         ensures row { MatchResult result
-            (λ r. (is_own self.now ≡ true) × (row r.now.0 r.now.1 r.now.2.now ≡ list_row self.now))
+            (λ r. (is_list_error self.now ≡ true) × (row r.now.0 r.now.1 r.now.2.now ≡ list_row self.now))
             (λ fault. self.now ≡ Library fault.now) }
         ensures short { IfOk result (λ r. length r.now.2.now < 128) }
     {

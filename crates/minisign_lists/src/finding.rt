@@ -5,8 +5,8 @@ ghost use Rattle.std.specs.Prelude.{OnSome, ◌<◌};
 ghost use Rattle.minisign.specs.Texts.{IsReading};
 ghost use Rattle.minisign_lists.specs.Faults.{and_then, checked, map_ok};
 ghost use Rattle.minisign_lists.specs.Lines.{LongDigest};
-ghost use Rattle.minisign_lists.specs.Lists.{IsListed, listed_entry, the_only};
-ghost use Rattle.minisign_lists.specs.Pieces.{IsNumbered, ahead_of, left};
+ghost use Rattle.minisign_lists.specs.Lists.{IsListed, listed_entry, only_entry};
+ghost use Rattle.minisign_lists.specs.Pieces.{IsNumbered, unread_entries_named, unread_len};
 
 use crate::entries::Entries;
 use crate::faults::{ListFault, Result};
@@ -24,12 +24,13 @@ pub fn lists_are_decided()
 {}
 
 // Returns the next entry with this name.
-fn next_of<'a>(entries: &mut Entries<'a>, name: &[u8]) -> Result<Option<EntryView<'a>>>
+fn next_entry_named<'a>(entries: &mut Entries<'a>, name: &[u8]) -> Result<Option<EntryView<'a>>>
     requires { IsNumbered entries.old }
-    ensures entry { IfOk result (λ next. MatchOption next (ahead_of name.now entries.old ≡ Ok [])
-        (λ e. ahead_of name.now entries.old ≡ map_ok (λ es. e ∷ es) (ahead_of name.now entries.new))) }
-    ensures refused { IfErr result (λ e. ahead_of name.now entries.old ≡ Err e) }
-    ensures shorter { IfOk result (λ next. OnSome next (left entries.new < left entries.old)) }
+    ensures entry { IfOk result (λ next. MatchOption next (unread_entries_named name.now entries.old ≡ Ok [])
+        (λ e. unread_entries_named name.now entries.old
+        ≡ map_ok (λ es. e ∷ es) (unread_entries_named name.now entries.new))) }
+    ensures refused { IfErr result (λ e. unread_entries_named name.now entries.old ≡ Err e) }
+    ensures shorter { IfOk result (λ next. OnSome next (unread_len entries.new < unread_len entries.old)) }
     ensures numbered { IsNumbered entries.new }
 {
     'entries: while let Some(entry) = entries.next_entry()? {
@@ -43,9 +44,9 @@ fn next_of<'a>(entries: &mut Entries<'a>, name: &[u8]) -> Result<Option<EntryVie
 // Reads the rest of the list, and returns the error of a malformed line.
 fn read_to_end(entries: &mut Entries<'_>, name: &[u8]) -> Result<()>
     requires { IsNumbered entries.old }
-    ensures { result ≡ checked (ahead_of name.now entries.old) }
+    ensures { result ≡ checked (unread_entries_named name.now entries.old) }
 {
-    'entries: while let Some(_) = next_of(entries, name)? {}
+    'entries: while let Some(_) = next_entry_named(entries, name)? {}
     Ok(())
 }
 
@@ -79,12 +80,12 @@ pub fn find_listed<'a>(long: LongDigest, list: &'a str, name: &str) -> Result<En
 // error wherever it is.
 fn find_only<'a>(entries: &mut Entries<'a>, name: &[u8]) -> Result<EntryView<'a>>
     requires { IsNumbered entries.old }
-    ensures { result ≡ and_then (ahead_of name.now entries.old) the_only }
+    ensures { result ≡ and_then (unread_entries_named name.now entries.old) only_entry }
 {
-    let Some(entry) = next_of(entries, name)? else {
+    let Some(entry) = next_entry_named(entries, name)? else {
         return Err(ListFault::NotListed);
     };
-    let Some(second) = next_of(entries, name)? else {
+    let Some(second) = next_entry_named(entries, name)? else {
         return Ok(entry);
     };
     read_to_end(entries, name)?;

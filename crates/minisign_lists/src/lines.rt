@@ -7,7 +7,7 @@ ghost use Rattle.std.specs.List.{list_any};
 ghost use Rattle.std.specs.Option.{option_or};
 ghost use Rattle.minisign_lists.specs.Faults.{map_ok};
 ghost use Rattle.minisign_lists.specs.Lines.{Entry, NamedDigest, digit_count, entry_of, if_escaped};
-ghost use Rattle.minisign_lists.specs.Lines.{is_comment, is_marked, label};
+ghost use Rattle.minisign_lists.specs.Lines.{is_comment, begins_with_backslash, label};
 ghost use Rattle.minisign_lists.specs.Lines.{long_form, plain_form, read_line, tagged_form, named};
 ghost use Rattle.minisign_lists.specs.Lines.{written_in};
 
@@ -243,8 +243,8 @@ fn is_comment(line: &[u8]) -> bool
 }
 
 // Returns true if the line begins with a backslash.
-fn is_marked(line: &[u8]) -> bool
-    ensures value { result ≡ is_marked line.now }
+fn begins_with_backslash(line: &[u8]) -> bool
+    ensures value { result ≡ begins_with_backslash line.now }
     ensures some { IsTrue result → 1 ≤ length line.now }
 {
     match line.first() {
@@ -273,7 +273,7 @@ pub(crate) fn read_line(long: LongDigest, number: u64, line: &[u8]) -> Result<Op
     if is_comment(line) {
         return Ok(None);
     }
-    if is_marked(line) {
+    if begins_with_backslash(line) {
         escaped_entry(long, number, line)
     } else {
         entry_of(number, false, 0, written_in(long, line))

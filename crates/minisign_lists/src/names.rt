@@ -3,7 +3,7 @@
 ghost use Rattle.std.specs.Prelude.{◌≡◌, ◌==◌, ◌&&◌, ◌||◌, not, bytes_eq, codes, true, false, ◌∷◌, ◌<◌};
 ghost use Rattle.std.specs.Prelude.{[], length, IfSome, IfNone};
 ghost use Rattle.std.specs.List.{list_all, list_any, slice_split};
-ghost use Rattle.minisign_lists.specs.Names.{is_backslash, is_control, is_name, is_part, is_path};
+ghost use Rattle.minisign_lists.specs.Names.{is_backslash, is_control, is_name, is_path_part, is_path};
 ghost use Rattle.minisign_lists.specs.Names.{is_slash};
 ghost use Rattle.minisign_lists.specs.Names.{without_dot};
 
@@ -27,8 +27,8 @@ pub(crate) fn has_backslash(name: &[u8]) -> bool
 }
 
 // Returns true if the part of a path is neither empty nor `.` nor `..`.
-fn is_part(part: &[u8]) -> bool
-    ensures { result ≡ is_part part.now }
+fn is_path_part(part: &[u8]) -> bool
+    ensures { result ≡ is_path_part part.now }
 {
     !(part.is_empty() || same(part, b".") || same(part, b".."))
 }
@@ -52,12 +52,12 @@ pub(crate) fn is_path(name: &[u8]) -> bool
 {
     let mut rest = name;
     'parts: while let Some((part, more)) = split_part(rest) {
-        if !is_part(part) {
+        if !is_path_part(part) {
             return false;
         }
         rest = more;
     }
-    is_part(rest)
+    is_path_part(rest)
 }
 
 // Removes one leading `./`.

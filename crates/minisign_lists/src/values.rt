@@ -14,7 +14,8 @@ ghost use Rattle.minisign.specs.SignatureText.{SignatureTextRecord};
 ghost use Rattle.minisign.specs.Acceptance.{Verifier};
 ghost use Rattle.minisign_external.specs.Questions.{Answers, read_under};
 ghost use Rattle.minisign_external.specs.Signatures.{IsReadFrom};
-ghost use Rattle.minisign_external.specs.States.{AreAsked, AreQuestions, asked_of, asked_under};
+ghost use Rattle.minisign_external.specs.States.{AreQuestionsWithoutDigest, AreQuestions, asking_checks};
+ghost use Rattle.minisign_external.specs.States.{asked_under};
 ghost use Rattle.minisign_external.specs.States.{with_public_key};
 ghost use Rattle.minisign_external.specs.StrictCalls.{asked_strictly, is_strict_text, is_strict_value};
 ghost use Rattle.minisign_external.specs.declared.public_keys.PublicKeyValue.{PublicKeyValue};
@@ -274,7 +275,7 @@ impl ListValue {
     ) -> std::result::Result<bool, Refusal>
         // The result is that of `State::ask_strictly` for a new state, without legacy signatures.
         ensures value { result ≡ asked_strictly (is_strict_value key.now signature.now)
-            (asked_of key.now signature.now sig_text.now false (length message.old)) }
+            (asking_checks key.now signature.now sig_text.now false (length message.old)) }
 
         // If the signature was read from this text, the result is the same as if the text were parsed here
         // and checked under this key.
@@ -465,12 +466,13 @@ fn ask_once(
     message: &mut [u8],
 ) -> std::result::Result<bool, Refusal>
     ensures value { result ≡ asked_strictly (is_strict_value key.now signature.now)
-        (asked_of key.now signature.now sig_text.now false (length message.old)) }
+        (asking_checks key.now signature.now sig_text.now false (length message.old)) }
     ensures text { (t : SignatureTextRecord) → IsReadFrom signature.now sig_text.now t
         → result ≡ asked_strictly (is_strict_text key.now t) (with_public_key key.now
         (asked_under (read_under key.now false sig_text.now) (length message.old))) }
     ensures asked { result ≡ Ok true → (t : SignatureTextRecord) → IsReadFrom signature.now sig_text.now t
-        → (read_under key.now false sig_text.now ≡ Ok t) × AreAsked questions.new message.new key.now t }
+        → (read_under key.now false sig_text.now ≡ Ok t) × AreQuestionsWithoutDigest questions.new
+        message.new key.now t }
     ensures room { result ≡ Ok true → 64 + signature.now.comment_len ≤ length message.old }
     ensures rest { result ≡ Ok true
         → drop questions.new.message_len message.new ≡ drop questions.new.message_len message.old }
