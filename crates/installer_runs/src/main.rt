@@ -1,10 +1,9 @@
-//! Makes the calls of installations, for tests. Each line of standard input describes one installation:
+//! Makes sequences of calls of `Installation`, for tests. Each line of standard input describes one sequence:
 //!
 //!     NAME;OPTIONS;RECORD;COMMENT;CALLS
 //!
-//! The program makes the calls in CALLS, and prints the operation that is due after the last one and the
-//! error number, and then, if there are any, the question for Ed25519 and the new record. It stops at a call
-//! that is not due.
+//! The program makes the calls in CALLS, until one is not due. Then it prints the operation that is due and
+//! the error number of the run. If there is a question for Ed25519, or a new record, it prints these too.
 //!
 //! OPTIONS is a string of these letters:
 //!
@@ -35,11 +34,11 @@ use std::io::{self, BufRead, BufReader, BufWriter, Write};
 use std::process::ExitCode;
 
 // A record of version 2 that names the first key.
-const OWN: &str =
+const RECORD_OF_FIRST_KEY: &str =
     "version:2\n0000000000000000000000000000000000000000000000000000000000000001\n22222222222222222222222222222222222222222222222222222222222222222222222222222222222222222222222222222222222222222222222222222222";
 
 // A record of version 2 that names a key that is not passed.
-const OTHER: &str =
+const RECORD_OF_UNKNOWN_KEY: &str =
     "version:2\n9999999999999999999999999999999999999999999999999999999999999999\n22222222222222222222222222222222222222222222222222222222222222222222222222222222222222222222222222222222222222222222222222222222";
 
 // The signature lines of a prehashed and of a legacy signature.
@@ -50,19 +49,19 @@ const LEGACY: &str =
     "RWQBAgMEBQYHCAUFBQUFBQUFBQUFBQUFBQUFBQUFBQUFBQUFBQUFBQUFBQUFBQUFBQUFBQUFBQUFBQUFBQUFBQUFBQUFBQUFBQU=";
 
 // A comment signature of 64 bytes, and one of 63.
-const SECOND: &str =
+const COMMENT_SIGNATURE: &str =
     "BgYGBgYGBgYGBgYGBgYGBgYGBgYGBgYGBgYGBgYGBgYGBgYGBgYGBgYGBgYGBgYGBgYGBgYGBgYGBgYGBgYGBg==";
 
-const SHORT: &str =
+const SHORT_COMMENT_SIGNATURE: &str =
     "BgYGBgYGBgYGBgYGBgYGBgYGBgYGBgYGBgYGBgYGBgYGBgYGBgYGBgYGBgYGBgYGBgYGBgYGBgYGBgYGBgYG";
 
 fn main(rt: HostRuntime) -> io::Result<ExitCode> {
-    let mut answers = BufWriter::new(rt.alloc(), io::writer(&rt))?;
+    let mut out = BufWriter::new(rt.alloc(), io::writer(&rt))?;
     for line in BufReader::new(rt.alloc(), rt.reader())?.lines(rt.alloc()) {
         let line = line?;
-        write_run(rt.alloc(), line.as_str(), &mut answers)?;
+        write_run(rt.alloc(), line.as_str(), &mut out)?;
     }
-    answers.flush()?;
+    out.flush()?;
     Ok(ExitCode::SUCCESS)
 }
 
@@ -115,8 +114,8 @@ fn keys(options: &str) -> (PublicKeyValue, PublicKeyValue) {
 
 fn record(name: &str) -> &str {
     match name {
-        "own" => OWN,
-        "other" => OTHER,
+        "own" => RECORD_OF_FIRST_KEY,
+        "other" => RECORD_OF_UNKNOWN_KEY,
         "old" => "2\n",
         _ => name,
     }
@@ -129,9 +128,9 @@ fn signature_file(alloc: Global, options: &str, comment: &str) -> Result<String,
         PREHASHED
     };
     let second = if has(options, 's') == 1 {
-        SHORT
+        SHORT_COMMENT_SIGNATURE
     } else {
-        SECOND
+        COMMENT_SIGNATURE
     };
     format!(in alloc; "untrusted comment: u\n{first}\ntrusted comment: {comment}\n{second}\n")
 }
@@ -168,26 +167,22 @@ fn call(installation: &mut Installation, name: &str, line: &str, text: &str) -> 
 }
 
 // Makes the calls of a run until one is not due, and writes the state of the installation.
-fn write_run<W: Write>(alloc: Global, line: &str, answers: &mut W) -> io::Result<()> {
+fn write_run<W: Write>(alloc: Global, line: &str, out: &mut W) -> io::Result<()> {
     let (key, other) = keys(field(line, 1));
     let text = signature_file(alloc, field(line, 1), field(line, 3))?;
     let name = field(line, 0);
     let Ok(mut installation) = Installation::new(&key, &other, &choices(field(line, 1))) else {
-        writeln!(answers, "{name}: options that do not fit together")?;
+        writeln!(out, "{name}: options that do not fit together")?;
         return Ok(());
     };
     for each in field(line, 4).split(' ') {
         if !call(&mut installation, each, line, text.as_str()) {
-            writeln!(
-                answers,
-                "{name}: {each} is not due at {:?}",
-                installation.due()
-            )?;
+            writeln!(out, "{name}: {each} is not due at {:?}", installation.due())?;
             return Ok(());
         }
     }
     writeln!(
-        answers,
+        out,
         "{name}: {:?} {}",
         installation.due(),
         installation.error()
@@ -196,16 +191,16 @@ fn write_run<W: Write>(alloc: Global, line: &str, answers: &mut W) -> io::Result
         let (key, digest) = (asked.key[31], asked.digest[0]);
         let (signature, comment) = (asked.signature[0], asked.is_comment);
         writeln!(
-            answers,
+            out,
             "key {key} signature {signature} digest {digest} comment {comment}"
         )?;
     }
-    let mut room = [0u8; 230];
-    let len = installation.record_text(&mut room).min(230);
-    let (written, _) = room.split_at(len);
+    let mut buffer = [0u8; 230];
+    let len = installation.record_text(&mut buffer).min(230);
+    let (written, _) = buffer.split_at(len);
     if let Ok(written) = str::from_utf8(written) {
         if len > 0 {
-            writeln!(answers, "{written}")?;
+            writeln!(out, "{written}")?;
         }
     }
     Ok(())

@@ -24,7 +24,7 @@ all_bytes [] i = omega arith
 all_bytes (x ∷ xs) zero = omega arith
 all_bytes (x ∷ xs) (suc i) = all_bytes xs i
 
--- Bytes are unchanged by this.
+-- Reducing bytes modulo 256 does not change them.
 bytes_same : (xs : List ℕ) → IsBytes xs → map (λ b. b % 256) xs ≡ xs
 bytes_same [] h = refl
 bytes_same (x ∷ xs) h =
@@ -201,7 +201,7 @@ module _ (s t text : List ℕ) (is : text ≡ s ++ t) (groups : length s % 4 ≡
       (λ all. let parts = cut_text all in is_read t _ parts.back_read) (λ rest. is_read _ _
       (rw (sym is) at (joined s t a (base64_bytes t) h (reads t rest) (omega (arith, long)))))
 
-  -- It is not base64 if the piece is not base64 or has padding.
+  -- A text is not base64 if the piece before the rest is not base64 or has padding.
   pub piece_refused : is_base64 s ≡ false → is_base64 text ≡ false
   piece_refused none = false_from_ne_true _ (λ all.
       let parts = cut_text all in

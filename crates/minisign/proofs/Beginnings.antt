@@ -1,7 +1,7 @@
 -- Lemmas about results after an error, and about random bytes that are taken in two parts.
 use Rattle.std.proofs.Common.{◌≡◌, ℕ, List, ◌++◌, Option, None, Some, Result, Ok, Err, IsErrAnd, IfOk, IfErr}
 use Rattle.std.proofs.Common.{OnErr, append_assoc, ap, sym, ◌∙◌}
-use Rattle.minisign.proofs.Common.{Consumes, ⊤, HasGiven, without_value}
+use Rattle.minisign.proofs.Common.{Consumes, ⊤, PrefixIsRemoved, without_value}
 
 -- A statement that always holds also holds after an error.
 pub on_err_of : {T E : Type 0} (r : Result T E) (P : Type 0) → P → OnErr r P
@@ -33,8 +33,8 @@ on_fault (Ok v) Ends Q _ f = tt
 on_fault (Err e) Ends Q ended f = f e ended
 
 -- If bytes were read from the front and then more of them, a prefix was read in total.
-pub given_behind : (old mid new : Option (List ℕ)) (a : List ℕ) → Consumes old mid a → HasGiven mid new
-    → HasGiven old new
+pub given_behind : (old mid new : Option (List ℕ)) (a : List ℕ) → Consumes old mid a → PrefixIsRemoved mid new
+    → PrefixIsRemoved old new
 given_behind _ _ None a _ _ = tt
 given_behind None _ (Some _) a _ _ = tt
 given_behind (Some _) None (Some _) a all _ = absurd all
@@ -42,7 +42,7 @@ given_behind (Some _) (Some _) (Some ys) a all (front, more) =
     (a ++ front, all ∙ ap (λ l. a ++ l) more ∙ sym (append_assoc a front ys))
 
 -- The bytes that were read were at the front.
-pub consumed : (old now : Option (List ℕ)) (a : List ℕ) → Consumes old now a → HasGiven old now
+pub consumed : (old now : Option (List ℕ)) (a : List ℕ) → Consumes old now a → PrefixIsRemoved old now
 consumed _ None a _ = tt
 consumed None (Some _) a _ = tt
 consumed (Some _) (Some _) a all = (a, all)

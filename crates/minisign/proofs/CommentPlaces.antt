@@ -22,15 +22,16 @@ is_feed b = eqb b 10
 -- A line without its carriage return is a prefix of the line.
 strip_front : (l : List ℕ) → (take (length (strip_carriage_return l)) l ≡ strip_carriage_return l)
     × (length (strip_carriage_return l) ≤ length l)
-strip_front l = of (slice_index l (length l - 1) == 13)
+strip_front l = by_cases (slice_index l (length l - 1) == 13)
   where
-    of : (b : Bool) → (take (length (cond b (take (length l - 1) l) l)) l ≡ cond b (take (length l - 1) l) l)
+    by_cases : (b : Bool) → (take (length (cond b (take (length l - 1) l) l)) l
+        ≡ cond b (take (length l - 1) l) l)
         × (length (cond b (take (length l - 1) l) l) ≤ length l)
-    of true =
+    by_cases true =
         let n : length (take (length l - 1) l) ≡ length l - 1 = length-take-le (length l - 1) l
         (omega arith) in
         (ap (λ k. take k l) n, omega (arith, n))
-    of false = (take_all (length l) l (omega arith), omega arith)
+    by_cases false = (take_all (length l) l (omega arith), omega arith)
 
 -- A text without a line feed is its only line.
 only : (w x : List ℕ) (more : List (List ℕ)) (b : Bool) → cond b [] (w ∷ []) ≡ x ∷ more

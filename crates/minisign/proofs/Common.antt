@@ -8,14 +8,16 @@ pub use Rattle.base64.specs.GeneralPurpose.{IsBytes, IsDecodeFailure, decode_of,
 pub use Rattle.base64.specs.GeneralPurpose.{decoded_bytes_of}
 pub use Rattle.base64.specs.Rfc4648.{padding_len, unpadded_len}
 unfoldable pub use Rattle.base64.specs.Rfc4648.{encode_symbols}
-pub use Rattle.minisign_base.proofs.Laws.{AppendsFront-after, AppendsFront-keeps, AppendsFront-more}
+pub use Rattle.minisign_base.proofs.Laws.{AppendsPrefix-after, AppendsPrefix-keeps, AppendsPrefix-more}
 pub use Rattle.minisign_base.proofs.Laws.{first_stopped, second_ended, second_ends, stopped_first, typed_is}
-pub use Rattle.minisign_base.specs.DeviceCalls.{IsSteady, IsUnflushed, IsWritingFault, Marks, PromptCall}
+pub use Rattle.minisign_base.specs.DeviceCalls.{IsSteady, FlushesNothing, IsWritingFault, Marks, PromptCall}
 pub use Rattle.minisign_base.specs.DeviceCalls.{RandomCall, RereaderCall, SinkCall, SinkFails}
 pub use Rattle.minisign_base.specs.DeviceCalls.{SinkHasNoNewFault, SourceCall, SourceFails}
-pub use Rattle.minisign_base.specs.DeviceCalls.{SourceHasNoNewFault, Takes, TakesFront, prompt_call}
-pub use Rattle.minisign_base.specs.DeviceCalls.{random_call, rereader_call, sink_call, unused}
-pub use Rattle.minisign_base.specs.Devices.{AppendsFront, HasGiven, Rose, SameWhereKnown}
+pub use Rattle.minisign_base.specs.DeviceCalls.{SourceHasNoNewFault, SinkReceives, SinkReceivesPrefix}
+pub use Rattle.minisign_base.specs.DeviceCalls.{prompt_call}
+pub use Rattle.minisign_base.specs.DeviceCalls.{random_call, rereader_call, sink_call, no_sink}
+pub use Rattle.minisign_base.specs.Devices.{AppendsPrefix, PrefixIsRemoved, ErrorCountRises}
+pub use Rattle.minisign_base.specs.Devices.{EqualIfSecondKnown}
 pub use Rattle.minisign_base.specs.Fault.{Fault, Named}
 unfoldable pub use Rattle.minisign_base.specs.KeyIds.{key_id_text}
 pub use Rattle.minisign_base.specs.Limits.{sealing_limits}

@@ -4,7 +4,8 @@ use Rattle.std.proofs.Common.{◌≡◌, ℕ, List, [], ◌∷◌, ◌++◌, Non
 use Rattle.minisign.proofs.Common.{chars, is_utf8, Named, PasswordsDiffer, written, accepted_line, first_line}
 use Rattle.minisign.proofs.Common.{password_of, typed_password}
 use lib.Utf8.{encode}
-use Rattle.minisign.specs.Generation.{choosing_steps, difference, sealing_steps, purpose_line, sealing_text}
+use Rattle.minisign.specs.Generation.{choosing_steps, password_difference, sealing_steps, purpose_line}
+use Rattle.minisign.specs.Generation.{sealing_text}
 use Rattle.minisign.specs.Generation.{second_question}
 use Rattle.minisign.specs.Sealing.{asking_text, deriving_text, done_text, opening_steps}
 use Rattle.minisign.specs.Records.{SecretKeyRecord}
@@ -34,12 +35,13 @@ unfolding password_of first_line accepted_line is_utf8 chars encode asking_text 
 written_while_opening k = refl
 
 -- The second password is a different one.
-pub other_password : difference (typed_password (typing (codes "one")))
+pub other_password : password_difference (typed_password (typing (codes "one")))
     (typed_password (typing (codes "two"))) ≡ Some (Named PasswordsDiffer)
 unfolding password_of first_line accepted_line is_utf8 chars encode
 other_password = refl
 
-pub same_password : difference (typed_password (typing (codes "one"))) (typed_password (typing (codes "one")))
+pub same_password : password_difference (typed_password (typing (codes "one")))
+    (typed_password (typing (codes "one")))
     ≡ None
 unfolding password_of first_line accepted_line is_utf8 chars encode
 same_password = refl

@@ -1,30 +1,30 @@
 -- Lemmas about what an output received of data that was copied in part.
 use Rattle.std.proofs.Common.{◌≡◌, ℕ, List, [], ◌++◌, Option, None, Some, append-nil, ap, refl, sym, subst}
 use Rattle.std.proofs.Common.{◌∙◌}
-use Rattle.minisign.proofs.Common.{append_known, Appends, Consumes, Keeps, AppendsFront, SameWhereKnown}
-use Rattle.minisign.proofs.Common.{AppendsFront-after, AppendsFront-keeps, AppendsFront-more}
-use Rattle.minisign.specs.Reading.{IsAhead}
+use Rattle.minisign.proofs.Common.{append_known, Appends, Consumes, Keeps, AppendsPrefix, EqualIfSecondKnown}
+use Rattle.minisign.proofs.Common.{AppendsPrefix-after, AppendsPrefix-keeps, AppendsPrefix-more}
+use Rattle.minisign.specs.Reading.{KnownBytesAre}
 
 -- All of a text is a prefix of it.
-pub front_of_all : (a b c : Option (List ℕ)) (bs : List ℕ) → Appends a b bs → Keeps b c → AppendsFront a c bs
+pub front_of_all : (a b c : Option (List ℕ)) (bs : List ℕ) → Appends a b bs → Keeps b c → AppendsPrefix a c bs
 front_of_all a b c bs all kept =
-    rw (append-nil bs) at (AppendsFront-after a b c bs [] all (AppendsFront-keeps b c [] kept))
+    rw (append-nil bs) at (AppendsPrefix-after a b c bs [] all (AppendsPrefix-keeps b c [] kept))
 
 -- A prefix of the bytes read so far is a prefix of all the unread bytes.
 pub front_of_ahead : (ahead now old new : Option (List ℕ)) (bs : List ℕ) → Consumes ahead now bs
-    → AppendsFront old new bs
-    → (message : List ℕ) × IsAhead ahead message × AppendsFront old new message
+    → AppendsPrefix old new bs
+    → (message : List ℕ) × KnownBytesAre ahead message × AppendsPrefix old new message
 front_of_ahead None _ _ _ bs _ front = (bs, tt, front)
 front_of_ahead (Some _) None _ _ _ read _ = absurd read
 front_of_ahead (Some xs) (Some ys) old new bs read front =
-    (xs, refl, rw (sym read) at (AppendsFront-more old new bs ys front))
+    (xs, refl, rw (sym read) at (AppendsPrefix-more old new bs ys front))
 
 -- Before anything is read, an output that received nothing received a prefix of all the unread
 -- bytes.
 pub front_of_nothing : (ahead old new : Option (List ℕ)) → Keeps old new
-    → (message : List ℕ) × IsAhead ahead message × AppendsFront old new message
-front_of_nothing None _ _ kept = ([], tt, AppendsFront-keeps _ _ [] kept)
-front_of_nothing (Some xs) _ _ kept = (xs, refl, AppendsFront-keeps _ _ xs kept)
+    → (message : List ℕ) × KnownBytesAre ahead message × AppendsPrefix old new message
+front_of_nothing None _ _ kept = ([], tt, AppendsPrefix-keeps _ _ [] kept)
+front_of_nothing (Some xs) _ _ kept = (xs, refl, AppendsPrefix-keeps _ _ xs kept)
 
 -- A sink that is not written to is unchanged.
 pub keeps_same : (known : Option (List ℕ)) → Keeps known known
@@ -39,14 +39,14 @@ all_kept (Some x) (Some y) None _ _ kept = absurd kept
 all_kept (Some x) (Some y) (Some z) _ all kept = kept ∙ all
 
 -- If a was read so far and b is read next, then a followed by b was read.
-pub given_more : (old new : Option (List ℕ)) (a b : List ℕ) → IsAhead old a → new ≡ append_known old b
-    → IsAhead new (a ++ b)
-given_more None _ a b _ more = subst (λ known. IsAhead known (a ++ b)) (sym more) tt
-given_more (Some _) _ a b given more = subst (λ known. IsAhead known (a ++ b)) (sym more)
+pub given_more : (old new : Option (List ℕ)) (a b : List ℕ) → KnownBytesAre old a → new ≡ append_known old b
+    → KnownBytesAre new (a ++ b)
+given_more None _ a b _ more = subst (λ known. KnownBytesAre known (a ++ b)) (sym more) tt
+given_more (Some _) _ a b given more = subst (λ known. KnownBytesAre known (a ++ b)) (sym more)
     (ap (λ (l : List ℕ). l ++ b) given)
 
 -- The bytes that were read are the same if the record of them is unchanged.
-pub given_still : (old new : Option (List ℕ)) (a : List ℕ) → IsAhead old a → SameWhereKnown old new
-    → IsAhead new a
+pub given_still : (old new : Option (List ℕ)) (a : List ℕ) → KnownBytesAre old a → EqualIfSecondKnown old new
+    → KnownBytesAre new a
 given_still _ None a _ _ = tt
 given_still _ (Some _) a given kept = rw kept at given

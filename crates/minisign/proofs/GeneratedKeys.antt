@@ -183,7 +183,7 @@ default_limits : sealing_limits 33554432 1048576 ≡ Ok (record { n_log2 = 15; r
 unfolding limits numbers cost_log2
 default_limits = refl
 
--- So only an allocation can fail.
+-- With the default limits, only an allocation can fail.
 pub only_memory : unwrap_or (result_err (sealing_limits 33554432 1048576)) (Named OutOfMemory)
     ≡ Named OutOfMemory
 only_memory = ap (λ l. unwrap_or (result_err l) (Named OutOfMemory)) default_limits

@@ -10,7 +10,7 @@ use Rattle.minisign.proofs.ReadTexts.{read_value}
 use Rattle.minisign.proofs.Verdicts.{vouching_verdict}
 pub use Rattle.minisign.proofs.Verdicts.{judged_vouches, vouched, vouched_verdict, vouches_judged}
 pub use Rattle.minisign.proofs.Passes.{fails_without_output}
-pub use Rattle.minisign_base.proofs.Laws.{AppendsFront-after, AppendsFront-more}
+pub use Rattle.minisign_base.proofs.Laws.{AppendsPrefix-after, AppendsPrefix-more}
 
 module _ (accepts : Verifier) (pk_text sig_text message : List ℕ) (legacy : Bool) where
   -- Texts that are valid for a message are rejected only if an allocation fails.

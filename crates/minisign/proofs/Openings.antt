@@ -64,19 +64,19 @@ opening_held k v _ _ h =
     let (is, checksum) = restored_held _ v restored in
     (ap is_ok work, is, rw is at checksum)
 
--- It decrypts within each bound that its parallelization is within.
+-- An encrypted key decrypts within each bound that its parallelization is within.
 pub opened_within : (k : SecretKeyRecord) (password : List ℕ) (bound : Option ℕ) (v : Numbers)
     → key_limits k ≡ Ok v
     → (xored_key k password).checksum ≡ checksum_of (xored_key k password)
     → open_sealed k password bound ≡ require (is_within bound v.p) WorkTooHigh (Ok (xored_key k password))
 opened_within k password bound v allowed h =
     let checksum = (bytes_eq-Decides (xored_key k password).checksum _).1 h in
-    rw (allowed, checksum) (of (is_within bound v.p))
+    rw (allowed, checksum) (by_cases (is_within bound v.p))
   where
-    of : (b : Bool) → and_then (require b WorkTooHigh (Ok v)) (λ _. Ok (xored_key k password))
+    by_cases : (b : Bool) → and_then (require b WorkTooHigh (Ok v)) (λ _. Ok (xored_key k password))
         ≡ require b WorkTooHigh (Ok (xored_key k password))
-    of true = refl
-    of false = refl
+    by_cases true = refl
+    by_cases false = refl
 
 pub opened_from_parts : (k v : SecretKeyRecord) (password : List ℕ) (bound : Option ℕ) (w : Numbers)
     → v ≡ xored_key k password
@@ -249,7 +249,7 @@ module _ {R W : Type 0} (p : PromptCall R W) (given : Option (List ℕ)) (text :
       → IsOpening p given text None r → GivesKey p given text r
   sealed_key k read other h = inl (is_sealed _ _ read ∙ ap not other, h)
 
-  -- If the key names none, reading it as an unencrypted key meets GivesKey.
+  -- If the key names no key derivation, reading it as an unencrypted key meets GivesKey.
   pub unsealed_key : (k : SecretKeyRecord) → read_secret_key text ≡ Ok k → bytes_eq k.kdf no_kdf ≡ true
       → p.new ≡ p.old
       → r ≡ read_unencrypted_key text → GivesKey p given text r

@@ -4,17 +4,20 @@
 use Rattle.std.proofs.Common.{◌≡◌, ◌≢◌, ◌⊎◌, ℕ, Bool, true, false, Vec, List, [], ◌∷◌, ◌++◌, Option, None}
 use Rattle.std.proofs.Common.{Some, IfErr, IfSome, IsSome, OnOk, inl, inr, ⊎_elim, refl, sym, ap, subst, ◌∙◌}
 use Rattle.std.proofs.Common.{Result, Ok, Err, true≢false, ◌&&◌}
-use Rattle.minisign.proofs.Common.{and_parts, bytes_eq-Decides, ⊤, Appends, IsAtEnd, blake2b_digest, Rose}
-use Rattle.minisign.proofs.Common.{Fault, Named, GoingBackFailed, OutOfMemory, IsSteady, IsUnflushed}
+use Rattle.minisign.proofs.Common.{and_parts, bytes_eq-Decides, ⊤, Appends, IsAtEnd, blake2b_digest}
+use Rattle.minisign.proofs.Common.{ErrorCountRises}
+use Rattle.minisign.proofs.Common.{Fault, Named, GoingBackFailed, OutOfMemory, IsSteady, FlushesNothing}
 use Rattle.minisign.proofs.Common.{IsWritingFault, Marks, RereaderCall, SinkCall, SinkFails}
-use Rattle.minisign.proofs.Common.{SinkHasNoNewFault, SourceFails, SourceHasNoNewFault, Takes, TakesFront}
-use Rattle.minisign.proofs.Common.{rereader_call, sink_call, unused, first_stopped, second_ends, StepsEnd}
+use Rattle.minisign.proofs.Common.{SinkHasNoNewFault, SourceFails, SourceHasNoNewFault, SinkReceives}
+use Rattle.minisign.proofs.Common.{SinkReceivesPrefix}
+use Rattle.minisign.proofs.Common.{rereader_call, sink_call, no_sink, first_stopped, second_ends}
+use Rattle.minisign.proofs.Common.{StepsEnd}
 use Rattle.minisign.proofs.Common.{AllByRecursion, Keeps}
 use Rattle.minisign_base.specs.Members.{SinkOf, SourceOf}
 use Rattle.minisign.specs.declared.signed_data.SignedData.{SignedData}
 use Rattle.minisign.specs.declared.signed_data.SignedData.TheVariants.{Digest, Message, NoData}
 use Rattle.minisign_base.specs.declared.faults.NamedFault.TheVariants.{ReadingFailed}
-use Rattle.minisign.specs.Reading.{HasFailed, IsAhead, IsReadFault}
+use Rattle.minisign.specs.Reading.{HasFailed, KnownBytesAre, IsReadFault}
 use Rattle.minisign.specs.Records.{PublicKeyRecord, SignatureBoxRecord, is_prehashed}
 use Rattle.minisign.specs.Acceptance.{Verifier, Vouches, accepts_comments, judge, judge_answers, judge_key}
 use Rattle.minisign.specs.Acceptance.{options_of, signed_bytes, status_lines}
@@ -185,38 +188,39 @@ module _ {R W O : Type 0} (accepts : Verifier) (pk : PublicKeyRecord) (x : Signa
 
   -- Verification that reports and copies nothing does not use the output.
   pub fails_without_output : VerifyingFails accepts pk x (options_of false false legacy) reader status out e
-      → VerifyingFails accepts pk x (options_of false false legacy) reader status unused e
+      → VerifyingFails accepts pk x (options_of false false legacy) reader status no_sink e
   fails_without_output (message, second, h) = (
     message,
     second,
-    beside_output unused.sink tt reader _ out (Read message ∷ Judge accepts pk x legacy message
+    beside_output no_sink.sink tt reader _ out (Read message ∷ Judge accepts pk x legacy message
         ∷ Report (status_lines x) ∷ []) (Err e) (tt, (tt, (tt, tt))) h,
   )
 
   -- Quiet verification does not use the status.
   pub fails_without_status : (output : Bool)
       → VerifyingFails accepts pk x (options_of true output legacy) reader status out e
-      → VerifyingFails accepts pk x (options_of true output legacy) reader unused out e
+      → VerifyingFails accepts pk x (options_of true output legacy) reader no_sink out e
   fails_without_status _ (message, second, h) = (
     message,
     second,
-    beside_status unused.sink tt reader status out _ (Err e) (quiet_stages _ _ _ _) h,
+    beside_status no_sink.sink tt reader status out _ (Err e) (quiet_stages _ _ _ _) h,
   )
 
   -- Quiet verification that copies nothing uses neither sink.
   pub fails_without_sinks : VerifyingFails accepts pk x (options_of true false legacy) reader status out e
-      → VerifyingFails accepts pk x (options_of true false legacy) reader unused unused e
+      → VerifyingFails accepts pk x (options_of true false legacy) reader no_sink no_sink e
   fails_without_sinks h =
       let (message, second, stages) = fails_without_status false h in (
         message,
         second,
-        beside_output unused.sink tt reader unused out (Read message ∷ Judge accepts pk x legacy message ∷ [])
+        beside_output no_sink.sink tt reader no_sink out (Read message ∷ Judge accepts pk x legacy message
+            ∷ [])
             (Err e) (tt, (tt, tt)) stages,
       )
 
 -- After going back to a mark, the bytes that were unread when it was set are unread again.
 what_was_marked : (first behind returned : Option (List ℕ)) (second : List ℕ) → behind ≡ first
-    → IfSome behind (λ xs. returned ≡ Some xs) → IsAhead returned second
+    → IfSome behind (λ xs. returned ≡ Some xs) → KnownBytesAre returned second
     → IfSome first (λ xs. second ≡ xs)
 what_was_marked None _ _ _ _ _ _ = tt
 what_was_marked (Some _) _ _ _ marked same given =
@@ -226,7 +230,7 @@ what_was_marked (Some _) _ _ _ marked same given =
 -- If the first bytes are known and both readings returned them, the second reading returned the
 -- message.
 both_known : (first : Option (List ℕ)) (message second : List ℕ) → IsSome first
-    → IfSome first (λ xs. second ≡ xs) → IsAhead first message → second ≡ message
+    → IfSome first (λ xs. second ≡ xs) → KnownBytesAre first message → second ≡ message
 both_known None _ _ some _ _ = absurd (true≢false (sym some))
 both_known (Some _) _ _ _ same given = same ∙ given
 
@@ -246,28 +250,29 @@ module _ {R : Type 0} (source : SourceOf R) (steady : R → Type 0) (old mid new
   -- The place could not be marked.
   pub mark_stops : (again : Bool) (e : Fault)
       → (again ≡ true) × (e ≡ Named GoingBackFailed) × Marks (between old new) (Err tt)
-      → (message : List ℕ) × StagesEnd (between old new) unused unused (reading_stages again message) (Err e)
+      → (message : List ℕ) × StagesEnd (between old new) no_sink no_sink (reading_stages again message)
+      (Err e)
   mark_stops true e (_, is, fails) = ([], inl ((is, fails), refl, refl))
   mark_stops false e (is_requested, _, _) = absurd (true≢false (sym is_requested))
 
-  -- The data was read from there on, or could not be read.
+  -- The data was read from the current place on, or could not be read.
   pub read_ends : (again : Bool) → (again ≡ false → mid ≡ old)
       → (again ≡ true → Marks (between old mid) (Ok tt)) → (message : List ℕ) (answer : Result ⊤ Fault)
-      → StageEnds (between mid new) unused unused (Read message) answer
-      → StagesEnd (between old new) unused unused (reading_stages again message) answer
+      → StageEnds (between mid new) no_sink no_sink (Read message) answer
+      → StagesEnd (between old new) no_sink no_sink (reading_stages again message) answer
   read_ends true _ marked message _ read =
-      next_step (OneEnds (between old new) unused unused) Mark (Read message ∷ []) _
+      next_step (OneEnds (between old new) no_sink no_sink) Mark (Read message ∷ []) _
       (record { reader = mid; status = tt; out = tt }) _ _ (marked refl, refl, refl)
-      (last_step (OneEnds (between old new) unused unused) (Read message) _ _ _ read)
+      (last_step (OneEnds (between old new) no_sink no_sink) (Read message) _ _ _ read)
   read_ends false unmarked _ message answer read =
-      subst (λ r. StagesEnd (between r new) unused unused (Read message ∷ []) answer)
+      subst (λ r. StagesEnd (between r new) no_sink no_sink (Read message ∷ []) answer)
       (unmarked refl)
-      (last_step (OneEnds (between old new) unused unused) (Read message) _ _ answer read)
+      (last_step (OneEnds (between old new) no_sink no_sink) (Read message) _ _ answer read)
 
 -- The data was read to its end without an error and is this message. The mark is unchanged, or was
 -- set before.
 record FirstPass {R : Type 0} (again : Bool) (reader : RereaderCall R) (message : List ℕ) : Type 0 where
-  pub given : IsAhead (reader.source.ahead reader.old) message
+  pub given : KnownBytesAre (reader.source.ahead reader.old) message
   pub end : IsAtEnd (reader.source.ahead reader.new)
   pub no_new_fault : SourceHasNoNewFault reader
   pub mark : again ≡ false → reader.source.behind reader.new ≡ reader.source.behind reader.old
@@ -283,7 +288,7 @@ module _ {R W O : Type 0} (reader : RereaderCall R) (status : SinkCall W) (out :
       let ((whole, same), s2, o2) = last_done (OneEnds reader status out) (Read message) d
       (ended reader status out) read in (
         record {
-          given = subst (λ known. IsAhead known message) marked.bytes whole.given;
+          given = subst (λ known. KnownBytesAre known message) marked.bytes whole.given;
           end = whole.end;
           no_new_fault = whole.no_new_fault ∙ marked.no_new_fault;
           mark = λ once. absurd (true≢false once);
@@ -310,7 +315,7 @@ module _ {R W O : Type 0} (reader : RereaderCall R) (status : SinkCall W) (out :
   say_stops : (quiet : Bool) (x : SignatureBoxRecord) (e : Fault) → reader.new ≡ reader.old
       → out.new ≡ out.old
       → (quiet ≡ false) × (((e ≡ Named OutOfMemory) × (status.new ≡ status.old)) ⊎ IsWritingFault status e)
-      → TakesFront status (status_unless_quiet quiet x) → IsUnflushed status
+      → SinkReceivesPrefix status (status_unless_quiet quiet x) → FlushesNothing status
       → StagesEnd reader status out (reporting_stages quiet x) (Err e)
   say_stops true x e r o (is_requested, _) _ _ = absurd (true≢false is_requested)
   say_stops false x e r o (_, why) front unflushed =
@@ -318,8 +323,8 @@ module _ {R W O : Type 0} (reader : RereaderCall R) (status : SinkCall W) (out :
 
   -- The status lines were written.
   say_runs : (quiet : Bool) (x : SignatureBoxRecord) → reader.new ≡ reader.old → out.new ≡ out.old
-      → (quiet ≡ true → status.new ≡ status.old) → Takes status (status_unless_quiet quiet x)
-      → SinkHasNoNewFault status → IsUnflushed status
+      → (quiet ≡ true → status.new ≡ status.old) → SinkReceives status (status_unless_quiet quiet x)
+      → SinkHasNoNewFault status → FlushesNothing status
       → StagesEnd reader status out (reporting_stages quiet x) (Ok tt)
   say_runs true x r o unsaid _ _ _ =
       λ i. record { reader = r i; status = unsaid refl i; out = o i }
@@ -371,10 +376,11 @@ module _ (accepts : Verifier) (pk : PublicKeyRecord) (x : SignatureBoxRecord) (l
   -- The data is copied if that was requested.
   module _ {R O : Type 0} (reader : RereaderCall R) (mid : R) (out : SinkCall O) where
     copied : (output : Bool) (signed : SignedData) → HoldsSigned signed x legacy message
-        → StagesEnd (record reader { new = mid }) unused unused (reading_stages (is_reread output x) message)
+        → StagesEnd (record reader { new = mid }) no_sink no_sink (reading_stages
+        (is_reread output x) message)
         (Ok tt)
         → FirstPass (is_reread output x) (record reader { new = mid }) message
-        → (second : List ℕ) → StagesEnd (record reader { old = mid }) unused out
+        → (second : List ℕ) → StagesEnd (record reader { old = mid }) no_sink out
         (held_copy_stages output signed second) (Ok tt)
         → Copied accepts pk x output legacy reader mid out message
     copied false _ _ _ pass _ same = record {
@@ -386,7 +392,7 @@ module _ (accepts : Verifier) (pk : PublicKeyRecord) (x : SignatureBoxRecord) (l
     }
     copied true (Digest _) holds read pass second
         (d1, (back, s1, o1), (d2, (copy, s2), (d3, (equal, r3, s3, o3), last))) =
-        let (flushed, r4, s4) = last_done (OneEnds reader unused out) Flush d3 (ended reader unused out)
+        let (flushed, r4, s4) = last_done (OneEnds reader no_sink out) Flush d3 (ended reader no_sink out)
         last in
         let digests = equal ∙ holds.1 in
         let same : signed_bytes x second ≡ signed_bytes x message = rw holds.0 digests in
@@ -396,14 +402,14 @@ module _ (accepts : Verifier) (pk : PublicKeyRecord) (x : SignatureBoxRecord) (l
           mark = λ once. absurd (true≢false (sym holds.0 ∙ once));
           copied = λ is_requested. record {
             copy = second;
-            all = all_kept _ (out.sink.taken d2.out) _ second
-                (subst (λ o. Appends (out.sink.taken o) (out.sink.taken d2.out) second) o1 copy.all)
+            received = all_kept _ (out.sink.taken d2.out) _ second
+                (subst (λ o. Appends (out.sink.taken o) (out.sink.taken d2.out) second) o1 copy.received)
                 (subst (λ o. Keeps (out.sink.taken o) (out.sink.taken out.new)) o3 flushed.bytes);
             flushed = flushed.all;
-            read_twice = λ hashed. second_ends (OneEnds reader unused out) (reading_stages true message)
-                (second_copy_stages (blake2b_digest 64 message) second) (begun reader unused out)
-                (record { reader = mid; status = tt; out = out.old }) (ended reader unused out) (Ok tt)
-                (beside_output out.sink out.old (record reader { new = mid }) unused unused
+            read_twice = λ hashed. second_ends (OneEnds reader no_sink out) (reading_stages true message)
+                (second_copy_stages (blake2b_digest 64 message) second) (begun reader no_sink out)
+                (record { reader = mid; status = tt; out = out.old }) (ended reader no_sink out) (Ok tt)
+                (beside_output out.sink out.old (record reader { new = mid }) no_sink no_sink
                 (reading_stages true message) (Ok tt) (reading_uncopied true message) (rw hashed at read))
                 (d1, (back, s1, o1), (d2, (copy, s2), (d3, (digests, r3, s3, o3), last)));
             vouched = vouches_alike _ same;
@@ -416,7 +422,7 @@ module _ (accepts : Verifier) (pk : PublicKeyRecord) (x : SignatureBoxRecord) (l
               ∙ ap out.sink.sink_faults o1;
         }
     copied true (Message bytes) holds _ pass _ (d1, (((all, no_new_fault), _), r1, _), last) =
-        let (flushed, r2, s2) = last_done (OneEnds reader unused out) Flush d1 (ended reader unused out)
+        let (flushed, r2, s2) = last_done (OneEnds reader no_sink out) Flush d1 (ended reader no_sink out)
         last in
         let same = ap (signed_bytes x) holds.1 in
         record {
@@ -425,7 +431,7 @@ module _ (accepts : Verifier) (pk : PublicKeyRecord) (x : SignatureBoxRecord) (l
           mark = λ once. ap reader.source.behind (r2 ∙ r1);
           copied = λ is_requested. record {
             copy = bytes.items;
-            all = all_kept _ _ _ bytes.items all flushed.bytes;
+            received = all_kept _ _ _ bytes.items all flushed.bytes;
             flushed = flushed.all;
             read_twice = λ hashed. absurd (true≢false (sym hashed ∙ holds.0));
             vouched = vouches_alike bytes.items same;
@@ -451,18 +457,18 @@ module _ {R W O : Type 0} (accepts : Verifier) (pk : PublicKeyRecord) (x : Signa
 
   -- Reading, with both sinks unchanged.
   beside_sinks : (r : R) (message : List ℕ) (answer : Result ⊤ Fault)
-      → StagesEnd (record reader { new = r }) unused unused (reading_stages (is_reread output x) message)
+      → StagesEnd (record reader { new = r }) no_sink no_sink (reading_stages (is_reread output x) message)
       answer
       → StepsEnd (OneEnds reader status out) (reading_stages (is_reread output x) message) (at reader.old)
       (at r) answer
   beside_sinks r _ answer read =
-      beside_output out.sink out.old (record reader { new = r }) (record status { new = status.old }) unused
+      beside_output out.sink out.old (record reader { new = r }) (record status { new = status.old }) no_sink
       _ answer (reading_uncopied _ _)
-      (beside_status status.sink status.old (record reader { new = r }) unused unused
+      (beside_status status.sink status.old (record reader { new = r }) no_sink no_sink
       _ answer (reading_unsaid _ _) read)
 
   -- Reading stopped.
-  pub unread : (e : Fault) → (message : List ℕ) × StagesEnd reader unused unused
+  pub unread : (e : Fault) → (message : List ℕ) × StagesEnd reader no_sink no_sink
       (reading_stages (is_reread output x) message) (Err e)
       → Fails reader.new status.old out.old e
   unread e (message, h) = (
@@ -473,7 +479,7 @@ module _ {R W O : Type 0} (accepts : Verifier) (pk : PublicKeyRecord) (x : Signa
 
   -- The data was read, and what is kept of it was checked.
   module _ (mid : R) (signed : SignedData) (held : (message : List ℕ) × HoldsSigned signed x legacy message
-      × StagesEnd (record reader { new = mid }) unused unused (reading_stages (is_reread output x) message)
+      × StagesEnd (record reader { new = mid }) no_sink no_sink (reading_stages (is_reread output x) message)
       (Ok tt)) (bytes : List ℕ) (is : bytes ≡ held_bytes signed) where
     abbrev Judged : Result ⊤ Fault → Type 0
     Judged answer = IsGivenOrNoMemory answer (and_then (judge_key pk.keynum x.signature legacy)
@@ -518,7 +524,7 @@ module _ {R W O : Type 0} (accepts : Verifier) (pk : PublicKeyRecord) (x : Signa
       pub unsaid : (e : Fault)
           → (quiet ≡ false) × (((e ≡ Named OutOfMemory) × (status.new ≡ status.old)) ⊎ IsWritingFault status
           e)
-          → TakesFront status (status_unless_quiet quiet x) → IsUnflushed status
+          → SinkReceivesPrefix status (status_unless_quiet quiet x) → FlushesNothing status
           → Fails mid status.new out.old e
       unsaid e why front unflushed = after_judging [] status.new out.old mid e
           (first_stopped (OneEnds reader status out) (reporting_stages quiet x) (copying []) (at mid)
@@ -527,14 +533,15 @@ module _ {R W O : Type 0} (accepts : Verifier) (pk : PublicKeyRecord) (x : Signa
           refl refl why front unflushed))
 
       -- Copying ended with this result.
-      pub copying_ends : (quiet ≡ true → status.new ≡ status.old) → Takes status (status_unless_quiet quiet x)
-          → SinkHasNoNewFault status → IsUnflushed status → (answer : Result ⊤ Fault)
-          → (second : List ℕ) × StagesEnd (record reader { old = mid }) unused out
+      pub copying_ends : (quiet ≡ true → status.new ≡ status.old)
+          → SinkReceives status (status_unless_quiet quiet x)
+          → SinkHasNoNewFault status → FlushesNothing status → (answer : Result ⊤ Fault)
+          → (second : List ℕ) × StagesEnd (record reader { old = mid }) no_sink out
           (held_copy_stages output signed second) answer
           → OnOk answer (VerifyingSucceeds accepts pk x (options_of quiet output legacy) reader status out)
           × IfErr answer (VerifyingFails accepts pk x (options_of quiet output legacy) reader status out)
       copying_ends _ said no_new_fault unflushed (Ok _) (second, run) =
-          let pass = (first_pass (record reader { new = mid }) unused unused (is_reread output x) held.0
+          let pass = (first_pass (record reader { new = mid }) no_sink no_sink (is_reread output x) held.0
           held.2).0 in
           let done = copied accepts pk x legacy held.0 vouches reader mid out output signed held.1 held.2
           pass second run in (
@@ -545,7 +552,7 @@ module _ {R W O : Type 0} (accepts : Verifier) (pk : PublicKeyRecord) (x : Signa
               end = done.end;
               no_new_fault = done.no_new_fault ∙ pass.no_new_fault;
               mark = λ once. done.mark once ∙ pass.mark once;
-              said = said;
+              status_received = said;
               status_no_new_fault = no_new_fault;
               status_unflushed = unflushed;
               copied = done.copied;
@@ -560,9 +567,9 @@ module _ {R W O : Type 0} (accepts : Verifier) (pk : PublicKeyRecord) (x : Signa
             (record { reader = mid; status = status.new; out = out.old }) (ended reader status out) (Err e)
             (say_runs (record reader { old = mid; new = mid }) status (record out { new = out.old }) quiet x
             refl refl silent said no_new_fault unflushed)
-            (beside_status status.sink status.new (record reader { old = mid }) unused out
+            (beside_status status.sink status.new (record reader { old = mid }) no_sink out
             (copying second) (Err e) (copying_unsaid _ _ _ _)
-            (subst (λ stages. StagesEnd (record reader { old = mid }) unused out stages (Err e))
+            (subst (λ stages. StagesEnd (record reader { old = mid }) no_sink out stages (Err e))
             (copying_is accepts pk x legacy held.0 vouches second output signed held.1) run))),
       )
 
@@ -583,10 +590,10 @@ abbrev pub IsReason : {R W O : Type 0} → Verifier → PublicKeyRecord → Sign
 IsReason accepts pk x quiet output legacy reader status out e = (e ≡ Named OutOfMemory)
     ⊎ ((output ≡ true) × SourceFails reader)
     ⊎ HasFailed ReadingFailed reader.source.faults reader.old reader.new e
-    ⊎ ((message : List ℕ) × IsAhead (reader.source.ahead reader.old) message
+    ⊎ ((message : List ℕ) × KnownBytesAre (reader.source.ahead reader.old) message
     × (judge accepts pk x message legacy ≡ Err e))
     ⊎ ((quiet ≡ false) × SinkFails status) ⊎ ((output ≡ true) × SinkFails out)
-    ⊎ ((output ≡ true) × ((message : List ℕ) × IsAhead (reader.source.ahead reader.old) message
+    ⊎ ((output ≡ true) × ((message : List ℕ) × KnownBytesAre (reader.source.ahead reader.old) message
     × IsOther reader message))
 
 module _ {R W O : Type 0} (accepts : Verifier) (pk : PublicKeyRecord) (x : SignatureBoxRecord)
@@ -616,7 +623,7 @@ module _ {R W O : Type 0} (accepts : Verifier) (pk : PublicKeyRecord) (x : Signa
       inr (inr (inr (inr (inr (inl (is_requested, rw no_new_fault at rose))))))
 
   mark_fault : output ≡ true → (r : R) → reader.source.faults r ≡ reader.source.faults reader.old
-      → Rose (reader.source.faults r) (reader.source.faults reader.new) → Why
+      → ErrorCountRises (reader.source.faults r) (reader.source.faults reader.new) → Why
   mark_fault is_requested r no_new_fault rose = inr (inl (is_requested, rw no_new_fault at rose))
 
   why_unread : (again : Bool) (message : List ℕ) → (again ≡ true → output ≡ true)

@@ -43,9 +43,9 @@ begins_not _ _ h = false_from_ne_true _ (λ t. h _ (begins_with _ _ t))
 abbrev is_known_algorithm : List ℕ → Bool
 is_known_algorithm a = bytes_eq a legacy_algorithm || bytes_eq a prehashed_algorithm
 
-pub known : (a : List ℕ) → IsKnownAlgorithm a → is_known_algorithm a ≡ true
-known a (inl e) = or_left _ _ ((bytes_eq-Decides a _).1 e)
-known a (inr e) = or_right _ _ ((bytes_eq-Decides a _).1 e)
+pub known_is_accepted : (a : List ℕ) → IsKnownAlgorithm a → is_known_algorithm a ≡ true
+known_is_accepted a (inl e) = or_left _ _ ((bytes_eq-Decides a _).1 e)
+known_is_accepted a (inr e) = or_right _ _ ((bytes_eq-Decides a _).1 e)
 
 is_known : (a : List ℕ) → is_known_algorithm a ≡ true → IsKnownAlgorithm a
 is_known a h = elim (or_cases _ _ h) [
@@ -151,8 +151,9 @@ pub text_is_read : (text : List ℕ) (t : SignatureTextRecord) → SignatureText
 unfolding read_signature
 text_is_read _ t h =
     rw h.cut (all_passed _ _ _ _ (begins h.first untrusted_comment_label _ h.untrusted_comment) _ h.signature
-    (begins h.third trusted_comment_label _ h.trusted_comment.1) (known t.signature.algorithm h.algorithm) _ _
-    _ (is_read _ _ h.comment_signature) (ap (drop (length untrusted_comment_label)) h.untrusted_comment
+    (begins h.third trusted_comment_label _ h.trusted_comment.1)
+    (known_is_accepted t.signature.algorithm h.algorithm) _ _ _ (is_read _ _ h.comment_signature)
+    (ap (drop (length untrusted_comment_label)) h.untrusted_comment
     ∙ drop-append_seam untrusted_comment_label _)
     (ap (λ l. trim (drop (length trusted_comment_label) l)) h.trusted_comment.1
     ∙ ap trim (drop-append_seam trusted_comment_label _) ∙ h.trusted_comment.2)

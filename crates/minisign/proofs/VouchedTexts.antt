@@ -3,7 +3,7 @@
 use Rattle.std.proofs.Common.{◌≡◌, ℕ, true, List, inl, inr, sym, ap, ◌∙◌, IfErr, IsErrAnd, OnOk}
 use Rattle.std.proofs.Common.{IfSome, ◌⊎◌, ⊎_elim, false, refl, [], Option, None, Some, IfOk, Result, Ok}
 use Rattle.std.proofs.Common.{Err, true≢false, IsSome, Bool}
-use Rattle.minisign.proofs.Common.{⊤, blake2b_digest, RereaderCall, SinkCall, unused, Fault, Named}
+use Rattle.minisign.proofs.Common.{⊤, blake2b_digest, RereaderCall, SinkCall, no_sink, Fault, Named}
 use Rattle.minisign.proofs.Common.{IfErr-weaker, IsSteady, SinkFails, SourceFails, bytes_eq-Decides}
 use Rattle.minisign.proofs.Common.{OutOfMemory}
 use Rattle.minisign.specs.Texts.{IsGivenOrNoMemory, map_ok}
@@ -11,7 +11,7 @@ use Rattle.minisign.specs.Records.{PublicKeyRecord, SignatureBoxRecord, is_preha
 use Rattle.minisign.specs.Acceptance.{Verifier, Vouches, judge, options_of}
 use Rattle.minisign.specs.declared.options.VerifyOptions.{VerifyOptions}
 use Rattle.minisign_base.specs.declared.faults.NamedFault.TheVariants.{ReadingFailed}
-use Rattle.minisign.specs.Reading.{HasFailed, IsAhead, IsReadFromFile, ReadsWhole}
+use Rattle.minisign.specs.Reading.{HasFailed, KnownBytesAre, IsReadFromFile, ReadsWhole}
 use Rattle.minisign.specs.Verifying.{VerifyingFails, VerifyingSucceeds, VerifyingTextsFails}
 use Rattle.minisign.specs.Verifying.{VerifyingTextsSucceeds, read_texts}
 use Rattle.minisign.specs.Headline.{CopyIsVouchedFor, IfNothingFails, verdict, CopyIsVouchedWith}
@@ -39,7 +39,7 @@ copy_vouched _ _ _ _ _ _ _ (Ok v) h is_requested =
     let copied = h.verified.copied is_requested in
     record {
       copy = copied.copy;
-      taken = copied.all;
+      taken = copied.received;
       flushed = copied.flushed;
       vouched = both_vouch _ _ _ h copied.vouched;
     }
@@ -67,7 +67,7 @@ module _ {R W O : Type 0} (accepts : Verifier) (key : PublicKeyRecord) (box : Si
     (options : VerifyOptions)
     (reader : RereaderCall R) (status : SinkCall W) (out : SinkCall O) where
   the_message : (m message : List ℕ) → reader.source.ahead reader.old ≡ Some message
-      → IsAhead (reader.source.ahead reader.old) m → m ≡ message
+      → KnownBytesAre (reader.source.ahead reader.old) m → m ≡ message
   the_message m _ known_data given = let same =
       rw known_data at given in sym same
 
@@ -121,7 +121,7 @@ silent old new = record {
 }
 
 -- There is a message that may be the unread bytes, whether they are known or not.
-some_ahead : (known : Option (List ℕ)) → (message : List ℕ) × IsAhead known message
+some_ahead : (known : Option (List ℕ)) → (message : List ℕ) × KnownBytesAre known message
 some_ahead None = ([], tt)
 some_ahead (Some xs) = (xs, refl)
 
@@ -129,7 +129,7 @@ some_ahead (Some xs) = (xs, refl)
 abbrev IsLeft : {R : Type 0} → Verifier → List ℕ → List ℕ → RereaderCall R → Fault → Type 0
 IsLeft accepts pk sig reader e = (e ≡ Named OutOfMemory)
     ⊎ HasFailed ReadingFailed reader.source.faults reader.old reader.new e
-    ⊎ ((message : List ℕ) × IsAhead (reader.source.ahead reader.old) message
+    ⊎ ((message : List ℕ) × KnownBytesAre (reader.source.ahead reader.old) message
     × (verdict accepts pk sig message false ≡ Err e))
 
 module _ {R W O : Type 0} (accepts : Verifier) (pk sig : List ℕ) (reader : RereaderCall R)
@@ -163,7 +163,7 @@ file_verdict _ _ _ sig _ (Err e) _ refused =
     (λ more. ⊎_elim (λ failed. ([], inr (inr (inl failed.fault))))
     (λ (message, given, why). (message, inl (sig, sym why))) more) refused
 
-same_ahead : (known : Option (List ℕ)) (message copy : List ℕ) → IsAhead known message
+same_ahead : (known : Option (List ℕ)) (message copy : List ℕ) → KnownBytesAre known message
     → (IsSome known → copy ≡ message) → IfSome known (λ xs. copy ≡ xs)
 same_ahead None _ _ _ _ = tt
 same_ahead (Some _) _ _ given same = same refl ∙ sym given
@@ -213,7 +213,7 @@ module _ {R W O : Type 0} (accepts : Verifier) (pk sig : List ℕ) (reader : Rer
   -- The stage at which the data was rejected. Neither sink is used.
   pub reader_refused : {T : Type 0} (r : Result T Fault)
       → IfErr r (VerifyingTextsFails accepts pk sig (options_of true false false) reader status out)
-      → IfErr r (VerifyingTextsFails accepts pk sig (options_of true false false) reader unused unused)
+      → IfErr r (VerifyingTextsFails accepts pk sig (options_of true false false) reader no_sink no_sink)
   reader_refused r = IfErr-weaker r _ _ (λ e. ⊎_elim
       (λ (why, unread, unsaid, uncopied). inl (why, unread, refl, refl)) (λ (key, box, read, h). inr (
         key,
@@ -231,7 +231,7 @@ module _ {R W O : Type 0} (accepts : Verifier) (pk sig : List ℕ) (reader : Rer
       let copied = ok.verified.copied refl in
       record {
         copy = copied.copy;
-        taken = copied.all;
+        taken = copied.received;
         flushed = copied.flushed;
         message = ok.verified.message;
         read_twice = copied.read_twice (prehashed _ _ _ _ ok.verified.vouches);
@@ -244,7 +244,7 @@ module _ {R W O : Type 0} (accepts : Verifier) (pk sig : List ℕ) (reader : Rer
   -- A quiet call that copies does not use the status sink when it fails.
   pub copy_refused : {T : Type 0} (r : Result T Fault)
       → IfErr r (VerifyingTextsFails accepts pk sig (options_of true true false) reader status out)
-      → IfErr r (VerifyingTextsFails accepts pk sig (options_of true true false) reader unused out)
+      → IfErr r (VerifyingTextsFails accepts pk sig (options_of true true false) reader no_sink out)
   copy_refused r = IfErr-weaker r _ _ (λ e. ⊎_elim
       (λ (why, unread, unsaid, uncopied). inl (why, unread, refl, uncopied)) (λ (key, box, read, h). inr (
         key,

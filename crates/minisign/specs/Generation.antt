@@ -5,7 +5,8 @@ use Rattle.std.specs.Prelude.{◌≡◌, ℕ, List, [], ◌∷◌, ◌++◌, Opt
 use Rattle.std.specs.Prelude.{bytes_eq, if◌then◌else◌, ◌⊎◌, length, replicate, Err, codes, ◌<◌, ◌≤◌, ◌+◌}
 use Rattle.std.specs.Prelude.{unwrap_or}
 use Rattle.minisign_base.specs.Fault.{Fault, Named}
-use Rattle.minisign_base.specs.DeviceCalls.{PromptCall, FailsAtPart, RandomCall, SinkCall, TakesPart}
+use Rattle.minisign_base.specs.DeviceCalls.{PromptCall, SinkFailsAtPart, RandomCall, SinkCall}
+use Rattle.minisign_base.specs.DeviceCalls.{SinkCompletesPart}
 use Rattle.minisign_base.specs.Prompts.{Allocate, ConversationEnds, Say, Step, Test, asking_steps}
 use Rattle.minisign_base.specs.Passwords.{password_of, typed_password}
 use Rattle.minisign_base.specs.Steps.{without_value}
@@ -40,15 +41,16 @@ unfoldable pub sealing_text : List ℕ
 sealing_text = codes "Deriving a key from the password in order to encrypt the secret key... "
 
 -- The error if two passwords differ.
-abbrev pub difference : List ℕ → List ℕ → Option Fault
-difference password again = if bytes_eq password again then None else Some (Named named.PasswordsDiffer)
+abbrev pub password_difference : List ℕ → List ℕ → Option Fault
+password_difference password again =
+    if bytes_eq password again then None else Some (Named named.PasswordsDiffer)
 
 -- The steps of choosing a password: the prompt says what it is for and asks for it twice. The bytes
 -- are those that are typed.
 abbrev pub choosing_steps : List ℕ → List ℕ → List Step
 choosing_steps first second = Say purpose_line
     ∷ (asking_steps asking_text first ++ (asking_steps second_question second
-    ++ Test (difference (typed_password first) (typed_password second)) ∷ []))
+    ++ Test (password_difference (typed_password first) (typed_password second)) ∷ []))
 
 -- The steps of reporting the derivation.
 abbrev pub sealing_steps : List Step
@@ -166,8 +168,8 @@ module _ {P K : Type 0} (pk_sink : SinkCall P) (sk_sink : SinkCall K) where
   -- A sink failed: either the public sink, with the secret sink unchanged; or the secret sink,
   -- after the public sink received and flushed its part.
   abbrev pub SinksFail : List ℕ → List ℕ → Type 0
-  SinksFail public secret = (FailsAtPart pk_sink public × (sk_sink.new ≡ sk_sink.old))
-      ⊎ (TakesPart pk_sink public × FailsAtPart sk_sink secret)
+  SinksFail public secret = (SinkFailsAtPart pk_sink public × (sk_sink.new ≡ sk_sink.old))
+      ⊎ (SinkCompletesPart pk_sink public × SinkFailsAtPart sk_sink secret)
 
   -- The two parts of a pair are not written: an allocation failed, with both sinks unchanged, or a
   -- sink failed.

@@ -3,7 +3,7 @@
 use Rattle.std.specs.Prelude.{◌≡◌, ℕ, Bool, true, List, Some, Ok, IfSome, Result, false}
 use Rattle.minisign_base.specs.Fault.{Fault}
 use Rattle.minisign_base.specs.DeviceCalls.{IsFlushed, IsSteady, RereaderCall, SinkFails, SinkCall}
-use Rattle.minisign_base.specs.DeviceCalls.{SourceFails, Takes}
+use Rattle.minisign_base.specs.DeviceCalls.{SourceFails, SinkReceives}
 use Rattle.minisign.specs.Records.{PublicKeyRecord, SignatureBoxRecord, CommentsRecord}
 use Rattle.minisign.specs.Acceptance.{Verifier, Vouches, judge}
 use Rattle.minisign.specs.KeyTexts.{read_public_key}
@@ -41,8 +41,8 @@ pub record TextsVouchWith (accepts : Verifier) (pk_text sig_text message : List 
   pub both : vouched.box.comments ≡ Some comments
   pub trusted : comments.trusted ≡ comment
 
--- If the data is known, no device fails and, if the data is copied, the source is steady, then the
--- result is out of memory or what the function of_data gives for the data.
+-- Provided that the data is known, that no device fails and, if the data is copied, that the source is
+-- steady, the result is out of memory or what the function of_data gives for the data.
 abbrev pub IfNothingFails : {R W O V : Type 0} → Bool → RereaderCall R → SinkCall W → SinkCall O
     → Result V Fault → (List ℕ → Result V Fault) → Type 0
 IfNothingFails output reader status out answer of_data =
@@ -62,7 +62,7 @@ IsVerdictIfNothingFails accepts pk_text sig_text options reader status out answe
 pub record CopyIsVouchedFor {O : Type 0} (accepts : Verifier) (pk_text sig_text : List ℕ) (legacy : Bool)
     (out : SinkCall O) : Type 0 where
   pub copy : List ℕ
-  pub taken : Takes out copy
+  pub taken : SinkReceives out copy
   pub flushed : IsFlushed out
   pub vouched : TextsVouchFor accepts pk_text sig_text copy legacy
 
@@ -73,7 +73,7 @@ pub record CopyIsVouchedWith {R O : Type 0} (accepts : Verifier) (pk_text sig_te
     (reader : RereaderCall R)
     (out : SinkCall O) (comment : List ℕ) : Type 0 where
   pub copy : List ℕ
-  pub taken : Takes out copy
+  pub taken : SinkReceives out copy
   pub flushed : IsFlushed out
   pub vouched : TextsVouchWith accepts pk_text sig_text copy false comment
   pub message : List ℕ

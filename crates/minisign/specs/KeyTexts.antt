@@ -27,8 +27,8 @@ decoded_key not_base64 text =
       key = take 32 (drop 8 (drop 2 bytes));
     })))
 
--- The first line may be anything. The second line has 56 bytes and, trimmed, is the base64 of the key.
--- Later lines are ignored.
+-- The first line may be anything. The second line must have 56 bytes and, trimmed, be the base64 of the key,
+-- so it has no white space. Later lines are ignored.
 abbrev pub key_in_lines : List (List ℕ) → Result PublicKeyRecord Fault
 key_in_lines [] = Err (Named named.MissingPublicKeyComment)
 key_in_lines (comment ∷ []) = Err (Named named.MissingEncodedPublicKey)

@@ -2,9 +2,10 @@
 use Rattle.std.specs.Prelude.{◌≡◌, ◌⊎◌, ⊤, ℕ, List, Option, IfSome, Result, IfErr, OnOk, OnErr, IsErrAnd}
 use Rattle.std.specs.Prelude.{IsUtf8}
 use Rattle.std.specs.Io.KnownBytes.{IsAtEnd}
-use Rattle.minisign_base.specs.Devices.{Rose}
-use Rattle.minisign_base.specs.DeviceCalls.{IsUnflushed, IsWritingFault, RereaderCall, SinkCall}
-use Rattle.minisign_base.specs.DeviceCalls.{SinkHasNoNewFault, SourceGives, Takes, TakesFront}
+use Rattle.minisign_base.specs.Devices.{ErrorCountRises}
+use Rattle.minisign_base.specs.DeviceCalls.{FlushesNothing, IsWritingFault, RereaderCall, SinkCall}
+use Rattle.minisign_base.specs.DeviceCalls.{SinkHasNoNewFault, SourceReturnsPrefix, SinkReceives}
+use Rattle.minisign_base.specs.DeviceCalls.{SinkReceivesPrefix}
 use Rattle.minisign_base.specs.Fault.{Fault, Named}
 use Rattle.minisign_base.specs.declared.faults.NamedFault.{NamedFault}
 use Rattle.minisign_base.specs.declared.faults.NamedFault.TheVariants.{OutOfMemory, ReadingFailed, NotUtf8}
@@ -12,13 +13,13 @@ use Rattle.minisign_base.specs.Members.{SourceOf}
 
 -- The known bytes, if any, are these bytes. Used for the unread bytes of a source, and for the
 -- bytes that it returned.
-abbrev pub IsAhead : Option (List ℕ) → List ℕ → Type 0
-IsAhead ahead bytes = IfSome ahead (λ xs. xs ≡ bytes)
+abbrev pub KnownBytesAre : Option (List ℕ) → List ℕ → Type 0
+KnownBytesAre ahead bytes = IfSome ahead (λ xs. xs ≡ bytes)
 
 -- The source was read to its end without an error, and the bytes read are the message. The mark is
 -- unchanged.
 pub record ReadsWhole {R : Type 0} (source : SourceOf R) (old new : R) (message : List ℕ) : Type 0 where
-  pub given : IsAhead (source.ahead old) message
+  pub given : KnownBytesAre (source.ahead old) message
   pub end : IsAtEnd (source.ahead new)
   pub mark : source.behind new ≡ source.behind old
   pub no_new_fault : source.faults new ≡ source.faults old
@@ -27,7 +28,7 @@ pub record ReadsWhole {R : Type 0} (source : SourceOf R) (old new : R) (message 
 pub record HasFailed {D : Type 0} (error : NamedFault) (faults : D → ℕ) (old new : D) (e : Fault)
     : Type 0 where
   pub fault : e ≡ Named error
-  pub rose : Rose (faults old) (faults new)
+  pub rose : ErrorCountRises (faults old) (faults new)
 
 -- The data was not read to its end: either an allocation failed, and the source did not; or the
 -- source failed.
@@ -42,20 +43,20 @@ IsReadFault source old new e =
 pub record Copies {R O : Type 0} (reader : RereaderCall R) (out : SinkCall O) (second : List ℕ)
     (answer : Result ⊤ Fault) : Type 0 where
   pub read : OnOk answer (ReadsWhole reader.source reader.old reader.new second)
-  pub since : OnOk answer (IsAhead (reader.source.since reader.new) second)
-  pub all : OnOk answer (Takes out second)
+  pub since : OnOk answer (KnownBytesAre (reader.source.since reader.new) second)
+  pub received : OnOk answer (SinkReceives out second)
   pub no_new_fault : OnOk answer (SinkHasNoNewFault out)
   pub failed : IfErr answer (λ e.
       ((e ≡ Named OutOfMemory) × (reader.new ≡ reader.old) × (out.new ≡ out.old))
       ⊎ HasFailed ReadingFailed reader.source.faults reader.old reader.new e
       ⊎ IsWritingFault out e)
-  pub ahead : OnErr answer (IsAhead (reader.source.ahead reader.old) second)
-  pub left : OnErr answer (SourceGives reader)
-  pub front : OnErr answer (TakesFront out second)
+  pub ahead : OnErr answer (KnownBytesAre (reader.source.ahead reader.old) second)
+  pub left : OnErr answer (SourceReturnsPrefix reader)
+  pub front : OnErr answer (SinkReceivesPrefix out second)
   pub given_front : OnErr answer ((given : List ℕ)
-      × IsAhead (reader.source.since reader.new) given × TakesFront out given)
+      × KnownBytesAre (reader.source.since reader.new) given × SinkReceivesPrefix out given)
   pub marked : reader.source.is_marked reader.new ≡ reader.source.is_marked reader.old
-  pub unflushed : IsUnflushed out
+  pub unflushed : FlushesNothing out
 
 -- The errors of reading a text from a source: the data could not be read to its end, or it is not UTF-8.
 abbrev pub IsTextFault : {R : Type 0} → SourceOf R → R → R → Fault → Type 0

@@ -100,20 +100,20 @@ unencrypted_key k =
     require (bytes_eq k.kdf no_kdf) named.KeyMightBeEncrypted
     (require (bytes_eq k.checksum (checksum_of k)) named.CorruptedKey (Ok k))
 
--- A property of the scrypt parameters with which the key is decrypted, such as the work; zeros if
--- the key needs no password or its limits are rejected.
-abbrev pub taken_by_opening : (Numbers → ℕ × ℕ) → SecretKeyRecord → ℕ × ℕ
-taken_by_opening of k =
-    option_map_or of (if wants_password k then result_ok (key_limits k) else None) (0, 0)
+-- A property of the scrypt parameters with which the key is decrypted, such as the work. It is (0, 0) if the
+-- key needs no password or its limits are rejected.
+abbrev pub opening_property : (Numbers → ℕ × ℕ) → SecretKeyRecord → ℕ × ℕ
+opening_property property k =
+    option_map_or property (if wants_password k then result_ok (key_limits k) else None) (0, 0)
 
 -- The work of decrypting the key: the base-2 logarithm of scrypt's N, and p.
 abbrev pub opening_work : SecretKeyRecord → ℕ × ℕ
-opening_work k = taken_by_opening (λ v. (v.n_log2, v.p)) k
+opening_work k = opening_property (λ v. (v.n_log2, v.p)) k
 
 -- The memory for decrypting the key in place with every k-th row kept: the number of 32-bit words,
 -- and the number of bytes.
 abbrev pub opening_memory : SecretKeyRecord → ℕ → ℕ × ℕ
-opening_memory key k = taken_by_opening (λ v. (words_needed v k, bytes_needed v)) key
+opening_memory key k = opening_property (λ v. (words_needed v k, bytes_needed v)) key
 
 -- == Decrypting the key in a text ==
 

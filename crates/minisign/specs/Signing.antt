@@ -11,7 +11,7 @@ use denote.Ref.{Bor}
 use Rattle.minisign.specs.Records.{PublicKeyRecord, SecretKeyRecord, SignatureBoxRecord, prehashed_signature}
 use Rattle.minisign.specs.Records.{CommentsRecord}
 use Rattle.minisign.specs.Acceptance.{VouchesUnderEachKey, accepts_comments, Verifier}
-use Rattle.minisign.specs.Reading.{HasFailed, ReadsWhole, IsAhead}
+use Rattle.minisign.specs.Reading.{HasFailed, ReadsWhole, KnownBytesAre}
 use Rattle.minisign.specs.Sealing.{is_encrypted, IsOpening, is_sealed_text, key_with_password}
 use Rattle.minisign.specs.Sealing.{read_unencrypted_key}
 use Rattle.minisign.specs.SignatureText.{AreOneLine, AreReadBack, box_of, read_signature_box, with_comments}
@@ -141,7 +141,8 @@ IsKeyOf text key = (password : List ℕ) × (key_with_password text password ≡
 abbrev pub TextSigningHeadline : Verifier → (List ℕ → List ℕ) → List ℕ → Option (List ℕ) → ChosenComments
     → List ℕ → Type 0
 TextSigningHeadline accepts public_of sk_text ahead chosen text = (sk : SecretKeyRecord) × (message : List ℕ)
-    × IsAhead ahead message × IsKeyOf sk_text sk × SigningHeadline accepts public_of sk message chosen text
+    × KnownBytesAre ahead message × IsKeyOf sk_text sk
+    × SigningHeadline accepts public_of sk message chosen text
 
 -- The key that a text gives for signing, or an error. If the key needs a password, it is decrypted.
 -- Otherwise it is a key that was never encrypted, or the first check that fails, with the prompt

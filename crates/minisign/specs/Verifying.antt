@@ -5,12 +5,13 @@ use Rattle.std.specs.Prelude.{◌≡◌, ◌≢◌, ◌⊎◌, ⊤, ℕ, Bool, t
 use Rattle.std.specs.Prelude.{Err, MatchResult, IsErrAnd, if◌then◌else◌, IsSome}
 use Rattle.minisign_hash.specs.Blake2b.{blake2b_digest}
 use Rattle.minisign_base.specs.Fault.{Fault, Named}
-use Rattle.minisign_base.specs.DeviceCalls.{Flushes, GoesBack, Marks, Puts, RereaderCall, SinkCall}
-use Rattle.minisign_base.specs.DeviceCalls.{SourceGives, IsFlushed, IsSteady, IsUnflushed, SinkHasNoNewFault}
-use Rattle.minisign_base.specs.DeviceCalls.{SourceHasNoNewFault, Takes, unused}
+use Rattle.minisign_base.specs.DeviceCalls.{Flushes, GoesBack, Marks, WritesBytes, RereaderCall, SinkCall}
+use Rattle.minisign_base.specs.DeviceCalls.{SourceReturnsPrefix, IsFlushed, IsSteady, FlushesNothing}
+use Rattle.minisign_base.specs.DeviceCalls.{SinkHasNoNewFault}
+use Rattle.minisign_base.specs.DeviceCalls.{SourceHasNoNewFault, SinkReceives, no_sink}
 use Rattle.minisign_base.specs.Steps.{EndsWith, StepsEnd}
 use Rattle.minisign.specs.Acceptance.{Verifier, judge, status_lines, Vouches, signed_bytes}
-use Rattle.minisign.specs.Reading.{Copies, IsReadFault, ReadsWhole, IsAhead}
+use Rattle.minisign.specs.Reading.{Copies, IsReadFault, ReadsWhole, KnownBytesAre}
 use Rattle.minisign.specs.Records.{PublicKeyRecord, SignatureBoxRecord, is_prehashed}
 use Rattle.minisign.specs.Texts.{IsGivenOrNoMemory, and_then, map_ok}
 use Rattle.minisign.specs.declared.options.VerifyOptions.{VerifyOptions}
@@ -45,43 +46,44 @@ pub record Devices (R W O : Type 0) : Type 0 where
 
 module _ {R W O : Type 0} (reader : RereaderCall R) (status : SinkCall W) (out : SinkCall O) where
   -- The reader, the status or the output is unchanged, because the stage does not use it.
-  abbrev pub Unread : Type 0
-  Unread = reader.new ≡ reader.old
+  abbrev pub ReaderUnchanged : Type 0
+  ReaderUnchanged = reader.new ≡ reader.old
 
-  abbrev pub Unsaid : Type 0
-  Unsaid = status.new ≡ status.old
+  abbrev pub StatusUnchanged : Type 0
+  StatusUnchanged = status.new ≡ status.old
 
-  abbrev pub Uncopied : Type 0
-  Uncopied = out.new ≡ out.old
+  abbrev pub OutputUnchanged : Type 0
+  OutputUnchanged = out.new ≡ out.old
 
-  -- The end of a stage: its result and its effect on the devices.
+  -- The end of a stage: its result and its effect on the devices. A failed Mark has the same error as a
+  -- failed Return, GoingBackFailed.
   abbrev pub StageEnds : Stage → Result ⊤ Fault → Type 0
   StageEnds Mark answer = EndsWith (Marks reader (Ok tt)) named.GoingBackFailed (Marks reader (Err tt)) answer
-      × Unsaid × Uncopied
+      × StatusUnchanged × OutputUnchanged
   StageEnds (Read message) answer =
       (MatchResult answer (λ _. ReadsWhole reader.source reader.old reader.new message)
-      (λ e. IsReadFault reader.source reader.old reader.new e × SourceGives reader)
+      (λ e. IsReadFault reader.source reader.old reader.new e × SourceReturnsPrefix reader)
       × (reader.source.is_marked reader.new ≡ reader.source.is_marked reader.old))
-      × Unsaid × Uncopied
+      × StatusUnchanged × OutputUnchanged
   StageEnds (Judge accepts pk x legacy message) answer = IsGivenOrNoMemory answer
       (judge accepts pk x message legacy)
-      × Unread × Unsaid × Uncopied
+      × ReaderUnchanged × StatusUnchanged × OutputUnchanged
   StageEnds (Report text) answer =
-      ((IsErrAnd answer (λ e. e ≡ Named named.OutOfMemory) × Unsaid)
-      ⊎ Puts status text answer)
-      × Unread × Uncopied
+      ((IsErrAnd answer (λ e. e ≡ Named named.OutOfMemory) × StatusUnchanged)
+      ⊎ WritesBytes status text answer)
+      × ReaderUnchanged × OutputUnchanged
   StageEnds Return answer =
       EndsWith (GoesBack reader (Ok tt)) named.GoingBackFailed (GoesBack reader (Err tt)) answer
-      × Unsaid × Uncopied
-  StageEnds (Copy second) answer = Copies reader out second answer × Unsaid
+      × StatusUnchanged × OutputUnchanged
+  StageEnds (Copy second) answer = Copies reader out second answer × StatusUnchanged
   StageEnds (Compare digest second) answer =
       EndsWith (blake2b_digest 64 second ≡ digest) named.DataChanged (blake2b_digest 64 second ≢ digest)
       answer
-      × Unread × Unsaid × Uncopied
+      × ReaderUnchanged × StatusUnchanged × OutputUnchanged
   StageEnds (Put bytes) answer =
-      Puts out bytes answer × Unread × Unsaid
+      WritesBytes out bytes answer × ReaderUnchanged × StatusUnchanged
   StageEnds Flush answer = EndsWith (Flushes out (Ok tt)) named.WritingFailed (Flushes out (Err tt)) answer
-      × Unread × Unsaid
+      × ReaderUnchanged × StatusUnchanged
 
 module _ {R W O : Type 0} (reader : RereaderCall R) (status : SinkCall W) (out : SinkCall O) where
   -- These stages run in order: all succeed, or one fails and no later stage starts.
@@ -94,12 +96,13 @@ module _ {R W O : Type 0} (reader : RereaderCall R) (status : SinkCall W) (out :
       stages (record { reader = reader.old; status = status.old; out = out.old })
       (record { reader = reader.new; status = status.new; out = out.new }) answer
 
--- The stages that read the data. The place is marked first if the data will be read again.
+-- The stages that read the data. If the flag is true, the data will be read again, so the place is marked
+-- first.
 abbrev pub reading_stages : Bool → List ℕ → List Stage
 reading_stages true message = Mark ∷ Read message ∷ []
 reading_stages false message = Read message ∷ []
 
--- The stage that writes the status lines of a valid box, unless quiet is set.
+-- The stage that writes the status lines of a valid box, unless the flag quiet is true.
 abbrev pub reporting_stages : Bool → SignatureBoxRecord → List Stage
 reporting_stages true x = []
 reporting_stages false x = Report (status_lines x) ∷ []
@@ -108,8 +111,8 @@ reporting_stages false x = Report (status_lines x) ∷ []
 abbrev pub second_copy_stages : List ℕ → List ℕ → List Stage
 second_copy_stages digest second = Return ∷ Copy second ∷ Compare digest second ∷ Flush ∷ []
 
--- The stages that copy the data, if it is to be copied: from a second reading for a prehashed
--- signature, and from memory for a legacy one.
+-- The stages that copy the data, if the first flag says so. The second flag is true for a prehashed
+-- signature, whose data is read again; the data of a legacy signature is written from memory.
 abbrev pub copying_stages : Bool → Bool → List ℕ → List ℕ → List Stage
 copying_stages false hashed message second = []
 copying_stages true true message second = second_copy_stages (blake2b_digest 64 message) second
@@ -145,7 +148,7 @@ HoldsSigned (Message bytes) x legacy message =
     (is_prehashed x.signature ≡ false) × (bytes.items ≡ message) × (legacy ≡ true)
 HoldsSigned NoData x legacy message = (is_prehashed x.signature ≡ false) × (legacy ≡ false)
 
--- The stages that copy the data, from what was kept of it.
+-- The stages that copy the data, if the flag says so, from what was kept of it in memory.
 abbrev pub held_copy_stages : Bool → SignedData → List ℕ → List Stage
 held_copy_stages false signed second = []
 held_copy_stages true (Digest digest) second = second_copy_stages digest second
@@ -159,18 +162,18 @@ status_unless_quiet quiet x = if quiet then [] else status_lines x
 -- The data was read to its end, which gave the message, and again from the mark to its end, which
 -- gave the copy. Both have the same digest.
 abbrev pub ReadsTwice : {R O : Type 0} → RereaderCall R → SinkCall O → List ℕ → List ℕ → Type 0
-ReadsTwice reader out message copy = StagesEnd reader unused out
+ReadsTwice reader out message copy = StagesEnd reader no_sink out
     (reading_stages true message ++ second_copy_stages (blake2b_digest 64 message) copy) (Ok tt)
 
--- The output received and flushed a copy for which the box is valid, with the same signed bytes as
--- the message. If the signature is prehashed, the copy comes from a second reading with the digest
--- of the first. If it is a legacy signature, or the source is steady and its bytes are known, the
--- copy is the message.
+-- The output received and flushed a copy for which the box is valid, with the same signed bytes as the
+-- message. If the signature is prehashed, the copy comes from a second reading with the digest of the first.
+-- If it is a legacy signature, or if the source is steady (a second reading returns the same bytes) and its
+-- bytes are known, the copy is the message.
 pub record HasCopy {R O : Type 0} (accepts : Verifier) (pk : PublicKeyRecord) (x : SignatureBoxRecord)
     (legacy : Bool)
     (reader : RereaderCall R) (out : SinkCall O) (message : List ℕ) : Type 0 where
   pub copy : List ℕ
-  pub all : Takes out copy
+  pub received : SinkReceives out copy
   pub flushed : IsFlushed out
   pub read_twice : is_prehashed x.signature ≡ true → ReadsTwice reader out message copy
   pub vouched : Vouches accepts pk x copy legacy
@@ -185,15 +188,15 @@ pub record VerifyingSucceeds {R W O : Type 0} (accepts : Verifier) (pk : PublicK
     (options : VerifyOptions) (reader : RereaderCall R) (status : SinkCall W) (out : SinkCall O)
     : Type 0 where
   pub message : List ℕ
-  pub given : IsAhead (reader.source.ahead reader.old) message
+  pub given : KnownBytesAre (reader.source.ahead reader.old) message
   pub vouches : Vouches accepts pk x message options.allow_legacy
   pub end : IsAtEnd (reader.source.ahead reader.new)
   pub no_new_fault : SourceHasNoNewFault reader
   pub mark : is_reread options.output x ≡ false
       → reader.source.behind reader.new ≡ reader.source.behind reader.old
-  pub said : Takes status (status_unless_quiet options.quiet x)
+  pub status_received : SinkReceives status (status_unless_quiet options.quiet x)
   pub status_no_new_fault : SinkHasNoNewFault status
-  pub status_unflushed : IsUnflushed status
+  pub status_unflushed : FlushesNothing status
   pub copied : options.output ≡ true → HasCopy accepts pk x options.allow_legacy reader out message
   pub out_no_new_fault : SinkHasNoNewFault out
 

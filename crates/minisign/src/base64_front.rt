@@ -7,7 +7,7 @@ ghost use Rattle.minisign.specs.Texts.{IsBase64Of, is_base64};
 use base64::engine::general_purpose::STANDARD;
 
 // The piece size of `is_base64`: 64 characters, which decode to 48 bytes.
-const PIECE_LETTERS: usize = 64;
+const PIECE_CHARS: usize = 64;
 
 const PIECE_BYTES: usize = 48;
 
@@ -39,8 +39,8 @@ pub(crate) fn is_base64(text: &[u8]) -> bool
 {
     let mut room = [0u8; PIECE_BYTES];
     let mut rest = text;
-    'pieces: while rest.len() > PIECE_LETTERS {
-        let (piece, behind) = rest.split_at(PIECE_LETTERS);
+    'pieces: while rest.len() > PIECE_CHARS {
+        let (piece, behind) = rest.split_at(PIECE_CHARS);
         let Some(count) = decode_piece(piece, &mut room) else {
             return false;
         };

@@ -5,12 +5,12 @@ ghost use Rattle.std.specs.Prelude.{◌≡◌, ◌≤◌, ◌⊎◌, ℕ, List, 
 ghost use Rattle.std.specs.Prelude.{IfErr, OnOk};
 ghost use Rattle.minisign_base.specs.Fault.{Named};
 ghost use Rattle.minisign_base.specs.declared.faults.NamedFault.TheVariants.{OutOfMemory, ReadingFailed};
-ghost use Rattle.minisign_base.specs.DeviceCalls.{rereader_call, sink_call, unused};
-ghost use Rattle.minisign_base.specs.Devices.{HasGiven};
+ghost use Rattle.minisign_base.specs.DeviceCalls.{rereader_call, sink_call, no_sink};
+ghost use Rattle.minisign_base.specs.Devices.{PrefixIsRemoved};
 ghost use Rattle.minisign.specs.Acceptance.{options_of};
 ghost use Rattle.minisign.specs.Headline.{CopyIsVouchedWith, TextsVouchWith, verdict};
 ghost use Rattle.minisign.specs.Headline.{IsVerdictIfNothingFails};
-ghost use Rattle.minisign.specs.Reading.{HasFailed, IsAhead, IsReadFromFile, ReadsWhole};
+ghost use Rattle.minisign.specs.Reading.{HasFailed, KnownBytesAre, IsReadFromFile, ReadsWhole};
 ghost use Rattle.minisign.specs.Texts.{IsGivenOrNoMemory, map_ok};
 ghost use Rattle.minisign.specs.Records.{PublicKeyRecord, SignatureBoxRecord};
 ghost use Rattle.minisign.specs.SignatureText.{read_signature};
@@ -48,9 +48,9 @@ pub fn verify_with<S: Scheme, R: Rereader, W: Sink, O: Sink>(
     status: &mut W,
     out: &mut O,
 ) -> Result<String>
-    // If the source's bytes are known, no device fails and, if the data is copied, the source is steady,
-    // then the result is out of memory or exactly the verdict on the two texts and the data: the trusted
-    // comment if the signature is valid, and otherwise the first check that fails.
+    // Provided that the source's bytes are known, that no device fails and, if the data is copied, that the
+    // source is steady, the result is out of memory or exactly the verdict on the two texts and the data: the
+    // trusted comment if the signature is valid, and otherwise the first check that fails.
     ensures headline { IsVerdictIfNothingFails (S.accepts scheme.now) pk_text.now sig_text.now options
         (rereader_call R.Source R.steady data_reader.old data_reader.new) (sink_call W.Sink status.old
         status.new) (sink_call O.Sink out.old out.new) (map_ok string_bytes result) }
@@ -74,7 +74,8 @@ pub fn verify_with<S: Scheme, R: Rereader, W: Sink, O: Sink>(
 
     // Without `output`, the unread bytes of `data_reader` are a suffix of those before the call,
     // whatever the result.
-    ensures given { options.output ≡ false → HasGiven (R.ahead data_reader.old) (R.ahead data_reader.new) }
+    ensures given { options.output ≡ false → PrefixIsRemoved (R.ahead data_reader.old)
+        (R.ahead data_reader.new) }
 {
     let (pk, signature_box, comment) = read_with_comment(alloc, pk_text, sig_text)?;
     verify(
@@ -192,9 +193,9 @@ pub fn verify_file<F: Files, S: Scheme>(
     data_path: &str,
 ) -> Result<String>
     // The result is the verdict on the public key text, some signature text and some data; or it is out of
-    // memory, `reading failed` or the error for a text that is not UTF-8, and no contract says when. No
-    // contract says either that the signature text and the data are those of the named files: the code and
-    // tests show that.
+    // memory, `reading failed` or the error for a text that is not UTF-8, and no contract says when. That the
+    // signature text and the data come from the named files is not part of the contract either: only the code
+    // and tests show it.
     ensures { (message : List ℕ)
         × IsReadFromFile (λ sig_text. verdict (S.accepts scheme.now) pk_text.now sig_text message false)
         (map_ok string_bytes result) }
@@ -231,12 +232,13 @@ pub fn verify_reader<S: Scheme, R: Rereader>(
     sig_text: &str,
     data_reader: &mut R,
 ) -> Result<String>
-    // If the source's bytes are known and it does not fail, then the result is out of memory or exactly the
-    // verdict on the two texts and the data: the trusted comment if the signature is valid, and otherwise
-    // the first check that fails.
+    // Provided that the source's bytes are known and that it does not fail, the result is out of memory or
+    // exactly the verdict on the two texts and the data: the trusted comment if the signature is valid, and
+    // otherwise the first check that fails.
     ensures headline { IsVerdictIfNothingFails (S.accepts scheme.now) pk_text.now sig_text.now
-        (options_of true false false) (rereader_call R.Source R.steady data_reader.old data_reader.new) unused
-        unused (map_ok string_bytes result) }
+        (options_of true false false) (rereader_call R.Source R.steady data_reader.old data_reader.new)
+        no_sink
+        no_sink (map_ok string_bytes result) }
 
     // On success, all the unread data was read to its end without an error, and the texts are valid
     // for it with the comment that is returned. This holds even if the source's bytes are not
@@ -248,7 +250,7 @@ pub fn verify_reader<S: Scheme, R: Rereader>(
     // An error is out of memory; or `reading failed`, only if the source's error count rose; or the error
     // of the verdict on the two texts and the data.
     ensures refused { IfErr result (λ e. (e ≡ Named OutOfMemory) ⊎ HasFailed ReadingFailed R.faults
-        data_reader.old data_reader.new e ⊎ ((bytes : List ℕ) × IsAhead (R.ahead data_reader.old)
+        data_reader.old data_reader.new e ⊎ ((bytes : List ℕ) × KnownBytesAre (R.ahead data_reader.old)
         bytes × (verdict (S.accepts scheme.now) pk_text.now sig_text.now bytes false ≡ Err e))) }
 
     // After an error, either a text was rejected or an allocation for one failed, and `data_reader` is
@@ -256,10 +258,10 @@ pub fn verify_reader<S: Scheme, R: Rereader>(
     // source failed, or checking the signature, after all the data was read without an error.
     ensures failed { IfErr result
         (VerifyingTextsFails (S.accepts scheme.now) pk_text.now sig_text.now (options_of true false false)
-        (rereader_call R.Source R.steady data_reader.old data_reader.new) unused unused) }
+        (rereader_call R.Source R.steady data_reader.old data_reader.new) no_sink no_sink) }
 
     // The unread bytes of `data_reader` are a suffix of those before the call, whatever the result.
-    ensures given { HasGiven (R.ahead data_reader.old) (R.ahead data_reader.new) }
+    ensures given { PrefixIsRemoved (R.ahead data_reader.old) (R.ahead data_reader.new) }
 {
     let silent = VerifyOptions::SILENT;
     verify_with(
@@ -312,11 +314,11 @@ pub fn copy_verified<S: Scheme, R: Rereader, O: Sink>(
     data_reader: &mut R,
     out: &mut O,
 ) -> Result<String>
-    // If the source is steady, its bytes are known and no device fails, then the result is out of memory or
-    // exactly the verdict on the two texts and the data: the trusted comment if the signature is valid, and
-    // otherwise the first check that fails.
+    // Provided that the source is steady, that its bytes are known and that no device fails, the result is
+    // out of memory or exactly the verdict on the two texts and the data: the trusted comment if the
+    // signature is valid, and otherwise the first check that fails.
     ensures headline { IsVerdictIfNothingFails (S.accepts scheme.now) pk_text.now sig_text.now
-        (options_of true true false) (rereader_call R.Source R.steady data_reader.old data_reader.new) unused
+        (options_of true true false) (rereader_call R.Source R.steady data_reader.old data_reader.new) no_sink
         (sink_call O.Sink out.old out.new) (map_ok string_bytes result) }
 
     // On success, the texts are valid, with the comment that is returned, for the bytes that `out`
@@ -332,7 +334,7 @@ pub fn copy_verified<S: Scheme, R: Rereader, O: Sink>(
     // what was read first, and then going back, an allocation, the second reading or `out` failed, or the
     // second reading had a different digest.
     ensures refused { IfErr result (VerifyingTextsFails (S.accepts scheme.now) pk_text.now sig_text.now
-        (options_of true true false) (rereader_call R.Source R.steady data_reader.old data_reader.new) unused
+        (options_of true true false) (rereader_call R.Source R.steady data_reader.old data_reader.new) no_sink
         (sink_call O.Sink out.old out.new)) }
 {
     verify_with(

@@ -5,16 +5,17 @@ ghost use Rattle.std.specs.Prelude.{◌≡◌, ◌⊎◌, ℕ, ◌<◌, ◌++◌
 ghost use Rattle.std.specs.Prelude.{IfOk, IfErr, OnOk, MatchResult};
 ghost use Rattle.minisign_hash.specs.Blake2b.{blake2b_digest};
 ghost use Rattle.minisign_hash.specs.Fed.{IsFed, has_finalized, output_length};
-ghost use Rattle.minisign_base.specs.Devices.{BeginsAnew};
+ghost use Rattle.minisign_base.specs.Devices.{IsEmptyIfKnown};
 ghost use Rattle.minisign_base.specs.Fault.{Named};
 ghost use Rattle.minisign_base.specs.declared.faults.NamedFault.TheVariants.{DataChanged, GoingBackFailed};
 ghost use Rattle.minisign_base.specs.declared.faults.NamedFault.TheVariants.{ReadingFailed, WritingFailed};
-ghost use Rattle.minisign_base.specs.DeviceCalls.{Flushes, GoesBack, IsWritingFault, Puts, rereader_call};
-ghost use Rattle.minisign_base.specs.DeviceCalls.{sink_call, unused};
+ghost use Rattle.minisign_base.specs.DeviceCalls.{Flushes, GoesBack, IsWritingFault, WritesBytes};
+ghost use Rattle.minisign_base.specs.DeviceCalls.{rereader_call};
+ghost use Rattle.minisign_base.specs.DeviceCalls.{sink_call, no_sink};
 ghost use Rattle.minisign.specs.Reading.{Copies, HasFailed};
 ghost use Rattle.minisign.specs.Verifying.{StagesEnd, second_copy_stages, held_copy_stages};
 
-use crate::reading::{finished, piece_buffer};
+use crate::reading::{final_digest, piece_buffer};
 use crate::signed_data::SignedData;
 use minisign_base::devices::sinks::{Sink, write_all};
 use minisign_base::devices::sources::Rereader;
@@ -32,7 +33,7 @@ pub(crate) fn copy_out<R: Rereader, O: Sink>(
     out: &mut O,
 ) -> Result<()>
     ensures { (second : List ℕ)
-        × StagesEnd (rereader_call R.Source R.steady data_reader.old data_reader.new) unused
+        × StagesEnd (rereader_call R.Source R.steady data_reader.old data_reader.new) no_sink
         (sink_call O.Sink out.old out.new) (held_copy_stages output signed.now second) result }
 {
     if !output {
@@ -56,17 +57,17 @@ fn copy_again<R: Rereader, O: Sink>(
     out: &mut O,
 ) -> Result<()>
     ensures { (second : List ℕ)
-        × StagesEnd (rereader_call R.Source R.steady data_reader.old data_reader.new) unused
+        × StagesEnd (rereader_call R.Source R.steady data_reader.old data_reader.new) no_sink
         (sink_call O.Sink out.old out.new) (second_copy_stages digest.now second) result }
 {
     go_back(data_reader)?;
     let second = copy_hashed(alloc, data_reader, out)?;
-    test_same(digest, &second)?;
+    check_same(digest, &second)?;
     flush(out)
 }
 
 // Returns `DataChanged` if the second reading has another digest than the first.
-fn test_same(digest: &[u8; 64], second: &[u8; 64]) -> Result<()>
+fn check_same(digest: &[u8; 64], second: &[u8; 64]) -> Result<()>
     ensures { MatchResult result (λ _. bytes_eq second.now digest.now ≡ true)
         (λ e. (e ≡ Named DataChanged) × (bytes_eq second.now digest.now ≡ false)) }
 {
@@ -82,7 +83,7 @@ fn copy_hashed<R: Rereader, O: Sink>(
     data_reader: &mut R,
     out: &mut O,
 ) -> Result<[u8; 64]>
-    requires { BeginsAnew (R.since data_reader.old) }
+    requires { IsEmptyIfKnown (R.since data_reader.old) }
     ensures copied { IfOk result (λ d. (message : List ℕ) × (d ≡ blake2b_digest 64 message)
         × Copies (rereader_call R.Source R.steady data_reader.old data_reader.new)
         (sink_call O.Sink out.old out.new) message (Ok tt)) }
@@ -93,7 +94,7 @@ fn copy_hashed<R: Rereader, O: Sink>(
     let mut buf = piece_buffer(alloc)?;
     let mut hasher = Blake2b::new(64);
     copy_pieces(data_reader, &mut buf, &mut hasher, out)?;
-    Ok(finished(&mut hasher))
+    Ok(final_digest(&mut hasher))
 }
 
 // Copies all unread data to `out` through `buf` and hashes it. Does not flush.
@@ -105,7 +106,7 @@ fn copy_pieces<R: Rereader, O: Sink>(
 ) -> Result<()>
     requires some { 0 < length buf.old }
     requires open { has_finalized hasher.old ≡ false }
-    requires anew { BeginsAnew (R.since data_reader.old) }
+    requires anew { IsEmptyIfKnown (R.since data_reader.old) }
     ensures copied { OnOk result ((message : List ℕ) × ((m : List ℕ) → IsFed hasher.old m
         → IsFed hasher.new (m ++ message)) × Copies (rereader_call R.Source R.steady data_reader.old
         data_reader.new) (sink_call O.Sink out.old out.new) message (Ok tt)) }
@@ -143,7 +144,7 @@ fn go_back<R: Rereader>(data_reader: &mut R) -> Result<()>
 }
 
 fn put_bytes<O: Sink>(out: &mut O, bytes: &[u8]) -> Result<()>
-    ensures { Puts (sink_call O.Sink out.old out.new) bytes.now result }
+    ensures { WritesBytes (sink_call O.Sink out.old out.new) bytes.now result }
 {
     match write_all(out, bytes) {
         Ok(()) => Ok(()),

@@ -1,7 +1,7 @@
 //! Generates random fields of fixed size.
 
 ghost use Rattle.std.specs.Prelude.{◌≡◌, ◌++◌, length, IfOk, IfErr, OnOk};
-ghost use Rattle.minisign_base.specs.Devices.{HasGiven};
+ghost use Rattle.minisign_base.specs.Devices.{PrefixIsRemoved};
 ghost use Rattle.minisign_base.specs.DeviceCalls.{random_call};
 ghost use Rattle.minisign_base.specs.Scheme.{IsBytes};
 ghost use Rattle.minisign_base.specs.declared.faults.NamedFault.TheVariants.{RandomSourceFailed};
@@ -18,7 +18,7 @@ pub(crate) fn draw<const N: usize, Z: RandomSource>(random: &mut Z) -> Result<[u
     ensures no_new_fault { OnOk result (Z.random_faults random.new ≡ Z.random_faults random.old) }
     ensures refused { IfErr result
         (HasFailed RandomSourceFailed Z.random_faults random.old random.new) }
-    ensures given { HasGiven (Z.random_ahead random.old) (Z.random_ahead random.new) }
+    ensures given { PrefixIsRemoved (Z.random_ahead random.old) (Z.random_ahead random.new) }
 {
     let mut bytes = [0u8; N];
     random
@@ -39,7 +39,7 @@ pub(crate) fn draw_two<const N: usize, const M: usize, Z: RandomSource>(
     ensures no_new_fault { OnOk result (Z.random_faults random.new ≡ Z.random_faults random.old) }
     ensures refused { IfErr result
         (HasFailed RandomSourceFailed Z.random_faults random.old random.new) }
-    ensures given { HasGiven (Z.random_ahead random.old) (Z.random_ahead random.new) }
+    ensures given { PrefixIsRemoved (Z.random_ahead random.old) (Z.random_ahead random.new) }
 {
     let first = draw(random)?;
     let second = draw(random)?;

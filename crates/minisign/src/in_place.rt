@@ -19,7 +19,9 @@ use crate::base64_front::{decode_front, is_base64};
 use crate::constants::SIGALG_PREHASHED;
 use crate::public_key::PublicKey;
 use crate::signature::Signature;
-use crate::signature_box::{four_lines, known, trusted_comment_in, untrusted_comment_in};
+use crate::signature_box::{
+    four_lines, trusted_comment_in, untrusted_comment_in, with_known_algorithm,
+};
 use crate::texts::next_line;
 use minisign_base::{NamedFault, Result};
 use std::marker::Model;
@@ -87,8 +89,9 @@ impl<'a> SignatureView<'a> {
     }
 }
 
-/// Parses a public key text. The first line may be anything. The second line has 56 bytes and, trimmed of
-/// white space, is the base64 of the 42 bytes of a key. Later lines are ignored.
+/// Parses a public key text. The first line may be anything. The second line must have 56 bytes and be the
+/// base64 of the 42 bytes of a key. It is trimmed of white space before it is decoded, so a line with white
+/// space is an error. Later lines are ignored.
 ///
 /// Errors come in this order: no first line, no second line, a different length of the second line, a
 /// second line that is not base64, fewer than 42 bytes. Does not allocate.
@@ -109,8 +112,8 @@ pub fn read_public_key(text: &str) -> Result<PublicKey>
 
 /// Parses the bare base64 of a public key, 56 bytes.
 ///
-/// Errors come in this order: a text that has another length once white space is trimmed, a text that is
-/// not base64 as it is, fewer than 42 bytes. Does not allocate.
+/// Errors come in this order: a text that does not have 56 bytes once white space at its ends is trimmed; a
+/// text that, not trimmed, is not base64; fewer than 42 bytes. Does not allocate.
 pub fn read_bare_public_key(text: &str) -> Result<PublicKey>
     // The result depends only on the text: it is the public key whose base64 is the text, or the first
     // check that fails.
@@ -219,7 +222,7 @@ fn read_lines<'a>(
     let untrusted_comment = untrusted_comment_in(first)?;
     let signature = decode_signature(second.trim())?;
     let trusted_comment = trusted_comment_in(third)?;
-    let signature = known(signature)?;
+    let signature = with_known_algorithm(signature)?;
     let comment_signature = fourth.trim();
     if !is_base64(comment_signature.as_bytes()) {
         return Err(NamedFault::SignatureNotBase64.into());

@@ -5,7 +5,7 @@ ghost use Rattle.std.specs.Prelude.{◌≡◌, ◌≤◌, List, ℕ, false, None
 ghost use Rattle.std.specs.Prelude.{OnOk, ◌⊎◌};
 ghost use Rattle.minisign_base.specs.Fault.{Named};
 ghost use Rattle.minisign_base.specs.declared.faults.NamedFault.TheVariants.{ReadingFailed};
-ghost use Rattle.minisign_base.specs.Devices.{HasGiven};
+ghost use Rattle.minisign_base.specs.Devices.{PrefixIsRemoved};
 ghost use Rattle.minisign_base.specs.DeviceCalls.{random_call, source_call};
 ghost use Rattle.minisign.specs.Generation.{PasswordPairFails, IsSealedPair, OpensToPair};
 ghost use Rattle.minisign.specs.Signing.{SigningHeadline, BytesSigningFails, SigningFails, given_comments};
@@ -88,7 +88,7 @@ impl KeyPair {
 
         // The unread bytes of the random source are a suffix of those before the call, whatever the
         // result.
-        ensures given { HasGiven (Z.random_ahead random.old) (Z.random_ahead random.new) }
+        ensures given { PrefixIsRemoved (Z.random_ahead random.old) (Z.random_ahead random.new) }
     {
         if password.len() > PASSWORD_BYTES {
             return Err(NamedFault::PasswordTooLong.into());
@@ -138,7 +138,7 @@ pub fn sign_bytes<S: Scheme, Z: RandomSource>(
 
     // The unread bytes of the random source are a suffix of those before the call, whatever the
     // result.
-    ensures drawn { HasGiven (Z.random_ahead random.old) (Z.random_ahead random.new) }
+    ensures drawn { PrefixIsRemoved (Z.random_ahead random.old) (Z.random_ahead random.new) }
 
     // If the key is encrypted, it is rejected, and no random bytes were taken. Otherwise an error is out of
     // memory, and the random source did not fail; or the random source failed.
@@ -198,8 +198,8 @@ pub fn sign_reader<S: Scheme, R: Source, Z: RandomSource>(
 
     // The unread bytes of the reader and of the random source are suffixes of those before the
     // call, whatever the result.
-    ensures given { HasGiven (R.ahead data_reader.old) (R.ahead data_reader.new) }
-    ensures drawn { HasGiven (Z.random_ahead random.old) (Z.random_ahead random.new) }
+    ensures given { PrefixIsRemoved (R.ahead data_reader.old) (R.ahead data_reader.new) }
+    ensures drawn { PrefixIsRemoved (Z.random_ahead random.old) (Z.random_ahead random.new) }
 {
     if sk.is_encrypted() {
         return Err(NamedFault::EncryptedKeyRefused.into());
@@ -236,8 +236,8 @@ pub fn sign_file<F: Files, S: Scheme, Z: RandomSource>(
 ) -> Result<String>
     // On success, the result is the text of the signature box that signing makes for some data, and with a
     // genuine key it parses to a signature box that is valid for this data, if neither comment has a line
-    // feed and the trusted comment is trimmed. The secret key is not encrypted. No contract says that the
-    // data is that of the named file: the code and tests show that.
+    // feed and the trusted comment is trimmed. The secret key is not encrypted. That the data comes from the
+    // named file is not part of the contract: only the code and tests show it.
     ensures signed { IfOk result (λ t. (message : List ℕ) × HasSignedText S.Scheme scheme.now sk.now message
         (given_comments trusted_comment.entry None moment) (random_call Z.RandomSource random.old random.new)
         (string_bytes t)) }
@@ -255,7 +255,7 @@ pub fn sign_file<F: Files, S: Scheme, Z: RandomSource>(
 
     // The unread bytes of the random source are a suffix of those before the call, whatever the
     // result.
-    ensures drawn { HasGiven (Z.random_ahead random.old) (Z.random_ahead random.new) }
+    ensures drawn { PrefixIsRemoved (Z.random_ahead random.old) (Z.random_ahead random.new) }
 {
     if sk.is_encrypted() {
         return Err(NamedFault::EncryptedKeyRefused.into());
@@ -296,7 +296,7 @@ fn sign_opened_file<S: Scheme, R: Source, Z: RandomSource>(
     ensures refused { IfErr result (λ e. BytesSigningFails sk.now (random_call Z.RandomSource random.old
         random.new) e ⊎ ((is_encrypted sk.now ≡ false) × (e ≡ Named ReadingFailed)
         × (random.new ≡ random.old))) }
-    ensures drawn { HasGiven (Z.random_ahead random.old) (Z.random_ahead random.new) }
+    ensures drawn { PrefixIsRemoved (Z.random_ahead random.old) (Z.random_ahead random.new) }
 {
     sign_opened(alloc, scheme, sk, file, comments, random)
 }

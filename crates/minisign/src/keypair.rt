@@ -4,8 +4,9 @@ ghost use Rattle.std.specs.Prelude.{◌≡◌, ℕ, List, ◌++◌, length, stri
 ghost use Rattle.std.specs.Prelude.{IfErr, OnOk, OnErr};
 ghost use Rattle.std.specs.Option.{option_copied, option_map};
 ghost use Rattle.std.specs.Str.Iter.{LacksByte};
-ghost use Rattle.minisign_base.specs.Devices.{HasGiven};
-ghost use Rattle.minisign_base.specs.DeviceCalls.{FailsAtPart, TakesPart, prompt_call, random_call};
+ghost use Rattle.minisign_base.specs.Devices.{PrefixIsRemoved};
+ghost use Rattle.minisign_base.specs.DeviceCalls.{SinkFailsAtPart, SinkCompletesPart, prompt_call};
+ghost use Rattle.minisign_base.specs.DeviceCalls.{random_call};
 ghost use Rattle.minisign_base.specs.DeviceCalls.{sink_call};
 ghost use Rattle.minisign_base.specs.Fault.{Named};
 ghost use Rattle.minisign_base.specs.declared.faults.NamedFault.TheVariants.{OutOfMemory, RandomSourceFailed};
@@ -92,7 +93,7 @@ impl KeyPair {
 
         // The unread bytes of the random source are a suffix of those before the call, whatever the
         // result.
-        ensures given { HasGiven (Z.random_ahead random.old) (Z.random_ahead random.new) }
+        ensures given { PrefixIsRemoved (Z.random_ahead random.old) (Z.random_ahead random.new) }
     {
         let (seed, keynum) = draw_two(random)?;
         Ok(make_pair(scheme, &seed, keynum))
@@ -122,10 +123,10 @@ impl KeyPair {
 
         // On success, the sinks received the raw bytes of both keys and did not fail.
         ensures public { IfOk result
-            (λ pair. TakesPart (sink_call P.Sink pk_sink.old pk_sink.new)
+            (λ pair. SinkCompletesPart (sink_call P.Sink pk_sink.old pk_sink.new)
             (public_key_bytes pair.pk)) }
         ensures secret { IfOk result
-            (λ pair. TakesPart (sink_call K.Sink sk_sink.old sk_sink.new)
+            (λ pair. SinkCompletesPart (sink_call K.Sink sk_sink.old sk_sink.new)
             (secret_key_bytes pair.sk)) }
 
         // On success, the random source did not fail.
@@ -141,7 +142,7 @@ impl KeyPair {
 
         // The unread bytes of the random source are a suffix of those before the call, whatever the
         // result.
-        ensures given { HasGiven (Z.random_ahead random.old) (Z.random_ahead random.new) }
+        ensures given { PrefixIsRemoved (Z.random_ahead random.old) (Z.random_ahead random.new) }
     {
         let pair = KeyPair::generate_unencrypted_keypair(scheme, random)?;
         write_bytes(alloc, pk_sink, sk_sink, &pair)?;
@@ -187,7 +188,7 @@ impl KeyPair {
 
         // The unread bytes of the random source are a suffix of those before the call, whatever the
         // result.
-        ensures given { HasGiven (Z.random_ahead random.old) (Z.random_ahead random.new) }
+        ensures given { PrefixIsRemoved (Z.random_ahead random.old) (Z.random_ahead random.new) }
     {
         let drawn = draw_with_salt(random)?;
         seal_pair(alloc, scheme, &drawn, password, prompt)
@@ -225,10 +226,10 @@ impl KeyPair {
 
         // On success, the sinks received the texts of both keys and did not fail.
         ensures public { IfOk result
-            (λ pair. TakesPart (sink_call P.Sink pk_sink.old pk_sink.new)
+            (λ pair. SinkCompletesPart (sink_call P.Sink pk_sink.old pk_sink.new)
             (public_key_text pair.pk)) }
         ensures secret { IfOk result
-            (λ pair. TakesPart (sink_call K.Sink sk_sink.old sk_sink.new)
+            (λ pair. SinkCompletesPart (sink_call K.Sink sk_sink.old sk_sink.new)
             (secret_key_text (option_copied comment.entry) pair.sk)) }
 
         // On success, if the comment has no line feed, the text of the secret key decrypts under the
@@ -251,7 +252,7 @@ impl KeyPair {
 
         // The unread bytes of the random source are a suffix of those before the call, whatever the
         // result.
-        ensures given { HasGiven (Z.random_ahead random.old) (Z.random_ahead random.new) }
+        ensures given { PrefixIsRemoved (Z.random_ahead random.old) (Z.random_ahead random.new) }
     {
         let pair = KeyPair::generate_encrypted_keypair(alloc, scheme, random, password, prompt)?;
         write_texts(alloc, pk_sink, sk_sink, &pair, comment)?;
@@ -348,9 +349,9 @@ fn write_bytes<P: Sink, K: Sink>(
     pair: &KeyPair,
 ) -> Result<()>
     ensures public { OnOk result
-        (TakesPart (sink_call P.Sink pk_sink.old pk_sink.new) (public_key_bytes pair.now.pk)) }
+        (SinkCompletesPart (sink_call P.Sink pk_sink.old pk_sink.new) (public_key_bytes pair.now.pk)) }
     ensures secret { OnOk result
-        (TakesPart (sink_call K.Sink sk_sink.old sk_sink.new) (secret_key_bytes pair.now.sk)) }
+        (SinkCompletesPart (sink_call K.Sink sk_sink.old sk_sink.new) (secret_key_bytes pair.now.sk)) }
     ensures refused { IfErr result (PartsFail (sink_call P.Sink pk_sink.old pk_sink.new)
         (sink_call K.Sink sk_sink.old sk_sink.new)
         (public_key_bytes pair.now.pk) (secret_key_bytes pair.now.sk)) }
@@ -369,9 +370,9 @@ fn write_texts<P: Sink, K: Sink>(
     comment: Option<&str>,
 ) -> Result<()>
     ensures public { OnOk result
-        (TakesPart (sink_call P.Sink pk_sink.old pk_sink.new) (public_key_text pair.now.pk)) }
+        (SinkCompletesPart (sink_call P.Sink pk_sink.old pk_sink.new) (public_key_text pair.now.pk)) }
     ensures secret { OnOk result
-        (TakesPart (sink_call K.Sink sk_sink.old sk_sink.new)
+        (SinkCompletesPart (sink_call K.Sink sk_sink.old sk_sink.new)
         (secret_key_text (option_copied comment.entry) pair.now.sk)) }
     ensures reads_back { IfSome comment.entry (λ s. LacksByte 10 s.now)
         → OnOk result
@@ -393,9 +394,9 @@ fn write_parts<P: Sink, K: Sink>(
     secret: &[u8],
 ) -> Result<()>
     ensures public { OnOk result
-        (TakesPart (sink_call P.Sink pk_sink.old pk_sink.new) public.now) }
+        (SinkCompletesPart (sink_call P.Sink pk_sink.old pk_sink.new) public.now) }
     ensures secret { OnOk result
-        (TakesPart (sink_call K.Sink sk_sink.old sk_sink.new) secret.now) }
+        (SinkCompletesPart (sink_call K.Sink sk_sink.old sk_sink.new) secret.now) }
     ensures refused { IfErr result (λ e. (e ≡ Named WritingFailed)
         × SinksFail (sink_call P.Sink pk_sink.old pk_sink.new) (sink_call K.Sink sk_sink.old sk_sink.new)
         public.now secret.now) }
@@ -405,8 +406,8 @@ fn write_parts<P: Sink, K: Sink>(
 }
 
 fn write_part<W: Sink>(sink: &mut W, part: &[u8]) -> Result<()>
-    ensures taken { OnOk result (TakesPart (sink_call W.Sink sink.old sink.new) part.now) }
-    ensures failed { OnErr result (FailsAtPart (sink_call W.Sink sink.old sink.new) part.now) }
+    ensures taken { OnOk result (SinkCompletesPart (sink_call W.Sink sink.old sink.new) part.now) }
+    ensures failed { OnErr result (SinkFailsAtPart (sink_call W.Sink sink.old sink.new) part.now) }
     ensures refused { IfErr result (λ e. e ≡ Named WritingFailed) }
 {
     put_and_flush(sink, part).map_err(|_| NamedFault::WritingFailed.into())
@@ -445,7 +446,7 @@ pub(crate) fn draw_with_salt<Z: RandomSource>(random: &mut Z) -> Result<Drawn>
     ensures no_new_fault { OnOk result (Z.random_faults random.new ≡ Z.random_faults random.old) }
     ensures refused { IfErr result
         (HasFailed RandomSourceFailed Z.random_faults random.old random.new) }
-    ensures given { HasGiven (Z.random_ahead random.old) (Z.random_ahead random.new) }
+    ensures given { PrefixIsRemoved (Z.random_ahead random.old) (Z.random_ahead random.new) }
 {
     let (seed, keynum) = draw_two(random)?;
     let salt = draw(random)?;

@@ -70,7 +70,8 @@ impl SecretKey {
     ///
     /// Errors come in this order: a file that cannot be opened or read, `ReadingFailed`; a file that is not
     /// UTF-8, `NotUtf8`; the errors of `from_box`. An allocation may fail at any time. Until the file has
-    /// been read the prompt is unchanged. No contract says that the text is that of the named file.
+    /// been read the prompt is unchanged. That the text comes from the named file is not part of the
+    /// contract.
     pub fn from_file<F: Files, R: Source, W: Sink>(
         files: &F,
         alloc: Global,
@@ -168,9 +169,10 @@ impl SecretKey {
         ensures opens { IsOpening (prompt_call R.Source W.Sink prompt.old prompt.new)
             (option_map string_bytes password) sk_box (Some max_p) result }
 
-        // With a given password, a text is decrypted exactly if it parses to a key that is encrypted with
-        // scrypt, its limits are allowed and within the bound, and the scrypt stream of RFC 7914 restores
-        // its checksum; or else the result is out of memory.
+        // With a given password, and unless the result is out of memory, a text is decrypted exactly if it
+        // parses to a key that is encrypted with scrypt, the limits of the key are allowed and within the
+        // bound, and its checksum matches once the key is xored with the stream that scrypt (RFC 7914)
+        // derives from the password.
         ensures headline { IfSome (option_map string_bytes password)
             (λ p. IsOpenedOrNoMemory sk_box (Some max_p) result (open_key sk_box p (Some max_p))) }
     {
@@ -275,7 +277,7 @@ impl SecretKey {
             (Some max_p))) ⊎ ((result ≡ Err (Named OutOfMemory)) × IsOk
             (and_then (sealed_by_scrypt self) (λ sealed. allowed_work sealed (Some max_p)))) }
     {
-        self.test_sealed()?;
+        self.check_sealed()?;
         let bound = Some(max_p);
         self.open_with(alloc, password, Derivation { bound, k })
     }
@@ -330,7 +332,7 @@ impl SecretKey {
         ensures words_cleared { words.new ≡ replicate (length words.old) 0 }
         ensures bytes_cleared { bytes.new ≡ replicate (length bytes.old) 0 }
     {
-        match self.test_sealed() {
+        match self.check_sealed() {
             Ok(()) => self.open_sealed_in_place(password, k, max_p, words, bytes),
             Err(fault) => {
                 clear_memory(words, bytes);
@@ -371,7 +373,7 @@ impl SecretKey {
             (option_map (λ p. p.now) password.entry) text derivation.bound result }
         ensures opened { IfOk result (λ v. is_encrypted v ≡ false) }
     {
-        self.test_sealed()?;
+        self.check_sealed()?;
         match password {
             Some(password) => self.open_with(alloc, password.as_bytes(), derivation),
             None => self.open_asking(alloc, prompt, derivation),
@@ -379,7 +381,7 @@ impl SecretKey {
     }
 
     // Returns an error unless the key is encrypted with scrypt.
-    pub(crate) fn test_sealed(&self) -> Result<()>
+    pub(crate) fn check_sealed(&self) -> Result<()>
         ensures { result ≡ without_value (sealed_by_scrypt self.now) }
     {
         if self.kdf_alg == KDF_NONE {
@@ -438,7 +440,7 @@ impl SecretKey {
         ensures restored { OnOk result (restored_key self.now ≡ Ok self.now) }
     {
         say_done(prompt)?;
-        self.test_restored()
+        self.check_restored()
     }
 
     // Decrypts a key with a given password.
@@ -454,12 +456,12 @@ impl SecretKey {
     {
         let mut sk = self;
         sk.apply_stream(alloc, password, derivation)?;
-        sk.test_restored()?;
+        sk.check_restored()?;
         Ok(sk)
     }
 
     // Returns `WrongPassword` if the checksum does not match after decryption.
-    pub(crate) fn test_restored(&self) -> Result<()>
+    pub(crate) fn check_restored(&self) -> Result<()>
         ensures { MatchResult result (λ _. restored_key self.now ≡ Ok self.now)
             (λ e. restored_key self.now ≡ Err e) }
     {
@@ -548,7 +550,7 @@ impl SecretKey {
     {
         let mut sk = self;
         sk.apply_stream_in_place(password, k, max_p, words, bytes)?;
-        sk.test_restored()?;
+        sk.check_restored()?;
         Ok(sk)
     }
 

@@ -69,8 +69,8 @@ impl PublicKey {
     }
 
     /// Parses a public key text, as `read_public_key` does. The first line may be anything. The second line
-    /// has 56 bytes and, trimmed of white space, is the base64 of the 42 bytes of a key. Later lines are
-    /// ignored.
+    /// must have 56 bytes and be the base64 of the 42 bytes of a key. It is trimmed of white space before it
+    /// is decoded, so a line with white space is an error. Later lines are ignored.
     ///
     /// Errors come in this order: no first line, no second line, a different length of the second line, a
     /// second line that is not base64, fewer than 42 bytes. Does not allocate.
@@ -85,12 +85,12 @@ impl PublicKey {
     /// Parses the public key text in the file at `path`, as `from_box` does. The path is used as given.
     ///
     /// Errors come in this order: a file that cannot be opened or read, `ReadingFailed`; a file that is not
-    /// UTF-8, `NotUtf8`; the errors of `from_box`. An allocation may fail at any time. No contract says
-    /// that the text is that of the named file.
+    /// UTF-8, `NotUtf8`; the errors of `from_box`. An allocation may fail at any time. That the text comes
+    /// from the named file is not part of the contract.
     pub fn from_file<F: Files>(files: &F, alloc: Global, path: &str) -> Result<PublicKey>
-        // On success, the result is what parsing some text gives. An error is out of memory, a file
-        // that could not be opened or read, a file that is not UTF-8, or the error of parsing some
-        // text. No contract says that the text is that of the named file.
+        // On success, the result is what parsing some text gives. An error is out of memory, a file that
+        // could not be opened or read, a file that is not UTF-8, or the error of parsing some text. That the
+        // text comes from the named file is not part of the contract.
         ensures { IsReadFromFile read_public_key result }
     {
         let text = read_text_file(files, alloc, path)?;
@@ -99,8 +99,8 @@ impl PublicKey {
 
     /// Parses the bare base64 of a public key, 56 bytes, as `read_bare_public_key` does.
     ///
-    /// Errors come in this order: a text that has another length once white space is trimmed, a text that
-    /// is not base64 as it is, fewer than 42 bytes. Does not allocate.
+    /// Errors come in this order: a text that does not have 56 bytes once white space at its ends is trimmed;
+    /// a text that, not trimmed, is not base64; fewer than 42 bytes. Does not allocate.
     pub fn from_base64(_alloc: Global, text: &str) -> Result<PublicKey>
         // The result depends only on the text: it is the public key whose base64 is the text, or the first
         // check that fails.
@@ -170,8 +170,8 @@ impl PublicKey {
 
     /// Returns the base64 of the 42 bytes, 56 characters. The only error is `OutOfMemory`.
     pub fn to_base64(&self, alloc: Global) -> Result<String>
-        // On success, the result is the text of this key in the form that `specs/KeyTexts` defines, and it
-        // parses to this key. The only error is out of memory.
+        // On success, the result is the base64 of the key's record, and it parses to this key. The only error
+        // is out of memory.
         ensures text { IfOk result (λ t. string_bytes t ≡ base64_of (public_key_bytes self.now)) }
         ensures reads_back { IfOk result (λ t. read_bare_public_key (string_bytes t) ≡ Ok self.now) }
         ensures refused { IfErr result (λ e. e ≡ Named OutOfMemory) }

@@ -4,7 +4,7 @@ ghost use Rattle.std.specs.Prelude.{◌≡◌, ℕ, ◌<◌, List, ◌++◌, fal
 ghost use Rattle.std.specs.Prelude.{MatchResult, IfOk, IfErr};
 ghost use Rattle.minisign_hash.specs.Blake2b.{blake2b_digest};
 ghost use Rattle.minisign_hash.specs.Fed.{IsFed, has_finalized, output_length};
-ghost use Rattle.minisign_base.specs.Devices.{Rose, HasGiven};
+ghost use Rattle.minisign_base.specs.Devices.{ErrorCountRises, PrefixIsRemoved};
 ghost use Rattle.minisign_base.specs.Fault.{Named};
 ghost use Rattle.minisign_base.specs.declared.faults.NamedFault.TheVariants.{OutOfMemory};
 ghost use Rattle.minisign.specs.Reading.{IsReadFault, ReadsWhole, IsTextFault, IsTextFileFault};
@@ -39,7 +39,7 @@ pub fn read_text<S: Source>(alloc: Global, source: &mut S) -> Result<String>
     // UTF-8.
     ensures text { IfOk result (λ t. ReadsWhole S.Source source.old source.new (string_bytes t)) }
     ensures refused { IfErr result (IsTextFault S.Source source.old source.new) }
-    ensures given { HasGiven (S.ahead source.old) (S.ahead source.new) }
+    ensures given { PrefixIsRemoved (S.ahead source.old) (S.ahead source.new) }
 {
     let bytes = read_to_end(alloc, source)?;
     match String::from_utf8(bytes) {
@@ -57,7 +57,7 @@ pub fn read_to_end<S: Source>(alloc: Global, source: &mut S) -> Result<Vec<u8>>
     // count rose. A place that was marked is still marked.
     ensures bytes { IfOk result (λ v. ReadsWhole S.Source source.old source.new v.items) }
     ensures refused { IfErr result (IsReadFault S.Source source.old source.new) }
-    ensures given { HasGiven (S.ahead source.old) (S.ahead source.new) }
+    ensures given { PrefixIsRemoved (S.ahead source.old) (S.ahead source.new) }
     ensures marked { S.is_marked source.new ≡ S.is_marked source.old }
 {
     let mut buf = piece_buffer(alloc)?;
@@ -72,19 +72,19 @@ pub(crate) fn prehash<S: Source>(alloc: Global, source: &mut S) -> Result<[u8; 6
     ensures digest { IfOk result (λ d. (message : List ℕ) × ReadsWhole S.Source source.old source.new message
         × (d ≡ blake2b_digest 64 message)) }
     ensures refused { IfErr result (IsReadFault S.Source source.old source.new) }
-    ensures given { HasGiven (S.ahead source.old) (S.ahead source.new) }
+    ensures given { PrefixIsRemoved (S.ahead source.old) (S.ahead source.new) }
     ensures marked { S.is_marked source.new ≡ S.is_marked source.old }
 {
     let mut buf = piece_buffer(alloc)?;
     let mut hasher = Blake2b::new(64);
     match feed(source, &mut buf, &mut hasher) {
-        Ok(()) => Ok(finished(&mut hasher)),
+        Ok(()) => Ok(final_digest(&mut hasher)),
         Err(_) => Err(NamedFault::ReadingFailed.into()),
     }
 }
 
 // Returns the 64-byte digest of the data that was hashed.
-pub(crate) fn finished(hasher: &mut Blake2b) -> [u8; 64]
+pub(crate) fn final_digest(hasher: &mut Blake2b) -> [u8; 64]
     requires { output_length hasher.old ≡ 64 }
     ensures { (message : List ℕ) → IsFed hasher.old message → result ≡ blake2b_digest 64 message }
 {
@@ -103,9 +103,9 @@ fn feed<S: Source>(
     requires open { has_finalized hasher.old ≡ false }
     ensures fed { MatchResult result (λ _. (message : List ℕ) × ReadsWhole S.Source source.old source.new
         message × ((m : List ℕ) → IsFed hasher.old m → IsFed hasher.new (m ++ message)))
-        (λ _. Rose (S.faults source.old) (S.faults source.new)) }
+        (λ _. ErrorCountRises (S.faults source.old) (S.faults source.new)) }
     ensures length { output_length hasher.new ≡ output_length hasher.old }
-    ensures given { HasGiven (S.ahead source.old) (S.ahead source.new) }
+    ensures given { PrefixIsRemoved (S.ahead source.old) (S.ahead source.new) }
     ensures marked { S.is_marked source.new ≡ S.is_marked source.old }
 {
     'pieces: loop {
@@ -123,7 +123,7 @@ fn append_all<S: Source>(source: &mut S, buf: &mut [u8], received: &mut Vec<u8>)
     ensures data { MatchResult result (λ _. (message : List ℕ) × ReadsWhole S.Source source.old source.new
         message × (received.new.items ≡ received.old.items ++ message)) (IsReadFault S.Source source.old
         source.new) }
-    ensures given { HasGiven (S.ahead source.old) (S.ahead source.new) }
+    ensures given { PrefixIsRemoved (S.ahead source.old) (S.ahead source.new) }
     ensures marked { S.is_marked source.new ≡ S.is_marked source.old }
 {
     'pieces: loop {

@@ -29,11 +29,10 @@ use std::alloc::Global;
 use std::fmt;
 use std::marker::Model;
 
-/// A secret key, a record of 158 bytes: the algorithm (2 bytes), the key derivation (2), the
-/// algorithm of the checksum (2), the salt (32), the operations limit (8) and the memory limit (8)
-/// of the key derivation, the key ID (8), the secret bytes (64) and the checksum (32). In an
-/// encrypted key, the last three fields are encrypted. The two algorithms are stored as they were
-/// read and never checked.
+/// A secret key, a record of 158 bytes: the algorithm (2 bytes), the key derivation (2), the algorithm of the
+/// checksum (2), the salt (32), the operations limit (8) and the memory limit (8) of the key derivation, the
+/// key ID (8), the secret bytes (64) and the checksum (32). In an encrypted key, the last three fields are
+/// encrypted. The algorithm and the algorithm of the checksum are kept as they were read and never checked.
 #[derive(Clone, Drop)]
 pub struct SecretKey {
     pub(crate) sig_alg: [u8; 2],
@@ -266,7 +265,7 @@ impl SecretKey {
     #[tactic(auto, unfolding(crate::specs::Generation::unsealed_key))]
     pub fn from_parts(key_id: [u8; 8], secret: [u8; 64]) -> SecretKey
         // The result is an unencrypted secret key with this key ID and these secret bytes, as
-        // `specs/Records` defines it.
+        // `specs/Generation` defines it.
         ensures { result ≡ unsealed_key key_id secret }
     {
         let mut sk = SecretKey {

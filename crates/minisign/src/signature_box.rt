@@ -110,12 +110,12 @@ impl SignatureBox {
     /// Parses the signature text in the file at `path`, as `from_string` does. The path is used as given.
     ///
     /// Errors come in this order: a file that cannot be opened or read, `ReadingFailed`; a file that is not
-    /// UTF-8, `NotUtf8`; the errors of `from_string`. An allocation may fail at any time. No contract says
-    /// that the text is that of the named file.
+    /// UTF-8, `NotUtf8`; the errors of `from_string`. An allocation may fail at any time. That the text comes
+    /// from the named file is not part of the contract.
     pub fn from_file<F: Files>(files: &F, alloc: Global, path: &str) -> Result<SignatureBox>
-        // On success, the result is what parsing some text gives. An error is out of memory, a file
-        // that could not be opened or read, a file that is not UTF-8, or the error of parsing some
-        // text. No contract says that the text is that of the named file.
+        // On success, the result is what parsing some text gives. An error is out of memory, a file that
+        // could not be opened or read, a file that is not UTF-8, or the error of parsing some text. That the
+        // text comes from the named file is not part of the contract.
         ensures { IsReadFromFile read_signature_box result }
     {
         let text = read_text_file(files, alloc, path)?;
@@ -354,7 +354,7 @@ pub(crate) fn trusted_comment_in(line: &str) -> Result<&str>
 }
 
 // Returns `UnsupportedSignatureAlgorithm` unless the algorithm is `Ed` or `ED`.
-pub(crate) fn known(signature: Signature) -> Result<Signature>
+pub(crate) fn with_known_algorithm(signature: Signature) -> Result<Signature>
     ensures { MatchResult result (λ s. (s ≡ signature) × IsKnownAlgorithm s.algorithm)
         (λ e. (e ≡ Named UnsupportedSignatureAlgorithm) × ((bytes_eq signature.algorithm legacy_algorithm ||
         bytes_eq signature.algorithm prehashed_algorithm) ≡ false)) }

@@ -1,7 +1,7 @@
 //! `SignedData`, the data as it is held in memory after it was read.
 
 ghost use Rattle.std.specs.Prelude.{◌≡◌, List, ℕ, MatchResult};
-ghost use Rattle.minisign_base.specs.Devices.{HasGiven};
+ghost use Rattle.minisign_base.specs.Devices.{PrefixIsRemoved};
 ghost use Rattle.minisign.specs.Reading.{IsReadFault, ReadsWhole};
 ghost use Rattle.minisign.specs.Verifying.{HoldsSigned, held_bytes};
 
@@ -49,7 +49,7 @@ pub(crate) fn read_signed_data<R: Source>(
     ensures held { MatchResult result (λ d. (message : List ℕ) × ReadsWhole R.Source data_reader.old
         data_reader.new message × HoldsSigned d signature_box.now allow_legacy message)
         (IsReadFault R.Source data_reader.old data_reader.new) }
-    ensures given { HasGiven (R.ahead data_reader.old) (R.ahead data_reader.new) }
+    ensures given { PrefixIsRemoved (R.ahead data_reader.old) (R.ahead data_reader.new) }
     ensures marked { R.is_marked data_reader.new ≡ R.is_marked data_reader.old }
 {
     if !signature_box.is_prehashed() && allow_legacy {

@@ -4,7 +4,7 @@ ghost use Rattle.std.specs.Prelude.{◌≡◌, ℕ, true, false, List, None, Som
 ghost use Rattle.std.specs.Prelude.{OnOk, IfSome, IsSomeAnd};
 ghost use Rattle.std.specs.Option.{option_copied, unwrap_or};
 ghost use Rattle.minisign_hash.specs.Blake2b.{blake2b_digest};
-ghost use Rattle.minisign_base.specs.Devices.{HasGiven};
+ghost use Rattle.minisign_base.specs.Devices.{PrefixIsRemoved};
 ghost use Rattle.minisign_base.specs.DeviceCalls.{random_call, source_call};
 ghost use Rattle.minisign_base.specs.Fault.{Named};
 ghost use Rattle.minisign_base.specs.declared.faults.NamedFault.TheVariants.{OutOfMemory, RandomSourceFailed};
@@ -92,8 +92,8 @@ pub fn sign<S: Scheme, R: Source, Z: RandomSource>(
 
     // The unread bytes of the source and of the random source are suffixes of those before the
     // call, whatever the result.
-    ensures given { HasGiven (R.ahead data_reader.old) (R.ahead data_reader.new) }
-    ensures drawn { HasGiven (Z.random_ahead random.old) (Z.random_ahead random.new) }
+    ensures given { PrefixIsRemoved (R.ahead data_reader.old) (R.ahead data_reader.new) }
+    ensures drawn { PrefixIsRemoved (Z.random_ahead random.old) (Z.random_ahead random.new) }
 {
     if sk.is_encrypted() {
         return Err(NamedFault::EncryptedKeyRefused.into());
@@ -104,7 +104,7 @@ pub fn sign<S: Scheme, R: Source, Z: RandomSource>(
         moment,
     };
     let signature_box = sign_data(alloc, scheme, sk, data_reader, comments, random)?;
-    test_given_key(alloc, scheme, pk, &signature_box)?;
+    check_given_key(alloc, scheme, pk, &signature_box)?;
     Ok(signature_box)
 }
 
@@ -132,8 +132,8 @@ pub(crate) fn sign_data<S: Scheme, R: Source, Z: RandomSource>(
     ensures refused { IfErr result
         (OpenedSigningFails (source_call R.Source data_reader.old data_reader.new)
         (random_call Z.RandomSource random.old random.new)) }
-    ensures given { HasGiven (R.ahead data_reader.old) (R.ahead data_reader.new) }
-    ensures drawn { HasGiven (Z.random_ahead random.old) (Z.random_ahead random.new) }
+    ensures given { PrefixIsRemoved (R.ahead data_reader.old) (R.ahead data_reader.new) }
+    ensures drawn { PrefixIsRemoved (Z.random_ahead random.old) (Z.random_ahead random.new) }
 {
     let digest = prehash(alloc, data_reader)?;
     let trusted = trusted_or_default(alloc, comments.trusted, comments.moment)?;
@@ -142,7 +142,7 @@ pub(crate) fn sign_data<S: Scheme, R: Source, Z: RandomSource>(
 }
 
 // Returns `RefusedByGivenKey` if a public key is given and does not accept the comment signature.
-fn test_given_key<S: Scheme>(
+fn check_given_key<S: Scheme>(
     alloc: Global,
     scheme: &S,
     pk: Option<&PublicKey>,
@@ -184,7 +184,7 @@ fn make_box<S: Scheme, Z: RandomSource>(
     ensures refused { IfErr result
         (λ e. ((e ≡ Named OutOfMemory) × (Z.random_faults random.new ≡ Z.random_faults random.old))
         ⊎ HasFailed RandomSourceFailed Z.random_faults random.old random.new e) }
-    ensures given { HasGiven (Z.random_ahead random.old) (Z.random_ahead random.new) }
+    ensures given { PrefixIsRemoved (Z.random_ahead random.old) (Z.random_ahead random.new) }
 {
     let secret = sk.keynum_sk.sk;
     let keynum = sk.keynum_sk.keynum;

@@ -2,7 +2,7 @@
 
 ghost use Rattle.std.specs.Prelude.{◌≡◌, false, None, Ok, string_bytes, IfOk, IfErr, OnOk, IfSome};
 ghost use Rattle.std.specs.Option.{option_map};
-ghost use Rattle.minisign_base.specs.Devices.{HasGiven};
+ghost use Rattle.minisign_base.specs.Devices.{PrefixIsRemoved};
 ghost use Rattle.minisign_base.specs.DeviceCalls.{prompt_call, random_call, source_call};
 ghost use Rattle.minisign.specs.Sealing.{is_encrypted};
 ghost use Rattle.minisign.specs.Signing.{OpenedSigningFails, given_comments, GivesKey, HasSignedDataText};
@@ -79,8 +79,8 @@ pub fn sign_texts<S: Scheme, P: Source, Q: Sink, R: Source, Z: RandomSource>(
 
     // The unread bytes of the source and of the random source are suffixes of those before the
     // call, whatever the result.
-    ensures given { HasGiven (R.ahead data_reader.old) (R.ahead data_reader.new) }
-    ensures drawn { HasGiven (Z.random_ahead random.old) (Z.random_ahead random.new) }
+    ensures given { PrefixIsRemoved (R.ahead data_reader.old) (R.ahead data_reader.new) }
+    ensures drawn { PrefixIsRemoved (Z.random_ahead random.old) (Z.random_ahead random.new) }
 {
     let sk = key_of_text(alloc, sk_text, password.as_deref(), prompt)?;
     let comments = GivenComments {
@@ -108,8 +108,8 @@ pub(crate) fn sign_opened<S: Scheme, R: Source, Z: RandomSource>(
     ensures refused { IfErr result
         (OpenedSigningFails (source_call R.Source data_reader.old data_reader.new)
         (random_call Z.RandomSource random.old random.new)) }
-    ensures given { HasGiven (R.ahead data_reader.old) (R.ahead data_reader.new) }
-    ensures drawn { HasGiven (Z.random_ahead random.old) (Z.random_ahead random.new) }
+    ensures given { PrefixIsRemoved (R.ahead data_reader.old) (R.ahead data_reader.new) }
+    ensures drawn { PrefixIsRemoved (Z.random_ahead random.old) (Z.random_ahead random.new) }
 {
     let signature_box = sign_data(alloc, scheme, sk, data_reader, comments, random)?;
     signature_box.to_string(alloc)

@@ -1,4 +1,5 @@
-//! Splits texts into lines, appends lines, and encodes and decodes base64.
+//! Splits texts into lines, appends lines, and encodes and decodes base64. Also states that the parsers agree
+//! with the grammars.
 
 ghost use Rattle.std.specs.Prelude.{◌≡◌, ℕ, ◌+◌, ◌≤◌, List, [], ◌∷◌, ◌++◌, length, false, Option};
 ghost use Rattle.std.specs.Prelude.{string_bytes, IfOk, IfErr, OnOk, IfSome, IfNone};
@@ -37,18 +38,18 @@ pub fn texts_are_decided()
     ensures secret_key_bytes { (bytes : List ℕ)
         → IsReading (ReadsSecretKey bytes) (read_secret_key_bytes bytes) }
 
-    // Given bytes begin with the record of one public key at most, and with the record of one signature at
-    // most.
+    // The bytes determine the record: no two public keys, and no two signatures, can be parsed from the same
+    // bytes.
     ensures public_key_bytes { (bytes : List ℕ) (k other : PublicKeyRecord)
         → ReadsPublicKey bytes k → ReadsPublicKey bytes other → k ≡ other }
     ensures signature_bytes { (bytes : List ℕ) (s other : SignatureRecord)
         → ReadsSignature bytes s → ReadsSignature bytes other → s ≡ other }
 
-    // A text decrypts under a password to a key exactly if it parses to a key that is encrypted with
-    // scrypt, the key's limits are allowed and within the bound, and the stream under the password restores
-    // its checksum. A text is accepted as an unencrypted key exactly if it parses to a key that was never
-    // encrypted and whose checksum matches. In both cases there is one key at most, and none if the
-    // function gives an error.
+    // A text decrypts under a password to a key exactly if it parses to a key that is encrypted with scrypt,
+    // the key's limits are allowed and within the bound, and its checksum matches after decryption with the
+    // stream that scrypt derives from the password. A text is accepted as an unencrypted key exactly if it
+    // parses to a key that was never encrypted and whose checksum matches. In both cases there is one key at
+    // most, and none if the function gives an error.
     ensures opened_key { (text password : List ℕ) (bound : Option ℕ)
         → IsReading (IsOpened text password bound) (open_key text password bound) }
     ensures unencrypted_key { (text : List ℕ)

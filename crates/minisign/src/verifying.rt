@@ -2,11 +2,12 @@
 
 ghost use Rattle.std.specs.Prelude.{◌≡◌, ◌↔◌, ℕ, Bool, List, true, false, ◌⊎◌, Ok, Err, IfOk, IfErr, OnOk};
 ghost use Rattle.std.specs.Prelude.{OnErr};
-ghost use Rattle.minisign_base.specs.Devices.{HasGiven};
+ghost use Rattle.minisign_base.specs.Devices.{PrefixIsRemoved};
 ghost use Rattle.minisign_base.specs.Fault.{Named};
 ghost use Rattle.minisign_base.specs.declared.faults.NamedFault.TheVariants.{GoingBackFailed, OutOfMemory};
-ghost use Rattle.minisign_base.specs.DeviceCalls.{IsWritingFault, Marks, Takes, TakesFront, rereader_call};
-ghost use Rattle.minisign_base.specs.DeviceCalls.{sink_call, unused};
+ghost use Rattle.minisign_base.specs.DeviceCalls.{IsWritingFault, Marks, SinkReceives, SinkReceivesPrefix};
+ghost use Rattle.minisign_base.specs.DeviceCalls.{rereader_call};
+ghost use Rattle.minisign_base.specs.DeviceCalls.{sink_call, no_sink};
 ghost use Rattle.minisign.specs.Records.{PublicKeyRecord, SignatureBoxRecord};
 ghost use Rattle.minisign.specs.Acceptance.{Verifier, Vouches, accepts_comments, options_of, judge};
 ghost use Rattle.minisign.specs.Acceptance.{judge_key, judged_parts, status_lines, judge_answers};
@@ -58,9 +59,9 @@ pub fn verify<S: Scheme, R: Rereader, W: Sink, O: Sink>(
     status: &mut W,
     out: &mut O,
 ) -> Result<()>
-    // If the source's bytes are known, no device fails and, if the data is copied, the source is steady,
-    // then the result is out of memory or exactly what the function `judge` gives for the public key, the
-    // signature box, the data and `allow_legacy`.
+    // Provided that the source's bytes are known, that no device fails and, if the data is copied, that the
+    // source is steady, the result is out of memory or exactly what the function `judge` gives for the public
+    // key, the signature box, the data and `allow_legacy`.
     ensures headline { IfNothingFails output (rereader_call R.Source R.steady data_reader.old
         data_reader.new) (sink_call W.Sink status.old status.new) (sink_call O.Sink out.old out.new) result
         (λ message. judge (S.accepts scheme.now) pk.now signature_box.now message allow_legacy) }
@@ -74,7 +75,7 @@ pub fn verify<S: Scheme, R: Rereader, W: Sink, O: Sink>(
     // prehashed signature.
     //
     // On success, `status` received exactly the status lines, or nothing with `quiet`, and was not flushed.
-    // Neither `status` nor `out` reported an error.
+    // Neither `status` nor `out` failed.
     //
     // On success with `output`, the signature box is valid for the bytes that `out` received, whatever a
     // second reading returned. These bytes have the digest of the verified data; for a legacy signature
@@ -106,8 +107,8 @@ pub fn verify<S: Scheme, R: Rereader, W: Sink, O: Sink>(
     // `going back failed` is returned only if marking fails, before anything is read, or if going back
     // fails, before anything is copied. The source's error count rose, and no place is marked.
     //
-    // `reading failed` is returned only if the source's error count rose at a read. A mark is kept, but
-    // nothing is promised about what going back would return.
+    // `reading failed` is returned only if the source's error count rose during a read. If a mark was set, it
+    // stays set, but nothing is promised about the bytes that going back to it restores.
     //
     // `writing failed` is returned for `status` only if its error count rose, only for a valid signature,
     // and never with `quiet`. `status` has received a prefix of its lines, and `out` is unchanged.
@@ -132,12 +133,13 @@ pub fn verify<S: Scheme, R: Rereader, W: Sink, O: Sink>(
 
     // After an error, `status` has received a prefix of the status lines, which may be empty.
     ensures said_front { OnErr result
-        (TakesFront (sink_call W.Sink status.old status.new) (status_unless_quiet quiet signature_box.now)) }
+        (SinkReceivesPrefix (sink_call W.Sink status.old status.new)
+        (status_unless_quiet quiet signature_box.now)) }
 
     // Except with `output` for a prehashed signature, the unread bytes of `data_reader` are a suffix
     // of those before the call, whatever the result.
     ensures given { is_reread output signature_box.now ≡ false
-        → HasGiven (R.ahead data_reader.old) (R.ahead data_reader.new) }
+        → PrefixIsRemoved (R.ahead data_reader.old) (R.ahead data_reader.new) }
 
     // With `quiet`, `status` is unchanged.
     ensures quiet { quiet ≡ true → status.new ≡ status.old }
@@ -196,12 +198,12 @@ fn read_data<R: Rereader>(
     allow_legacy: bool,
 ) -> Result<SignedData>
     ensures held { IfOk result (λ d. (message : List ℕ) × HoldsSigned d signature_box.now allow_legacy message
-        × StagesEnd (rereader_call R.Source R.steady data_reader.old data_reader.new) unused unused
+        × StagesEnd (rereader_call R.Source R.steady data_reader.old data_reader.new) no_sink no_sink
         (reading_stages (is_reread output signature_box.now) message) (Ok tt)) }
     ensures refused { IfErr result (λ e. (message : List ℕ)
-        × StagesEnd (rereader_call R.Source R.steady data_reader.old data_reader.new) unused unused
+        × StagesEnd (rereader_call R.Source R.steady data_reader.old data_reader.new) no_sink no_sink
         (reading_stages (is_reread output signature_box.now) message) (Err e)) }
-    ensures given { HasGiven (R.ahead data_reader.old) (R.ahead data_reader.new) }
+    ensures given { PrefixIsRemoved (R.ahead data_reader.old) (R.ahead data_reader.new) }
 {
     mark_place(data_reader, reads_again(signature_box, output))?;
     read_signed_data(alloc, signature_box, data_reader, allow_legacy)
@@ -264,7 +266,7 @@ fn say<W: Sink>(
     signature_box: &SignatureBox,
     quiet: bool,
 ) -> Result<()>
-    ensures said { OnOk result (Takes (sink_call W.Sink status.old status.new)
+    ensures said { OnOk result (SinkReceives (sink_call W.Sink status.old status.new)
         (status_unless_quiet quiet signature_box.now)) }
     ensures no_new_fault { OnOk result (W.sink_faults status.new ≡ W.sink_faults status.old) }
     ensures quiet { quiet ≡ true → status.new ≡ status.old }
@@ -273,7 +275,8 @@ fn say<W: Sink>(
         ⊎ IsWritingFault (sink_call W.Sink status.old status.new) e)) }
     ensures unflushed { W.flushed status.new ≡ W.flushed status.old }
     ensures front { OnErr result
-        (TakesFront (sink_call W.Sink status.old status.new) (status_unless_quiet quiet signature_box.now)) }
+        (SinkReceivesPrefix (sink_call W.Sink status.old status.new)
+        (status_unless_quiet quiet signature_box.now)) }
 {
     if quiet {
         return Ok(());
@@ -284,14 +287,14 @@ fn say<W: Sink>(
 // Writes the status lines in one write.
 #[tactic(auto, unfolding(crate::specs::Acceptance::verified_text, crate::specs::Acceptance::trusted_comment_text))]
 fn say_lines<W: Sink>(alloc: Global, status: &mut W, signature_box: &SignatureBox) -> Result<()>
-    ensures said { OnOk result (Takes (sink_call W.Sink status.old status.new)
+    ensures said { OnOk result (SinkReceives (sink_call W.Sink status.old status.new)
         (status_lines signature_box.now)) }
     ensures no_new_fault { OnOk result (W.sink_faults status.new ≡ W.sink_faults status.old) }
     ensures refused { IfErr result (λ e. ((e ≡ Named OutOfMemory) × (status.new ≡ status.old))
         ⊎ IsWritingFault (sink_call W.Sink status.old status.new) e) }
     ensures unflushed { W.flushed status.new ≡ W.flushed status.old }
     ensures front { OnErr result
-        (TakesFront (sink_call W.Sink status.old status.new) (status_lines signature_box.now)) }
+        (SinkReceivesPrefix (sink_call W.Sink status.old status.new) (status_lines signature_box.now)) }
 {
     match &signature_box.comments {
         Some(comments) => put_line(

@@ -1,8 +1,8 @@
 //! Verifies data with the texts of a public key and a signature.
 
 ghost use Rattle.std.specs.Prelude.{◌≡◌, ◌⊎◌, true, false, Ok, IfErr, OnOk, OnErr};
-ghost use Rattle.minisign_base.specs.Devices.{HasGiven};
-ghost use Rattle.minisign_base.specs.DeviceCalls.{TakesFront, rereader_call, sink_call};
+ghost use Rattle.minisign_base.specs.Devices.{PrefixIsRemoved};
+ghost use Rattle.minisign_base.specs.DeviceCalls.{SinkReceivesPrefix, rereader_call, sink_call};
 ghost use Rattle.minisign.specs.Acceptance.{options_of};
 ghost use Rattle.minisign.specs.Records.{PublicKeyRecord, SignatureBoxRecord};
 ghost use Rattle.minisign.specs.Verifying.{status_unless_quiet, VerifyingTextsFails, VerifyingTextsSucceeds};
@@ -38,10 +38,10 @@ pub fn verify_texts<S: Scheme, R: Rereader, W: Sink, O: Sink>(
     status: &mut W,
     out: &mut O,
 ) -> Result<()>
-    // If the source's bytes are known, no device fails and, if the data is copied, the source is steady,
-    // then the result is out of memory or exactly the verdict: success if the signature is valid for the
-    // data under the public key, and otherwise the first check that fails. The verdict is a function of the
-    // two texts, the data and `allow_legacy`.
+    // Provided that the source's bytes are known, that no device fails and, if the data is copied, that the
+    // source is steady, the result is out of memory or exactly the verdict: success if the signature is valid
+    // for the data under the public key, and otherwise the first check that fails. The verdict is a function
+    // of the two texts, the data and `allow_legacy`.
     ensures headline { IfNothingFails output (rereader_call R.Source R.steady data_reader.old
         data_reader.new) (sink_call W.Sink status.old status.new) (sink_call O.Sink out.old out.new) result
         (λ bytes. map_ok (λ _. tt)
@@ -71,11 +71,12 @@ pub fn verify_texts<S: Scheme, R: Rereader, W: Sink, O: Sink>(
     // After an error, `status` is unchanged or has received a prefix of the status lines.
     ensures said_front { OnErr result ((status.new ≡ status.old) ⊎
         ((key : PublicKeyRecord) × (box : SignatureBoxRecord) × (read_texts pk_text.now sig_text.now
-        ≡ Ok (key, box)) × TakesFront (sink_call W.Sink status.old status.new) (status_unless_quiet quiet
+        ≡ Ok (key, box)) × SinkReceivesPrefix (sink_call W.Sink status.old status.new)
+        (status_unless_quiet quiet
         box))) }
 
     // Without `output`, the unread bytes of `data_reader` are a suffix of those before the call.
-    ensures given { output ≡ false → HasGiven (R.ahead data_reader.old) (R.ahead data_reader.new) }
+    ensures given { output ≡ false → PrefixIsRemoved (R.ahead data_reader.old) (R.ahead data_reader.new) }
 
     // With `quiet`, `status` is unchanged.
     ensures quiet { quiet ≡ true → status.new ≡ status.old }

@@ -28,7 +28,7 @@ pub column-changed : (i j : ℕ) (xs : List ℕ) (b : ℕ) → length xs ≡ j �
 column-changed i j xs b len e = column-append i 0 xs b ∙ ap (λ t. bit_xor (column i 0 xs) (cond t b 0))
     (eq-eqb ((0 + length xs) % 32) i (ap (λ k. k % 32) (zero-add (length xs)) ∙ ap (λ k. k % 32) len ∙ e))
 
--- It does not change the other columns.
+-- An appended byte does not change the other columns.
 pub column-kept : (i j : ℕ) (xs : List ℕ) (b : ℕ) → length xs ≡ j → j % 32 ≢ i → column i 0 (xs ++ b ∷ [])
     ≡ column i 0 xs
 column-kept i j xs b len ne =

@@ -24,7 +24,7 @@ consumed_front None b done c = ([], tt, tt)
 consumed_front (Some xs) None done c = absurd c
 consumed_front (Some xs) (Some ys) done c = (ys, c, refl)
 
--- At the end none is left.
+-- At the end of the input, no bytes are left: the bytes of the reader are those that were read.
 pub consumed_all : (a b : Option (List ℕ)) (done : List ℕ) → Consumes a b done → IsAtEnd b
     → IfSome a (λ xs. xs ≡ done) × IfSome a (λ _. b ≡ Some [])
 consumed_all None b done c e = (tt, tt)

@@ -2,8 +2,9 @@
 -- its trait, as one value; and relations on such values.
 use Rattle.std.specs.Prelude.{◌≡◌, ⊤, ℕ, List, None, Result, MatchResult}
 use Rattle.std.specs.Io.KnownBytes.{Appends}
-use Rattle.minisign_base.specs.Devices.{AppendsFront, HasFlushed, HasGiven, HasGoneBack, HasMarked, Rose}
-use Rattle.minisign_base.specs.Devices.{SameWhereKnown}
+use Rattle.minisign_base.specs.Devices.{AppendsPrefix, HasFlushed, PrefixIsRemoved, HasGoneBack, HasMarked}
+use Rattle.minisign_base.specs.Devices.{ErrorCountRises}
+use Rattle.minisign_base.specs.Devices.{EqualIfSecondKnown}
 use Rattle.minisign_base.specs.Fault.{Fault, Named}
 use Rattle.minisign_base.specs.declared.faults.NamedFault.TheVariants.{WritingFailed}
 use Rattle.minisign_base.specs.Members.{RandomOf, SinkOf, SourceOf}
@@ -35,15 +36,15 @@ IsSteady reader = reader.steady reader.old
 
 -- The source failed: its error count rose, or is at its greatest value.
 abbrev pub SourceFails : {R : Type 0} → RereaderCall R → Type 0
-SourceFails reader = Rose (reader.source.faults reader.old) (reader.source.faults reader.new)
+SourceFails reader = ErrorCountRises (reader.source.faults reader.old) (reader.source.faults reader.new)
 
 -- The source did not fail.
 abbrev pub SourceHasNoNewFault : {R : Type 0} → RereaderCall R → Type 0
 SourceHasNoNewFault reader = reader.source.faults reader.new ≡ reader.source.faults reader.old
 
 -- A prefix of the unread bytes was returned, which may be empty or all of them.
-abbrev pub SourceGives : {R : Type 0} → RereaderCall R → Type 0
-SourceGives reader = HasGiven (reader.source.ahead reader.old) (reader.source.ahead reader.new)
+abbrev pub SourceReturnsPrefix : {R : Type 0} → RereaderCall R → Type 0
+SourceReturnsPrefix reader = PrefixIsRemoved (reader.source.ahead reader.old) (reader.source.ahead reader.new)
 
 -- A call that marks the place, and a call that goes back to it.
 abbrev pub Marks : {R : Type 0} → RereaderCall R → Result ⊤ ⊤ → Type 0
@@ -58,38 +59,38 @@ GoesBack r answer =
 
 -- The sink failed: its error count rose, or is at its greatest value.
 abbrev pub SinkFails : {W : Type 0} → SinkCall W → Type 0
-SinkFails out = Rose (out.sink.sink_faults out.old) (out.sink.sink_faults out.new)
+SinkFails out = ErrorCountRises (out.sink.sink_faults out.old) (out.sink.sink_faults out.new)
 
 -- The sink did not fail.
 abbrev pub SinkHasNoNewFault : {W : Type 0} → SinkCall W → Type 0
 SinkHasNoNewFault out = out.sink.sink_faults out.new ≡ out.sink.sink_faults out.old
 
 -- The sink received these bytes. If its bytes are not known, this says nothing.
-abbrev pub Takes : {W : Type 0} → SinkCall W → List ℕ → Type 0
-Takes out bytes = Appends (out.sink.taken out.old) (out.sink.taken out.new) bytes
+abbrev pub SinkReceives : {W : Type 0} → SinkCall W → List ℕ → Type 0
+SinkReceives out bytes = Appends (out.sink.taken out.old) (out.sink.taken out.new) bytes
 
 -- The sink received a prefix of these bytes.
-abbrev pub TakesFront : {W : Type 0} → SinkCall W → List ℕ → Type 0
-TakesFront out bytes = AppendsFront (out.sink.taken out.old) (out.sink.taken out.new) bytes
+abbrev pub SinkReceivesPrefix : {W : Type 0} → SinkCall W → List ℕ → Type 0
+SinkReceivesPrefix out bytes = AppendsPrefix (out.sink.taken out.old) (out.sink.taken out.new) bytes
 
 -- The sink flushed all that it received. If it is not known what was flushed, this says nothing.
 abbrev pub IsFlushed : {W : Type 0} → SinkCall W → Type 0
-IsFlushed out = SameWhereKnown (out.sink.taken out.new) (out.sink.flushed out.new)
+IsFlushed out = EqualIfSecondKnown (out.sink.taken out.new) (out.sink.flushed out.new)
 
 -- The sink received all of a part and flushed it, without an error.
-pub record TakesPart {W : Type 0} (out : SinkCall W) (part : List ℕ) : Type 0 where
-  pub bytes : Takes out part
+pub record SinkCompletesPart {W : Type 0} (out : SinkCall W) (part : List ℕ) : Type 0 where
+  pub bytes : SinkReceives out part
   pub flushed : IsFlushed out
   pub no_new_fault : SinkHasNoNewFault out
 
 -- The sink received a prefix of a part, and failed at a write or at the flush.
-pub record FailsAtPart {W : Type 0} (out : SinkCall W) (part : List ℕ) : Type 0 where
-  pub front : TakesFront out part
+pub record SinkFailsAtPart {W : Type 0} (out : SinkCall W) (part : List ℕ) : Type 0 where
+  pub front : SinkReceivesPrefix out part
   pub rose : SinkFails out
 
 -- The sink flushed nothing.
-abbrev pub IsUnflushed : {W : Type 0} → SinkCall W → Type 0
-IsUnflushed out = out.sink.flushed out.new ≡ out.sink.flushed out.old
+abbrev pub FlushesNothing : {W : Type 0} → SinkCall W → Type 0
+FlushesNothing out = out.sink.flushed out.new ≡ out.sink.flushed out.old
 
 -- A call that flushes.
 abbrev pub Flushes : {O : Type 0} → SinkCall O → Result ⊤ ⊤ → Type 0
@@ -101,15 +102,15 @@ IsWritingFault sink e = (e ≡ Named WritingFailed) × SinkFails sink
 
 -- Bytes are written to a sink and not flushed. On success it received all of them, and after an
 -- error a prefix.
-abbrev pub Puts : {W : Type 0} → SinkCall W → List ℕ → Result ⊤ Fault → Type 0
-Puts out bytes answer =
-    MatchResult answer (λ _. Takes out bytes × SinkHasNoNewFault out)
-    (λ e. IsWritingFault out e × TakesFront out bytes)
-    × IsUnflushed out
+abbrev pub WritesBytes : {W : Type 0} → SinkCall W → List ℕ → Result ⊤ Fault → Type 0
+WritesBytes out bytes answer =
+    MatchResult answer (λ _. SinkReceives out bytes × SinkHasNoNewFault out)
+    (λ e. IsWritingFault out e × SinkReceivesPrefix out bytes)
+    × FlushesNothing out
 
 -- A call on a sink that is not used.
-abbrev pub unused : SinkCall ⊤
-unused =
+abbrev pub no_sink : SinkCall ⊤
+no_sink =
     record {
       sink = record { taken = λ _. None; flushed = λ _. None; sink_faults = λ _. 0 };
       old = tt;

@@ -4,9 +4,10 @@
 use Rattle.std.specs.Prelude.{◌≡◌, ⊤, ℕ, ◌+◌, ◌<◌, List, [], ◌∷◌, ◌++◌, length, take, drop, Option, Some}
 use Rattle.std.specs.Prelude.{IfSome, Result, codes}
 use Rattle.std.specs.Result.{result_err}
-use Rattle.minisign_base.specs.Devices.{Rose}
+use Rattle.minisign_base.specs.Devices.{ErrorCountRises}
 use Rattle.minisign_base.specs.Fault.{Fault}
-use Rattle.minisign_base.specs.DeviceCalls.{FailsAtPart, PromptCall, SourceCall, TakesPart, reader_of}
+use Rattle.minisign_base.specs.DeviceCalls.{SinkFailsAtPart, PromptCall, SourceCall, SinkCompletesPart}
+use Rattle.minisign_base.specs.DeviceCalls.{reader_of}
 use Rattle.minisign_base.specs.DeviceCalls.{writer_of}
 use Rattle.minisign_base.specs.Passwords.{password_of, read_count, typed_password}
 use Rattle.minisign_base.specs.Steps.{EndsWith, StepsEnd}
@@ -29,7 +30,7 @@ pub record HasReadLine {R : Type 0} (r : SourceCall R) (bytes : List ℕ) : Type
 -- The reader failed within the line. Fewer than 1026 bytes were read, as far as the bytes are
 -- known.
 pub record HasFailedInLine {R : Type 0} (r : SourceCall R) : Type 0 where
-  pub fault : Rose (r.source.faults r.old) (r.source.faults r.new)
+  pub fault : ErrorCountRises (r.source.faults r.old) (r.source.faults r.new)
   pub given : IfSome (r.source.ahead r.new) (λ ys. IfSome (r.source.ahead r.old) (λ xs.
       (front : List ℕ) × (xs ≡ front ++ ys) × (length front < 1026)))
 
@@ -38,7 +39,7 @@ pub record HasFailedInLine {R : Type 0} (r : SourceCall R) : Type 0 where
 pub data Step : Type 0 where
   Allocate : Step
   Say : List ℕ → Step
-  Hear : List ℕ → Step
+  ReadLine : List ℕ → Step
   Test : Option Fault → Step
 
 -- The end of a step: its result and its effect on the prompt. Writing a text reads nothing, and reading
@@ -46,9 +47,9 @@ pub data Step : Type 0 where
 abbrev pub StepEnds : {R W : Type 0} → PromptCall R W → Step → Result ⊤ Fault → Type 0
 StepEnds p Allocate answer = EndsWith ⊤ OutOfMemory ⊤ answer × (p.new ≡ p.old)
 StepEnds p (Say text) answer =
-    EndsWith (TakesPart (writer_of p) text) WritingFailed (FailsAtPart (writer_of p) text) answer
+    EndsWith (SinkCompletesPart (writer_of p) text) WritingFailed (SinkFailsAtPart (writer_of p) text) answer
     × (p.new.reader ≡ p.old.reader)
-StepEnds p (Hear bytes) answer =
+StepEnds p (ReadLine bytes) answer =
     EndsWith (HasReadLine (reader_of p) bytes) ReadingFailed (HasFailedInLine (reader_of p)) answer
     × (p.new.writer ≡ p.old.writer)
 StepEnds p (Test refusal) answer = (refusal ≡ result_err answer) × (p.new ≡ p.old)
@@ -67,7 +68,7 @@ marking_steps (b ∷ password) = []
 -- bytes.
 abbrev pub asking_steps : List ℕ → List ℕ → List Step
 asking_steps text bytes =
-    Allocate ∷ Say text ∷ Hear bytes ∷ Test (result_err (password_of bytes))
+    Allocate ∷ Say text ∷ ReadLine bytes ∷ Test (result_err (password_of bytes))
     ∷ marking_steps (typed_password bytes)
 
 -- All that the steps of a conversation write.
@@ -75,5 +76,5 @@ abbrev pub written : List Step → List ℕ
 written [] = []
 written (Allocate ∷ later) = written later
 written (Say text ∷ later) = text ++ written later
-written (Hear bytes ∷ later) = written later
+written (ReadLine bytes ∷ later) = written later
 written (Test refusal ∷ later) = written later

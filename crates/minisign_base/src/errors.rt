@@ -1,7 +1,7 @@
 //! Errors: a kind and a text, and the conversions from the errors of std, of key derivation and of base64.
 
 ghost use Rattle.std.specs.Prelude.{◌≡◌, Some, string_bytes};
-ghost use Rattle.minisign_base.specs.Fault.{Named, Worded, kind_of, name_of, text_of};
+ghost use Rattle.minisign_base.specs.Fault.{Named, Custom, kind_of, name_of, text_of};
 ghost use Rattle.minisign_base.specs.declared.faults.NamedFault.TheVariants.{OutOfMemory};
 ghost use Rattle.minisign_base.specs.declared.faults.NamedFault.TheVariants.{InputOrOutputFailed};
 ghost use Rattle.minisign_base.specs.declared.faults.NamedFault.TheVariants.{FormattingFailed, InvalidUtf8};
@@ -55,12 +55,13 @@ pub struct PError {
 /// A value or an error.
 pub type Result<T> = std::result::Result<T, PError>;
 
-// The representation of an error: `Fixed` has a constant text, `Made` an allocated one.
+// The representation of an error: a named one, or a kind with a constant text (`StaticText`) or an allocated
+// one (`OwnedText`).
 #[derive(Debug, Drop)]
 enum Meaning {
     Named(NamedFault),
-    Fixed(ErrorKind, &'static str),
-    Made(ErrorKind, String),
+    StaticText(ErrorKind, &'static str),
+    OwnedText(ErrorKind, String),
 }
 
 impl Model for PError {
@@ -74,19 +75,19 @@ impl Model for PError {
 impl PError {
     /// Returns an error with this kind and text.
     pub fn new(kind: ErrorKind, text: String) -> PError
-        ensures { result ≡ Worded kind (string_bytes text) }
+        ensures { result ≡ Custom kind (string_bytes text) }
     {
         PError {
-            meaning: Meaning::Made(kind, text),
+            meaning: Meaning::OwnedText(kind, text),
         }
     }
 
     /// Returns an error with this kind and a constant text. Does not allocate.
     pub fn fixed(kind: ErrorKind, text: &'static str) -> PError
-        ensures { result ≡ Worded kind text.now }
+        ensures { result ≡ Custom kind text.now }
     {
         PError {
-            meaning: Meaning::Fixed(kind, text),
+            meaning: Meaning::StaticText(kind, text),
         }
     }
 
@@ -108,8 +109,8 @@ impl PError {
     {
         match &self.meaning {
             Meaning::Named(fault) => fault.text(room),
-            Meaning::Fixed(_, text) => text.as_bytes(),
-            Meaning::Made(_, text) => text.as_bytes(),
+            Meaning::StaticText(_, text) => text.as_bytes(),
+            Meaning::OwnedText(_, text) => text.as_bytes(),
         }
     }
 
@@ -119,8 +120,8 @@ impl PError {
     {
         match &self.meaning {
             Meaning::Named(fault) => fault.kind(),
-            Meaning::Fixed(kind, _) => kind,
-            Meaning::Made(kind, _) => kind,
+            Meaning::StaticText(kind, _) => kind,
+            Meaning::OwnedText(kind, _) => kind,
         }
     }
 }
@@ -132,8 +133,8 @@ impl fmt::Display for PError {
     fn fmt<W: fmt::Write>(&self, f: &mut fmt::Formatter<W>) -> fmt::Result {
         match &self.meaning {
             Meaning::Named(fault) => fault.fmt(f),
-            Meaning::Fixed(_, text) => f.write_str(text),
-            Meaning::Made(_, text) => f.write_str(text.as_str()),
+            Meaning::StaticText(_, text) => f.write_str(text),
+            Meaning::OwnedText(_, text) => f.write_str(text.as_str()),
         }
     }
 }

@@ -53,15 +53,15 @@ pub fn joined<'a>(
     requires { length first.now + length second.now + length third.now + length fourth.now ≤ length room.old }
     ensures { result.now ≡ first.now ++ (second.now ++ (third.now ++ fourth.now)) }
 {
-    let end = put_at(room, 0, first);
-    let end = put_at(room, end, second);
-    let end = put_at(room, end, third);
-    let end = put_at(room, end, fourth);
+    let end = copy_at(room, 0, first);
+    let end = copy_at(room, end, second);
+    let end = copy_at(room, end, third);
+    let end = copy_at(room, end, fourth);
     &room[..end]
 }
 
 // Copies `piece` to `room` from index `at` on, and returns the index after it.
-fn put_at(room: &mut [u8], at: usize, piece: &[u8]) -> usize
+fn copy_at(room: &mut [u8], at: usize, piece: &[u8]) -> usize
     requires { at + length piece.now ≤ length room.old }
     ensures end { result ≡ at + length piece.now }
     ensures len { length room.new ≡ length room.old }
@@ -85,17 +85,16 @@ pub fn get_password<R: Source, W: Sink>(
     prompt: &mut Prompt<R, W>,
     text: &str,
 ) -> Result<String>
-    // On success, the result is the password in the first line of the unread bytes, as
-    // `specs/Passwords` defines it. The text was written and flushed, and after it the mark of an
-    // empty password if the password is empty. No more than the line was read, and no device
-    // failed.
+    // On success, the result is the password in the first line of the unread bytes, as `specs/Passwords`
+    // defines it. The text was written and flushed, followed by `<empty>` and a line feed if the password is
+    // empty. No more than the line was read, and no device failed.
     ensures asked { IfOk result (λ password. (bytes : List ℕ) × (password_of bytes
         ≡ Ok (string_bytes password)) × ConversationEnds (prompt_call R.Source W.Sink prompt.old prompt.new)
         (asking_steps text.now bytes) (Ok tt)) }
 
-    // An error comes from the first of these steps that failed: an allocation, with nothing written or
-    // read; writing the text, with nothing read; reading the line, after the text was flushed; checking
-    // that the line holds a password; or writing the mark of an empty password.
+    // An error comes from the first of these steps that failed: an allocation, with nothing written or read;
+    // writing the text, with nothing read; reading the line, after the text was flushed; checking that the
+    // line is a password; or writing `<empty>` for an empty password.
     ensures refused { IfErr result (λ e. (bytes : List ℕ)
         × ConversationEnds (prompt_call R.Source W.Sink prompt.old prompt.new)
         (asking_steps text.now bytes) (Err e)) }

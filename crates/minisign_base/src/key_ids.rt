@@ -30,7 +30,7 @@ impl fmt::Display for KeyId {
     }
 }
 
-// Returns the last 16 hexadecimal digits of a number, with leading zeros.
+// Returns the 16 hexadecimal digits of a number, with leading zeros.
 fn sixteen_digits(number: u64) -> [u8; 16]
     ensures { result ≡ last_digits 16 number [] }
 {

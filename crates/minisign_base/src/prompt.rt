@@ -4,8 +4,8 @@ ghost use Rattle.std.specs.Prelude.{◌≡◌, ◌⊎◌, ℕ, ◌+◌, ◌≤�
 ghost use Rattle.std.specs.Prelude.{OnOk, OnErr, MatchOption, MatchResult, string_bytes};
 ghost use Rattle.std.specs.Io.KnownBytes.{Appends, Consumes, IsAtEnd};
 ghost use Rattle.std.specs.Str.Lines.{strip_carriage_return};
-ghost use Rattle.minisign_base.specs.Devices.{AppendsFront, Rose, SameWhereKnown};
-ghost use Rattle.minisign_base.specs.DeviceCalls.{FailsAtPart, TakesPart, prompt_call, sink_call};
+ghost use Rattle.minisign_base.specs.Devices.{AppendsPrefix, ErrorCountRises, EqualIfSecondKnown};
+ghost use Rattle.minisign_base.specs.DeviceCalls.{SinkFailsAtPart, SinkCompletesPart, prompt_call, sink_call};
 ghost use Rattle.minisign_base.specs.DeviceCalls.{source_call};
 ghost use Rattle.minisign_base.specs.Fault.{Fault, Named};
 ghost use Rattle.minisign_base.specs.declared.faults.NamedFault.TheVariants.{EndOfInput, ReadingFailed};
@@ -36,7 +36,7 @@ pub struct Prompt<R, W> {
 }
 
 impl<R: Source, W: Sink> Prompt<R, W> {
-    /// Returns a prompt with this reader and writer, and uses neither of them.
+    /// Returns a prompt that uses this reader and writer. Nothing is read or written yet.
     pub fn new(reader: R, writer: W) -> Prompt<R, W>
         ensures { result ≡ record { reader = reader; writer = writer } }
     {
@@ -108,9 +108,9 @@ impl Prompt<NoSource, NoSink> {
 }
 
 fn put_text<W: Sink>(writer: &mut W, text: &str) -> Result<()>
-    ensures taken { OnOk result (TakesPart (sink_call W.Sink writer.old writer.new) text.now) }
+    ensures taken { OnOk result (SinkCompletesPart (sink_call W.Sink writer.old writer.new) text.now) }
     ensures failed { IfErr result (λ e. (e ≡ Named WritingFailed)
-        × FailsAtPart (sink_call W.Sink writer.old writer.new) text.now) }
+        × SinkFailsAtPart (sink_call W.Sink writer.old writer.new) text.now) }
 {
     match put_and_flush(writer, text.as_bytes()) {
         Ok(()) => Ok(()),
@@ -150,8 +150,8 @@ fn next_byte<R: Source>(source: &mut R) -> Result<Option<u8>>
         (R.ahead source.old) (R.ahead source.new) (b ∷ []) × (R.left source.new + 1 ≡ R.left source.old))) }
     ensures no_new_fault { OnOk result (R.faults source.new ≡ R.faults source.old) }
     ensures refused { IfErr result
-        (λ e. (e ≡ Named ReadingFailed) × Rose (R.faults source.old) (R.faults source.new)) }
-    ensures unchanged { OnErr result (SameWhereKnown (R.ahead source.old) (R.ahead source.new)) }
+        (λ e. (e ≡ Named ReadingFailed) × ErrorCountRises (R.faults source.old) (R.faults source.new)) }
+    ensures unchanged { OnErr result (EqualIfSecondKnown (R.ahead source.old) (R.ahead source.new)) }
 {
     let mut byte = [0u8; 1];
     match source.read(&mut byte) {
@@ -165,7 +165,8 @@ fn next_byte<R: Source>(source: &mut R) -> Result<Option<u8>>
 /// does nothing, and exists only for its contract.
 pub fn conversations_are_written<R: Source, W: Sink>()
     // If all steps of a conversation succeeded, the writer received everything that they write, without an
-    // error. If the conversation stopped with an error, the writer received a prefix of that.
+    // error. If the conversation stopped with an error, the writer received a prefix of what all its steps
+    // write.
     ensures taken { (old new : Prompt R W) (steps : List Step)
         → ConversationEnds (prompt_call R.Source W.Sink old new) steps (Ok tt)
         → Appends (W.taken old.writer) (W.taken new.writer) (written steps) }
@@ -174,7 +175,7 @@ pub fn conversations_are_written<R: Source, W: Sink>()
         → W.sink_faults new.writer ≡ W.sink_faults old.writer }
     ensures front { (old new : Prompt R W) (steps : List Step) (e : Fault)
         → ConversationEnds (prompt_call R.Source W.Sink old new) steps (Err e)
-        → AppendsFront (W.taken old.writer) (W.taken new.writer) (written steps) }
+        → AppendsPrefix (W.taken old.writer) (W.taken new.writer) (written steps) }
 {}
 
 // Returns the length of a line without one carriage return at its end.

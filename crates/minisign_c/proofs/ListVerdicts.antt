@@ -15,7 +15,7 @@ use Rattle.minisign_external.specs.Numbers.{fault_number, is_answer, misuse_numb
 use Rattle.minisign_external.specs.PublicKeys.{is_public_key, read_utf8, value_of}
 use Rattle.minisign_external.specs.Questions.{Answers, HoldsMessage, read_under}
 use Rattle.minisign_external.specs.States.{AreQuestions, asked_under, questions_of}
-use Rattle.minisign_external.specs.StrictCalls.{asked_number, asked_strictly, is_strict_text, number_with}
+use Rattle.minisign_external.specs.StrictCalls.{asked_number, asked_strictly, is_strict_text, number_with_key}
 use Rattle.minisign_external.specs.StrictCalls.{strict}
 use Rattle.minisign_external.specs.StrictCalls.{strict_read}
 use Rattle.minisign_external.specs.declared.public_keys.PublicKeyValue.{PublicKeyValue}
@@ -32,7 +32,7 @@ use Rattle.minisign_lists.specs.declared.faults.ListFault.TheVariants.{BadName, 
 use Rattle.minisign_lists.specs.declared.faults.ListFault.TheVariants.{ListedTwice, MalformedLine, NotListed}
 use Rattle.minisign_lists.specs.declared.faults.ListFault.TheVariants.{OtherList}
 use Rattle.minisign_lists.specs.declared.lines.LongDigest.{LongDigest}
-use Rattle.minisign_lists.specs.Faults.{and_then, list_number, of_library}
+use Rattle.minisign_lists.specs.Faults.{and_then, list_number, wrap_library_error}
 use Rattle.minisign_lists.specs.Lines.{Entry}
 use Rattle.minisign_lists.specs.Lists.{listed_entry}
 use Rattle.minisign_lists.specs.Values.{found_entry, go_on, judged_list, list_verdict_under, of_lists}
@@ -109,7 +109,7 @@ module _ (accepts : Verifier) (v : PublicKeyValue) (sig_text text : List ℕ) (n
       ≡ strict_read v (read_under v false sig_text) (list_verdict_number strict_list)
   strict_list_number t read h = sym (ap (λ r. strict_read v r (list_verdict_number strict_list)) read
       ∙ chosen (is_strict_text v t) (list_verdict_number strict_list) h
-      ∙ ap (λ r. list_verdict_number (and_then (of_library r)
+      ∙ ap (λ r. list_verdict_number (and_then (wrap_library_error r)
       (λ comment. and_then (check_list_name name comment) (λ _. Ok comment))))
       (strict_same accepts v sig_text text t read h))
 
@@ -298,7 +298,7 @@ strict_zero false r h = sym (h refl)
 
 not_listed : (r : Result (List ℕ) Fault) (more : List ℕ → Result (List ℕ) ListFault)
     (rest : List ℕ → Result (List ℕ) (Refusal ListFault)) → is_ok r ≡ false
-    → is_ok (go_on (of_lists (and_then (of_library r) more)) rest) ≡ false
+    → is_ok (go_on (of_lists (and_then (wrap_library_error r) more)) rest) ≡ false
 not_listed (Ok c) more rest h = cc h
 not_listed (Err e) more rest h = refl
 
@@ -318,7 +318,7 @@ module _ (accepts : Verifier) (v : PublicKeyValue) (sig_text : List ℕ) (x : Lo
 -- The number is 0 exactly if the scheme that also rejects weak keys and signatures gives a verdict.
 pub accepted_listed : (accepts : Verifier) (sig_text : List ℕ) (x : Lookup) (m : List ℕ)
     (key : Result PublicKeyRecord Fault)
-    → (number_with key (λ k. strict_listed_number accepts (value_of k) sig_text x m) == 0)
+    → (number_with_key key (λ k. strict_listed_number accepts (value_of k) sig_text x m) == 0)
     ≡ is_ok (listed_with (strict accepts) key sig_text x m)
 accepted_listed accepts sig_text x m (Ok k) = accepted_list accepts (value_of k) sig_text x m
 accepted_listed accepts sig_text x m (Err e) = some_number (fault_number e) (positive e)

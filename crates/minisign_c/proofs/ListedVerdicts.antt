@@ -10,11 +10,11 @@ use Rattle.minisign.specs.Records.{PublicKeyRecord}
 use Rattle.minisign.specs.SignatureText.{SignatureTextRecord, box_of, read_signature}
 use Rattle.minisign.specs.Texts as texts
 use Rattle.minisign_external.specs.PublicKeys.{key_of, read_utf8, value_of}
-use Rattle.minisign_external.specs.StrictCalls.{number_with, strict}
+use Rattle.minisign_external.specs.StrictCalls.{number_with_key, strict}
 use Rattle.minisign_external.specs.declared.state.Refusal.{Refusal}
 use Rattle.minisign_lists.specs.declared.faults.ListFault.{ListFault}
 use Rattle.minisign_lists.specs.declared.lines.LongDigest.{LongDigest}
-use Rattle.minisign_lists.specs.Faults.{and_then, of_library}
+use Rattle.minisign_lists.specs.Faults.{and_then, wrap_library_error}
 use Rattle.minisign_lists.specs.Lines.{Entry}
 use Rattle.minisign_lists.specs.Lists.{listed_entry}
 use Rattle.minisign_lists.specs.Values.{go_on, of_lists}
@@ -50,13 +50,13 @@ checked_name (Err f) e m comment = refl
 module _ (name : Option (List ℕ)) (e : Result Entry ListFault) (m : List ℕ) where
   -- The checks after the verdict on the list's signature, as the calls make them.
   abbrev in_calls : Result (List ℕ) Fault → Result (List ℕ) (Refusal ListFault)
-  in_calls r = go_on (of_lists (and_then (of_library r) (λ comment.
+  in_calls r = go_on (of_lists (and_then (wrap_library_error r) (λ comment.
       and_then (check_list_name name comment) (λ _. Ok comment)))) (λ comment.
       go_on (of_lists e) (λ entry. go_on (of_lists (check_digest entry.digest m)) (λ _. Ok comment)))
 
   -- The same checks in the definition.
   abbrev in_definition : Result (List ℕ) Fault → Result (List ℕ) (Refusal ListFault)
-  in_definition r = of_lists (and_then (of_library r) (λ comment.
+  in_definition r = of_lists (and_then (wrap_library_error r) (λ comment.
       and_then (check_list_name name comment) (λ _.
       and_then e (λ entry. and_then (check_digest entry.digest m) (λ _. Ok comment)))))
 
@@ -99,7 +99,7 @@ module _ (accepts : Verifier) (pk_text sig_text : List ℕ) (x : Lookup) (long :
   -- The value form with a key that was parsed, and a lookup that was made.
   abbrev with_key : Result PublicKeyRecord Fault → Result Entry ListFault
       → Result (List ℕ) (Refusal ListFault)
-  with_key key e = go_on (of_lists (of_library key)) (λ k.
+  with_key key e = go_on (of_lists (wrap_library_error key)) (λ k.
       in_calls (Some x.list_name) e m (called accepts k x.text (read_signature sig_text)))
 
   abbrev of_key : Result PublicKeyRecord Fault → Result Entry ListFault → Result (List ℕ) (Refusal ListFault)
@@ -125,7 +125,7 @@ is_ok_of (Err e) = refl
 
 -- The number is 0 exactly if the verdict of the definition is success.
 pub accepted_defined : (accepts : Verifier) (pk_text sig_text : List ℕ) (x : Lookup) (m : List ℕ) (n : ℕ)
-    → n ≡ number_with (read_utf8 read_public_key pk_text)
+    → n ≡ number_with_key (read_utf8 read_public_key pk_text)
     (λ k. strict_listed_number accepts (value_of k) sig_text x m)
     → (long : LongDigest) → x.long ≡ Some long → AreUtf8 pk_text sig_text x.text x.name
     → (n == 0) ≡ is_ok (listed_verdict (strict accepts) pk_text sig_text

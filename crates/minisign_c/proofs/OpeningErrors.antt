@@ -7,7 +7,7 @@ use Rattle.minisign_external.specs.SecretKeys.{opened_or_unchanged, opened_outco
 use Rattle.minisign_external.specs.declared.secrets.SecretKeyValue.{SecretKeyValue}
 use Rattle.minisign_external.specs.declared.state.Refusal.{Refusal}
 
--- a rejection as a number, and the key that stays
+-- If opening fails, the result is the number of the error, and the struct is unchanged.
 pub opening_refusal : (given : Result SecretKeyRecord (Refusal Fault)) (r : Refusal Fault)
     (old new : SecretKeyValue) (n : ℕ) → n ≡ refusal_number fault_number r
     → ◌≡◌ {A = Result Unit (Refusal Fault) × SecretKeyValue} (Err r, new) (opened_or_unchanged given old)

@@ -1,6 +1,6 @@
 -- No error has the number of success.
 use Rattle.std.proofs.Common.{◌<◌, lit<}
-use Rattle.minisign_base.specs.Fault.{Fault, Named, Worded}
+use Rattle.minisign_base.specs.Fault.{Fault, Named, Custom}
 use Rattle.minisign_base.specs.Faults.{fault_row}
 use Rattle.minisign_base.specs.declared.faults.NamedFault.{NamedFault}
 use Rattle.minisign_base.specs.declared.faults.NamedFault.TheVariants.{OutOfMemory}
@@ -12,4 +12,4 @@ named_positive _ = lit< tt
 
 pub positive : (e : Fault) → 0 < fault_number e
 positive (Named f) = named_positive f
-positive (Worded kind text) = lit< tt
+positive (Custom kind text) = lit< tt

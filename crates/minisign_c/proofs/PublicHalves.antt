@@ -1,4 +1,4 @@
--- The public key that a call tells of a secret key, by its number.
+-- Lemmas about the result number of a call that returns the public key of a secret key.
 use Rattle.std.proofs.Common.{◌≡◌, ◌<◌, ℕ, ap, arith, Bool, true, false, if◌then◌else◌, Result, Ok, Err, refl}
 use Rattle.std.proofs.Common.{sym}
 use Rattle.minisign_external.specs.Numbers.{misuse_number}
@@ -20,7 +20,7 @@ half_of : (b : Bool) (w new : PublicKeyValue) → b ≡ true → new ≡ w
 half_of true w new is same = ap (λ x. Ok x) (sym same)
 half_of false w new is same = cc is
 
--- with 0 the secret key was opened, and the public key has its key ID
+-- If the result is 0, the secret key is open, and the public key has its key ID.
 pub half_of_success : (v : SecretKeyValue) (n : ℕ) (old new : PublicKeyValue)
     → ◌≡◌ {A = ℕ × PublicKeyValue} (n, new) (public_key_outcome (public_value_of v) old) → n ≡ 0
     → (is_opened v ≡ true) × (public_value_of v ≡ Ok new) × (new.key_id ≡ v.key_id)
@@ -34,7 +34,7 @@ error_cases : (b : Bool) (w : PublicKeyValue) (n : ℕ) (old new : PublicKeyValu
 error_cases true w n old new returned some = let none : n ≡ 0 = ap (λ p. p.0) returned in absurd (omega arith)
 error_cases false w n old new returned some = (ap (λ p. p.0) returned, refl)
 
--- otherwise it was not opened
+-- If the result is not 0, the secret key is not open.
 pub half_of_error : (v : SecretKeyValue) (n : ℕ) (old new : PublicKeyValue)
     → ◌≡◌ {A = ℕ × PublicKeyValue} (n, new) (public_key_outcome (public_value_of v) old) → 0 < n
     → (n ≡ misuse_number KeyNotOpened) × (is_opened v ≡ false)

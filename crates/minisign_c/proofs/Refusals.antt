@@ -16,7 +16,7 @@ use Rattle.minisign_external.specs.declared.state.Refusal.{Refusal}
 use Rattle.minisign_external.specs.declared.state.Refusal.TheVariants.{Refused}
 use Rattle.minisign_external.specs.declared.unopened_keys.UnopenedKeyValue.{UnopenedKeyValue}
 
--- opening answered a number other than 0, which is that of its error
+-- If the result of opening is not 0, it is the number of the error.
 opening_error : (given : Result SecretKeyRecord Fault) (n : ℕ) (old new : SecretKeyValue)
     → ◌≡◌ {A = ℕ × SecretKeyValue} (n, new) (opened_outcome (with_refusal given) old)
     → 0 < n → (e : Fault) × (n ≡ fault_number e) × (given ≡ Err e)
@@ -25,7 +25,7 @@ opening_error (Ok key) n old new returned some =
     absurd (omega arith)
 opening_error (Err e) n old new returned some = (e, ap (λ p. p.0) returned, refl)
 
--- so did reading
+-- If the result of reading is not 0, it is the number of the error.
 read_error : (given : Result SecretKeyRecord Fault) (n : ℕ) → n ≡ reading_number given
     → 0 < n → (e : Fault) × (n ≡ fault_number e) × (given ≡ Err e)
 read_error (Ok key) n none some = absurd (omega arith)

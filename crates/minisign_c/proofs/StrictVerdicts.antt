@@ -1,4 +1,4 @@
--- The number of a verdict that rejects what strict Ed25519 rejects.
+-- Lemmas about the number of the verdict of a scheme that also rejects weak public keys and signatures.
 use Rattle.std.proofs.Common.{◌≡◌, ◌∙◌, ◌<◌, ◌≤◌, ◌+◌, ◌==◌, ◌&&◌, ◌||◌, not, ℕ, Bool, true, false}
 use Rattle.std.proofs.Common.{if◌then◌else◌, List, length, Result, Ok, Err, ap, sym, refl, arith, subst}
 use Rattle.std.proofs.Common.{ne_eqb, le-leb, nat_le, take, [], ◌++◌}
@@ -13,7 +13,7 @@ use Rattle.minisign_external.specs.PublicKeys.{is_public_key, read_utf8, value_o
 use Rattle.minisign_external.specs.Questions.{has_whole_signature, read_under, verdict_under}
 use Rattle.minisign_external.specs.States.{IsBlank, IsFedState, asked_under, asking_misuse, asking_under}
 use Rattle.minisign_external.specs.States.{may_ask, verdict_number, with_public_key}
-use Rattle.minisign_external.specs.StrictCalls.{asked_number, asked_strictly, is_strict_text, number_with}
+use Rattle.minisign_external.specs.StrictCalls.{asked_number, asked_strictly, is_strict_text, number_with_key}
 use Rattle.minisign_external.specs.StrictCalls.{strict, strict_read, strict_verdict_number}
 use Rattle.minisign_external.specs.StrictEd25519.{is_strict_point, is_strict_signature}
 use Rattle.minisign_external.specs.declared.public_keys.PublicKeyValue.{PublicKeyValue}
@@ -33,7 +33,7 @@ opened_of : (r : Result SignatureTextRecord Fault) (v : PublicKeyValue) (t : Sig
 opened_of (Ok s) v t h = ap (λ x. Ok x) (read_same (judge_key v.key_id s.signature false) s t h)
 opened_of (Err e) v t h = cc h
 
--- what is read of a text under a key is what the text reads as
+-- A text that parses and passes the checks under a key parses to the same signature.
 pub opened : (v : PublicKeyValue) (text : List ℕ) (t : SignatureTextRecord) → read_under v false text ≡ Ok t
     → read_utf8 read_signature text ≡ Ok t
 opened v text t h = opened_of (read_utf8 read_signature text) v t h
@@ -43,7 +43,7 @@ opened v text t h = opened_of (read_utf8 read_signature text) v t h
 abbrev decided : Bool → Bool → List ℕ → Result (List ℕ) Fault
 decided first second trusted = and_then (judge_answers first second) (λ _. Ok trusted)
 
--- a key and signatures that are strict change no answer
+-- If neither the key nor a signature is weak, the stricter scheme gives the same verdict.
 strictly_same : (p q w r a b : Bool) (x : List ℕ) → ((p && q) && (not w || r)) ≡ true
     → decided ((p && q) && a) (w && ((p && r) && b)) x ≡ decided a (w && b) x
 strictly_same true true true true a b x h = refl
@@ -52,7 +52,7 @@ strictly_same true true false r a b x h = refl
 strictly_same true false w r a b x h = cc h
 strictly_same false q w r a b x h = cc h
 
--- others are not accepted
+-- If the key or a signature is weak, the stricter scheme gives no success.
 not_strict : (p q w r a b : Bool) (x : List ℕ) → ((p && q) && (not w || r)) ≡ false
     → is_ok (decided ((p && q) && a) (w && ((p && r) && b)) x) ≡ false
 not_strict true true true true a b x h = cc h
@@ -67,7 +67,7 @@ not_strict false q w r a b x h = refl
 pub some_number : (n : ℕ) → 0 < n → (n == 0) ≡ false
 some_number n some = ne_eqb n 0 (λ none. omega arith)
 
--- the number is 0 exactly of a success
+-- The number is 0 exactly if the verdict is success.
 number_zero : (r : Result (List ℕ) Fault) → (verdict_number r == 0) ≡ is_ok r
 number_zero (Ok x) = refl
 number_zero (Err e) = some_number (fault_number e) (positive e)
@@ -85,7 +85,7 @@ module _ (accepts : Verifier) (v : PublicKeyValue) (text message : List ℕ) whe
   abbrev strict_verdict : Result (List ℕ) Fault
   strict_verdict = verdict_under (strict accepts) v text message false
 
-  -- what was read
+  -- The signature file was parsed and passed the checks under the key.
   module _ (t : SignatureTextRecord) (read : read_under v false text ≡ Ok t) where
     abbrev first : Bool
     first = accepts (signed_bytes (box_of t) message) v.key t.signature.signature
@@ -113,7 +113,7 @@ module _ (accepts : Verifier) (v : PublicKeyValue) (text message : List ℕ) whe
         (has_whole_signature t.comments) (is_strict_signature (take 64 t.comments.signature)) first second
         t.comments.trusted h
 
-    -- the verdict of strict inputs is that of the scheme
+    -- If neither the key nor a signature is weak, the number is that of the scheme's verdict.
     pub strict_number : is_strict_text v t ≡ true
         → verdict_number (verdict_under accepts v text message false)
         ≡ strict_verdict_number accepts v text message false
@@ -133,7 +133,7 @@ module _ (accepts : Verifier) (v : PublicKeyValue) (text message : List ℕ) whe
 
 -- `accepted` for the result of parsing the public key.
 pub accepted_with : (accepts : Verifier) (text message : List ℕ) (r : Result PublicKeyRecord Fault)
-    → (number_with r (λ k. strict_verdict_number accepts (value_of k) text message false) == 0)
+    → (number_with_key r (λ k. strict_verdict_number accepts (value_of k) text message false) == 0)
     ≡ is_ok (and_then r (λ k. verdict_under (strict accepts) (value_of k) text message false))
 accepted_with accepts text message (Ok k) = accepted accepts (value_of k) text message
 accepted_with accepts text message (Err e) = some_number (fault_number e) (positive e)
@@ -168,7 +168,7 @@ module _ (accepts : Verifier) (v : PublicKeyValue) (text message : List ℕ) (ro
       none ∙ of_strict (is_strict_text v u) _ (subst (λ (k : ℕ). 0 < k) none some)
   of_asked (Err e) is some = rw is refl
 
-  -- what is rejected of a state that was just begun is what the verdict is
+  -- If asking a new state fails, the verdict has the same number.
   pub unasked : (s : State) (n : ℕ) → is_public_key v ≡ true → IsFedState s [] → IsBlank s
       → n ≡ asked_number (asked_strictly (is_strict_text v t) (asking_under s v text false room)) → 0 < n
       → n ≡ strict_verdict_number accepts v text message false

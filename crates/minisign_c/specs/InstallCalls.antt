@@ -14,7 +14,7 @@ use Rattle.minisign_external.specs.declared.state.Refusal.{Refusal}
 use Rattle.minisign_external.specs.declared.public_keys.PublicKeyValue.{PublicKeyValue}
 use Rattle.minisign_install.specs.Faults.{install_number}
 use Rattle.minisign_install.specs.Decisions.{judge_comment}
-use Rattle.minisign_install.specs.Installations.{IsStored, SignatureSteps, choices_misuse, numbering_of}
+use Rattle.minisign_install.specs.Installations.{Represents, SignatureSteps, choices_misuse, numbering_of}
 use Rattle.minisign_install.specs.Step.{Event, Failed, InUse, step, State}
 use Rattle.minisign_install.specs.declared.faults.InstallFault.{InstallFault}
 use Rattle.minisign_install.specs.declared.faults.InstallFault.TheVariants.{TargetInUse}
@@ -31,7 +31,7 @@ step_number (Err r) = refusal_number install_number r
 -- event, and the number is that of the step's result.
 abbrev pub NumberSteps : Event → Installation → Installation → ℕ → Type 0
 NumberSteps e old new n =
-    (s : State) → IsStored old s → IsStored new (step s e).1 × (n ≡ step_number (step s e).0)
+    (s : State) → Represents old s → Represents new (step s e).1 × (n ≡ step_number (step s e).0)
 
 -- The error with this number, if an operation can fail with it.
 abbrev pub failure_of : ℕ → Option NamedFault
@@ -74,9 +74,9 @@ ReturnsLength (Err r) n old new = (n ≡ refusal_number install_number r) × (ne
 abbrev pub NumberReads : List ℕ → List ℕ → Option ℕ → Installation → Installation → ℕ → ℕ → ℕ → List ℕ
     → List ℕ → Type 0
 NumberReads sig_text file time old new n len_before len_after before after =
-    (s : State) → IsStored old s → s.options.file ≡ file
+    (s : State) → Represents old s → s.options.file ≡ file
     → (r : Result ℕ (Refusal InstallFault)) × ReturnsLength r n len_before len_after
-    × SignatureSteps sig_text time s r (IsStored new) before after
+    × SignatureSteps sig_text time s r (Represents new) before after
 
 -- The three buffers of the call that writes a question.
 pub record Buffers : Type 0 where

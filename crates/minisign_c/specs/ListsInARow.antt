@@ -14,7 +14,7 @@ use Rattle.minisign_external.specs.declared.state.Refusal.{Refusal}
 use Rattle.minisign_external.specs.declared.state.Refusal.TheVariants.{WrongUse}
 use Rattle.minisign_lists.specs.declared.faults.ListFault.{ListFault}
 use Rattle.minisign_lists.specs.declared.lines.LongDigest.{LongDigest}
-use Rattle.minisign_lists.specs.Faults.{of_library}
+use Rattle.minisign_lists.specs.Faults.{wrap_library_error}
 use Rattle.minisign_lists.specs.Lines.{Entry}
 use Rattle.minisign_lists.specs.Lists.{listed_entry}
 use Rattle.minisign_lists.specs.Values.{go_on, list_verdict_under, long_numbered, of_lists, utf8_text}
@@ -67,7 +67,7 @@ listed_under accepts v sig_text x m =
 abbrev pub listed_with : Verifier → Result PublicKeyRecord Fault → List ℕ → Lookup → List ℕ
     → Result (List ℕ) (Refusal ListFault)
 listed_with accepts key sig_text x m =
-    go_on (of_lists (of_library key)) (λ k. listed_under accepts (value_of k) sig_text x m)
+    go_on (of_lists (wrap_library_error key)) (λ k. listed_under accepts (value_of k) sig_text x m)
 
 -- The number of a verdict: 0 for success, otherwise the error number.
 abbrev pub listed_number : Result (List ℕ) (Refusal ListFault) → ℕ

@@ -13,5 +13,5 @@ pub record CommentIsAnswered (s : State) (accepts : Verifier) (v : PublicKeyValu
     (legacy : Bool) (second : ℕ) : Type 0 where
   pub asked : HasAsked s v sig_text legacy
   pub begun : is_begun s ≡ true
-  pub known : IsAnswer second
+  pub second_known : IsAnswer second
   pub answers : AnswersComment accepts v sig_text (second == answer_yes)

@@ -15,14 +15,17 @@ ghost use Rattle.minisign_external.specs.Numbers.{refusal_number};
 ghost use Rattle.minisign_external.specs.PublicKeys.{is_public_key, read_utf8, value_of};
 ghost use Rattle.minisign_external.specs.Questions.{read_under, verdict_under};
 ghost use Rattle.minisign_external.specs.SecretKeys.{IsOpeningRefusal, IsTextOpeningRefusal, is_read};
-ghost use Rattle.minisign_external.specs.SecretKeys.{is_opened, open_record, public_value_of, taken_key};
+ghost use Rattle.minisign_external.specs.SecretKeys.{is_opened, open_record, public_value_of};
+ghost use Rattle.minisign_external.specs.SecretKeys.{opened_key_value};
 ghost use Rattle.minisign_external.specs.declared.state.Misuse.TheVariants.{KeyNotOpened};
 ghost use Rattle.minisign_external.specs.SecretKeys.{unopened_record};
 ghost use Rattle.minisign_external.specs.Signatures.{IsReadFrom};
 ghost use Rattle.minisign_external.specs.Signing.{HoldsOwnText, IsOwnRefusal, IsPairOf};
 ghost use Rattle.minisign_external.specs.Signing.{joined};
-ghost use Rattle.minisign_external.specs.States.{AreAsked, HasAsked, IsFedState, KeepsAsked, verdict_number};
-ghost use Rattle.minisign_external.specs.StrictCalls.{OwnTextVerifiesStrictly, VerifiesStrictly, number_with};
+ghost use Rattle.minisign_external.specs.States.{AreQuestionsWithoutDigest, HasAsked, IsFedState};
+ghost use Rattle.minisign_external.specs.States.{KeepsQuestions, verdict_number};
+ghost use Rattle.minisign_external.specs.StrictCalls.{VerifiesStrictlyForRecord, VerifiesStrictly};
+ghost use Rattle.minisign_external.specs.StrictCalls.{number_with_key};
 ghost use Rattle.minisign_external.specs.StrictCalls.{strict, strict_verdict_number};
 ghost use Rattle.minisign_external.specs.declared.public_keys.PublicKeyValue.{PublicKeyValue};
 ghost use Rattle.minisign_external.specs.declared.state.Refusal.{Refusal};
@@ -60,7 +63,7 @@ pub fn verify_in_a_row<S: Scheme>(
     // file is a valid prehashed signature of the concatenated data under the public key file, and neither the
     // key nor a signature in it is weak. Otherwise it is the error number of the first check that fails. A
     // weak key or signature has an error number of its own, and is rejected before the scheme is asked.**
-    ensures number { result ≡ number_with (read_utf8 read_public_key pk_text.now) (λ k.
+    ensures number { result ≡ number_with_key (read_utf8 read_public_key pk_text.now) (λ k.
         strict_verdict_number (S.accepts scheme.now) (value_of k) sig_text.now (joined pieces.now) false) }
 
     // **So the result is 0 exactly if the verdict is success for the scheme that in addition rejects weak
@@ -155,7 +158,7 @@ fn verify_read<S: Scheme>(
 fn feed(state: &mut State, pieces: &[&[u8]]) -> u32
     requires { IsFedState state.old [] }
     ensures fed { (result ≡ 0) × IsFedState state.new (joined pieces.now) }
-    ensures asked { KeepsAsked state.old state.new }
+    ensures asked { KeepsQuestions state.old state.new }
 {
     'pieces: for piece in pieces {
         let number = minisign_update(state, *piece);
@@ -170,7 +173,8 @@ fn feed(state: &mut State, pieces: &[&[u8]]) -> u32
 fn answer<S: Scheme>(scheme: &S, state: &mut State, questions: &Questions, room: &[u8]) -> u32
     requires { questions.now.message_len ≤ length room.now }
     ensures { (v : PublicKeyValue) (text m : List ℕ) (t : SignatureTextRecord) → IsFedState state.old m
-        → HasAsked state.old v text false → read_under v false text ≡ Ok t → AreAsked questions.now room.now v
+        → HasAsked state.old v text false → read_under v false text ≡ Ok t
+        → AreQuestionsWithoutDigest questions.now room.now v
         t → result ≡ verdict_number (verdict_under (S.accepts scheme.now) v text m false) }
 {
     answers_decide();
@@ -218,20 +222,20 @@ pub fn sign_in_a_row<S: Scheme>(
     // comment, for the scheme that in addition rejects weak public keys and signatures. This holds for every
     // scheme and for all data, however it is split.**
     ensures verifies { result ≡ 0 → (k : SecretKeyRecord) × (opened_by key_text.now ≡ Ok k)
-        × OwnTextVerifiesStrictly S.Scheme scheme.now k (joined pieces.now) trusted.now
+        × VerifiesStrictlyForRecord S.Scheme scheme.now k (joined pieces.now) trusted.now
         (take text_len.new text.new) }
 
-    // On success, the signature file contains the two signatures that the scheme makes with the key: of the
-    // digest of the concatenated data, and of that signature followed by the trusted comment. The rest of the
-    // buffer is unchanged.
+    // On success, the signature file contains the two signatures that the scheme makes with the key: the
+    // signature of the digest of the concatenated data, and the signature of the first signature followed by
+    // the trusted comment. The rest of the buffer is unchanged.
     ensures text { result ≡ 0 → (k : SecretKeyRecord) × (opened_by key_text.now ≡ Ok k)
-        × HoldsOwnText S.Scheme scheme.now (taken_key k.keynum k.secret)
+        × HoldsOwnText S.Scheme scheme.now (opened_key_value k.keynum k.secret)
         (comments_of trusted.now untrusted.now) (joined pieces.now) text.new text_len.new }
     ensures rest { result ≡ 0 → drop text_len.new text.new ≡ drop text_len.new text.old }
 
-    // Any other number is that of an error of opening the key file or, after that, of `minisign_signed_text`
-    // for the public key of that key, the comments, those signatures and the buffer. After an error the
-    // buffer and the length are unchanged.
+    // Any other result is the number of an error of opening the key file or, if the file opens to a key, of
+    // an error of `minisign_signed_text` for the public key of this key, the comments, the two signatures and
+    // the buffer. After an error the buffer and the length are unchanged.
     ensures refused { 0 < result → IsSigningNumber S.Scheme scheme.now key_text.now
         (comments_of trusted.now untrusted.now) (joined pieces.now) text.old result }
     ensures unchanged { 0 < result → (text.new ≡ text.old) × (text_len.new ≡ text_len.old) }
@@ -279,7 +283,7 @@ fn no_unopened_key() -> UnopenedKeyValue {
 #[tactic(auto, using(crate::proofs::Refusals::reading_refusal))]
 fn open(alloc: Global, key_text: &KeyText<'_>, key: &mut SecretKeyValue) -> u32
     ensures opened { result ≡ 0 → (k : SecretKeyRecord) × (opened_by key_text.now ≡ Ok k)
-        × (key.new ≡ taken_key k.keynum k.secret) }
+        × (key.new ≡ opened_key_value k.keynum k.secret) }
     ensures refused { 0 < result → (r : Refusal Fault) × (result ≡ refusal_number fault_number r)
         × IsTextOpeningRefusal key_text.now.text.now (option_copied key_text.now.password)
         key_text.now.most_rows r }
@@ -289,11 +293,11 @@ fn open(alloc: Global, key_text: &KeyText<'_>, key: &mut SecretKeyValue) -> u32
     if number != 0 {
         return number;
     }
-    open_read(alloc, key_text, &unopened, key)
+    open_parsed(alloc, key_text, &unopened, key)
 }
 
 // Opens the key that was read, with the password if there is one.
-fn open_read(
+fn open_parsed(
     alloc: Global,
     key_text: &KeyText<'_>,
     unopened: &UnopenedKeyValue,
@@ -302,7 +306,7 @@ fn open_read(
     requires { is_read unopened.now ≡ true }
     ensures opened { result ≡ 0 → (k : SecretKeyRecord) × (open_record (unopened_record unopened.now)
         (option_copied key_text.now.password) key_text.now.most_rows ≡ Ok k)
-        × (key.new ≡ taken_key k.keynum k.secret) }
+        × (key.new ≡ opened_key_value k.keynum k.secret) }
     ensures refused { 0 < result → (r : Refusal Fault) × (result ≡ refusal_number fault_number r)
         × IsOpeningRefusal (unopened_record unopened.now) (option_copied key_text.now.password)
         key_text.now.most_rows r }

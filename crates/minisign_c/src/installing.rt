@@ -4,7 +4,7 @@ ghost use Rattle.std.specs.Prelude.{◌≡◌, ◌⊎◌, ◌<◌, ◌==◌, if�
 ghost use Rattle.std.specs.Prelude.{MatchOption, drop, take};
 ghost use Rattle.minisign_external.specs.Numbers.{answer_yes, is_answer, misuse_number};
 ghost use Rattle.minisign_external.specs.declared.state.Misuse.TheVariants.{BadAnswer, NoRoom, NotDue};
-ghost use Rattle.minisign_install.specs.Installations.{IsStored, error_number, operation_of, options_by};
+ghost use Rattle.minisign_install.specs.Installations.{Represents, error_number, operation_of, options_by};
 ghost use Rattle.minisign_install.specs.Installations.{IsNewRecord, piece_event, question_due, record_due};
 ghost use Rattle.minisign_install.specs.Installations.{written_if};
 ghost use Rattle.minisign_install.specs.Step.{Answered, Done, PieceCopied, RecordRead, State, TargetMissing};
@@ -41,7 +41,7 @@ pub extern "C" fn minisign_install_init(
 ) -> u32
     // On success, the installation represents the first state of a run with these keys and options.
     ensures begun { result ≡ 0 → (file : List ℕ)
-        → IsStored installation.new (begin (options_by key.now other.now options.now file)) }
+        → Represents installation.new (begin (options_by key.now other.now options.now file)) }
     // The errors are, in this order: an option is neither 0 nor 1, or two options must not be combined; there
     // is no numbering with this number; a public key was not read. After an error the installation is
     // unchanged.
@@ -65,7 +65,7 @@ pub extern "C" fn minisign_install_init(
 #[unsafe(no_mangle)]
 pub extern "C" fn minisign_install_due(installation: &Installation) -> u32
     // If the installation represents a state, the number is that of the operation that is due.
-    ensures { (s : State) → IsStored installation.now s → operation_of result ≡ s.due }
+    ensures { (s : State) → Represents installation.now s → operation_of result ≡ s.due }
 {
     installation.due().number()
 }
@@ -159,8 +159,8 @@ pub extern "C" fn minisign_install_no_record(installation: &mut Installation) ->
 pub extern "C" fn minisign_install_piece(installation: &mut Installation, piece: &[u8]) -> u32
     // If the installation represents a state, the result and the new state are those that `step` computes
     // from this state and this event.
-    ensures steps { (s : State) → IsStored installation.old s
-        → IsStored installation.new (step s (piece_event s.due piece.now)).1
+    ensures steps { (s : State) → Represents installation.old s
+        → Represents installation.new (step s (piece_event s.due piece.now)).1
         × (result ≡ step_number (step s (piece_event s.due piece.now)).0) }
     // After `NotDue` the installation is unchanged.
     ensures misuse { result ≡ misuse_number NotDue → installation.new ≡ installation.old }
@@ -229,7 +229,7 @@ pub extern "C" fn minisign_install_question(
 ) -> u32
     // If the installation represents a state, the question is the one that is due. If none is due,
     // the result is `NotDue`, and nothing is written.
-    ensures asked { (s : State) → IsStored installation.now s → ReturnsQuestion (question_due s) result
+    ensures asked { (s : State) → Represents installation.now s → ReturnsQuestion (question_due s) result
         (record { key = key.old; signature = signature.old; digest = digest.old })
         (record { key = key.new; signature = signature.new; digest = digest.new }) }
     ensures unchanged { 0 < result → (result ≡ misuse_number NotDue) × (key.new ≡ key.old)
@@ -270,15 +270,15 @@ pub extern "C" fn minisign_install_answer(installation: &mut Installation, answe
 /// Returns 1 once one of the keys has been found to have signed the trusted comment, otherwise 0.
 #[unsafe(no_mangle)]
 pub extern "C" fn minisign_install_is_signed(installation: &Installation) -> u32
-    ensures { (s : State) → IsStored installation.now s → result ≡ (if s.is_signed then 1 else 0) }
+    ensures { (s : State) → Represents installation.now s → result ≡ (if s.is_signed then 1 else 0) }
 {
     u32::from(installation.is_signed())
 }
 
-/// Returns the version number of the update, or 0 unless its trusted comment is signed.
+/// Returns the version number of the update, or 0 if its trusted comment is not signed.
 #[unsafe(no_mangle)]
 pub extern "C" fn minisign_install_version(installation: &Installation) -> u64
-    ensures { (s : State) → IsStored installation.now s
+    ensures { (s : State) → Represents installation.now s
         → result ≡ (if s.is_signed then s.version else 0) }
 {
     installation.version()
@@ -288,7 +288,7 @@ pub extern "C" fn minisign_install_version(installation: &Installation) -> u64
 /// not signed.
 #[unsafe(no_mangle)]
 pub extern "C" fn minisign_install_size(installation: &Installation, size: &mut u64) -> u32
-    ensures { (s : State) → IsStored installation.now s
+    ensures { (s : State) → Represents installation.now s
         → MatchOption (if s.is_signed then s.size else None) ((result ≡ 0) × (size.new ≡ size.old))
         (λ n. (result ≡ 1) × (size.new ≡ n)) }
 {
@@ -311,9 +311,9 @@ pub extern "C" fn minisign_install_record_text(
     // If a record is due in the state that the installation represents, and fits the buffer, the call writes
     // it. It parses to the version number, the key and the digest that the run records. If none is due, or
     // it is longer than the buffer, the result is 0, and nothing is written.
-    ensures written { (s : State) → IsStored installation.now s
+    ensures written { (s : State) → Represents installation.now s
         → written_if (record_due s) result text.old text.new }
-    ensures reads_back { (s : State) → IsStored installation.now s → 0 < result
+    ensures reads_back { (s : State) → Represents installation.now s → 0 < result
         → IsNewRecord s (take result text.new) }
     // The rest of the buffer is unchanged, in every case.
     ensures rest { drop result text.new ≡ drop result text.old }
@@ -321,10 +321,10 @@ pub extern "C" fn minisign_install_record_text(
     installation.record_text(text)
 }
 
-/// Returns the number of the error because of which the run is rejected, or 0.
+/// Returns the number of the error that made the run fail, or 0.
 #[unsafe(no_mangle)]
 pub extern "C" fn minisign_install_error(installation: &Installation) -> u32
-    ensures { (s : State) → IsStored installation.now s → result ≡ error_number s.error }
+    ensures { (s : State) → Represents installation.now s → result ≡ error_number s.error }
 {
     installation.error()
 }
@@ -340,7 +340,8 @@ pub extern "C" fn minisign_judge_comment(
     number: &mut u64,
 ) -> u32
     // If all checks pass, the result is 0, and `number` is the version number. Otherwise the result is the
-    // number of the first check that fails, and `number` is unchanged. There are only the fields 0 and 1.
+    // number of the first check that fails, and `number` is unchanged. If `numbering` is neither 0 nor 1, the
+    // error is `BadNumbering`.
     ensures { ReturnsVersionOf comment.now file.now numbering now kept result number.old number.new }
 {
     let Some(numbering) = Numbering::of_number(numbering) else {

@@ -23,11 +23,12 @@ ghost use Rattle.minisign_external.specs.Making.{HoldsPublicKey, HoldsSecretKey,
 ghost use Rattle.minisign_external.specs.Making.{HoldsReadPublicKey, HoldsReadSecretKey, IsEncodingNumber};
 ghost use Rattle.minisign_external.specs.Making.{IsMakingRefusal};
 ghost use Rattle.minisign_external.specs.Making.{IsPublicKeyNumber};
-ghost use Rattle.minisign_external.specs.SecretKeys.{DerivesWithin, OpensAs, is_opened, opened_in_place};
-ghost use Rattle.minisign_external.specs.SecretKeys.{opened_sealed, opened_unsealed, passed_in};
+ghost use Rattle.minisign_external.specs.SecretKeys.{DerivesWithin, OpensLikeFile, is_opened};
+ghost use Rattle.minisign_external.specs.SecretKeys.{opened_in_place};
+ghost use Rattle.minisign_external.specs.SecretKeys.{opened_sealed, opened_unsealed, passed_password};
 ghost use Rattle.minisign_external.specs.SecretKeys.{public_value_of, read_value, reading_number};
-ghost use Rattle.minisign_external.specs.SecretKeys.{unopened_record, taken_key, opened_outcome};
-ghost use Rattle.minisign_external.specs.SecretKeys.{is_read, tested_sealed};
+ghost use Rattle.minisign_external.specs.SecretKeys.{unopened_record, opened_key_value, opened_outcome};
+ghost use Rattle.minisign_external.specs.SecretKeys.{is_read, checked_sealed_key};
 ghost use Rattle.minisign_external.specs.SecretKeys.{public_key_outcome, value_memory};
 ghost use Rattle.minisign_external.specs.Signatures.{IsReadFrom, read_signature_value, signature_outcome};
 ghost use Rattle.minisign_external.specs.Signatures.{signature_of_value};
@@ -40,10 +41,11 @@ ghost use Rattle.minisign_external.specs.declared.state.Misuse.TheVariants.{BadA
 ghost use Rattle.minisign_external.specs.declared.state.Misuse.TheVariants.{EntryNotRead, NotBegun};
 ghost use Rattle.minisign_external.specs.declared.state.Misuse.TheVariants.{KeyNotRead, NoRoom};
 ghost use Rattle.minisign_external.specs.declared.state.Misuse.TheVariants.{PublicKeyNotRead};
-ghost use Rattle.minisign_external.specs.States.{AreAsked, GivesNumber, HasAsked, HasReturnedDigest};
+ghost use Rattle.minisign_external.specs.States.{AreQuestionsWithoutDigest, GivesNumber, HasAsked};
+ghost use Rattle.minisign_external.specs.States.{HasReturnedDigest};
 ghost use Rattle.minisign_external.specs.States.{IsAnswered};
 ghost use Rattle.minisign_external.specs.States.{IsBlank, IsFedState, IsMarkedFed, IsMarkedFinalized};
-ghost use Rattle.minisign_external.specs.States.{KeepsAsked};
+ghost use Rattle.minisign_external.specs.States.{KeepsQuestions};
 ghost use Rattle.minisign_external.specs.States.{asking_under, comment_number, feeding_misuse};
 ghost use Rattle.minisign_external.specs.States.{result_number, verdict_outcome_number, verdict_number};
 ghost use Rattle.minisign_external.specs.Bare.{AnswersBare, HasAskedBare, bare_verdict_under, judged_number};
@@ -56,7 +58,7 @@ ghost use Rattle.minisign_external.specs.ValueRecords.{written_public_key};
 ghost use Rattle.minisign.specs.Records.{SignatureRecord};
 ghost use Rattle.minisign_external.specs.StrictCalls.{asked_number, asked_strictly, strict_asking_number};
 ghost use Rattle.minisign_external.specs.StrictCalls.{is_strict_text, is_strict_value};
-ghost use Rattle.minisign_external.specs.States.{asked_of};
+ghost use Rattle.minisign_external.specs.States.{asking_checks};
 ghost use Rattle.minisign_install.specs.Faults.{IsErrorText};
 ghost use Rattle.minisign_c.specs.ListCalls.{IsCallKind, IsCallMeaning, all_entries_number};
 ghost use Rattle.minisign_c.specs.ListCalls.{appending_number, finding_number, line_at_fault, list_result};
@@ -65,7 +67,7 @@ ghost use Rattle.minisign_c.specs.ListCalls.{list_verdict_number};
 ghost use Rattle.minisign_c.specs.ListCalls.{list_outcome_number};
 ghost use Rattle.minisign_lists.specs.Digests.{has_digest};
 ghost use Rattle.minisign_lists.specs.declared.digests.ListedDigest.{ListedDigest};
-ghost use Rattle.minisign_lists.specs.Faults.{is_own, list_number, list_row};
+ghost use Rattle.minisign_lists.specs.Faults.{is_list_error, list_number, list_row};
 ghost use Rattle.minisign_lists.specs.Values.{IsFedValue, IsFinished, asked_list, compared, entry_digest};
 ghost use Rattle.minisign_lists.specs.Values.{file_mark, found_entry, given_digest, list_verdict_under};
 ghost use Rattle.minisign_lists.specs.Values.{long_numbered};
@@ -140,7 +142,7 @@ pub extern "C" fn minisign_error_text(error: u32, text: &mut [u8]) -> usize
 
 // Writes the text of a list error.
 fn write_list_error(fault: &ListFault, text: &mut [u8]) -> usize
-    requires { is_own fault.now ≡ true }
+    requires { is_list_error fault.now ≡ true }
     ensures written { (result ≡ length (list_row fault.now).summary)
         × WritesCut (list_row fault.now).summary text.old text.new }
     ensures room { result < 128 }
@@ -182,7 +184,7 @@ pub extern "C" fn minisign_update(state: &mut State, piece: &[u8]) -> u32
     // finished by a verdict. Then the result is the number of that error, and the state is unchanged.
     ensures fed { (m : List ℕ) → IsFedState state.old m → (result ≡ 0)
         × IsFedState state.new (m ++ piece.now) }
-    ensures asked { KeepsAsked state.old state.new }
+    ensures asked { KeepsQuestions state.old state.new }
     ensures begun { result ≡ 0 → IsMarkedFed state.old }
     ensures refused { 0 < result → (result ≡ misuse_number (feeding_misuse state.old))
         × (state.new ≡ state.old) }
@@ -199,7 +201,7 @@ pub extern "C" fn minisign_digest(state: &mut State, digest: &mut [u8; 64]) -> u
     // number of that error, and the state and the digest are unchanged.
     ensures digest { (m : List ℕ) → IsFedState state.old m
         → (result ≡ 0) × (digest.new ≡ blake2b_digest 64 m) × HasReturnedDigest state.new m }
-    ensures asked { KeepsAsked state.old state.new }
+    ensures asked { KeepsQuestions state.old state.new }
     ensures finalized { result ≡ 0 → IsMarkedFed state.old × IsMarkedFinalized state.new }
     ensures refused { 0 < result → (result ≡ misuse_number (feeding_misuse state.old))
         × (state.new ≡ state.old) × (digest.new ≡ digest.old) }
@@ -232,8 +234,9 @@ pub extern "C" fn minisign_read_bare_public_key(base64: &[u8], key: &mut PublicK
 /// Reads a public key from its record. Does not allocate.
 #[unsafe(no_mangle)]
 pub extern "C" fn minisign_read_public_key_record(bytes: &[u8], key: &mut PublicKeyValue) -> u32
-    // On success, `key` holds the key and the key ID in the first 42 bytes, and is marked as read. If there
-    // are fewer bytes, the result is the number of that error, and `key` is unchanged.
+    // On success, `key` holds the key and the key ID that the first 42 bytes of `bytes` contain, and is
+    // marked as read. If there are fewer bytes, the result is the number of that error, and `key` is
+    // unchanged.
     ensures { (result, key.new) ≡ key_outcome_number (public_key_in bytes.now) key.old }
 {
     number_of!(read_public_key_record(bytes, key))
@@ -274,9 +277,9 @@ pub extern "C" fn minisign_read_signature_record(
     bytes: &[u8],
     signature: &mut SignatureValue,
 ) -> u32
-    // On success, `signature` holds the key ID, the algorithm and the signature in the first 74 bytes, and
-    // nothing about comments. Otherwise the result is the number of the first check that fails, fewer bytes
-    // and then an algorithm other than `Ed` and `ED`, and `signature` is unchanged.
+    // On success, `signature` holds the key ID, the algorithm and the signature that the first 74 bytes of
+    // `bytes` contain, and no comments. Otherwise the result is the number of the first check that fails,
+    // fewer bytes and then an algorithm other than `Ed` and `ED`, and `signature` is unchanged.
     ensures { (result, signature.new) ≡ signature_outcome (read_bare_value bytes.now) signature.old }
 {
     match SignatureValue::read_record(bytes) {
@@ -326,7 +329,8 @@ pub extern "C" fn minisign_ask(
     // key and the text, with zeros in place of the digest, and the message of the second question is at the
     // start of the buffer. The state records that it was asked. The data that it was fed is unchanged.**
     ensures asked { result ≡ 0 → (t : SignatureTextRecord) → IsReadFrom signature.now sig_text.now t
-        → (read_under key.now (allow_legacy == 1) sig_text.now ≡ Ok t) × AreAsked questions.new message.new
+        → (read_under key.now (allow_legacy == 1) sig_text.now ≡ Ok t)
+        × AreQuestionsWithoutDigest questions.new message.new
         key.now t × HasAsked state.new key.now sig_text.now (allow_legacy == 1) }
     ensures fed { (m : List ℕ) → IsFedState state.old m → IsFedState state.new m }
 
@@ -480,7 +484,7 @@ pub extern "C" fn minisign_read_secret_key(sk_text: &[u8], unopened: &mut Unopen
     // result as opening the file, for every password and every bound on the work.
     ensures read { result ≡ 0 → read_utf8 read_secret_key sk_text.now ≡ Ok (unopened_record unopened.new) }
     ensures success { result ≡ 0 → unopened.new ≡ read_value unopened.new.bytes }
-    ensures opens { result ≡ 0 → OpensAs unopened.new sk_text.now }
+    ensures opens { result ≡ 0 → OpensLikeFile unopened.new sk_text.now }
 {
     number_of!(read_unopened_key(sk_text, unopened))
 }
@@ -537,7 +541,7 @@ pub extern "C" fn minisign_encode_unopened_key(
 pub extern "C" fn minisign_test_sealed_key(unopened: &UnopenedKeyValue, most_rows: u64) -> u32
     // The result is 0 exactly if the key was read and is encrypted with scrypt, with limits that are
     // allowed and need at most `most_rows` rows. Otherwise it is the number of the first check that fails.
-    ensures { result ≡ result_number (tested_sealed unopened.now most_rows) }
+    ensures { result ≡ result_number (checked_sealed_key unopened.now most_rows) }
 {
     number_of!(test_sealed_key(unopened, most_rows))
 }
@@ -586,9 +590,9 @@ pub extern "C" fn minisign_opening_memory(
     words_wanted: &mut u64,
     bytes_wanted: &mut u64,
 )
-    // The two values are how many 32-bit words and how many bytes opening the key in place needs, if every
-    // `keep_every`-th row of scrypt is kept. Both are 0 if the key needs no password, its limits are
-    // rejected, or it needs more than `most_rows` rows.
+    // The two values are the number of 32-bit words and the number of bytes that are needed to open the key
+    // in place, if every `keep_every`-th row of scrypt is kept. Both are 0 if the key needs no password, its
+    // limits are rejected, or it needs more than `most_rows` rows.
     ensures { (words_wanted.new, bytes_wanted.new) ≡ value_memory unopened.now keep_every most_rows }
 {
     let (words, bytes) = memory_to_open(unopened, keep_every, most_rows);
@@ -615,7 +619,7 @@ pub extern "C" fn minisign_open_sealed_key_in_place(
         (opened_in_place unopened.now password.now keep_every most_rows (length words.old) (length bytes.old))
         key.old }
 
-    // The memory is filled with zeros when the call returns, also after an error.
+    // The memory is filled with zeros when the call returns, even after an error.
     ensures words_cleared { words.new ≡ replicate (length words.old) 0 }
     ensures bytes_cleared { bytes.new ≡ replicate (length bytes.old) 0 }
 {
@@ -639,7 +643,7 @@ pub struct NewKey {
 pub extern "C" fn minisign_take_secret_key(new_key: &NewKey, key: &mut SecretKeyValue)
     // `key` has this key ID and these secret bytes, and is marked as open. Nothing checks that the second
     // half of the secret bytes is the public key of the first.
-    ensures { key.new ≡ taken_key new_key.now.key_id new_key.now.secret }
+    ensures { key.new ≡ opened_key_value new_key.now.key_id new_key.now.secret }
 {
     *key = SecretKeyValue::take(&new_key.key_id, &new_key.secret);
 }
@@ -684,7 +688,7 @@ pub extern "C" fn minisign_public_key_of(
 
 // Returns the password, or nothing if `with_password` is 0.
 fn given(with_password: u32, password: &[u8]) -> Option<&[u8]>
-    ensures { option_copied result ≡ passed_in with_password password.now }
+    ensures { option_copied result ≡ passed_password with_password password.now }
 {
     if with_password == 0 {
         None
@@ -747,7 +751,7 @@ pub extern "C" fn minisign_secret_key_text(
     // same password, or without one if there was none, it opens to this key. The key was open, and the
     // password and the sealing are allowed.
     ensures text { result ≡ 0 → HoldsSecretKey key.now.key_id key.now.secret
-        (passed_in with_password password.now) sealing.now comment.now text.new text_len.new }
+        (passed_password with_password password.now) sealing.now comment.now text.new text_len.new }
     ensures number { result ≡ 0 → (sealing_misuse with_password password.now sealing.now ≡ None)
         × (is_opened key.now ≡ true) }
 
@@ -764,7 +768,7 @@ pub extern "C" fn minisign_secret_key_text(
     // error the buffer and the length are unchanged.
     ensures refused { 0 < result
         → IsMakingNumber (sealing_misuse with_password password.now sealing.now) key.now
-        (passed_in with_password password.now) sealing.now comment.now text.old result }
+        (passed_password with_password password.now) sealing.now comment.now text.old result }
     ensures unchanged { 0 < result → (text.new ≡ text.old) × (text_len.new ≡ text_len.old) }
 {
     if let Some(misuse) = sealing_misuse(with_password, password, sealing) {
@@ -793,13 +797,13 @@ pub extern "C" fn minisign_secret_key_text_with_any_limits(
     // The promises are those of `minisign_secret_key_text`, except that the salt may be all zeros and the
     // limits may be below the minimum of Minisign.
     ensures text { result ≡ 0 → HoldsSecretKey key.now.key_id key.now.secret
-        (passed_in with_password password.now) sealing.now comment.now text.new text_len.new }
+        (passed_password with_password password.now) sealing.now comment.now text.new text_len.new }
     ensures number { result ≡ 0 → (password_misuse with_password password.now ≡ None)
         × (is_opened key.now ≡ true) }
     ensures readable { result ≡ 0 → IsKeyComment comment.now }
     ensures rest { result ≡ 0 → drop text_len.new text.new ≡ drop text_len.new text.old }
     ensures refused { 0 < result → IsMakingNumber (password_misuse with_password password.now) key.now
-        (passed_in with_password password.now) sealing.now comment.now text.old result }
+        (passed_password with_password password.now) sealing.now comment.now text.old result }
     ensures unchanged { 0 < result → (text.new ≡ text.old) × (text_len.new ≡ text_len.old) }
 {
     if let Some(misuse) = password_misuse(with_password, password) {
@@ -943,8 +947,8 @@ pub extern "C" fn minisign_signed_text(
     // **On success, the public key was read, and the signature file at the start of the buffer parses to a
     // signature with exactly its key ID, these comments and these signatures. If a scheme made the two
     // signatures, that is the signature box that signing with it makes. The file is a valid signature of a
-    // message under every public key with this key ID under which both signatures are valid, and for a
-    // genuine key the third sentence of the headline holds for it.**
+    // message under every public key with this key ID under which both signatures are valid, and if the key
+    // is genuine, all that the headline of docs/PROMISES.md says about signing holds for it.**
     ensures text { result ≡ 0 → (is_public_key key.now ≡ true)
         × HoldsText key.now.key_id (comments_of trusted.now untrusted.now) first.now second.now text.new
         text_len.new }
@@ -997,7 +1001,7 @@ pub extern "C" fn minisign_list_ask(
     // not the one that it was read from; the key IDs differ; the signature is a legacy one; the buffer is too
     // short; the key or a signature is weak. If none of them applies, the result is 0.
     ensures number { result ≡ asked_number (asked_strictly (is_strict_value key.now signature.now)
-        (asked_of key.now signature.now sig_text.now false (length message.old))) }
+        (asking_checks key.now signature.now sig_text.now false (length message.old))) }
 
     // If the signature was read from this text, the result is the same as if the text were parsed here and
     // checked under this key.
@@ -1005,7 +1009,7 @@ pub extern "C" fn minisign_list_ask(
         → result ≡ asking_list_number key.now sig_text.now t (length message.old) }
 
     // **On success, if the signature was read from this text, `questions` holds the two questions about the
-    // key and the text, with the digest of the list, and `list` records that digest, whether the comment
+    // key and the text, with the digest of the list. `list` records this digest, whether the comment
     // signature has at least 64 bytes, and whether the trusted comment names the list.**
     ensures asked { result ≡ 0 → (t : SignatureTextRecord) → IsReadFrom signature.now sig_text.now t
         → (read_under key.now false sig_text.now ≡ Ok t)
@@ -1046,9 +1050,10 @@ pub extern "C" fn minisign_list_ask_any(
     questions: &mut Questions,
     message: &mut [u8],
 ) -> u32
-    // The clauses are those of `minisign_list_ask`, but every trusted comment names the list.
+    // As for `minisign_list_ask`, except that the name of the list is not checked: any trusted comment counts
+    // as naming it.
     ensures number { result ≡ asked_number (asked_strictly (is_strict_value key.now signature.now)
-        (asked_of key.now signature.now sig_text.now false (length message.old))) }
+        (asking_checks key.now signature.now sig_text.now false (length message.old))) }
     ensures text { (t : SignatureTextRecord) → IsReadFrom signature.now sig_text.now t
         → result ≡ asking_list_number key.now sig_text.now t (length message.old) }
     ensures asked { result ≡ 0 → (t : SignatureTextRecord) → IsReadFrom signature.now sig_text.now t

@@ -10,7 +10,7 @@ ghost use Rattle.minisign_external.specs.PublicKeys.{is_public_key, read_utf8, v
 ghost use Rattle.minisign_external.specs.Questions.{read_under};
 ghost use Rattle.minisign_external.specs.Signatures.{IsReadFrom};
 ghost use Rattle.minisign_external.specs.Signing.{joined};
-ghost use Rattle.minisign_external.specs.StrictCalls.{number_with, strict, strict_read};
+ghost use Rattle.minisign_external.specs.StrictCalls.{number_with_key, strict, strict_read};
 ghost use Rattle.minisign_lists.specs.Digests.{has_digest};
 ghost use Rattle.minisign_lists.specs.declared.digests.ListedDigest.{ListedDigest};
 ghost use Rattle.minisign_lists.specs.Faults.{list_number};
@@ -57,7 +57,7 @@ pub fn check_listed_in_a_row<S: Scheme>(
     // comment names the list, every line of the list is well formed, exactly one entry has the name, the
     // concatenated data has the digest in that entry, and neither the key nor a signature is weak. Otherwise
     // it is the error number of the first check that fails.**
-    ensures number { result ≡ number_with (read_utf8 read_public_key pk_text.now) (λ k.
+    ensures number { result ≡ number_with_key (read_utf8 read_public_key pk_text.now) (λ k.
         strict_listed_number (S.accepts scheme.now) (value_of k) sig_text.now
         (lookup_of list_name.now list.now long_digest name.now) (joined pieces.now)) }
 
@@ -93,12 +93,12 @@ pub fn check_listed_in_a_row<S: Scheme>(
 }
 
 /// States that the verdict of the calls for lists is that of `verify_listed`. This function is a law: it does
-/// nothing, and its contract is what it is for.
+/// nothing, and exists only for its contract.
 #[tactic(auto, using(crate::proofs::ListedVerdicts::agree))]
 pub fn listed_verdicts_agree()
-    // If the two files, the list and the name are UTF-8 and 128 digits have a meaning, then the verdict that
-    // the sequence of calls is compared with equals `listed_verdict`: the trusted comment, or the first check
-    // that fails.
+    // If the two files, the list and the name are UTF-8, and the hash function of 128 digits is known, then
+    // `listed_with`, the verdict that `check_listed_in_a_row` returns as a number, equals `listed_verdict`:
+    // the trusted comment, or the first check that fails.
     ensures { (accepts : Verifier) (pk_text sig_text : List ℕ) (x : Lookup) (long : LongDigest) (m : List ℕ)
         → x.long ≡ Some long → AreUtf8 pk_text sig_text x.text x.name
         → listed_with accepts (read_utf8 read_public_key pk_text) sig_text x m

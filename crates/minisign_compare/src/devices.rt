@@ -1,4 +1,4 @@
-//! The devices that a request describes. They count their calls.
+//! The devices that a request describes. The source counts its reads, and the random source its bytes.
 
 ghost use Rattle.std.specs.Prelude.{◌≡◌, ◌≤◌, Some, length};
 ghost use Rattle.std.specs.Option.{is_some};
@@ -13,12 +13,12 @@ use minisign::base::prompt::Prompt;
 use minisign_fixtures::devices::sinks::LimitedSink;
 use std::alloc::Global;
 
-// The number of bytes of a counter, which is more than any call takes.
+// The number of random bytes that `c` stands for, which is more than any call takes.
 const COUNTED_BYTES: u16 = 512;
 
-/// The data of a request: `x..[,pos=P][,chunk=C][,fail=N][,second=x..]`, that is the bytes, the
-/// position where they begin, the greatest number of bytes for each read, the number of the read
-/// that fails, and the bytes after going back.
+/// The data of a request: `x..[,pos=P][,chunk=C][,fail=N][,second=x..]`. `x` and hexadecimal digits are the
+/// bytes. P is the offset at which reading begins, C the maximum number of bytes for each read, and N the
+/// number of the read that fails, from 1 on. `second` has the bytes that are read after going back.
 #[derive(Drop)]
 pub struct DataWord {
     bytes: Vec<u8>,
@@ -26,7 +26,7 @@ pub struct DataWord {
     place: usize,
     chunk: usize,
     failing_read: u64,
-    ghost some_chunk: { 1 ≤ chunk },
+    ghost chunk_not_zero: { 1 ≤ chunk },
 }
 
 impl DataWord {
@@ -61,7 +61,7 @@ impl DataWord {
         self.set(name, number_of(value)?)
     }
 
-    // Sets the number of a part. A read of 0 bytes is not allowed.
+    // Sets a part whose value is a number. A maximum of 0 bytes for each read is rejected.
     fn set(&mut self, name: &str, number: usize) -> Result<(), Refusal> {
         match name {
             "pos" => self.place = number,
@@ -101,7 +101,7 @@ pub struct CountedSource<'a> {
     failing_read: u64,
     reads: u64,
     faults: u64,
-    ghost some_chunk: { 1 ≤ chunk },
+    ghost chunk_not_zero: { 1 ≤ chunk },
 }
 
 impl<'a> CountedSource<'a> {
@@ -175,36 +175,36 @@ fn from_place(bytes: &[u8], place: usize) -> &[u8] {
     }
 }
 
-/// The sink of a request: `-` accepts everything, and `N` accepts N bytes. `f` and `fN` accept as
-/// much, but each flush fails.
+/// The sink of a request: `-` or nothing accepts everything, and `N` accepts N bytes. With an `f` in front,
+/// each flush fails.
 #[derive(Clone, Copy)]
 pub struct SinkWord {
-    room: usize,
+    capacity: usize,
     flushes: usize,
 }
 
 impl SinkWord {
     /// Parses the description.
     pub fn read(word: &str) -> Result<SinkWord, Refusal> {
-        let (room, flushes) = match word.strip_prefix("f") {
-            Some(room) => (room, 0),
+        let (capacity, flushes) = match word.strip_prefix("f") {
+            Some(rest) => (rest, 0),
             None => (word, usize::MAX),
         };
-        let room = room_of(room)?;
-        Ok(SinkWord { room, flushes })
+        let capacity = capacity_of(capacity)?;
+        Ok(SinkWord { capacity, flushes })
     }
 
     /// Returns the sink, which is empty.
     pub fn sink(self, alloc: Global) -> LimitedSink {
-        LimitedSink::new(alloc, self.room).flushed(self.flushes)
+        LimitedSink::new(alloc, self.capacity).flushed(self.flushes)
     }
 }
 
 // Parses the number of bytes that a sink accepts.
-fn room_of(word: &str) -> Result<usize, Refusal> {
+fn capacity_of(word: &str) -> Result<usize, Refusal> {
     match word {
         "" | "-" => Ok(usize::MAX),
-        room => number_of(room),
+        number => number_of(number),
     }
 }
 

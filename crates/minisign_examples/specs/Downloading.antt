@@ -1,6 +1,6 @@
 -- Verifying a download by a signed list.
 use Rattle.std.specs.Prelude.{◌≡◌, ◌⊎◌, ℕ, List, Result, Err}
-use Rattle.minisign.specs.Devices.{Rose}
+use Rattle.minisign.specs.Devices.{ErrorCountRises}
 use Rattle.minisign.specs.Fault.{Named}
 use Rattle.minisign.specs.Members.{SourceOf}
 use Rattle.minisign.specs.NamedFaults.{ReadingFailed}
@@ -15,4 +15,5 @@ abbrev pub IsDownloadVerdict : {R : Type 0} → SourceOf R → R → R → (List
 IsDownloadVerdict source old new verdict answer =
     ((message : List ℕ) × ReadsWhole source old new message × (answer ≡ verdict message))
     ⊎ ((new ≡ old) × ((message : List ℕ) → answer ≡ verdict message))
-    ⊎ ((answer ≡ Err (Library (Named ReadingFailed))) × Rose (source.faults old) (source.faults new))
+    ⊎ ((answer ≡ Err (Library (Named ReadingFailed))) × ErrorCountRises (source.faults old)
+    (source.faults new))

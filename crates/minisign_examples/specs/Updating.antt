@@ -1,6 +1,6 @@
 -- The verdict on an update under its name.
 use Rattle.std.specs.Prelude.{ℕ, ⊤, false, List, Result, Ok, Err, bytes_eq, codes, if◌then◌else◌}
-use Rattle.minisign.specs.Fault.{Fault, Worded}
+use Rattle.minisign.specs.Fault.{Fault, Custom}
 use Rattle.minisign.specs.ErrorKinds.{Verify}
 use Rattle.minisign.specs.Acceptance.{Verifier}
 use Rattle.minisign.specs.Headline.{verdict}
@@ -8,7 +8,7 @@ use Rattle.minisign.specs.Texts.{and_then}
 
 -- The error of an update with another name.
 unfoldable pub another_name : Fault
-another_name = Worded Verify (codes "the update has another name")
+another_name = Custom Verify (codes "the update has another name")
 
 -- The trusted comment is the name.
 abbrev pub named : List ℕ → List ℕ → Result ⊤ Fault

@@ -1,7 +1,7 @@
 //! A caller that verifies a download by the signed list of its release.
 
 ghost use Rattle.std.specs.Prelude.{◌≤◌, ◌<◌, ◌++◌, ℕ, List, Result, Some, length, MatchResult};
-ghost use Rattle.minisign.specs.Devices.{Rose};
+ghost use Rattle.minisign.specs.Devices.{ErrorCountRises};
 ghost use Rattle.minisign.specs.Reading.{ReadsWhole};
 ghost use Rattle.minisign_lists.specs.declared.faults.ListFault.{ListFault};
 ghost use Rattle.minisign_lists.specs.Faults.{map_ok};
@@ -72,7 +72,7 @@ fn read_all<R: Source>(
     requires open { IsOpen file.old }
     ensures fed { MatchResult result (λ _. (message : List ℕ) × ReadsWhole R.Source source.old source.new
         message × ((verdict : List ℕ → Result (List ℕ) ListFault) (m : List ℕ) → IsFedFile file.old verdict m
-        → IsFedFile file.new verdict (m ++ message))) (λ _. Rose (R.faults source.old)
+        → IsFedFile file.new verdict (m ++ message))) (λ _. ErrorCountRises (R.faults source.old)
         (R.faults source.new)) }
     ensures open { IsOpen file.new }
 {

@@ -1,5 +1,5 @@
--- The box of two answers: it is the one that signing makes, and it vouches for the message where they are
--- accepted.
+-- Lemmas about the signature box of two signatures that a scheme made: it is the box that signing makes, and
+-- it is valid for the message if the scheme accepts both signatures.
 use Rattle.std.proofs.Common.{◌≡◌, ◌∙◌, ℕ, List, length, Ok, inl, refl, sym, subst, arith, le-leb}
 use Rattle.std.specs.Str.{IsUtf8}
 use Rattle.std.proofs.lemmas.List.{take_all}
@@ -33,7 +33,7 @@ answered_vouches accepts public message key_id chosen first second long answers 
           answers.to_second;
     })
 
--- a text that is that of the answers, and reads as their box
+-- A text meets IsAnsweredText if it is the signature file of the two signatures and parses to their box.
 pub answered_text : (key_id : List ℕ) (chosen : ChosenComments) (first second text : List ℕ)
     → length second ≡ 64 → IsUtf8 text
     → text ≡ signature_text (answered_signature key_id first) (answered_comments chosen second)

@@ -5,7 +5,7 @@ use Rattle.std.proofs.Common.{◌∷◌, ◌++◌, codes, map}
 use Rattle.minisign_external.specs.StrictEd25519.{field_prime, group_order, is_strict_point}
 use Rattle.minisign_external.specs.StrictEd25519.{is_strict_signature, number_of, order_eight_y}
 
--- bytes from their hexadecimal digits
+-- Bytes from their hexadecimal digits.
 abbrev digit : ℕ → ℕ
 digit c = if nat_le 97 c then c - 87 else c - 48
 
@@ -13,12 +13,12 @@ abbrev hex : List ℕ → List ℕ
 hex (a ∷ b ∷ rest) = (16 * digit a + digit b) ∷ hex rest
 hex rest = []
 
--- a letter for each: "y" where it is strict, otherwise "n"
+-- The letter "y" for a point or signature that is strict, otherwise "n".
 abbrev letter : Bool → ℕ
 letter is = if is then 121 else 110
 
--- the y coordinate of a point of order 8, and its negative: twice the point has the y coordinate 0, so
--- d * y^4 + 2 * y^2 = 1, with d = -121665 / 121666 (RFC 8032, section 5.1)
+-- The y coordinate of a point of order 8, and its negative. Doubling the point gives a point with the y
+-- coordinate 0, so d * y^4 + 2 * y^2 = 1, with d = -121665 / 121666 (RFC 8032, section 5.1)
 pub order_eight : 2 * 121666 * order_eight_y ^ 2 % field_prime
     ≡ (121665 * order_eight_y ^ 4 + 121666) % field_prime
 order_eight = refl
@@ -27,13 +27,13 @@ pub order_eight_negated : 2 * 121666 * (field_prime - order_eight_y) ^ 2 % field
     ≡ (121665 * (field_prime - order_eight_y) ^ 4 + 121666) % field_prime
 order_eight_negated = refl
 
--- the order of the group, as libsodium has its bytes
+-- The order of the group, as the bytes in libsodium.
 pub group_order-bytes : group_order
     ≡ number_of (hex (codes "edd3f55c1a631258d69cf7a2def9de1400000000000000000000000000000010"))
 group_order-bytes = refl
 
--- the points that libsodium rejects for their order, and as not canonical, with and without the sign; two
--- whose y coordinates are 2 and the prime less 2; and the public key of RFC 8032
+-- Points: those that libsodium rejects for their order or as not canonical, with and without the sign bit;
+-- two points whose y coordinates are 2 and the prime minus 2; and the public key of RFC 8032.
 abbrev points : List (List ℕ)
 points =
     hex (codes "0000000000000000000000000000000000000000000000000000000000000000")
@@ -57,8 +57,9 @@ points =
 pub points-judged : map (λ point. letter (is_strict_point point)) points ≡ codes "nnnnnnnnnnnnnyyy"
 points-judged = refl
 
--- signatures: that of RFC 8032; its first half with the greatest second half, the next one, and the greatest
--- number; a first half of small order, and one that is not canonical
+-- Signatures: the one of RFC 8032; its first half with the greatest second half that is allowed, with that
+-- number plus 1, and with the greatest number; a first half of small order; and a first half that is not
+-- canonical.
 abbrev first_half : List ℕ
 first_half = hex (codes "e5564300c360ac729086e2cc806e828a84877f1eb8e5d974d873e06522490155")
 

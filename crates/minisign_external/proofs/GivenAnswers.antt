@@ -1,4 +1,5 @@
--- The answers of a scheme to the questions of a key and a text are the ones that a verdict asks for.
+-- Lemmas about the questions for a key and a signature file: the results that a scheme returns for them are
+-- the results of the checks that decide the verdict.
 use Rattle.std.proofs.Common.{◌≡◌, ℕ, Bool, true, false, ◌||◌, List, ◌++◌, Result, Ok, Err, IsTrue, ap, sym}
 use Rattle.std.proofs.Common.{subst, refl, ◌∙◌, length, take, if◌then◌else◌, [], ◌+◌, nat_le, ◌≤◌, le-leb}
 use Rattle.std.specs.Prelude.{⊤}
@@ -13,7 +14,8 @@ use Rattle.minisign_external.specs.Signatures.{read_signature_value, signature_v
 use Rattle.minisign_external.specs.PublicKeys.{is_public_key, read_utf8}
 use Rattle.minisign_external.specs.Questions.{Answers, has_whole_signature, read_under}
 use Rattle.minisign_external.specs.Questions.{comment_signature_or_zeros}
-use Rattle.minisign_external.specs.States.{AreAsked, IsBlank, IsFedState, asked_under, asking_misuse}
+use Rattle.minisign_external.specs.States.{AreQuestionsWithoutDigest, IsBlank, IsFedState, asked_under}
+use Rattle.minisign_external.specs.States.{asking_misuse}
 use Rattle.minisign_external.specs.States.{asking_under, given_verdict, may_ask, with_public_key}
 use Rattle.minisign_external.specs.Questions.{verdict_under}
 use Rattle.minisign_external.specs.declared.state.Misuse.TheVariants.{NoRoom, PublicKeyNotRead}
@@ -43,7 +45,7 @@ of_read : (v : PublicKeyValue) (t : SignatureTextRecord) (r : Result SignatureTe
 of_read v t (Ok s) h = of_judged v s t (judge_key v.key_id s.signature false) refl h
 of_read v t (Err f) h = cc h
 
--- what is read under a key that takes no legacy signatures is over the digest
+-- A signature that passes the checks under a key without legacy signatures is prehashed.
 pub prehashed : (v : PublicKeyValue) (text : List ℕ) (t : SignatureTextRecord) → read_under v false text
     ≡ Ok t → is_prehashed t.signature ≡ true
 prehashed v text t h = of_read v t (read_utf8 read_signature text) h
@@ -54,7 +56,7 @@ whole_signature_is false x y h = cc h
 
 module _ (accepts : Verifier) (v : PublicKeyValue) (text m room digest : List ℕ) (t : SignatureTextRecord)
     (q : Questions)
-    (opens : read_under v false text ≡ Ok t) (asked : AreAsked q room v t)
+    (opens : read_under v false text ≡ Ok t) (asked : AreQuestionsWithoutDigest q room v t)
     (returned : digest ≡ blake2b_digest 64 m) where
   first_answer : accepts (signed_bytes (box_of t) m) v.key t.signature.signature
       ≡ accepts digest q.public_key q.signature
@@ -87,7 +89,7 @@ module _ (accepts : Verifier) (v : PublicKeyValue) (text m room digest : List �
 
 module _ (accepts : Verifier) (v : PublicKeyValue) (text m room digest : List ℕ) (t : SignatureTextRecord)
     (q : Questions)
-    (opens : read_under v false text ≡ Ok t) (asked : AreAsked q room v t)
+    (opens : read_under v false text ≡ Ok t) (asked : AreQuestionsWithoutDigest q room v t)
     (returned : digest ≡ blake2b_digest 64 m) where
   pub given : (first second : Bool) → first ≡ accepts digest q.public_key q.signature
       → second ≡ accepts (take q.message_len room) q.public_key q.comment_signature
@@ -98,7 +100,7 @@ module _ (accepts : Verifier) (v : PublicKeyValue) (text m room digest : List �
       (accepts (take q.message_len room) q.public_key q.comment_signature)) (sym is) both in
       subst (λ x. Answers accepts v text m first x) (sym also) one
 
--- there is room
+-- A buffer that is long enough is not rejected.
 roomy : (b : Bool) (r : Refusal Fault) → b ≡ true
     → ◌≡◌ {A = Result Unit (Refusal Fault)} (Err r) (if b then Ok tt else Err (WrongUse NoRoom)) → ⊥
 roomy true r is h = cc h
@@ -113,7 +115,7 @@ module _ (accepts : Verifier) (v : PublicKeyValue) (text message : List ℕ) (ro
       (roomy (nat_le (64 + length t.comments.trusted) room) r (le-leb _ _ (fits t e)) h)
   of_asked (Err f) e h = rw e h
 
-  -- what is rejected of a state that was just begun is what the verdict is
+  -- If asking a new state fails, the verdict is the same error.
   pub unasked : (s : State) → is_public_key v ≡ true → IsFedState s [] → IsBlank s
       → Err r ≡ asking_under s v text false room
       → Err r ≡ given_verdict (verdict_under accepts v text message false)
@@ -125,7 +127,7 @@ module _ (accepts : Verifier) (v : PublicKeyValue) (text message : List ℕ) (ro
       ∙ ap (λ (b : Bool). if b then asked_under (read_under v false text) room else
       Err (WrongUse PublicKeyNotRead)) public)
 
--- what is rejected of the text itself is what the verdict is
+-- If the signature file cannot be parsed, the verdict is the same error.
 pub unread : (accepts : Verifier) (v : PublicKeyValue) (text message : List ℕ) (e : Fault)
     → read_signature_value text ≡ Err e
     → Err (Refused e) ≡ given_verdict (verdict_under accepts v text message false)

@@ -1,4 +1,4 @@
--- A key that is opened: what is answered, and the key that is left.
+-- Lemmas about calls that open a key: the result, and the struct afterwards.
 use Rattle.std.proofs.Common.{◌≡◌, ◌⊎◌, ◌∙◌, if◌then◌else◌, ℕ, Bool, true, false, List, None, Some, Result}
 use Rattle.std.proofs.Common.{Ok, Err, ap, inl, inr, refl, subst, sym}
 use Rattle.minisign_base.specs.Fault.{Fault, Named}
@@ -17,7 +17,7 @@ use Rattle.minisign_external.specs.declared.unopened_keys.UnopenedKeyValue.{Unop
 abbrev Answer : Type 0
 Answer = Result Unit (Refusal Fault) × SecretKeyValue
 
--- what was answered with an error is that error
+-- If a call that opens a key returns an error, it is the error of opening the key.
 refused : (r : Result SecretKeyRecord Fault) (old new : SecretKeyValue) (f : Refusal Fault)
     → ◌≡◌ {A = Answer} (Err f, new) (opened_or_unchanged (with_refusal r) old)
     → (e : Fault) × (f ≡ Refused e) × (r ≡ Err e)
@@ -27,7 +27,7 @@ refused (Err e) old new f h =
     (λ (p : Answer). p.0) h in
     let same : f ≡ Refused e = cc first in (e, same, refl)
 
--- of a key that was read
+-- If the key was read, the result is that of opening it.
 as_read : (b : Bool) (g : Result SecretKeyRecord (Refusal Fault)) (m : Refusal Fault) → b ≡ true
     → (if b then g else Err m) ≡ g
 as_read true g m is = refl

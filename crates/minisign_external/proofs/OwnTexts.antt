@@ -43,7 +43,7 @@ module _ (accepts : Verifier) (w : PublicKeyValue) (message text : List ℕ) (ch
     (first second : List ℕ)
     (own : IsAnsweredText w.key_id chosen first second text) (long : length second ≡ 64)
     (answers : AcceptsAnswers accepts w.key message chosen.trusted first second) where
-  -- the verdict on the text of two signatures that are accepted
+  -- The verdict on the signature file of two accepted signatures is the trusted comment.
   pub verified : verdict_under accepts w text message false ≡ Ok chosen.trusted
   verified =
       let (t, read, same) = boxed (read_signature text) _ own.read_back in
@@ -78,8 +78,8 @@ module _ (accepts : Verifier) (public_of : List ℕ → List ℕ) (seed : List �
       (drop-append_seam seed (public_of seed)) in
       sym behind ∙ ap (drop 32) (sym pair.secret) ∙ ap (λ x. x.key) half
 
-  -- the verdict on the text of the two signatures that a scheme makes with a seed's key, which it accepts by
-  -- law
+  -- The verdict on the signature file of two signatures that a scheme makes with the key of a seed, which the
+  -- scheme accepts by its law, is the trusted comment.
   pub own_verdict : (message digest trusted untrusted first second bytes : List ℕ) (len : ℕ)
       → digest ≡ blake2b_digest 64 message → length second ≡ 64
       → HoldsText v.key_id (comments_of trusted untrusted) first second bytes len

@@ -11,7 +11,7 @@ success_cases : (b : Bool) (v w : PublicKeyValue) → Ok w ≡ (if b then Ok v e
 success_cases true v w h = let same : w ≡ v = cc h in (refl, same)
 success_cases false v w h = cc h
 
--- it has the key ID of the secret key
+-- A public key that was obtained from a secret key has its key ID, and the secret key is open.
 pub half_of_success : (v : SecretKeyValue) (w : PublicKeyValue) → Ok w ≡ public_value_of v
     → (is_opened v ≡ true) × (w.key_id ≡ v.key_id)
 half_of_success v w h = let (opened, same) = success_cases (is_opened v) _ w h in
@@ -22,7 +22,7 @@ error_cases : (b : Bool) (v : PublicKeyValue) (m : Misuse) → Err m ≡ (if b t
 error_cases true v m h = cc h
 error_cases false v m h = let same : m ≡ KeyNotOpened = cc h in (same, refl)
 
--- a secret key that was not opened has none
+-- The only error is that the secret key is not open.
 pub half_of_error : (v : SecretKeyValue) (m : Misuse) → Err m ≡ public_value_of v
     → (m ≡ KeyNotOpened) × (is_opened v ≡ false)
 half_of_error v m h = error_cases (is_opened v) _ m h

@@ -1,4 +1,5 @@
--- A signature that was read from a text: asking with it is asking about the text.
+-- Lemmas about a signature that was read from a signature file: asking about the struct gives the same result
+-- as asking about the file.
 use Rattle.std.proofs.Common.{◌≡◌, ◌∙◌, ◌==◌, ◌+◌, ℕ, Bool, true, false, if◌then◌else◌, List, length, take}
 use Rattle.std.proofs.Common.{drop, Result, Ok, Err, ap, sym, refl, subst, le-leb, IfOk, IfErr, ◌≤◌, ◌++◌}
 use Rattle.std.proofs.Common.{◌&&◌}
@@ -16,9 +17,10 @@ use Rattle.minisign_external.specs.Questions.{HoldsMessage, has_whole_signature,
 use Rattle.minisign_external.specs.Signatures.{IsReadFrom, comment_bytes, comment_of, is_text_of}
 use Rattle.minisign_external.specs.Signatures.{read_signature_value, signature_mark, signature_of_value}
 use Rattle.minisign_external.specs.Signatures.{signature_value}
-use Rattle.minisign_external.specs.States.{HasAsked, IsTextRefusal, asked_about, asked_of, asked_under}
-use Rattle.minisign_external.specs.States.{asking_misuse, asking_result, asking_under, judged_before, may_ask}
-use Rattle.minisign_external.specs.States.{placed_before, questions_about, questions_of, room_for}
+use Rattle.minisign_external.specs.States.{HasAsked, IsTextRefusal, asked_about, asking_checks, asked_under}
+use Rattle.minisign_external.specs.States.{asking_misuse, asking_result, asking_under, after_key_check}
+use Rattle.minisign_external.specs.States.{may_ask}
+use Rattle.minisign_external.specs.States.{after_comment_check, questions_about, questions_of, check_buffer}
 use Rattle.minisign_external.specs.States.{with_public_key}
 use Rattle.minisign_external.specs.declared.public_keys.PublicKeyValue.{PublicKeyValue}
 use Rattle.minisign_external.specs.declared.signatures.SignatureValue.{SignatureValue}
@@ -31,7 +33,7 @@ use Rattle.minisign_external.specs.declared.state.State.{State}
 use Rattle.minisign_external.proofs.Utf8.{not_true, of_text}
 use Rattle.minisign_external.proofs.Verdicts.{opening_refusal}
 
--- three tests that hold, and three of which the last one does not
+-- The conjunction of three tests that are true is true.
 all_hold : (a b c : Bool) → a ≡ true → b ≡ true → c ≡ true → (a && b && c) ≡ true
 all_hold true true true x y z = refl
 all_hold true true false x y z = cc z
@@ -50,7 +52,7 @@ chosen true true x y p q same = ap (λ c. Ok c) same
 chosen true false x y p q same = cc q
 chosen false b x y p q same = cc p
 
--- nothing is rejected of a public key that was read
+-- If asking with a public key succeeds, the checks after that of the public key succeed.
 of_public : (b : Bool) (x : Result Unit (Refusal Fault))
     → (if b then x else Err (WrongUse PublicKeyNotRead)) ≡ Ok tt → x ≡ Ok tt
 of_public true x h = h
@@ -61,7 +63,8 @@ one_or_zero true = refl
 one_or_zero false = refl
 
 judged_as : (j : Result ⊤ Fault) (t : SignatureTextRecord) (room : ℕ)
-    → judged_before j (room_for (length t.comments.trusted) room) ≡ asked_under (and_then j (λ _. Ok t)) room
+    → after_key_check j (check_buffer (length t.comments.trusted) room) ≡ asked_under (and_then j
+    (λ _. Ok t)) room
 judged_as (Ok u) t room = refl
 judged_as (Err e) t room = refl
 
@@ -71,7 +74,8 @@ judged_ok : (j : Result ⊤ Fault) (t : SignatureTextRecord) (room : ℕ)
 judged_ok (Ok u) t room h = refl
 judged_ok (Err e) t room h = cc h
 
--- what is found of the text of a value
+-- A text with the recorded digest, and with UTF-8 at the position of the comment, is accepted as the text of
+-- the struct.
 pub is_same : (s : SignatureValue) (text part : List ℕ) → bytes_eq (blake2b_digest 32 text) s.text_digest
     ≡ true → nat_le (s.comment_offset + s.comment_len) (length text) ≡ true
     → part ≡ comment_bytes s text → IsUtf8 part → is_text_of s text ≡ true
@@ -102,7 +106,7 @@ module _ (s : SignatureValue) (text : List ℕ) (t : SignatureTextRecord) (from 
       (le-leb _ _ (subst (λ (n : ℕ). s.comment_offset + n ≤ length text) (sym len_is) from.comment.within))
       (sym bytes_are) from.utf8
 
-  -- the comment that is asked about is that of the text
+  -- The trusted comment that is found with the struct is that of the text.
   pub comment_is : comment_of s text ≡ Ok t.comments.trusted
   comment_is = chosen (s.mark == signature_mark) (is_text_of s text) _ _
       (ap (λ (x : SignatureValue). x.mark == signature_mark) from.value) text_is bytes_are
@@ -112,20 +116,20 @@ module _ (s : SignatureValue) (text : List ℕ) (t : SignatureTextRecord) (from 
   under v legacy = sym (ap
       (λ r. and_then r (λ x. and_then (judge_key v.key_id x.signature legacy) (λ _. Ok x))) from.read)
 
-  judged_under : (v : PublicKeyValue) (legacy : Bool) (room : ℕ) → placed_before (comment_of s text)
-      (judged_before (judge_key v.key_id (signature_of_value s) legacy) (room_for s.comment_len room))
+  judged_under : (v : PublicKeyValue) (legacy : Bool) (room : ℕ) → after_comment_check (comment_of s text)
+      (after_key_check (judge_key v.key_id (signature_of_value s) legacy) (check_buffer s.comment_len room))
       ≡ asked_under (read_under v legacy text) room
   judged_under v legacy room =
-      ap (λ c. placed_before c
-      (judged_before (judge_key v.key_id (signature_of_value s) legacy) (room_for s.comment_len room)))
+      ap (λ c. after_comment_check c
+      (after_key_check (judge_key v.key_id (signature_of_value s) legacy) (check_buffer s.comment_len room)))
       comment_is
-      ∙ ap (λ (x : SignatureValue). judged_before (judge_key v.key_id (signature_of_value x) legacy)
-      (room_for x.comment_len room)) from.value
+      ∙ ap (λ (x : SignatureValue). after_key_check (judge_key v.key_id (signature_of_value x) legacy)
+      (check_buffer x.comment_len room)) from.value
       ∙ judged_as (judge_key v.key_id t.signature legacy) t room
       ∙ ap (λ r. asked_under r room) (under v legacy)
 
-  -- what is rejected is what the text is rejected for
-  pub asked_as : (v : PublicKeyValue) (legacy : Bool) (room : ℕ) → asked_of v s text legacy room
+  -- Asking with the struct gives the same result as the checks of the text under the key.
+  pub asked_as : (v : PublicKeyValue) (legacy : Bool) (room : ℕ) → asking_checks v s text legacy room
       ≡ with_public_key v (asked_under (read_under v legacy text) room)
   asked_as v legacy room = ap (with_public_key v) (judged_under v legacy room)
 
@@ -134,19 +138,20 @@ module _ (s : SignatureValue) (text : List ℕ) (t : SignatureTextRecord) (from 
   asking_as state v legacy room = ap (λ x. if may_ask state then x else Err (WrongUse (asking_misuse state)))
       (asked_as v legacy room)
 
-  -- where nothing is rejected, this is what the text reads as under the key
-  pub reads_under : (v : PublicKeyValue) (legacy : Bool) (room : ℕ) → asked_of v s text legacy room ≡ Ok tt
+  -- If asking succeeds, the text parses to this signature and passes the checks under the key.
+  pub reads_under : (v : PublicKeyValue) (legacy : Bool) (room : ℕ)
+      → asking_checks v s text legacy room ≡ Ok tt
       → read_under v legacy text ≡ Ok t
   reads_under v legacy room h =
       sym (under v legacy) ∙ judged_ok (judge_key v.key_id t.signature legacy) t room
       (ap (λ r. asked_under r room) (under v legacy)
       ∙ of_public (is_public_key v) _ (sym (asked_as v legacy room) ∙ h))
 
-  -- the questions about it are those of the text
+  -- The questions about the struct are those about the text.
   pub questions_are : (v : PublicKeyValue) → questions_about v s ≡ questions_of v t
   questions_are v = ap (questions_about v) from.value
 
-  -- and the message of the second one
+  -- The message of the second question is that of the text.
   pub message_is : (c message : List ℕ) (len : ℕ) → comment_of s text ≡ Ok c → len ≡ 64 + length c
       → len ≤ length message
       → take len message ≡ s.signature ++ c → (c ≡ t.comments.trusted)
@@ -162,7 +167,7 @@ module _ (s : SignatureValue) (text : List ℕ) (t : SignatureTextRecord) (from 
         },
       )
 
-  -- they are then asked
+  -- After asking with the struct, the state was asked about the text.
   pub has_asked : (state : State) (v : PublicKeyValue) (legacy : Bool) → read_under v legacy text ≡ Ok t
       → HasAsked (asked_about state s) v text legacy
   has_asked state v legacy read = record {
@@ -173,9 +178,9 @@ module _ (s : SignatureValue) (text : List ℕ) (t : SignatureTextRecord) (from 
         ∙ one_or_zero (has_whole_signature t.comments);
   }
 
--- == What is read of bytes ==
+-- == Reading a signature from bytes ==
 
--- bytes that are a text
+-- The result of reading a signature from UTF-8 bytes is that of reading it from the text.
 pub from_text : (r : Result SignatureValue Fault) (text bytes : List ℕ)
     → r ≡ map_ok (signature_value text) (read_signature text) → text ≡ bytes → IsUtf8 bytes
     → IfOk r (λ s. (t : SignatureTextRecord) × (read_signature text ≡ Ok t)
@@ -200,7 +205,7 @@ unread_of : (text : List ℕ) (e : Fault) (r : Result SignatureTextRecord Fault)
 unread_of text e (Ok t) h = cc h
 unread_of text e (Err f) h = let same : f ≡ e = cc h in ap (λ x. Err x) same
 
--- what is rejected of bytes is rejected by the texts
+-- If reading a signature from bytes fails, verification with them fails with the same error.
 pub unread_texts : (v : PublicKeyValue) (legacy : Bool) (bytes : List ℕ) (r : Result SignatureValue Fault)
     → r ≡ read_signature_value bytes
     → IfErr r (λ e. IsTextRefusal v bytes legacy (Refused e))

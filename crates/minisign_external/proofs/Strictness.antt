@@ -15,24 +15,24 @@ use Rattle.minisign_external.specs.declared.state.Refusal.{Refusal}
 use Rattle.minisign_external.specs.declared.state.State.{State}
 use Rattle.minisign_external.proofs.ReadValues.{asking_as}
 
-of_whole : (whole first : Bool) (second : List ℕ)
+whole_agrees : (whole first : Bool) (second : List ℕ)
     → (first && (not ((if whole then 1 else 0) == 1)
     || is_strict_signature (if whole then second else replicate 64 0)))
     ≡ (first && (not whole || is_strict_signature second))
-of_whole true first second = refl
-of_whole false first second = refl
+whole_agrees true first second = refl
+whole_agrees false first second = refl
 
 module _ (s : SignatureValue) (text : List ℕ) (t : SignatureTextRecord) (from : IsReadFrom s text t) where
-  pub strict_as : (v : PublicKeyValue) → is_strict_value v s ≡ is_strict_text v t
-  strict_as v =
+  pub strict_as_text : (v : PublicKeyValue) → is_strict_value v s ≡ is_strict_text v t
+  strict_as_text v =
       ap (is_strict_value v) from.value
-      ∙ of_whole (has_whole_signature t.comments) (is_strict v.key t.signature.signature)
+      ∙ whole_agrees (has_whole_signature t.comments) (is_strict v.key t.signature.signature)
       (take 64 t.comments.signature)
 
-  pub asked_strictly_as : (state : State) (v : PublicKeyValue) (legacy : Bool) (room : ℕ)
+  pub asked_strictly_as_text : (state : State) (v : PublicKeyValue) (legacy : Bool) (room : ℕ)
       (r : Result Bool (Refusal Fault))
       → r ≡ asked_strictly (is_strict_value v s) (asking_result state v s text legacy room)
       → r ≡ asked_strictly (is_strict_text v t) (asking_under state v text legacy room)
-  asked_strictly_as state v legacy room r is =
-      is ∙ ap (λ b. asked_strictly b (asking_result state v s text legacy room)) (strict_as v)
+  asked_strictly_as_text state v legacy room r is =
+      is ∙ ap (λ b. asked_strictly b (asking_result state v s text legacy room)) (strict_as_text v)
       ∙ ap (asked_strictly (is_strict_text v t)) (asking_as s text t from state v legacy room)

@@ -50,7 +50,7 @@ opened_of : (r : Result SignatureTextRecord Fault) (v : PublicKeyValue) (legacy 
 opened_of (Ok s) v legacy t h = ap (λ x. Ok x) (then_same (judge_key v.key_id s.signature legacy) s t h)
 opened_of (Err e) v legacy t h = cc h
 
--- what the text reads as under a key it reads as, and is UTF-8
+-- A text that parses and passes the checks under a key is UTF-8 and parses to the same signature.
 pub opened : (v : PublicKeyValue) (legacy : Bool) (sig_text : List ℕ) (t : SignatureTextRecord)
     → read_under v legacy sig_text ≡ Ok t
     → read_utf8 read_signature sig_text ≡ Ok t
@@ -81,7 +81,7 @@ pass true true false d f t u w h = cc h
 pass true false c d f t u w h = cc h
 pass false b c d f t u w h = cc h
 
--- the tests in one order are those in the other
+-- Two orders of the same checks give the same result.
 reordered : {T : Type 0} (a b c d : Bool) (f : NamedFault) (t : T) (u : List ℕ)
     → and_then (and_then (judge_two a b f) (λ _. judge_answers c d)) (λ _. Ok u) ≡ tests a b c d f t u
 reordered true true c d f t u = refl
@@ -126,7 +126,7 @@ module _ (accepts : Verifier) (key : PublicKeyRecord) (t : SignatureTextRecord) 
 
 -- == Two texts ==
 
--- what goes on with what was read goes on with that alone
+-- A function that is applied after a check that returns t is applied to t.
 chained : {T W : Type 0} (j : Result ⊤ Fault) (t : T) (more : T → Result W Fault)
     → and_then (and_then j (λ _. Ok t)) more ≡ and_then (and_then j (λ _. Ok t)) (λ _. more t)
 chained (Ok _) t more = refl
@@ -168,7 +168,7 @@ module _ (accepts : Verifier) (pk_text sig_text message : List ℕ) (legacy : Bo
       ≡ Err e = rw (sym as_read ∙ read) refl in
       let no = sym g ∙ h in cc no
 
-  -- the verdict on both texts is that on the key and the text of the signature
+  -- The verdict on both texts is that on the key and the signature file.
   as_verdict : (t : SignatureTextRecord) → read_signature sig_text ≡ Ok t
       → verdict accepts pk_text sig_text message legacy ≡ tested accepts key t message legacy
   unfolding verdict
@@ -212,7 +212,8 @@ same_and : (w x y : Bool) → (w ≡ true → x ≡ y) → (w && x) ≡ (w && y)
 same_and true x y h = h refl
 same_and false x y h = refl
 
--- what the second answer says is whether the comment signature is accepted
+-- The comment signature is accepted exactly if it has at least 64 bytes and the result of the second check is
+-- true.
 pub comment_answer : (accepts : Verifier) (v : PublicKeyValue) (t : SignatureTextRecord) (whole second : Bool)
     → whole ≡ has_whole_signature t.comments
     → (IsTrue (has_whole_signature t.comments) → accepts (t.signature.signature ++ t.comments.trusted) v.key
@@ -221,7 +222,7 @@ pub comment_answer : (accepts : Verifier) (v : PublicKeyValue) (t : SignatureTex
 comment_answer accepts v t whole second is answer =
     same_and (has_whole_signature t.comments) _ second answer ∙ ap (λ w. w && second) (sym is)
 
--- the verdict is what the answers decide
+-- The results of the two checks decide the verdict.
 pub decided : (accepts : Verifier) (v : PublicKeyValue) (sig_text message : List ℕ) (legacy : Bool)
     (t : SignatureTextRecord) (whole first second : Bool)
     → read_under v legacy sig_text ≡ Ok t → whole ≡ has_whole_signature t.comments
@@ -254,7 +255,7 @@ refused_text true (Ok t) room m e h = absurd (has_room (nat_le (64 + length t.co
 refused_text true (Err f) room m e h = let same : f ≡ e = cc h in ap (λ x. Err x) same
 refused_text false r room m e h = cc h
 
--- of a state that may be asked
+-- If asking a state that may be asked fails, the error is that of the text or of the buffer.
 pub opening_refusal : (v : PublicKeyValue) (sig_text : List ℕ) (legacy : Bool) (room : ℕ) (r : Refusal Fault)
     → asked_under (read_under v legacy sig_text) room ≡ Err r → IsTextRefusal v sig_text legacy r
 opening_refusal v sig_text legacy room (WrongUse m) h = tt
@@ -262,7 +263,7 @@ opening_refusal v sig_text legacy room (Refused e) h = λ utf8 pk_text message a
     refuse accepts pk_text sig_text message legacy v keyed utf8 e
     (rw (refused_text true (read_under v legacy sig_text) room NotBegun e h) refl)
 
--- the same where a public key that was not read is rejected before
+-- The same holds if it is first checked that the public key was read.
 under_of : (b : Bool) (v : PublicKeyValue) (sig_text : List ℕ) (legacy : Bool) (room : ℕ) (r : Refusal Fault)
     → (if b then asked_under (read_under v legacy sig_text) room else Err (WrongUse PublicKeyNotRead)) ≡ Err r
     → IsTextRefusal v sig_text legacy r

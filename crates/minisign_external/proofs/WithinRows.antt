@@ -1,4 +1,5 @@
--- Opening within a number of rows is opening within the greatest number of times that makes no more.
+-- Lemmas about bounds on the work: opening a key within a number of rows is opening it with the greatest
+-- bound on p that allows no more rows.
 use Rattle.std.proofs.Common.{◌≡◌, ◌⊎◌, ◌∙◌, ◌*◌, ℕ, Bool, true, false, not, bytes_eq, List, Result, Some, Ok}
 use Rattle.std.proofs.Common.{Err, IsOk, ap, if◌then◌else◌, inl, inr, refl, rules, subst, sym}
 use Rattle.std.specs.Prelude.{◌^◌, None, nat_lt}
@@ -15,7 +16,7 @@ use Rattle.minisign.specs.Sealing.{allowed_rows, allowed_work, key_limits, no_kd
 use Rattle.minisign.specs.Sealing.{restored_key, scrypt_kdf, sealed_by_scrypt, wants_password, xored_key}
 use Rattle.minisign.specs.Texts.{and_then, require}
 use Rattle.minisign_external.specs.PublicKeys.{read_utf8}
-use Rattle.minisign_external.specs.SecretKeys.{DerivesWithin, is_read, makes_within, open_within}
+use Rattle.minisign_external.specs.SecretKeys.{DerivesWithin, is_read, computes_at_most, open_within}
 use Rattle.minisign_external.specs.SecretKeys.{opened_or_unchanged}
 use Rattle.minisign_external.specs.SecretKeys.{opened_sealed, unopened_record, with_refusal}
 use Rattle.minisign_external.specs.declared.secrets.SecretKeyValue.{SecretKeyValue}
@@ -24,38 +25,38 @@ use Rattle.minisign_external.specs.declared.state.Refusal.TheVariants.{Refused}
 use Rattle.minisign_external.specs.declared.unopened_keys.UnopenedKeyValue.{UnopenedKeyValue}
 use Rattle.minisign_external.proofs.Utf8.{of_text}
 
--- where the same work is allowed, the same opens
+-- If both bounds allow the same work, opening gives the same result.
 pub opens_within : (k : SecretKeyRecord) (password : List ℕ) (times most : ℕ) → allowed_work k (Some times)
     ≡ allowed_rows k most
     → and_then (sealed_by_scrypt k) (λ s. open_sealed s password (Some times)) ≡ open_within k password most
-opens_within k password times most same = of (not (bytes_eq k.kdf no_kdf)) (bytes_eq k.kdf scrypt_kdf)
+opens_within k password times most same = by_cases (not (bytes_eq k.kdf no_kdf)) (bytes_eq k.kdf scrypt_kdf)
   where
-    of : (a b : Bool)
+    by_cases : (a b : Bool)
         → and_then (require a KeyNotEncrypted (require b UnsupportedEncryptionAlgorithm (Ok k)))
         (λ s. open_sealed s password (Some times))
         ≡ and_then (require a KeyNotEncrypted (require b UnsupportedEncryptionAlgorithm (Ok k)))
         (λ s. and_then (allowed_rows s most) (λ _. restored_key (xored_key s password)))
-    of true true = ap (λ w. and_then w (λ _. restored_key (xored_key k password))) same
-    of true false = refl
-    of false b = refl
+    by_cases true true = ap (λ w. and_then w (λ _. restored_key (xored_key k password))) same
+    by_cases true false = refl
+    by_cases false b = refl
 
--- and the same is derived
+-- If both bounds allow the same work, both allow the derivation of the same keys.
 pub derives_within : (k : SecretKeyRecord) (times most : ℕ) → allowed_work k (Some times)
     ≡ allowed_rows k most
     → and_then (sealed_by_scrypt k) (λ s. allowed_work s (Some times)) ≡ and_then (sealed_by_scrypt k)
     (λ s. allowed_rows s most)
-derives_within k times most same = of (not (bytes_eq k.kdf no_kdf)) (bytes_eq k.kdf scrypt_kdf)
+derives_within k times most same = by_cases (not (bytes_eq k.kdf no_kdf)) (bytes_eq k.kdf scrypt_kdf)
   where
-    of : (a b : Bool)
+    by_cases : (a b : Bool)
         → and_then (require a KeyNotEncrypted (require b UnsupportedEncryptionAlgorithm (Ok k)))
         (λ s. allowed_work s (Some times))
         ≡ and_then (require a KeyNotEncrypted (require b UnsupportedEncryptionAlgorithm (Ok k)))
         (λ s. allowed_rows s most)
-    of true true = same
-    of true false = refl
-    of false b = refl
+    by_cases true true = same
+    by_cases true false = refl
+    by_cases false b = refl
 
--- the key that was taken from a value, opened with a text, as the password's bytes say it
+-- The same for the key in a struct and for a password whose bytes are UTF-8.
 pub opens_text : (key k : SecretKeyRecord) (bytes password : List ℕ) (times most : ℕ) → key ≡ k
     → bytes ≡ password → IsUtf8 password
     → allowed_work key (Some times) ≡ allowed_rows key most
@@ -65,7 +66,7 @@ opens_text key k bytes password times most is same utf8 work =
     opens_within key bytes times most work ∙ ap (λ (s : SecretKeyRecord). open_within s bytes most) is
     ∙ of_text (λ p. open_within k p most) password bytes same utf8
 
--- and out of memory, where that derives
+-- The same if the result may also be out of memory, which is possible only if a key is derived.
 pub opens_or_none : (key k : SecretKeyRecord) (bytes password : List ℕ) (times most : ℕ)
     (r : Result SecretKeyRecord Fault) → key ≡ k
     → bytes ≡ password → IsUtf8 password → allowed_work key (Some times) ≡ allowed_rows key most
@@ -84,7 +85,7 @@ opens_or_none key k bytes password times most r is same utf8 work (inr (memory, 
       (rw (derives_within key times most work) at derives),
 )
 
--- what is answered of that
+-- The result of the call, and the struct afterwards.
 pub sealed_or_none : (v : UnopenedKeyValue) (password : List ℕ) (most : ℕ) (old : SecretKeyValue)
     (d : Result SecretKeyRecord Fault)
     (answer : Result Unit (Refusal Fault) × SecretKeyValue) → is_read v ≡ true
@@ -114,7 +115,8 @@ same_test false false f v h = refl
 abbrev work_of : {V : Type 0} → Result V Fault → (V → ℕ) → (V → ℕ) → Bool → ℕ × ℕ
 work_of l n p w = option_map_or (λ v. (n v, p v)) (if w then result_ok l else None) (0, 0)
 
--- the work is within the rows where the parallelization is within the times, if both allow the same
+-- If both bounds allow the same keys, the number of rows is within its bound exactly if p is within its
+-- bound.
 within_of : {V : Type 0} (l : Result V Fault) (n p : V → ℕ) (w : Bool) (times most : ℕ)
     → and_then l (λ v. require (not (nat_lt times (p v))) WorkTooHigh (Ok v))
     ≡ and_then l (λ v. require (not (nat_lt most (2 ^ n v * p v))) WorkTooHigh (Ok v))
@@ -127,11 +129,11 @@ within_of l n p false times most same = no_less times ∙ sym (no_less most)
 -- If the bound `times` on p allows the same keys as the bound `most` on the rows, then opening a key computes
 -- at most `most` rows exactly if its p is at most `times`.
 pub within_times : (k : SecretKeyRecord) (times most : ℕ) → allowed_work k (Some times) ≡ allowed_rows k most
-    → not (nat_lt times (opening_work k).1) ≡ makes_within k most
+    → not (nat_lt times (opening_work k).1) ≡ computes_at_most k most
 within_times k times most same =
     within_of (key_limits k) (λ v. v.n_log2) (λ v. v.p) (wants_password k) times most same
 
--- what is derived of a key that makes more rows, by whether it is sealed by scrypt
+-- The error for a key that needs more rows, which depends on whether the key is encrypted with scrypt.
 rejected_of : {V : Type 0} (l : Result V Fault) (n p : V → ℕ) (w b : Bool) (k : SecretKeyRecord) (most : ℕ)
     (next : SecretKeyRecord → V → Result SecretKeyRecord Fault)
     → not (nat_lt most (2 ^ (work_of l n p w).0 * (work_of l n p w).1)) ≡ false
@@ -144,7 +146,7 @@ rejected_of (Ok v) n p true false k most next many = refl
 rejected_of (Err e) n p true b k most next many = let none = sym (no_less most) ∙ many in cc none
 rejected_of l n p false b k most next many = let none = sym (no_less most) ∙ many in cc none
 
-too_many : (k : SecretKeyRecord) (password : List ℕ) (most : ℕ) → makes_within k most ≡ false
+too_many : (k : SecretKeyRecord) (password : List ℕ) (most : ℕ) → computes_at_most k most ≡ false
     → open_within k password most
     ≡ Err (Named (if bytes_eq k.kdf scrypt_kdf then WorkTooHigh else UnsupportedEncryptionAlgorithm))
 too_many k password most many =
@@ -163,16 +165,16 @@ too_many k password most many =
     pass true false h = h
     pass false b h = h
 
--- a key that makes more is rejected for them, if it is sealed by scrypt
+-- A key that needs more rows is rejected for its work if it is encrypted with scrypt.
 pub too_many_of_scrypt : (k : SecretKeyRecord) (password : List ℕ) (most : ℕ)
-    → bytes_eq k.kdf scrypt_kdf ≡ true → makes_within k most ≡ false
+    → bytes_eq k.kdf scrypt_kdf ≡ true → computes_at_most k most ≡ false
     → open_within k password most ≡ Err (Named WorkTooHigh)
 too_many_of_scrypt k password most is many = too_many k password most many
     ∙ ap (λ (b : Bool). Err (Named (if b then WorkTooHigh else UnsupportedEncryptionAlgorithm))) is
 
--- and otherwise for how it is sealed
+-- A key that needs more rows and is not encrypted with scrypt is rejected for its key derivation.
 pub too_many_of_other : (k : SecretKeyRecord) (password : List ℕ) (most : ℕ)
-    → bytes_eq k.kdf scrypt_kdf ≡ false → makes_within k most ≡ false
+    → bytes_eq k.kdf scrypt_kdf ≡ false → computes_at_most k most ≡ false
     → open_within k password most ≡ Err (Named UnsupportedEncryptionAlgorithm)
 too_many_of_other k password most is many = too_many k password most many
     ∙ ap (λ (b : Bool). Err (Named (if b then WorkTooHigh else UnsupportedEncryptionAlgorithm))) is

@@ -9,7 +9,7 @@ use Rattle.minisign_external.specs.Numbers.{answer_yes, fault_number, is_answer,
 use Rattle.minisign_external.specs.PublicKeys.{key_of}
 use Rattle.minisign_external.specs.Signatures.{signature_of_value}
 use Rattle.minisign_external.specs.States.{asking_misuse, bare_asked_mark, decision, is_asked_bare}
-use Rattle.minisign_external.specs.States.{judged_before, may_ask, numbered, finalized_mark, verdict_misuse}
+use Rattle.minisign_external.specs.States.{after_key_check, may_ask, numbered, finalized_mark, verdict_misuse}
 use Rattle.minisign_external.specs.States.{with_public_key}
 use Rattle.minisign_external.specs.StrictCalls.{asked_number, asked_strictly}
 use Rattle.minisign_external.specs.StrictEd25519.{is_strict}
@@ -66,15 +66,15 @@ with_signature s more = if has_signature s then more else Err (WrongUse Signatur
 
 -- The result of asking about a key and a signature, for any state. The errors are, in this order: the public
 -- key was not read; the signature was not read; those of checking the signature under the key.
-abbrev pub bare_asked_of : PublicKeyValue → SignatureValue → Bool → Result Unit (Refusal Fault)
-bare_asked_of v s legacy = with_public_key v (with_signature s
-    (judged_before (judge_key v.key_id (signature_of_value s) legacy) (Ok tt)))
+abbrev pub bare_asking_checks : PublicKeyValue → SignatureValue → Bool → Result Unit (Refusal Fault)
+bare_asking_checks v s legacy = with_public_key v (with_signature s
+    (after_key_check (judge_key v.key_id (signature_of_value s) legacy) (Ok tt)))
 
 -- The result of asking. First, the state must accept data and must not have been asked before. It is false if
 -- the only problem is that the key or the signature is weak.
 abbrev pub bare_asking : State → PublicKeyValue → SignatureValue → Bool → Result Bool (Refusal Fault)
 bare_asking state v s legacy = asked_strictly (is_strict v.key s.signature)
-    (if may_ask state then bare_asked_of v s legacy else Err (WrongUse (asking_misuse state)))
+    (if may_ask state then bare_asking_checks v s legacy else Err (WrongUse (asking_misuse state)))
 
 -- The result of asking, the state and the questions afterwards. They are unchanged unless the result is true.
 abbrev pub bare_asking_outcome : Result Bool (Refusal Fault) → PublicKeyValue → SignatureValue → State

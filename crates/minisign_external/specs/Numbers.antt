@@ -2,7 +2,7 @@
 -- their table, `fault_row`.
 use Rattle.std.specs.Prelude.{◌≡◌, ◌≢◌, ◌==◌, ◌||◌, ℕ, Bool, true, ◌<◌, ◌-◌, ◌+◌, List, [], ◌∷◌, ◌++◌, codes}
 use Rattle.std.specs.Prelude.{length, take, drop, min}
-use Rattle.minisign_base.specs.Fault.{Fault, Named, Worded}
+use Rattle.minisign_base.specs.Fault.{Fault, Named, Custom}
 use Rattle.minisign_base.specs.Faults.{fault_row}
 use Rattle.minisign_base.specs.declared.errors.ErrorKind.{ErrorKind}
 use Rattle.minisign_base.specs.declared.errors.ErrorKind.TheVariants.{Generate, Sign, Verify, Io, Misc, Hash}
@@ -125,7 +125,7 @@ kind_number OutOfMemory = 12
 -- The number of an error of the library. An error without a name has the number 255, which no call returns.
 abbrev pub fault_number : Fault → ℕ
 fault_number (Named f) = (fault_row f).number
-fault_number (Worded kind text) = 255
+fault_number (Custom kind text) = 255
 
 -- The error number of a failed call: that of the API misuse, or that of the error in its own table.
 abbrev pub refusal_number : {F : Type 0} → (F → ℕ) → Refusal F → ℕ

@@ -66,8 +66,8 @@ abbrev pub is_opened : SecretKeyValue → Bool
 is_opened v = v.mark == opened_mark
 
 -- The struct for an open key with this key ID and these 64 secret bytes.
-abbrev pub taken_key : List ℕ → List ℕ → SecretKeyValue
-taken_key key_id secret = record { mark = opened_mark; key_id = key_id; secret = secret }
+abbrev pub opened_key_value : List ℕ → List ℕ → SecretKeyValue
+opened_key_value key_id secret = record { mark = opened_mark; key_id = key_id; secret = secret }
 
 -- The public key of an open key: the last 32 of its 64 secret bytes. It is API misuse if the key is not open.
 abbrev pub public_value_of : SecretKeyValue → Result PublicKeyValue Misuse
@@ -99,8 +99,8 @@ open_within k password most_rows = and_then (sealed_by_scrypt k)
 
 -- Opening the struct has the same result as opening the file: without a password, and with every password and
 -- every bound on the rows.
-abbrev pub OpensAs : UnopenedKeyValue → List ℕ → Type 0
-OpensAs v text = (open_unsealed (unopened_record v) ≡ and_then (read_secret_key text) open_unsealed)
+abbrev pub OpensLikeFile : UnopenedKeyValue → List ℕ → Type 0
+OpensLikeFile v text = (open_unsealed (unopened_record v) ≡ and_then (read_secret_key text) open_unsealed)
     × ((password : List ℕ) (most_rows : ℕ) → open_within (unopened_record v) password most_rows
     ≡ and_then (read_secret_key text) (λ k. open_within k password most_rows))
 
@@ -127,9 +127,10 @@ opened_sealed v password most_rows =
 abbrev pub sealed_within : SecretKeyRecord → ℕ → Result Numbers Fault
 sealed_within k most_rows = and_then (sealed_by_scrypt k) (λ s. allowed_rows s most_rows)
 
--- The result of checking the struct without the password: it must have been read.
-abbrev pub tested_sealed : UnopenedKeyValue → ℕ → Result Unit (Refusal Fault)
-tested_sealed v most_rows =
+-- The result of checking the encrypted key in the struct without its password. The struct must have been
+-- read.
+abbrev pub checked_sealed_key : UnopenedKeyValue → ℕ → Result Unit (Refusal Fault)
+checked_sealed_key v most_rows =
     if is_read v then decision (without_value (sealed_within (unopened_record v) most_rows)) else
     Err (WrongUse KeyNotRead)
 
@@ -141,15 +142,15 @@ DerivesWithin v password most_rows = (is_read v ≡ true) × IsUtf8 password
 
 -- Opening the key computes at most `most` rows of scrypt, which computes N * p rows. It computes none if the
 -- key is rejected before scrypt begins.
-abbrev pub makes_within : SecretKeyRecord → ℕ → Bool
-makes_within k most = not (nat_lt most (2 ^ (opening_work k).0 * (opening_work k).1))
+abbrev pub computes_at_most : SecretKeyRecord → ℕ → Bool
+computes_at_most k most = not (nat_lt most (2 ^ (opening_work k).0 * (opening_work k).1))
 
 -- The memory for opening the struct in place if every k-th row is kept (0 counts as 1): 32-bit words, and
 -- bytes. A key that needs more than `most_rows` rows needs no memory, because it is rejected before scrypt
 -- begins.
 abbrev pub value_memory : UnopenedKeyValue → ℕ → ℕ → ℕ × ℕ
 value_memory v k most_rows =
-    if makes_within (unopened_record v) most_rows then opening_memory (unopened_record v) (max k 1) else
+    if computes_at_most (unopened_record v) most_rows then opening_memory (unopened_record v) (max k 1) else
     (0, 0)
 
 -- This number of words and bytes is sufficient for opening the struct in place.
@@ -200,15 +201,15 @@ IsTextOpeningRefusal text password most_rows (Refused e) =
 -- The result of a call that opens a key, and the struct afterwards, which is unchanged after an error.
 abbrev pub opened_or_unchanged : Result SecretKeyRecord (Refusal Fault) → SecretKeyValue
     → Result Unit (Refusal Fault) × SecretKeyValue
-opened_or_unchanged (Ok key) old = (Ok tt, taken_key key.keynum key.secret)
+opened_or_unchanged (Ok key) old = (Ok tt, opened_key_value key.keynum key.secret)
 opened_or_unchanged (Err r) old = (Err r, old)
 
 -- The outcome for other languages of a call that opens a key: 0 or the error number, and the struct
 -- afterwards, which is unchanged after an error.
 abbrev pub opened_outcome : Result SecretKeyRecord (Refusal Fault) → SecretKeyValue → ℕ × SecretKeyValue
-opened_outcome (Ok key) old = (0, taken_key key.keynum key.secret)
+opened_outcome (Ok key) old = (0, opened_key_value key.keynum key.secret)
 opened_outcome (Err r) old = (refusal_number fault_number r, old)
 
 -- The password that a caller passes: none if with_password is 0, otherwise these bytes.
-abbrev pub passed_in : ℕ → List ℕ → Option (List ℕ)
-passed_in with_password bytes = if with_password == 0 then None else Some bytes
+abbrev pub passed_password : ℕ → List ℕ → Option (List ℕ)
+passed_password with_password bytes = if with_password == 0 then None else Some bytes

@@ -22,7 +22,7 @@ use Rattle.minisign_external.specs.Numbers.{fault_number, refusal_number}
 use Rattle.minisign_external.specs.Questions.{verdict_under}
 use Rattle.minisign_external.specs.PublicKeys.{is_public_key, public_mark}
 use Rattle.minisign_external.specs.SecretKeys.{IsTextOpeningRefusal, is_opened, opened_text, public_value_of}
-use Rattle.minisign_external.specs.SecretKeys.{taken_key}
+use Rattle.minisign_external.specs.SecretKeys.{opened_key_value}
 use Rattle.minisign_external.specs.declared.public_keys.PublicKeyValue.{PublicKeyValue}
 use Rattle.minisign_external.specs.declared.secrets.SecretKeyValue.{SecretKeyValue}
 use Rattle.minisign_external.specs.declared.state.Misuse.{Misuse}
@@ -181,14 +181,14 @@ abbrev pub IsTextSigningRefusal : {S : Type 0} → SchemeOf S → S → List ℕ
 IsTextSigningRefusal s scheme text password most_rows chosen message bytes r =
     IsTextOpeningRefusal text password most_rows r
     ⊎ ((k : SecretKeyRecord) × (opened_text text password most_rows ≡ Ok k)
-    × IsOwnRefusal s scheme (taken_key k.keynum k.secret) chosen message bytes r)
+    × IsOwnRefusal s scheme (opened_key_value k.keynum k.secret) chosen message bytes r)
 
 -- If the key consists of a seed and the seed's public key, the verdict on the signature file and the message
 -- under this public key is the trusted comment.
 abbrev pub OwnTextVerifies : {S : Type 0} → SchemeOf S → S → SecretKeyRecord → List ℕ → List ℕ → List ℕ
     → Type 0
 OwnTextVerifies s scheme k message trusted text = (seed : List ℕ)
-    → IsPairOf (s.public_of scheme) seed (taken_key k.keynum k.secret)
+    → IsPairOf (s.public_of scheme) seed (opened_key_value k.keynum k.secret)
     → verdict_under (s.accepts scheme)
     (record { mark = public_mark; key = drop 32 k.secret; key_id = k.keynum }) text message false
     ≡ Ok trusted

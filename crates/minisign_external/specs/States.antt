@@ -60,8 +60,8 @@ pub record HasAsked (s : State) (v : PublicKeyValue) (sig_text : List ℕ) (lega
   pub whole : (s.asked.whole == 1) ≡ has_whole_signature signed.comments
 
 -- The questions in the state are unchanged.
-abbrev pub KeepsAsked : State → State → Type 0
-KeepsAsked old new = new.asked ≡ old.asked
+abbrev pub KeepsQuestions : State → State → Type 0
+KeepsQuestions old new = new.asked ≡ old.asked
 
 -- The state has the mark of one that accepts data, or of one whose digest was returned.
 abbrev pub IsMarkedFed : State → Type 0
@@ -149,24 +149,28 @@ pub record AreQuestions (q : Questions) (bytes : List ℕ) (v : PublicKeyValue) 
   pub questions : q ≡ record (questions_of v t) { digest = q.digest }
   pub message : HoldsMessage t.signature t.comments.trusted bytes q.message_len
 
--- As AreQuestions, with zeros as the digest.
-abbrev pub AreAsked : Questions → List ℕ → PublicKeyValue → SignatureTextRecord → Type 0
-AreAsked q bytes v t = (q ≡ questions_of v t)
+-- These are the questions about the key and the parsed signature file, with zeros as the digest, as asking
+-- writes them. The bytes begin with the message of the second question.
+abbrev pub AreQuestionsWithoutDigest : Questions → List ℕ → PublicKeyValue → SignatureTextRecord → Type 0
+AreQuestionsWithoutDigest q bytes v t = (q ≡ questions_of v t)
     × HoldsMessage t.signature t.comments.trusted bytes q.message_len
 
--- Succeeds if the buffer is long enough for the message of the second question, with a trusted comment of
--- this length.
-abbrev pub room_for : ℕ → ℕ → Result Unit (Refusal Fault)
-room_for len room = if nat_le (64 + len) room then Ok tt else Err (WrongUse NoRoom)
+-- Succeeds if a buffer of `room` bytes is long enough for the message of the second question, with a trusted
+-- comment of this length.
+abbrev pub check_buffer : ℕ → ℕ → Result Unit (Refusal Fault)
+check_buffer len room = if nat_le (64 + len) room then Ok tt else Err (WrongUse NoRoom)
 
--- Chains checks: if the first result is an error, asking fails with it; otherwise the second result decides.
-abbrev pub judged_before : Result ⊤ Fault → Result Unit (Refusal Fault) → Result Unit (Refusal Fault)
-judged_before (Ok t) more = more
-judged_before (Err e) more = Err (Refused e)
+-- Chains checks: if the first result, that of checking the key ID and the algorithm, is an error, asking
+-- fails with this error; otherwise the second result decides. `after_comment_check` does the same for the
+-- result of finding the trusted comment.
+abbrev pub after_key_check : Result ⊤ Fault → Result Unit (Refusal Fault) → Result Unit (Refusal Fault)
+after_key_check (Ok t) more = more
+after_key_check (Err e) more = Err (Refused e)
 
-abbrev pub placed_before : Result (List ℕ) Misuse → Result Unit (Refusal Fault) → Result Unit (Refusal Fault)
-placed_before (Ok comment) more = more
-placed_before (Err m) more = Err (WrongUse m)
+abbrev pub after_comment_check : Result (List ℕ) Misuse → Result Unit (Refusal Fault)
+    → Result Unit (Refusal Fault)
+after_comment_check (Ok comment) more = more
+after_comment_check (Err m) more = Err (WrongUse m)
 
 -- Fails if the public key was not read; otherwise the given result decides.
 abbrev pub with_public_key : PublicKeyValue → Result Unit (Refusal Fault) → Result Unit (Refusal Fault)
@@ -175,9 +179,9 @@ with_public_key v more = if is_public_key v then more else Err (WrongUse PublicK
 -- The result of asking about a key, a signature and its text, for any state. The errors are, in this order:
 -- the public key was not read; the signature was not read, or not from this text; those of checking the
 -- signature under the key; the buffer is too short.
-abbrev pub asked_of : PublicKeyValue → SignatureValue → List ℕ → Bool → ℕ → Result Unit (Refusal Fault)
-asked_of v s text legacy room = with_public_key v (placed_before (comment_of s text)
-    (judged_before (judge_key v.key_id (signature_of_value s) legacy) (room_for s.comment_len room)))
+abbrev pub asking_checks : PublicKeyValue → SignatureValue → List ℕ → Bool → ℕ → Result Unit (Refusal Fault)
+asking_checks v s text legacy room = with_public_key v (after_comment_check (comment_of s text)
+    (after_key_check (judge_key v.key_id (signature_of_value s) legacy) (check_buffer s.comment_len room)))
 
 -- The API misuse if a state cannot be asked: it was asked before or its digest was returned, or else it is
 -- not initialized.
@@ -192,13 +196,13 @@ may_ask s = (s.mark == fed_mark) && not (is_asked s) && not (is_asked_bare s)
 abbrev pub asking_result : State → PublicKeyValue → SignatureValue → List ℕ → Bool → ℕ
     → Result Unit (Refusal Fault)
 asking_result s v signature text legacy room =
-    if may_ask s then asked_of v signature text legacy room else Err (WrongUse (asking_misuse s))
+    if may_ask s then asking_checks v signature text legacy room else Err (WrongUse (asking_misuse s))
 
 -- The result of asking about a signature that was read from this text, in terms of the text. After the state
 -- and the public key come the errors of parsing the text and checking it under the key, then a buffer that is
 -- too short.
 abbrev pub asked_under : Result SignatureTextRecord Fault → ℕ → Result Unit (Refusal Fault)
-asked_under (Ok t) room = room_for (length t.comments.trusted) room
+asked_under (Ok t) room = check_buffer (length t.comments.trusted) room
 asked_under (Err e) room = Err (Refused e)
 
 abbrev pub asking_under : State → PublicKeyValue → List ℕ → Bool → ℕ → Result Unit (Refusal Fault)
@@ -250,7 +254,7 @@ IsNotFedRefusal s (Refused e) = ⊥
 abbrev pub IsAskFedRefusal : State → PublicKeyValue → SignatureValue → List ℕ → Bool → ℕ → Refusal Fault
     → Type 0
 IsAskFedRefusal s v signature text legacy room r =
-    IsNotFedRefusal s r ⊎ (IsMarkedFed s × (asked_of v signature text legacy room ≡ Err r))
+    IsNotFedRefusal s r ⊎ (IsMarkedFed s × (asking_checks v signature text legacy room ≡ Err r))
 
 -- If this is an error of the library and the signature file is UTF-8, then verification with it fails with
 -- the same error, for every public key file that contains this key, every scheme and every message.
@@ -312,7 +316,8 @@ comment_number s second =
     if is_answer second then result_number (comment_result s (second == answer_yes)) else
     misuse_number BadAnswer
 
--- The number of the result of asking. First, the flag that allows legacy signatures must be 0 or 1.
+-- The number of the result of asking. The flag that allows legacy signatures is checked first; it must be 0
+-- or 1.
 abbrev pub asking_number : State → PublicKeyValue → SignatureValue → List ℕ → ℕ → ℕ → ℕ
 asking_number s v signature text legacy room =
     if nat_le 2 legacy then misuse_number BadLegacyFlag else result_number

@@ -1,6 +1,6 @@
--- Weak public keys and signatures, which strict Ed25519 rejects for their bytes. The calls for other
--- languages return an error number of their own for them, so their verdict is that of a scheme that also
--- rejects weak keys and signatures.
+-- Weak public keys and signatures: those that strict Ed25519 rejects whatever the message is. The calls for
+-- other languages report them with an error number that no other error has. So the verdicts of these calls
+-- are those of a scheme that also rejects weak keys and signatures.
 use Rattle.std.specs.Prelude.{◌≡◌, ◌==◌, ◌&&◌, ◌||◌, not, nat_le, ℕ, Bool, true, false, if◌then◌else◌, List}
 use Rattle.std.specs.Prelude.{take, Result, Ok, Err}
 use Rattle.minisign_base.specs.Fault.{Fault}
@@ -10,7 +10,7 @@ use Rattle.minisign.specs.Records.{PublicKeyRecord, SecretKeyRecord}
 use Rattle.minisign.specs.SignatureText.{SignatureTextRecord}
 use Rattle.minisign_external.specs.Numbers.{fault_number, misuse_number, refusal_number, weak_number}
 use Rattle.minisign_external.specs.Questions.{has_whole_signature, read_under, verdict_under}
-use Rattle.minisign_external.specs.SecretKeys.{public_value_of, taken_key}
+use Rattle.minisign_external.specs.SecretKeys.{public_value_of, opened_key_value}
 use Rattle.minisign_external.specs.Signing.{IsPairOf, first_signature, second_signature}
 use Rattle.minisign_external.specs.States.{asking_result, verdict_number}
 use Rattle.minisign_external.specs.StrictEd25519.{is_strict, is_strict_signature}
@@ -37,28 +37,30 @@ abbrev pub is_strict_value : PublicKeyValue → SignatureValue → Bool
 is_strict_value v s =
     is_strict v.key s.signature && (not (s.whole == 1) || is_strict_signature s.comment_signature)
 
--- The result of asking: the error if there is one, otherwise false if the key or a signature is weak, and
--- true if not.
+-- The result of `State::ask_strictly`, from the result of `State::ask` and the flag is_strict, which is false
+-- if the key or a signature is weak: the error of `ask` if there is one, otherwise the flag.
 abbrev pub asked_strictly : Bool → Result Unit (Refusal Fault) → Result Bool (Refusal Fault)
 asked_strictly is_strict (Ok t) = Ok is_strict
 asked_strictly is_strict (Err r) = Err r
 
 -- == With numbers as results ==
 
--- The result of asking as a number. A weak key or signature has an error number of its own.
+-- The result of `ask_strictly` as a number: 0 for true, the number of the error for a weak key or signature
+-- for false, or the number of the error.
 abbrev pub asked_number : Result Bool (Refusal Fault) → ℕ
 asked_number (Ok is_strict) = if is_strict then 0 else weak_number
 asked_number (Err r) = refusal_number fault_number r
 
--- The number of the result of asking. First, the flag that allows legacy signatures must be 0 or 1.
+-- The result of `minisign_ask`: the number of the result of `ask_strictly`, for a buffer of `room` bytes. The
+-- flag that allows legacy signatures is checked first; it must be 0 or 1.
 abbrev pub strict_asking_number : State → PublicKeyValue → SignatureValue → List ℕ → ℕ → ℕ → ℕ
 strict_asking_number s v signature text legacy room =
     if nat_le 2 legacy then misuse_number BadLegacyFlag else
     asked_number (asked_strictly (is_strict_value v signature) (asking_result s v signature text (legacy == 1)
     room))
 
--- The number n of a verdict; but if the signature file was parsed, and the key or a signature is weak, the
--- number of that error.
+-- The number n of a verdict, unless the signature file was parsed, and the key or a signature is weak: then
+-- it is the number of that error.
 abbrev pub strict_read : PublicKeyValue → Result SignatureTextRecord Fault → ℕ → ℕ
 strict_read v (Ok t) n = if is_strict_text v t then n else weak_number
 strict_read v (Err e) n = n
@@ -72,14 +74,15 @@ strict_verdict_number accepts v sig_text message legacy =
     (verdict_number (verdict_under (strict accepts) v sig_text message legacy))
 
 -- Applies the function to the public key if it was read, otherwise returns the number of the error.
-abbrev pub number_with : Result PublicKeyRecord Fault → (PublicKeyRecord → ℕ) → ℕ
-number_with (Ok k) more = more k
-number_with (Err e) more = fault_number e
+abbrev pub number_with_key : Result PublicKeyRecord Fault → (PublicKeyRecord → ℕ) → ℕ
+number_with_key (Ok k) more = more k
+number_with_key (Err e) more = fault_number e
 
 -- == Signing ==
 
--- Neither the public key of a seed nor the two signatures that a scheme makes with a key are weak: of the
--- digest of a message, and of the first signature followed by a trusted comment.
+-- Neither the public key of a seed nor the two signatures that a scheme makes with a key are weak: the
+-- signature of the digest of a message, and the signature of the first signature followed by a trusted
+-- comment.
 abbrev pub SignsStrictly : {S : Type 0} → SchemeOf S → S → List ℕ → SecretKeyValue → List ℕ → List ℕ → Type 0
 SignsStrictly s scheme seed v message trusted =
     (is_strict (s.public_of scheme seed) (first_signature (s.signature_of scheme) v.secret message) ≡ true)
@@ -97,8 +100,8 @@ VerifiesStrictly s scheme v message trusted text =
     → verdict_under (strict (s.accepts scheme)) w text message false ≡ Ok trusted
 
 -- `VerifiesStrictly` for the key ID and the secret of a secret key record.
-abbrev pub OwnTextVerifiesStrictly : {S : Type 0} → SchemeOf S → S → SecretKeyRecord → List ℕ → List ℕ
+abbrev pub VerifiesStrictlyForRecord : {S : Type 0} → SchemeOf S → S → SecretKeyRecord → List ℕ → List ℕ
     → List ℕ
     → Type 0
-OwnTextVerifiesStrictly s scheme k message trusted text =
-    VerifiesStrictly s scheme (taken_key k.keynum k.secret) message trusted text
+VerifiesStrictlyForRecord s scheme k message trusted text =
+    VerifiesStrictly s scheme (opened_key_value k.keynum k.secret) message trusted text

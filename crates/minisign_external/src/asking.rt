@@ -9,12 +9,15 @@ ghost use Rattle.minisign.specs.SignatureText.{SignatureTextRecord};
 ghost use Rattle.minisign_external.specs.Questions.{Answers, AnswersComment, IsKeyText};
 ghost use Rattle.minisign_external.specs.Questions.{comment_verdict_under, read_under, verdict_under};
 ghost use Rattle.minisign_external.specs.Signatures.{IsReadFrom, comment_of};
-ghost use Rattle.minisign_external.specs.States.{AreAsked, AreQuestions, GivesVerdict, HasAsked};
+ghost use Rattle.minisign_external.specs.States.{AreQuestionsWithoutDigest, AreQuestions, GivesVerdict};
+ghost use Rattle.minisign_external.specs.States.{HasAsked};
 ghost use Rattle.minisign_external.specs.States.{HasReturnedDigest, IsAskFedRefusal, IsFedState};
-ghost use Rattle.minisign_external.specs.States.{IsMarkedFinalized, IsTextRefusal, asked_about, asked_of};
+ghost use Rattle.minisign_external.specs.States.{IsMarkedFinalized, IsTextRefusal, asked_about};
+ghost use Rattle.minisign_external.specs.States.{asking_checks};
 ghost use Rattle.minisign_external.specs.States.{asking_misuse, asking_result, asking_under, comment_result};
 ghost use Rattle.minisign_external.specs.States.{given_verdict, is_asked, is_begun};
-ghost use Rattle.minisign_external.specs.States.{questions_about, room_for, verdict_outcome, verdict_misuse};
+ghost use Rattle.minisign_external.specs.States.{questions_about, check_buffer, verdict_outcome};
+ghost use Rattle.minisign_external.specs.States.{verdict_misuse};
 ghost use Rattle.minisign_external.specs.StrictCalls.{asked_strictly, is_strict_text, is_strict_value};
 ghost use Rattle.minisign_external.specs.declared.public_keys.PublicKeyValue.{PublicKeyValue};
 ghost use Rattle.minisign_external.specs.declared.state.Refusal.TheVariants.{WrongUse};
@@ -60,7 +63,8 @@ impl State {
         // at the start of the buffer. The state records that it was asked. The data that it was fed is
         // unchanged.**
         ensures asked { OnOk result ((t : SignatureTextRecord) → IsReadFrom signature.now sig_text.now t
-            → (read_under key.now allow_legacy sig_text.now ≡ Ok t) × AreAsked questions.new message.new
+            → (read_under key.now allow_legacy sig_text.now ≡ Ok t)
+            × AreQuestionsWithoutDigest questions.new message.new
             key.now t × HasAsked self.new key.now sig_text.now allow_legacy) }
         ensures fed { (m : List ℕ) → IsFedState self.old m → IsFedState self.new m }
 
@@ -113,7 +117,8 @@ impl State {
         // If the result is true, the questions, the message and the state are as a successful `ask` leaves
         // them. The data that the state was fed is unchanged.
         ensures asked { result ≡ Ok true → (t : SignatureTextRecord) → IsReadFrom signature.now sig_text.now t
-            → (read_under key.now allow_legacy sig_text.now ≡ Ok t) × AreAsked questions.new message.new
+            → (read_under key.now allow_legacy sig_text.now ≡ Ok t)
+            × AreQuestionsWithoutDigest questions.new message.new
             key.now t × HasAsked self.new key.now sig_text.now allow_legacy }
         ensures fed { (m : List ℕ) → IsFedState self.old m → IsFedState self.new m }
 
@@ -130,15 +135,15 @@ impl State {
                 Err(refusal) => Err(refusal),
             }
         } else {
-            match self.test_asking(key, signature, sig_text, allow_legacy, message.len()) {
+            match self.check_asking(key, signature, sig_text, allow_legacy, message.len()) {
                 Ok(()) => Ok(false),
                 Err(refusal) => Err(refusal),
             }
         }
     }
 
-    // Returns what `ask` would return, without asking.
-    fn test_asking(
+    // Returns the result that `ask` would return, without asking.
+    fn check_asking(
         &self,
         key: &PublicKeyValue,
         signature: &SignatureValue,
@@ -152,7 +157,7 @@ impl State {
         if !may_ask {
             return Err(Refusal::WrongUse(self.asking_misuse()));
         }
-        test_questions(key, signature, sig_text, allow_legacy, room)
+        check_questions(key, signature, sig_text, allow_legacy, room)
     }
 
     /// Asks about all data that the state was fed so far, even if it was asked before: the digest is computed
@@ -181,7 +186,7 @@ impl State {
         // On success, the key and the signature were read, the signature was read from this text, and the
         // key, the signature, the text and the buffer size cause none of the errors of `ask`.
         ensures taken { OnOk result
-            (asked_of key.now signature.now sig_text.now allow_legacy (length message.old) ≡ Ok tt) }
+            (asking_checks key.now signature.now sig_text.now allow_legacy (length message.old) ≡ Ok tt) }
 
         // Errors are checked in this order: the state accepts no data; then those of `ask` about the key, the
         // signature, the text and the buffer size. After an error, the state, the questions and the buffer
@@ -222,8 +227,9 @@ impl State {
         message: &mut [u8],
     ) -> Result<&'a str, Refusal>
         ensures value { MatchResult result
-            (λ _. asked_of key.now signature.now sig_text.now allow_legacy (length message.old) ≡ Ok tt)
-            (λ r. asked_of key.now signature.now sig_text.now allow_legacy (length message.old) ≡ Err r) }
+            (λ _. asking_checks key.now signature.now sig_text.now allow_legacy (length message.old) ≡ Ok tt)
+            (λ r. asking_checks key.now signature.now sig_text.now allow_legacy
+            (length message.old) ≡ Err r) }
         ensures questions { OnOk result (questions.new ≡ questions_about key.now signature.now) }
         ensures comment { IfOk result (λ c. (comment_of signature.now sig_text.now ≡ Ok c.now)
             × (length c.now ≡ signature.now.comment_len) × (64 + length c.now ≤ length message.old)
@@ -336,14 +342,14 @@ impl State {
 }
 
 // Returns what asking about a key and a signature would return for any state, with a buffer of this size.
-fn test_questions(
+fn check_questions(
     key: &PublicKeyValue,
     signature: &SignatureValue,
     sig_text: &[u8],
     allow_legacy: bool,
     room: usize,
 ) -> Result<(), Refusal>
-    ensures { result ≡ asked_of key.now signature.now sig_text.now allow_legacy room }
+    ensures { result ≡ asking_checks key.now signature.now sig_text.now allow_legacy room }
 {
     if !key.is_public_key() {
         return Err(Refusal::WrongUse(Misuse::PublicKeyNotRead));
@@ -352,14 +358,14 @@ fn test_questions(
         return Err(Refusal::WrongUse(misuse));
     }
     match judge_key(&key.key_id, &signature.signature(), allow_legacy) {
-        Ok(()) => test_buffers(signature.comment_len, room),
+        Ok(()) => check_buffers(signature.comment_len, room),
         Err(fault) => Err(Refusal::Refused(fault)),
     }
 }
 
-// Checks that the buffer is long enough for the message with a trusted comment of this length.
-fn test_buffers(comment_len: u64, room: usize) -> Result<(), Refusal>
-    ensures { result ≡ room_for comment_len room }
+// Checks that a buffer of `room` bytes is long enough for the message with a trusted comment of this length.
+fn check_buffers(comment_len: u64, room: usize) -> Result<(), Refusal>
+    ensures { result ≡ check_buffer comment_len room }
 {
     if room < 64 || ((room - 64) as u64) < comment_len {
         return Err(Refusal::WrongUse(Misuse::NoRoom));

@@ -5,7 +5,7 @@
 ghost use Rattle.std.specs.Prelude.{◌≡◌, ℕ, Bool, List, Ok, true};
 ghost use Rattle.minisign.specs.Acceptance.{Verifier};
 ghost use Rattle.minisign.specs.Records.{SignatureRecord};
-ghost use Rattle.minisign_external.specs.Bare.{AnswersBare, HasAskedBare, bare_asked_of, bare_asking};
+ghost use Rattle.minisign_external.specs.Bare.{AnswersBare, HasAskedBare, bare_asking_checks, bare_asking};
 ghost use Rattle.minisign_external.specs.Bare.{bare_question, bare_verdict_under, bare_asking_outcome};
 ghost use Rattle.minisign_external.specs.Bare.{bare_verdict_outcome};
 ghost use Rattle.minisign_external.specs.Signatures.{signature_of_value};
@@ -51,7 +51,7 @@ impl State {
         if self.mark != FED || self.is_asked() || self.is_asked_bare() {
             return Err(Refusal::WrongUse(self.asking_misuse()));
         }
-        test_bare(key, signature, allow_legacy)?;
+        check_bare(key, signature, allow_legacy)?;
         if !is_strict(&key.key, &signature.signature) {
             return Ok(false);
         }
@@ -95,12 +95,12 @@ impl State {
 }
 
 // Returns what asking about a key and a signature would return for any state.
-fn test_bare(
+fn check_bare(
     key: &PublicKeyValue,
     signature: &SignatureValue,
     allow_legacy: bool,
 ) -> Result<(), Refusal>
-    ensures { result ≡ bare_asked_of key.now signature.now allow_legacy }
+    ensures { result ≡ bare_asking_checks key.now signature.now allow_legacy }
 {
     if !key.is_public_key() {
         return Err(Refusal::WrongUse(Misuse::PublicKeyNotRead));

@@ -118,7 +118,7 @@ fn write_made(
         (IsMadeRefusal (option_copied password.entry) sealing.now comment.now to.old) }
     ensures unchanged { OnErr result (to.new ≡ to.old) }
 {
-    test_writable(comment.as_bytes(), SECRET_KEY_BYTES, to)?;
+    check_writable(comment.as_bytes(), SECRET_KEY_BYTES, to)?;
     let k = keep_every.max(1);
     let text = make_secret_key(alloc, key_id, secret, password, sealing, k, comment)?.into_string();
     match write_front(text.as_bytes(), to) {
@@ -154,7 +154,7 @@ pub fn write_public_key(
     let Ok(comment) = str::from_utf8(comment) else {
         return Err(Refusal::Refused(NamedFault::NotUtf8.into()));
     };
-    test_writable(comment.as_bytes(), PUBLIC_KEY_BYTES, to)?;
+    check_writable(comment.as_bytes(), PUBLIC_KEY_BYTES, to)?;
     let text = make_public_key(alloc, key.key_id, key.secret, comment)?.into_string();
     match write_front(text.as_bytes(), to) {
         Some(len) => Ok(len),
@@ -193,7 +193,7 @@ pub fn encode_public_key(
         return Err(Refusal::Refused(NamedFault::NotUtf8.into()));
     };
     let bytes = comment.as_bytes();
-    test_writable(bytes, PUBLIC_KEY_BYTES, to)?;
+    check_writable(bytes, PUBLIC_KEY_BYTES, to)?;
     let text = public_key_text(alloc, key, comment)?;
     match write_front(text.as_bytes(), to) {
         Some(len) => Ok(len),
@@ -273,7 +273,7 @@ pub fn encode_unopened_key(
         return Err(Refusal::Refused(NamedFault::NotUtf8.into()));
     };
     let bytes = comment.as_bytes();
-    test_writable(bytes, SECRET_KEY_BYTES, to)?;
+    check_writable(bytes, SECRET_KEY_BYTES, to)?;
     let text = unopened_key_text(alloc, key, comment)?;
     match write_front(text.as_bytes(), to) {
         Some(len) => Ok(len),
@@ -301,7 +301,7 @@ fn unopened_key_text(
 
 // Checks that Minisign reads the whole comment, and that the buffer is long enough for a file that is `more`
 // bytes longer than the comment.
-fn test_writable(comment: &[u8], more: usize, to: &[u8]) -> Result<(), Misuse>
+fn check_writable(comment: &[u8], more: usize, to: &[u8]) -> Result<(), Misuse>
     requires { more ≤ 233 }
     ensures passed { OnOk result (IsWritable comment.now more to.now) }
     ensures refused { IfErr result (IsUnwritable comment.now more to.now) }

@@ -16,7 +16,8 @@ ghost use Rattle.minisign_external.specs.Signing.{HoldsText, IsPairOf, comments_
 ghost use Rattle.minisign_external.specs.Signing.{IsOwnRefusal, OwnTextVerifies, joined};
 ghost use Rattle.minisign_external.specs.Signing.{IsTextSigningRefusal};
 ghost use Rattle.minisign_external.specs.PublicKeys.{is_public_key};
-ghost use Rattle.minisign_external.specs.States.{AreAsked, HasAsked, IsFedState, KeepsAsked, given_verdict};
+ghost use Rattle.minisign_external.specs.States.{AreQuestionsWithoutDigest, HasAsked, IsFedState};
+ghost use Rattle.minisign_external.specs.States.{KeepsQuestions, given_verdict};
 ghost use Rattle.minisign_external.specs.States.{with_public_key};
 ghost use Rattle.minisign_external.specs.declared.public_keys.PublicKeyValue.{PublicKeyValue};
 ghost use Rattle.minisign_external.specs.declared.secrets.SecretKeyValue.{SecretKeyValue};
@@ -85,9 +86,9 @@ pub fn sign_pieces<S: Scheme>(
         scheme.now) seed key.now → public_value_of key.now ≡ Ok w → verdict_under (S.accepts scheme.now) w
         (take len to.new) (joined pieces.now) false ≡ Ok trusted.now) }
 
-    // On success, the signature file contains the two signatures that the scheme makes with the key: of the
-    // digest of the concatenated data, and of that signature followed by the trusted comment. The rest of the
-    // buffer is unchanged.
+    // On success, the signature file contains the two signatures that the scheme makes with the key: the
+    // signature of the digest of the concatenated data, and the signature of the first signature followed by
+    // the trusted comment. The rest of the buffer is unchanged.
     ensures text { IfOk result (HoldsOwnText S.Scheme scheme.now key.now
         (comments_of trusted.now untrusted.now) (joined pieces.now) to.new) }
     ensures rest { IfOk result (λ len. drop len to.new ≡ drop len to.old) }
@@ -182,7 +183,7 @@ fn feed(state: &mut State, pieces: &[&[u8]]) -> Result<(), Misuse>
     requires { IsFedState state.old [] }
     ensures fed { MatchResult result (λ _. IsFedState state.new (joined pieces.now))
         (λ _. ⊥) }
-    ensures asked { KeepsAsked state.old state.new }
+    ensures asked { KeepsQuestions state.old state.new }
 {
     'pieces: for piece in pieces {
         state.update(*piece)?;
@@ -199,7 +200,8 @@ fn finish<S: Scheme>(
 ) -> Result<(), Refusal>
     requires { questions.now.message_len ≤ length room.now }
     ensures { (v : PublicKeyValue) (text m : List ℕ) (t : SignatureTextRecord) → IsFedState state.old m
-        → HasAsked state.old v text false → read_under v false text ≡ Ok t → AreAsked questions.now room.now v
+        → HasAsked state.old v text false → read_under v false text ≡ Ok t
+        → AreQuestionsWithoutDigest questions.now room.now v
         t → result ≡ given_verdict (verdict_under (S.accepts scheme.now) v text m false) }
 {
     let mut digest = [0u8; 64];
@@ -225,8 +227,8 @@ fn digest_of(pieces: &[&[u8]]) -> Result<[u8; 64], Misuse>
     Ok(digest)
 }
 
-// Returns the signatures that the scheme makes with a key: of the digest, and of that signature followed by
-// the trusted comment.
+// Returns the signatures that the scheme makes with a key: the signature of the digest, and the signature of
+// the first signature followed by the trusted comment.
 fn sign_both<S: Scheme>(
     scheme: &S,
     key: &SecretKeyValue,
@@ -256,7 +258,8 @@ pub fn answers_decide()
     // the scheme's results are the results of the two checks for the key, the signature text and that
     // message. The promise of `State::verdict` needs this.
     ensures given { (accepts : Verifier) (v : PublicKeyValue) (text message room digest : List ℕ)
-        (t : SignatureTextRecord) (q : Questions) → read_under v false text ≡ Ok t → AreAsked q room v t
+        (t : SignatureTextRecord) (q : Questions) → read_under v false text ≡ Ok t
+        → AreQuestionsWithoutDigest q room v t
         → digest ≡ blake2b_digest 64 message → (first second : Bool) → first ≡ accepts digest q.public_key
         q.signature → second ≡ accepts (take q.message_len room) q.public_key q.comment_signature
         → Answers accepts v text message first second }

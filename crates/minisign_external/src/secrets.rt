@@ -1,7 +1,7 @@
 //! An open (decrypted) secret key, which the caller holds and signs with. Nothing here allocates.
 
 ghost use Rattle.std.specs.Prelude.{◌≡◌};
-ghost use Rattle.minisign_external.specs.SecretKeys.{is_opened, public_value_of, taken_key};
+ghost use Rattle.minisign_external.specs.SecretKeys.{is_opened, public_value_of, opened_key_value};
 
 use crate::public_keys::{PUBLIC, PublicKeyValue};
 use crate::state::Misuse;
@@ -27,7 +27,7 @@ impl SecretKeyValue {
     pub fn take(key_id: &[u8; 8], secret: &[u8; 64]) -> SecretKeyValue
         // The result has this key ID and these secret bytes, and is marked as open. Nothing checks that the
         // second half of the secret bytes is the public key of the first.
-        ensures { result ≡ taken_key key_id.now secret.now }
+        ensures { result ≡ opened_key_value key_id.now secret.now }
     {
         SecretKeyValue {
             mark: OPENED,

@@ -35,7 +35,8 @@ pub fn signed_text(
     // On success, the result parses to a signature with exactly this key ID, these comments and these
     // signatures. If a scheme made the two signatures, that is the signature box that signing with it makes.
     // The result is a valid signature of a message under every public key with this key ID under which both
-    // signatures are valid, and for a genuine key the third sentence of the headline holds for it.
+    // signatures are valid, and if the key is genuine, all that the headline of docs/PROMISES.md says about
+    // signing holds for it.
     ensures text { IfOk result (λ t.
         IsAnsweredText key_id.now (comments_of trusted.now untrusted.now) first.now second.now
         (string_bytes t)) }
@@ -51,7 +52,7 @@ pub fn signed_text(
     ensures read_back { OnOk result (AreChosenReadBack (comments_of trusted.now untrusted.now)
         × AreReadByMinisign (comments_of trusted.now untrusted.now)) }
 {
-    test_comments(trusted, untrusted)?;
+    check_comments(trusted, untrusted)?;
     Ok(written(alloc, key_id, first, second, trusted, untrusted)?)
 }
 
@@ -136,7 +137,7 @@ pub fn write_comment_message(
 }
 
 // Checks that the comments are read back unchanged, by this library and by Minisign 0.11.
-fn test_comments(trusted: &str, untrusted: &str) -> Result<(), Misuse>
+fn check_comments(trusted: &str, untrusted: &str) -> Result<(), Misuse>
     ensures { MatchResult result (λ _. AreChosenReadBack (comments_of trusted.now untrusted.now)
         × AreReadByMinisign (comments_of trusted.now untrusted.now))
         (IsCommentMisuse (comments_of trusted.now untrusted.now)) }

@@ -8,7 +8,8 @@ ghost use Rattle.std.specs.Prelude.{length};
 ghost use Rattle.minisign_hash.specs.Blake2b.{blake2b_digest};
 ghost use Rattle.minisign_hash.specs.Fed.{IsFed, has_finalized, output_length};
 ghost use Rattle.minisign_external.specs.States.{HasReturnedDigest, IsBlank, IsFedState, IsMarkedFed};
-ghost use Rattle.minisign_external.specs.States.{IsMarkedFinalized, IsNotFed, KeepsAsked, fed_mark, is_asked};
+ghost use Rattle.minisign_external.specs.States.{IsMarkedFinalized, IsNotFed, KeepsQuestions, fed_mark};
+ghost use Rattle.minisign_external.specs.States.{is_asked};
 ghost use Rattle.minisign_external.specs.States.{is_asked_bare};
 ghost use Rattle.minisign_external.specs.States.{is_begun, no_questions};
 ghost use Rattle.minisign_external.specs.declared.state.Refusal.TheVariants.{Refused, WrongUse};
@@ -200,7 +201,7 @@ impl State {
         // was finished by a verdict. Then the state is unchanged.
         ensures fed { (m : List ℕ) → IsFedState self.old m
             → MatchResult result (λ _. IsFedState self.new (m ++ piece.now)) (λ _. ⊥) }
-        ensures asked { KeepsAsked self.old self.new }
+        ensures asked { KeepsQuestions self.old self.new }
         ensures begun { OnOk result (IsMarkedFed self.old) }
         ensures rest { OnOk result (self.new ≡ record self.old { hash = self.new.hash }) }
         ensures refused { IfErr result (λ e. IsNotFed self.old e × (self.new ≡ self.old)) }
@@ -221,7 +222,7 @@ impl State {
         ensures digest { (m : List ℕ) → IsFedState self.old m
             → MatchResult result (λ _. (digest.new ≡ blake2b_digest 64 m) × HasReturnedDigest self.new m)
             (λ _. ⊥) }
-        ensures asked { KeepsAsked self.old self.new }
+        ensures asked { KeepsQuestions self.old self.new }
         ensures finalized { OnOk result (IsMarkedFed self.old × IsMarkedFinalized self.new) }
         ensures rest { OnOk result (self.new ≡ record self.old { mark = self.new.mark }) }
         ensures refused { IfErr result

@@ -21,12 +21,13 @@ ghost use Rattle.minisign_external.specs.PublicKeys.{read_utf8};
 ghost use Rattle.minisign_external.specs.declared.state.Misuse.TheVariants.{KeyNotRead, NoRoom};
 ghost use Rattle.minisign_external.specs.declared.state.Refusal.TheVariants.{Refused};
 ghost use Rattle.minisign_external.specs.SecretKeys.{DerivesWithin, IsOpeningRefusal, IsTextOpeningRefusal};
-ghost use Rattle.minisign_external.specs.SecretKeys.{OpensAs, is_enough, is_read, lacks_checksum};
-ghost use Rattle.minisign_external.specs.SecretKeys.{makes_within};
+ghost use Rattle.minisign_external.specs.SecretKeys.{OpensLikeFile, is_enough, is_read, lacks_checksum};
+ghost use Rattle.minisign_external.specs.SecretKeys.{computes_at_most};
 ghost use Rattle.minisign_external.specs.SecretKeys.{open_record, open_unsealed, open_within};
 ghost use Rattle.minisign_external.specs.SecretKeys.{opened_in_place, opened_or_unchanged, opened_sealed};
-ghost use Rattle.minisign_external.specs.SecretKeys.{opened_text, opened_unsealed, read_value, taken_key};
-ghost use Rattle.minisign_external.specs.SecretKeys.{sealed_within, tested_sealed};
+ghost use Rattle.minisign_external.specs.SecretKeys.{opened_text, opened_unsealed, read_value};
+ghost use Rattle.minisign_external.specs.SecretKeys.{opened_key_value};
+ghost use Rattle.minisign_external.specs.SecretKeys.{sealed_within, checked_sealed_key};
 ghost use Rattle.minisign_external.specs.SecretKeys.{unopened_record, value_memory, with_refusal};
 ghost use Rattle.minisign_external.specs.ValueRecords.{unopened_outcome, unopened_in};
 
@@ -43,9 +44,9 @@ const READ: u64 = 7162256622418291053;
 
 // The greatest memory limit of a sealed (encrypted) key, in bytes, and the base-2 logarithm of the greatest
 // number of rows.
-const MOST_MEMORY: u64 = 1_073_741_824;
+const MAX_MEMORY: u64 = 1_073_741_824;
 
-const MOST_ROWS_LOG2: u8 = 20;
+const MAX_ROWS_LOG2: u8 = 20;
 
 // The key derivation of a sealed (encrypted) key: scrypt.
 const SCRYPT: [u8; 2] = [83, 99];
@@ -91,24 +92,26 @@ pub struct KeyText<'a> {
 }
 
 impl<'a> KeyText<'a> {
-    /// Reads the key file and decrypts the key, as `read_unopened_key` and the calls that open do.
+    /// Reads the key file and opens the key: like `read_unopened_key`, followed by `open_sealed_key` or,
+    /// without a password, by `open_unsealed_key`.
     pub fn open(&self, alloc: Global) -> std::result::Result<SecretKeyValue, Refusal>
         // On success, the result is the key of the file, decrypted if it was encrypted, and marked as open.
         // The error is the first check that fails, or out of memory, which is possible only once a key is
         // derived from the password.
         ensures { MatchResult result (λ v. (k : SecretKeyRecord) × (opened_text self.now.text.now
-            (option_copied self.now.password) self.now.most_rows ≡ Ok k) × (v ≡ taken_key k.keynum k.secret))
+            (option_copied self.now.password) self.now.most_rows ≡ Ok k)
+            × (v ≡ opened_key_value k.keynum k.secret))
             (IsTextOpeningRefusal self.now.text.now (option_copied self.now.password) self.now.most_rows) }
     {
         let mut unopened = UnopenedKeyValue::of_bytes([0; 158]);
         match read_unopened_key(self.text, &mut unopened) {
-            Ok(()) => self.open_read(alloc, &unopened),
+            Ok(()) => self.open_parsed(alloc, &unopened),
             Err(fault) => Err(Refusal::Refused(fault)),
         }
     }
 
     // Opens the key that was read, with the password if there is one.
-    fn open_read(
+    fn open_parsed(
         &self,
         alloc: Global,
         key: &UnopenedKeyValue,
@@ -116,12 +119,12 @@ impl<'a> KeyText<'a> {
         requires { is_read key.now ≡ true }
         ensures { MatchResult result (λ v. (k : SecretKeyRecord) × (open_record (unopened_record key.now)
             (option_copied self.now.password) self.now.most_rows ≡ Ok k)
-            × (v ≡ taken_key k.keynum k.secret)) (IsOpeningRefusal (unopened_record key.now)
+            × (v ≡ opened_key_value k.keynum k.secret)) (IsOpeningRefusal (unopened_record key.now)
             (option_copied self.now.password) self.now.most_rows) }
     {
         match self.password {
             Some(password) => open_sealed(alloc, key, password, self.keep_every, self.most_rows),
-            None => open_unsealed_read(key),
+            None => open_parsed_unsealed(key),
         }
     }
 }
@@ -136,7 +139,7 @@ fn open_sealed(
 ) -> std::result::Result<SecretKeyValue, Refusal>
     requires { is_read unopened.now ≡ true }
     ensures { MatchResult result (λ v. (k : SecretKeyRecord) × (open_record (unopened_record unopened.now)
-        (Some password.now) most_rows ≡ Ok k) × (v ≡ taken_key k.keynum k.secret))
+        (Some password.now) most_rows ≡ Ok k) × (v ≡ opened_key_value k.keynum k.secret))
         (IsOpeningRefusal (unopened_record unopened.now) (Some password.now) most_rows) }
 {
     let mut key = SecretKeyValue::take(&[0; 8], &[0; 64]);
@@ -147,10 +150,10 @@ fn open_sealed(
 }
 
 // Opens a key that was read and is not encrypted.
-fn open_unsealed_read(unopened: &UnopenedKeyValue) -> std::result::Result<SecretKeyValue, Refusal>
+fn open_parsed_unsealed(unopened: &UnopenedKeyValue) -> std::result::Result<SecretKeyValue, Refusal>
     requires { is_read unopened.now ≡ true }
     ensures { MatchResult result (λ v. (k : SecretKeyRecord) × (open_record
-        (unopened_record unopened.now) None 0 ≡ Ok k) × (v ≡ taken_key k.keynum k.secret))
+        (unopened_record unopened.now) None 0 ≡ Ok k) × (v ≡ opened_key_value k.keynum k.secret))
         (IsOpeningRefusal (unopened_record unopened.now) None 0) }
 {
     let mut key = SecretKeyValue::take(&[0; 8], &[0; 64]);
@@ -229,7 +232,7 @@ pub fn read_unopened_key(sk_text: &[u8], value: &mut UnopenedKeyValue) -> Result
     // gives the same result as opening the file, for every password and every bound on the work.
     ensures read { OnOk result (read_utf8 read_secret_key sk_text.now ≡ Ok (unopened_record value.new)) }
     ensures success { OnOk result (value.new ≡ read_value value.new.bytes) }
-    ensures opens { OnOk result (OpensAs value.new sk_text.now) }
+    ensures opens { OnOk result (OpensLikeFile value.new sk_text.now) }
 {
     match read(sk_text) {
         Ok(bytes) => {
@@ -270,12 +273,12 @@ pub fn test_sealed_key(
 ) -> std::result::Result<(), Refusal>
     // The call succeeds exactly if the key was read and is encrypted with scrypt, with limits that are
     // allowed and need at most `most_rows` rows. Otherwise the error is the first check that fails.
-    ensures { result ≡ tested_sealed unopened.now most_rows }
+    ensures { result ≡ checked_sealed_key unopened.now most_rows }
 {
     if !unopened.is_read() {
         return Err(Refusal::WrongUse(Misuse::KeyNotRead));
     }
-    match test_within(unopened, most_rows) {
+    match check_within(unopened, most_rows) {
         Ok(()) => Ok(()),
         Err(fault) => Err(Refusal::Refused(fault)),
     }
@@ -283,7 +286,7 @@ pub fn test_sealed_key(
 
 // Checks that the key is encrypted with scrypt, and that its limits are allowed and need at most
 // `most_rows` rows.
-fn test_within(unopened: &UnopenedKeyValue, most_rows: u64) -> Result<()>
+fn check_within(unopened: &UnopenedKeyValue, most_rows: u64) -> Result<()>
     ensures { result ≡ without_value (sealed_within (unopened_record unopened.now) most_rows) }
 {
     let key = key_of(&unopened.bytes)?;
@@ -293,8 +296,8 @@ fn test_within(unopened: &UnopenedKeyValue, most_rows: u64) -> Result<()>
     if *key.key_derivation() != SCRYPT {
         return Err(NamedFault::UnsupportedEncryptionAlgorithm.into());
     }
-    test_limits(&unopened.bytes)?;
-    if !makes_within(&key, most_rows) {
+    check_limits(&unopened.bytes)?;
+    if !computes_at_most(&key, most_rows) {
         return Err(NamedFault::WorkTooHigh.into());
     }
     Ok(())
@@ -302,10 +305,10 @@ fn test_within(unopened: &UnopenedKeyValue, most_rows: u64) -> Result<()>
 
 // Checks that the limits of the key in these bytes are allowed.
 #[tactic(auto, unfolding(minisign::specs::Sealing::key_limits, minisign::specs::KeyTexts::secret_key_of_bytes))]
-fn test_limits(bytes: &[u8; 158]) -> Result<()>
+fn check_limits(bytes: &[u8; 158]) -> Result<()>
     ensures { result ≡ without_value (key_limits (secret_key_of_bytes bytes.now)) }
 {
-    test_sealing_limits(number_at(bytes, 46), number_at(bytes, 38))
+    check_sealing_limits(number_at(bytes, 46), number_at(bytes, 38))
 }
 
 // Returns the number in the 8 bytes from `at` on, little endian.
@@ -319,13 +322,13 @@ fn number_at(bytes: &[u8; 158], at: usize) -> u64
 }
 
 // Checks that scrypt takes the parameters that these limits give, and that they are not too high.
-fn test_sealing_limits(memory_limit: u64, operations_limit: u64) -> Result<()>
+fn check_sealing_limits(memory_limit: u64, operations_limit: u64) -> Result<()>
     ensures { result ≡ without_value (sealing_limits memory_limit operations_limit) }
 {
-    if memory_limit > MOST_MEMORY {
+    if memory_limit > MAX_MEMORY {
         return Err(NamedFault::ParametersTooHigh.into());
     }
-    match raw_scrypt_params(memory_limit, operations_limit, MOST_ROWS_LOG2) {
+    match raw_scrypt_params(memory_limit, operations_limit, MAX_ROWS_LOG2) {
         Ok(_) => Ok(()),
         Err(fault) => Err(fault),
     }
@@ -356,7 +359,7 @@ pub fn open_unsealed_key(
     ensures { (result, value.new) ≡ opened_or_unchanged (opened_unsealed unopened.now) value.old }
 {
     if unopened.is_read() {
-        take_opened(open_unsealed(unopened), value)
+        store_opened(open_unsealed(unopened), value)
     } else {
         Err(Refusal::WrongUse(Misuse::KeyNotRead))
     }
@@ -366,8 +369,8 @@ pub fn open_unsealed_key(
 ///
 /// The limits of the key determine the memory and time of scrypt. `keep_every` is k if only every k-th row of
 /// scrypt is kept in memory; a row has 1 KiB, there are at most 2^20 rows, and 0 and 1 keep them all.
-/// `most_rows` bounds how many rows are computed in all: N for each of scrypt's p parts, which is at most
-/// 2^20 for a key that Minisign made.
+/// `most_rows` bounds the number of rows that are computed in total: N for each of scrypt's p parts, that is
+/// N * p. For a key that Minisign made, this is at most 2^20.
 ///
 /// The errors are, in this order: `KeyNotRead`; `NotUtf8`, for the password; `KeyNotEncrypted`;
 /// `UnsupportedEncryptionAlgorithm`, if the key derivation is not scrypt; `ParametersTooHigh` or
@@ -393,7 +396,7 @@ pub fn open_sealed_key(
 {
     if unopened.is_read() {
         let opened = derive(alloc, unopened, password, keep_every, most_rows);
-        take_opened(opened, value)
+        store_opened(opened, value)
     } else {
         Err(Refusal::WrongUse(Misuse::KeyNotRead))
     }
@@ -401,11 +404,12 @@ pub fn open_sealed_key(
 
 /// Returns how much memory `open_sealed_key_in_place` needs with the same `keep_every` and `most_rows`: the
 /// number of 32-bit words, and the number of bytes. Both are 0 if the key needs no password, its limits are
-/// rejected, or it needs more than `most_rows` rows. Does not allocate.
+/// rejected, or it needs more than `most_rows` rows. Does not check that a key was read, and does not
+/// allocate.
 pub fn memory_to_open(unopened: &UnopenedKeyValue, keep_every: u64, most_rows: u64) -> (u64, u64)
-    // The result is how many 32-bit words and how many bytes opening this key in place needs, if every
-    // `keep_every`-th row of scrypt is kept. Both are 0 if the key needs no password, its limits are
-    // rejected, or it needs more than `most_rows` rows.
+    // The result is the number of 32-bit words and the number of bytes that are needed to open this key in
+    // place, if every `keep_every`-th row of scrypt is kept. Both are 0 if the key needs no password, its
+    // limits are rejected, or it needs more than `most_rows` rows.
     ensures { result ≡ value_memory unopened.now keep_every most_rows }
 {
     match key_of(&unopened.bytes) {
@@ -417,9 +421,9 @@ pub fn memory_to_open(unopened: &UnopenedKeyValue, keep_every: u64, most_rows: u
 // Returns the memory for opening a key in place, or zeros if the key needs more rows than allowed.
 fn memory_within(key: &SecretKey, k: u64, most_rows: u64) -> (u64, u64)
     requires { 1 ≤ k }
-    ensures { result ≡ (if makes_within key.now most_rows then opening_memory key.now k else (0, 0)) }
+    ensures { result ≡ (if computes_at_most key.now most_rows then opening_memory key.now k else (0, 0)) }
 {
-    if makes_within(key, most_rows) {
+    if computes_at_most(key, most_rows) {
         key.opening_memory(k)
     } else {
         (0, 0)
@@ -428,18 +432,18 @@ fn memory_within(key: &SecretKey, k: u64, most_rows: u64) -> (u64, u64)
 
 // Returns true if opening a key needs at most `most_rows` rows.
 #[tactic(auto, using(crate::proofs::WithinRows::within_times))]
-fn makes_within(key: &SecretKey, most_rows: u64) -> bool
-    ensures { result ≡ makes_within key.now most_rows }
+fn computes_at_most(key: &SecretKey, most_rows: u64) -> bool
+    ensures { result ≡ computes_at_most key.now most_rows }
 {
     let times = key.times_within(most_rows);
     let (_, work) = key.opening_work();
     !(times < work)
 }
 
-// Returns the error of opening a key that needs more rows.
+// Returns the error for a key that needs more than `most_rows` rows.
 #[tactic(auto, using(crate::proofs::WithinRows::too_many_of_scrypt, crate::proofs::WithinRows::too_many_of_other))]
-fn too_many_rows(key: &SecretKey, most_rows: u64) -> PError
-    requires { makes_within key.now most_rows ≡ false }
+fn too_many_rows_error(key: &SecretKey, most_rows: u64) -> PError
+    requires { computes_at_most key.now most_rows ≡ false }
     ensures { (password : List ℕ) → open_within key.now password most_rows ≡ Err result }
 {
     if *key.key_derivation() == SCRYPT {
@@ -452,7 +456,7 @@ fn too_many_rows(key: &SecretKey, most_rows: u64) -> PError
 /// Opens (decrypts) a sealed secret key that was read, as `open_sealed_key` does, but in memory that the
 /// caller passes in, and without allocating. `words` and `bytes` must have at least the lengths that
 /// `memory_to_open` returns. Their contents are not read, and both are filled with zeros before the call
-/// returns, also after an error.
+/// returns, even after an error.
 ///
 /// The errors are those of `open_sealed_key` except out of memory, with `NoRoom` for too little memory after
 /// `KeyNotRead`.
@@ -472,20 +476,20 @@ pub fn open_sealed_key_in_place(
     ensures opened { (result, value.new) ≡ opened_or_unchanged (opened_in_place unopened.now password.now
         keep_every most_rows (length words.old) (length bytes.old)) value.old }
 
-    // The memory is filled with zeros when the call returns, also after an error.
+    // The memory is filled with zeros when the call returns, even after an error.
     ensures words_cleared { words.new ≡ replicate (length words.old) 0 }
     ensures bytes_cleared { bytes.new ≡ replicate (length bytes.old) 0 }
 {
-    if let Err(misuse) = test_buffers(unopened, keep_every, most_rows, words, bytes) {
+    if let Err(misuse) = check_buffers(unopened, keep_every, most_rows, words, bytes) {
         clear_memory(words, bytes);
         return Err(Refusal::WrongUse(misuse));
     }
     let opened = derive_in_place(unopened, password, keep_every, most_rows, words, bytes);
-    take_opened(opened, value)
+    store_opened(opened, value)
 }
 
 // Checks that the key was read and that the memory is sufficient to open it in place.
-fn test_buffers(
+fn check_buffers(
     unopened: &UnopenedKeyValue,
     keep_every: u64,
     most_rows: u64,
@@ -512,7 +516,7 @@ fn test_buffers(
 }
 
 // Stores the opened key in `value`.
-fn take_opened(
+fn store_opened(
     opened: Result<SecretKey>,
     value: &mut SecretKeyValue,
 ) -> std::result::Result<(), Refusal>
@@ -569,9 +573,9 @@ fn derive_in_place(
         return Err(refused);
     };
     let key = key_of(&unopened.bytes)?;
-    if !makes_within(&key, most_rows) {
+    if !computes_at_most(&key, most_rows) {
         clear_memory(words, bytes);
-        return Err(too_many_rows(&key, most_rows));
+        return Err(too_many_rows_error(&key, most_rows));
     }
     let times = key.times_within(most_rows);
     key.open_in_place(typed.as_bytes(), keep_every.max(1), times, words, bytes)

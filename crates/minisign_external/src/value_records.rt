@@ -34,8 +34,8 @@ const UNSEALED_ALGORITHMS: [u8; 6] = [69, 100, 0, 0, 66, 50];
 ///
 /// The only error is `RecordTooShort`, for fewer bytes. After an error the value is unchanged.
 pub fn read_public_key_record(bytes: &[u8], value: &mut PublicKeyValue) -> Result<()>
-    // On success, `value` holds the key and the key ID in the first 42 bytes, and is marked as read. If there
-    // are fewer bytes, the error is `RecordTooShort`, and `value` is unchanged.
+    // On success, `value` holds the key and the key ID that the first 42 bytes of `bytes` contain, and is
+    // marked as read. If there are fewer bytes, the error is `RecordTooShort`, and `value` is unchanged.
     ensures { (result, value.new) ≡ key_outcome (public_key_in bytes.now) value.old }
 {
     if bytes.len() < 42 {
@@ -89,8 +89,8 @@ pub fn write_secret_key_record(
     Ok(())
 }
 
-// Writes the fields of a key that is not encrypted: the algorithms, zeros as the salt and the limits, and
-// these.
+// Writes the fields of a key that is not encrypted: the algorithms, zeros as the salt and the limits, the key
+// ID, the secret and the checksum.
 fn write_unsealed(to: &mut [u8], key_id: &[u8; 8], secret: &[u8; 64], checksum: &[u8; 32])
     requires { length to.old ≡ 158 }
     ensures { to.new ≡ unsealed_algorithms ++ replicate 48 0 ++ (key_id.now ++ secret.now ++ checksum.now) }
@@ -116,9 +116,9 @@ impl SignatureValue {
     ///
     /// The errors are, in this order: `RecordTooShort`, for fewer bytes; `UnsupportedSignatureAlgorithm`.
     pub fn read_record(bytes: &[u8]) -> Result<SignatureValue>
-        // On success, the result holds the key ID, the algorithm and the signature in the first 74 bytes, and
-        // nothing about comments. Otherwise the error is the first check that fails: fewer bytes, and then an
-        // algorithm other than `Ed` and `ED`.
+        // On success, the result holds the key ID, the algorithm and the signature that the first 74 bytes of
+        // `bytes` contain, and no comments. Otherwise the error is the first check that fails: fewer bytes,
+        // and then an algorithm other than `Ed` and `ED`.
         ensures { result ≡ read_bare_value bytes.now }
     {
         match signature_in(bytes) {

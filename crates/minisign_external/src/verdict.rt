@@ -7,9 +7,9 @@ ghost use Rattle.minisign.specs.Texts.{require};
 
 use minisign_base::{NamedFault, Result};
 
-/// Returns the verdict that follows from the results of the two Ed25519 checks: success exactly if both are
-/// true and `whole` is true. `whole` says that the comment signature has at least 64 bytes, so that the
-/// second check could be made.
+/// Combines the results of the two Ed25519 checks: succeeds exactly if both are true and the comment
+/// signature has at least 64 bytes, so that the second check could be made. `whole` is true if it has at
+/// least 64 bytes.
 ///
 /// The errors are, in this order: `SignatureRefused`, if `first` is false; `CommentSignatureRefused`, if the
 /// comment signature is too short or `second` is false. Does not allocate.
@@ -22,8 +22,9 @@ pub fn verdict(whole: bool, first: bool, second: bool) -> Result<()>
     comment_verdict(whole, second)
 }
 
-/// Returns the verdict on the comment signature only: success exactly if `whole` and `second` are true,
-/// otherwise `CommentSignatureRefused`. Does not allocate.
+/// Returns the verdict on the comment signature only: succeeds exactly if the comment signature has at least
+/// 64 bytes (`whole` is true) and `second` is true; otherwise the error is `CommentSignatureRefused`. Does
+/// not allocate.
 pub fn comment_verdict(whole: bool, second: bool) -> Result<()>
     ensures { result ≡ require (whole && second) CommentSignatureRefused (Ok tt) }
 {

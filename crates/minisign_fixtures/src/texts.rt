@@ -41,7 +41,7 @@ pub const LEGACY_TEXT: &str =
     "untrusted comment: c\nRWQBAgMEBQYHCAAAAAAAAAAAAAAAAAAAAAAAAAAAAAAAAAAAAAAAAAAAOzg5WlpaWlpaWlpaWlpaWlpaWlpaWlpaWlpaWlpaWlo=\ntrusted comment: t\nAAAAAAAAAAAAAAAAAAAAAAAAAAAAAAAAAAAAAAAAAAAVYmMAAAAAAAAAAAAAAAAAAAAAAAAAAAAAAAAAAAAAAA==\n";
 
 /// The status lines after verifying these signatures: 60 bytes.
-pub const SAID: &[u8] = b"Signature and comment signature verified\nTrusted comment: t\n";
+pub const STATUS_LINES: &[u8] = b"Signature and comment signature verified\nTrusted comment: t\n";
 
 /// The public key file of the pair from the random bytes 0, 1, 2 and so on: 114 bytes.
 pub const COUNTED_PUBLIC_TEXT: &str =

@@ -40,7 +40,7 @@ below_row k some [] h j = some
 below_row k some (x ∷ xs) h zero = ltb-true x k (and-left _ _ h)
 below_row k some (x ∷ xs) h (suc j) = below_row k some xs (and-right _ _ h) j
 
--- The same for a list of lists.
+-- Each number in a list of lists is below a bound, if a test says so.
 pub below_all : (k : ℕ) → 0 < k → (xss : List (List ℕ)) → list_all (list_all (λ x. nat_lt x k)) xss ≡ true
     → (i j : ℕ) → slice_index (slice_index_or xss i []) j < k
 below_all k some [] h i j = some

@@ -10,7 +10,7 @@ use Rattle.minisign_kdf.specs.Hmac.{hmac}
 use Rattle.minisign_kdf.specs.Pbkdf2.{pbkdf2}
 use Rattle.minisign_kdf.proofs.Joined.{joined_lists_next}
 
--- One more byte is padded.
+-- If the first i bytes are xored with the pad and then byte number i is, the first i + 1 bytes are xored.
 pub padded_next : (pad i : ℕ) (block out : List ℕ) → take i out ≡ take i (map (λ b. bit_xor b pad) block)
     → i < length out → i < length block
     → take (i + 1) (slice_set out i (bit_xor (slice_index block i) pad))
@@ -33,7 +33,7 @@ pbkdf2_whole password salt w rest count len ew lw el none =
     ∙ ap (take len) (ew ∙ ap (joined_lists (λ (i : ℕ). hmac password (salt ++ to_be_bytes w32 (i + 1))))
     (sym blocks))
 
--- The same if the last block is cut.
+-- The output of PBKDF2 is also the derived key if its last block is cut.
 pub pbkdf2_cut : (password salt w y : List ℕ) (count n len : ℕ)
     → w ≡ joined_lists (λ i. hmac password (salt ++ to_be_bytes w32 (i + 1))) count → length w ≡ 32 * count
     → len ≡ 32 * count + n → 0 < n → n ≤ 32 → y ≡ take n (hmac password (salt ++ to_be_bytes w32 (count + 1)))

@@ -16,42 +16,42 @@ pub fn hmac_sha256(key: &[u8], parts: &[&[u8]]) -> [u8; 32]
 {
     let block = key_block(key);
     let mut inner = Sha256::new();
-    inner.update(&padded(&block, 0x36));
+    inner.update(&xor_pad(&block, 0x36));
     'parts: for part in parts {
         inner.update(*part);
     }
     let digest = inner.finalize();
     let mut outer = Sha256::new();
-    outer.update(&padded(&block, 0x5c));
+    outer.update(&xor_pad(&block, 0x5c));
     outer.update(&digest);
     outer.finalize()
 }
 
 // Xors each byte of a block with the pad.
-fn padded(block: &[u8; 64], pad: u8) -> [u8; 64]
+fn xor_pad(block: &[u8; 64], pad: u8) -> [u8; 64]
     ensures { result ≡ map (λ b. bit_xor b pad) block.now }
 {
-    let mut padded = [0u8; 64];
+    let mut xored = [0u8; 64];
     'bytes: for i in 0..64 {
-        padded[i] = block[i] ^ pad;
+        xored[i] = block[i] ^ pad;
     }
-    padded
+    xored
 }
 
-// Returns the key as a block. A longer key is replaced by its digest.
+// Returns the key as a block. A key longer than a block is replaced by its digest.
 #[tactic(auto, unfolding(crate::specs::Hmac::key_block))]
 fn key_block(key: &[u8]) -> [u8; 64]
     ensures { result ≡ key_block key.now }
 {
     if key.len() > BLOCK_LEN {
-        filled(&Sha256::digest(key))
+        zero_padded(&Sha256::digest(key))
     } else {
-        filled(key)
+        zero_padded(key)
     }
 }
 
 // Pads the key with zeros to the length of a block.
-fn filled(key: &[u8]) -> [u8; 64]
+fn zero_padded(key: &[u8]) -> [u8; 64]
     requires { length key.now ≤ 64 }
     ensures { result ≡ key.now ++ replicate (64 - length key.now) 0 }
 {

@@ -55,8 +55,7 @@ fn in_diagonal_order(x: &[u32; 16]) -> [u32; 16]
     ]
 }
 
-// Puts the words of each block back into the standard's order and writes them, least significant
-// byte first.
+// Puts the words of each block back into the order of RFC 7914 and writes them, least significant byte first.
 pub(crate) fn store_part(words: &[u32], bytes: &mut [u8])
     requires whole { length words.now % 16 ≡ 0 }
     requires len { length bytes.old ≡ 4 * length words.now }
@@ -69,7 +68,7 @@ pub(crate) fn store_part(words: &[u32], bytes: &mut [u8])
     }
 }
 
-// Puts the words of a block from diagonal order into the standard's order.
+// Puts the words of a block from diagonal order into the order of RFC 7914.
 fn in_standard_order(x: &[u32]) -> [u32; 16]
     requires { length x.now ≡ 16 }
     ensures { result ≡ standard_order x.now }

@@ -101,7 +101,7 @@ fn column_round(x: Block) -> Block
     Block { a, b, c, d }
 }
 
-// The row round, on the rows of the standard's order.
+// The row round: the column round of the transposed block.
 #[inline(always)]
 fn row_round(x: Block) -> Block
     ensures { block_words result ≡ row_round (block_words x) }
@@ -109,7 +109,7 @@ fn row_round(x: Block) -> Block
     transposed(column_round(transposed(x)))
 }
 
-// Swaps rows and columns of the standard's order.
+// Transposes the block, taken as a square of four rows of four words in the order of RFC 7914.
 #[inline(always)]
 fn transposed(x: Block) -> Block
     ensures { block_words result ≡ transposed_square (block_words x) }

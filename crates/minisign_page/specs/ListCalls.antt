@@ -19,7 +19,7 @@ use Rattle.minisign_external.specs.declared.state.Refusal.{Refusal}
 use Rattle.minisign_external.specs.declared.state.Refusal.TheVariants.{Refused, WrongUse}
 use Rattle.minisign_lists.specs.declared.faults.ListFault.{ListFault}
 use Rattle.minisign_lists.specs.declared.lines.LongDigest.{LongDigest}
-use Rattle.minisign_lists.specs.Faults.{list_fault_numbered, list_number, list_row, with_line}
+use Rattle.minisign_lists.specs.Faults.{list_fault_numbered, list_number, list_row, line_of_fault}
 use Rattle.minisign_lists.specs.Values.{HasAskedList, all_entries, found_entry, entries_outcome}
 use Rattle.minisign_lists.specs.Values.{entry_outcome}
 use Rattle.minisign_lists.specs.Values.{list_verdict_outcome}
@@ -39,7 +39,7 @@ list_refusal r = refusal_number list_number r
 -- The number of the line at fault, or 0 if no line is at fault.
 abbrev pub line_at_fault : Refusal ListFault → ℕ
 line_at_fault (WrongUse m) = 0
-line_at_fault (Refused e) = with_line e
+line_at_fault (Refused e) = line_of_fault e
 
 -- The number of a result: 0 for success, otherwise the error number.
 abbrev pub list_result : Result ⊤ (Refusal ListFault) → ℕ

@@ -18,11 +18,12 @@ ghost use Rattle.minisign_external.specs.Numbers.{WritesCut, fault_number, misus
 ghost use Rattle.minisign_external.specs.Numbers.{refusal_number};
 ghost use Rattle.minisign_external.specs.PublicKeys.{read_utf8, key_outcome_number};
 ghost use Rattle.minisign_external.specs.Signatures.{IsReadFrom, read_signature_value, signature_outcome};
-ghost use Rattle.minisign_external.specs.States.{AreAsked, GivesNumber, HasAsked, HasReturnedDigest};
+ghost use Rattle.minisign_external.specs.States.{AreQuestionsWithoutDigest, GivesNumber, HasAsked};
+ghost use Rattle.minisign_external.specs.States.{HasReturnedDigest};
 ghost use Rattle.minisign_external.specs.States.{IsAnswered};
 ghost use Rattle.minisign_external.specs.States.{IsBlank, IsFedState, IsMarkedFed, IsMarkedFinalized};
-ghost use Rattle.minisign_external.specs.States.{KeepsAsked};
-ghost use Rattle.minisign_external.specs.States.{asked_of, asking_under, feeding_misuse};
+ghost use Rattle.minisign_external.specs.States.{KeepsQuestions};
+ghost use Rattle.minisign_external.specs.States.{asking_checks, asking_under, feeding_misuse};
 ghost use Rattle.minisign_external.specs.States.{verdict_outcome_number, verdict_number};
 ghost use Rattle.minisign_external.specs.StrictCalls.{asked_number, asked_strictly, strict_asking_number};
 ghost use Rattle.minisign_external.specs.StrictCalls.{is_strict_text, is_strict_value};
@@ -32,7 +33,7 @@ ghost use Rattle.minisign_page.specs.ListCalls.{list_refusal};
 ghost use Rattle.minisign_page.specs.ListCalls.{AreListQuestions, IsAnsweredList, IsListMeaning};
 ghost use Rattle.minisign_page.specs.ListCalls.{asking_list_number, list_result};
 ghost use Rattle.minisign_page.specs.ListCalls.{list_verdict_number, list_outcome_number};
-ghost use Rattle.minisign_lists.specs.Faults.{is_own, list_row};
+ghost use Rattle.minisign_lists.specs.Faults.{is_list_error, list_row};
 ghost use Rattle.minisign_lists.specs.Values.{asked_list, compared, list_verdict_under, long_numbered};
 ghost use Rattle.minisign_lists.specs.Lines.{Entry};
 ghost use Rattle.minisign_lists.specs.declared.lines.LongDigest.{LongDigest};
@@ -93,7 +94,7 @@ pub extern "C" fn page_update(state: &mut State, piece: &[u8]) -> u32
     // finished by a verdict. Then the result is the number of that error, and the state is unchanged.
     ensures fed { (m : List ℕ) → IsFedState state.old m → (result ≡ 0)
         × IsFedState state.new (m ++ piece.now) }
-    ensures asked { KeepsAsked state.old state.new }
+    ensures asked { KeepsQuestions state.old state.new }
     ensures begun { result ≡ 0 → IsMarkedFed state.old }
     ensures refused { 0 < result → (result ≡ misuse_number (feeding_misuse state.old))
         × (state.new ≡ state.old) }
@@ -113,7 +114,7 @@ pub extern "C" fn page_digest(state: &mut State, digest: &mut [u8; 64]) -> u32
     // number of that error, and the state and the digest are unchanged.
     ensures digest { (m : List ℕ) → IsFedState state.old m
         → (result ≡ 0) × (digest.new ≡ blake2b_digest 64 m) × HasReturnedDigest state.new m }
-    ensures asked { KeepsAsked state.old state.new }
+    ensures asked { KeepsQuestions state.old state.new }
     ensures finalized { result ≡ 0 → IsMarkedFed state.old × IsMarkedFinalized state.new }
     ensures refused { 0 < result → (result ≡ misuse_number (feeding_misuse state.old))
         × (state.new ≡ state.old) × (digest.new ≡ digest.old) }
@@ -199,7 +200,8 @@ pub extern "C" fn page_ask(
     // key and the text, with zeros in place of the digest, and the message of the second question is at the
     // start of the buffer. The state records that it was asked. The data that it was fed is unchanged.**
     ensures asked { result ≡ 0 → (t : SignatureTextRecord) → IsReadFrom signature.now sig_text.now t
-        → (read_under key.now (allow_legacy == 1) sig_text.now ≡ Ok t) × AreAsked questions.new message.new
+        → (read_under key.now (allow_legacy == 1) sig_text.now ≡ Ok t)
+        × AreQuestionsWithoutDigest questions.new message.new
         key.now t × HasAsked state.new key.now sig_text.now (allow_legacy == 1) }
     ensures fed { (m : List ℕ) → IsFedState state.old m → IsFedState state.new m }
 
@@ -291,7 +293,7 @@ pub extern "C" fn page_list_ask(
     // not the one that it was read from; the key IDs differ; the signature is a legacy one; the buffer is too
     // short; the key or a signature is weak. If none of them applies, the result is 0.
     ensures number { result ≡ asked_number (asked_strictly (is_strict_value key.now signature.now)
-        (asked_of key.now signature.now sig_text.now false (length message.old))) }
+        (asking_checks key.now signature.now sig_text.now false (length message.old))) }
 
     // If the signature was read from this text, the result is the same as if the text were parsed here and
     // checked under this key.
@@ -299,7 +301,7 @@ pub extern "C" fn page_list_ask(
         → result ≡ asking_list_number key.now sig_text.now t (length message.old) }
 
     // **On success, if the signature was read from this text, `questions` holds the two questions about the
-    // key and the text, with the digest of the list, and `list` records that digest, whether the comment
+    // key and the text, with the digest of the list. `list` records this digest, whether the comment
     // signature has at least 64 bytes, and whether the trusted comment names the list.**
     ensures asked { result ≡ 0 → (t : SignatureTextRecord) → IsReadFrom signature.now sig_text.now t
         → (read_under key.now false sig_text.now ≡ Ok t)
@@ -340,9 +342,10 @@ pub extern "C" fn page_list_ask_any(
     questions: &mut Questions,
     message: &mut [u8],
 ) -> u32
-    // The clauses are those of `page_list_ask`, but every trusted comment names the list.
+    // As for `page_list_ask`, except that the name of the list is not checked: any trusted comment counts
+    // as naming it.
     ensures number { result ≡ asked_number (asked_strictly (is_strict_value key.now signature.now)
-        (asked_of key.now signature.now sig_text.now false (length message.old))) }
+        (asking_checks key.now signature.now sig_text.now false (length message.old))) }
     ensures text { (t : SignatureTextRecord) → IsReadFrom signature.now sig_text.now t
         → result ≡ asking_list_number key.now sig_text.now t (length message.old) }
     ensures asked { result ≡ 0 → (t : SignatureTextRecord) → IsReadFrom signature.now sig_text.now t
@@ -549,7 +552,7 @@ fn list_number_of(refusal: Refusal<ListFault>) -> u32
 
 // Writes the text of a list error.
 fn write_list_error(fault: &ListFault, text: &mut [u8]) -> usize
-    requires { is_own fault.now ≡ true }
+    requires { is_list_error fault.now ≡ true }
     ensures written { (result ≡ length (list_row fault.now).summary)
         × WritesCut (list_row fault.now).summary text.old text.new }
     ensures room { result < 128 }

@@ -1,7 +1,7 @@
 -- Lemmas about verification that copies nothing: it does not use its output.
 use Rattle.std.proofs.Common.{List, ℕ, Result, Ok, Err, IfErr, inl, inr, false, None, refl}
 use Rattle.minisign.specs.Fault.{Fault}
-use Rattle.minisign.specs.DeviceCalls.{RereaderCall, SinkCall, unused}
+use Rattle.minisign.specs.DeviceCalls.{RereaderCall, SinkCall, no_sink}
 use Rattle.minisign.specs.Acceptance.{Verifier}
 use Rattle.minisign.specs.Records.{PublicKeyRecord, SignatureBoxRecord}
 use Rattle.minisign.specs.Verifying.{VerifyingFails, VerifyingTextsFails}
@@ -21,7 +21,7 @@ pub box_fails : {T R W O : Type 0} (accepts : Verifier) (key : PublicKeyRecord) 
     (reader : RereaderCall R) (status : SinkCall W)
     (old new : O) (r : Result T Fault)
     → IfErr r (VerifyingFails accepts key box says_only reader status (silent old new))
-    → IfErr r (VerifyingFails accepts key box says_only reader status unused)
+    → IfErr r (VerifyingFails accepts key box says_only reader status no_sink)
 box_fails accepts key box reader status old new (Ok x) h = tt
 box_fails accepts key box reader status old new (Err e) h =
     fails_without_output accepts key box false reader status (silent old new) e h
@@ -31,7 +31,7 @@ pub texts_fail : {T R W O : Type 0} (accepts : Verifier) (pk sig : List ℕ) (re
     (status : SinkCall W)
     (out : SinkCall O) (r : Result T Fault)
     → IfErr r (VerifyingTextsFails accepts pk sig says_only reader status out)
-    → IfErr r (VerifyingTextsFails accepts pk sig says_only reader status unused)
+    → IfErr r (VerifyingTextsFails accepts pk sig says_only reader status no_sink)
 texts_fail accepts pk sig reader status out (Ok x) h = tt
 texts_fail accepts pk sig reader status out (Err e) (inl (why, unread, unsaid, uncopied)) =
     inl (why, unread, unsaid, refl)

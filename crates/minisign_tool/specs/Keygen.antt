@@ -1,6 +1,6 @@
 -- The results of the command `keygen`.
 use Rattle.std.specs.Prelude.{ℕ, List, None, Ok}
-use Rattle.minisign.specs.DeviceCalls.{PromptCall, RandomCall, SinkCall, TakesPart}
+use Rattle.minisign.specs.DeviceCalls.{PromptCall, RandomCall, SinkCall, SinkCompletesPart}
 use Rattle.minisign.specs.Generation.{IsGenuinePair, IsSealedPair, IsSealing, SealedTextsFail}
 use Rattle.minisign.specs.Members.{SinkOf}
 use Rattle.minisign.specs.Sealing.{OpensTo, xored_key}
@@ -26,7 +26,7 @@ pub record MakesKeys {Z R W P K : Type 0} (public_of : List ℕ → List ℕ) (z
   pub sk : SecretKeyRecord
   pub typed : IsSealing p None (Ok password)
   pub pair : IsSealedPair public_of password z pk sk
-  pub public : TakesPart pk_sink (public_key_text pk)
-  pub secret : TakesPart sk_sink (secret_key_text None sk)
+  pub public : SinkCompletesPart pk_sink (public_key_text pk)
+  pub secret : SinkCompletesPart sk_sink (secret_key_text None sk)
   pub opens : OpensTo (secret_key_text None sk) password 1 (xored_key sk password)
   pub belongs : IsGenuinePair public_of pk (xored_key sk password)

@@ -1,7 +1,7 @@
 -- The lines that the program writes to the error stream.
 use Rattle.std.specs.Prelude.{◌≡◌, ℕ, ◌⊎◌, List, ◌++◌, codes}
 use Rattle.std.specs.Io.KnownBytes.{Appends}
-use Rattle.minisign.specs.Devices.{Rose, AppendsFront}
+use Rattle.minisign.specs.Devices.{ErrorCountRises, AppendsPrefix}
 use Rattle.minisign.specs.Fault.{Fault, text_of}
 use Rattle.minisign.specs.Members.{SinkOf}
 use Rattle.minisign.specs.DeviceCalls.{SinkCall, sink_call}
@@ -25,8 +25,8 @@ fault_line e = codes "error: " ++ line (text_of e)
 abbrev pub TakesOrFails : {S : Type 0} → SinkOf S → S → S → List ℕ → Type 0
 TakesOrFails sink old new text =
     (Appends (sink.taken old) (sink.taken new) text × (sink.sink_faults new ≡ sink.sink_faults old))
-    ⊎ (AppendsFront (sink.taken old) (sink.taken new) text
-    × Rose (sink.sink_faults old) (sink.sink_faults new))
+    ⊎ (AppendsPrefix (sink.taken old) (sink.taken new) text
+    × ErrorCountRises (sink.sink_faults old) (sink.sink_faults new))
 
 -- The warning was sent, and then the sink received the whole text.
 abbrev pub SaysAfterWarning : {S : Type 0} → SinkOf S → S → S → List ℕ → Type 0

@@ -1,13 +1,14 @@
 -- The results of the command `sign`.
 use Rattle.std.specs.Prelude.{◌≡◌, ℕ, ◌⊎◌, None, Ok, List}
 use Rattle.minisign.specs.Members.{RandomOf, SchemeOf, SinkOf, SourceOf}
-use Rattle.minisign.specs.DeviceCalls.{FailsAtPart, PromptCall, RandomCall, SinkCall, SourceCall, Takes}
-use Rattle.minisign.specs.DeviceCalls.{TakesPart, prompt_call, random_call, source_call}
+use Rattle.minisign.specs.DeviceCalls.{SinkFailsAtPart, PromptCall, RandomCall, SinkCall, SourceCall}
+use Rattle.minisign.specs.DeviceCalls.{SinkReceives}
+use Rattle.minisign.specs.DeviceCalls.{SinkCompletesPart, prompt_call, random_call, source_call}
 use Rattle.minisign.specs.Fault.{Fault, Named}
 use Rattle.minisign.specs.NamedFaults.{WritingFailed}
 use Rattle.minisign.specs.Records.{SecretKeyRecord, SignatureBoxRecord}
 use Rattle.minisign.specs.Acceptance.{Verifier, VouchesUnderEachKey}
-use Rattle.minisign.specs.Reading.{IsAhead, ReadsWhole, IsTextFault}
+use Rattle.minisign.specs.Reading.{KnownBytesAre, ReadsWhole, IsTextFault}
 use Rattle.minisign.specs.SignatureText.{read_signature_box}
 use Rattle.minisign.specs.Signing.{IsGenuine, given_comments, GivesKey, IsKeyOf, IsSignedText}
 use Rattle.minisign.specs.Signing.{TextSigningFails}
@@ -65,28 +66,29 @@ pub record MakesVouched {K R Z A B : Type 0} (accepts : Verifier) (public_of : L
   pub sk_text : List ℕ
   pub message : List ℕ
   pub key : SecretKeyRecord
-  pub held : IsAhead (d.sk_file.source.ahead d.sk_file.old) sk_text
-  pub signed : IsAhead (d.data_reader.source.ahead d.data_reader.old) message
+  pub held : KnownBytesAre (d.sk_file.source.ahead d.sk_file.old) sk_text
+  pub signed : KnownBytesAre (d.data_reader.source.ahead d.data_reader.old) message
   pub given : IsKeyOf sk_text key
   pub vouched : ReadsBackIfGenuine accepts public_of key message text
 
 -- The signature text was not written completely: the sink received a prefix of it.
 pub record WriteFails {G : Type 0} (g : SinkCall G) (text : List ℕ) (e : Fault) : Type 0 where
   pub fault : e ≡ Named WritingFailed
-  pub failed : FailsAtPart g text
+  pub failed : SinkFailsAtPart g text
 
 -- A signature text was written. If the key is genuine, the text is valid for all of the data under
 -- every public key with the seed's key bytes and the key ID.
 abbrev pub HasWrittenVouched : {K R Z A B G : Type 0} → Verifier → (List ℕ → List ℕ) → SigningCall K R Z A B
     → SinkCall G → Type 0
 HasWrittenVouched accepts public_of d g = (text : List ℕ) × MakesVouched accepts public_of d text
-    × Takes g text
+    × SinkReceives g text
 
 -- The text of the box that signing makes was written and flushed, without an error.
 abbrev pub HasWrittenSigned : {S K R Z A B G : Type 0} → SchemeOf S → S → SigningCall K R Z A B → SinkCall G
     → ℕ
     → Type 0
-HasWrittenSigned s scheme d g moment = (text : List ℕ) × MakesSigned s scheme d moment text × TakesPart g text
+HasWrittenSigned s scheme d g moment = (text : List ℕ) × MakesSigned s scheme d moment text
+    × SinkCompletesPart g text
 
 -- No signature was made: the key's file could not be read as a text, and no other device was used; or signing
 -- with the text failed.

@@ -2,13 +2,13 @@
 use Rattle.std.specs.Prelude.{◌≡◌, ℕ, ◌⊎◌, true, false, List, Ok}
 use Rattle.minisign.specs.Fault.{Fault}
 use Rattle.minisign.specs.Members.{SourceOf}
-use Rattle.minisign.specs.DeviceCalls.{RereaderCall, SinkCall, SourceCall, TakesFront, rereader_call}
-use Rattle.minisign.specs.DeviceCalls.{source_call, unused}
+use Rattle.minisign.specs.DeviceCalls.{RereaderCall, SinkCall, SourceCall, SinkReceivesPrefix, rereader_call}
+use Rattle.minisign.specs.DeviceCalls.{source_call, no_sink}
 use Rattle.minisign.specs.Records.{PublicKeyRecord, SignatureBoxRecord}
 use Rattle.minisign.specs.declared.options.VerifyOptions.{VerifyOptions}
 use Rattle.minisign.specs.Acceptance.{Verifier, options_of, status_lines}
 use Rattle.minisign.specs.Headline.{CopyIsVouchedFor, TextsVouchFor}
-use Rattle.minisign.specs.Reading.{IsAhead}
+use Rattle.minisign.specs.Reading.{KnownBytesAre}
 use Rattle.minisign.specs.Verifying.{HasCopy, VerifyingTextsFails, read_texts}
 use Rattle.minisign_tool.specs.TextFiles.{EitherFails, ReadsBoth}
 use Rattle.minisign_tool.specs.declared.verify.VerifyingDevices.{VerifyingDevices}
@@ -42,7 +42,7 @@ verifying_call pk_file sig_file data_reader steady old new = record {
 abbrev pub SaysFront : {W : Type 0} → SinkCall W → List ℕ → List ℕ → Type 0
 SaysFront status pk_text sig_text =
     (status.new ≡ status.old) ⊎ ((key : PublicKeyRecord) × (box : SignatureBoxRecord)
-    × (read_texts pk_text sig_text ≡ Ok (key, box)) × TakesFront status (status_lines box))
+    × (read_texts pk_text sig_text ≡ Ok (key, box)) × SinkReceivesPrefix status (status_lines box))
 
 -- The texts in both files are valid for all of the data, and Said holds for the status lines.
 pub record FilesVouch {P Q R : Type 0} (accepts : Verifier) (d : VerifyingCall P Q R)
@@ -50,9 +50,9 @@ pub record FilesVouch {P Q R : Type 0} (accepts : Verifier) (d : VerifyingCall P
   pub pk_text : List ℕ
   pub sig_text : List ℕ
   pub message : List ℕ
-  pub pk_held : IsAhead (d.pk_file.source.ahead d.pk_file.old) pk_text
-  pub sig_held : IsAhead (d.sig_file.source.ahead d.sig_file.old) sig_text
-  pub given : IsAhead (d.data_reader.source.ahead d.data_reader.old) message
+  pub pk_held : KnownBytesAre (d.pk_file.source.ahead d.pk_file.old) pk_text
+  pub sig_held : KnownBytesAre (d.sig_file.source.ahead d.sig_file.old) sig_text
+  pub given : KnownBytesAre (d.data_reader.source.ahead d.data_reader.old) message
   pub vouched : TextsVouchFor accepts pk_text sig_text message false
   pub said : Said (status_lines vouched.box)
 
@@ -70,7 +70,7 @@ abbrev pub FilesFail : {P Q R W : Type 0} → Verifier → VerifyingCall P Q R �
 FilesFail accepts d status e =
     (EitherFails d.pk_file d.sig_file e × (d.data_reader.new ≡ d.data_reader.old) × (status.new ≡ status.old))
     ⊎ ((pk_text sig_text : List ℕ) × ReadsBoth d.pk_file d.sig_file pk_text sig_text
-    × VerifyingTextsFails accepts pk_text sig_text says_only d.data_reader status unused e
+    × VerifyingTextsFails accepts pk_text sig_text says_only d.data_reader status no_sink e
     × SaysFront status pk_text sig_text)
 
 -- A file could not be read as a text, and no data was read or copied; or verification with the texts, or

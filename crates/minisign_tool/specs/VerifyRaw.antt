@@ -2,7 +2,7 @@
 use Rattle.std.specs.Prelude.{◌≡◌, ℕ, ◌<◌, ◌≤◌, ◌⊎◌, false, List, length, take, None}
 use Rattle.minisign.specs.Fault.{Fault, Named}
 use Rattle.minisign.specs.NamedFaults.{RecordTooShort, UnsupportedSignatureAlgorithm}
-use Rattle.minisign.specs.DeviceCalls.{RereaderCall, SinkCall, SourceCall, TakesFront, unused}
+use Rattle.minisign.specs.DeviceCalls.{RereaderCall, SinkCall, SourceCall, SinkReceivesPrefix, no_sink}
 use Rattle.minisign.specs.Records.{PublicKeyRecord, SignatureRecord, SignatureBoxRecord, ReadsPublicKey}
 use Rattle.minisign.specs.Records.{ReadsSignature, IsKnownAlgorithm}
 use Rattle.minisign.specs.Acceptance.{Verifier, Vouches, verified_text}
@@ -50,11 +50,11 @@ VerifyRawFails accepts key_file signature_file reader status e =
     (IsFileFault key_file signature_file e × (reader.new ≡ reader.old) × (status.new ≡ status.old))
     ⊎ ((key : PublicKeyRecord) × (signature : SignatureRecord)
     × HoldsRaw key_file signature_file key signature
-    × VerifyingFails accepts key (bare_box signature) says_only reader status unused e)
+    × VerifyingFails accepts key (bare_box signature) says_only reader status no_sink e)
 
 -- Nothing was written, or a prefix of the status line.
 abbrev pub SaysLineFront : {W : Type 0} → SinkCall W → Type 0
-SaysLineFront status = (status.new ≡ status.old) ⊎ TakesFront status (line verified_text)
+SaysLineFront status = (status.new ≡ status.old) ⊎ SinkReceivesPrefix status (line verified_text)
 
 -- The key and the signature in both files are valid for all of the data, and Said holds for the
 -- status line.

@@ -1,7 +1,7 @@
 //! The command `cat`: verifies as `verify` does, and copies the verified data.
 
 ghost use Rattle.std.specs.Prelude.{◌≡◌, ◌≤◌, false, true, OnOk, IfErr};
-ghost use Rattle.minisign.specs.DeviceCalls.{Takes, sink_call};
+ghost use Rattle.minisign.specs.DeviceCalls.{SinkReceives, sink_call};
 ghost use Rattle.minisign_tool.specs.Report.{EndsWithFault, SaysAfterWarning};
 ghost use Rattle.minisign_tool.specs.Verify.{FilesFailToCopy, FilesVouchForCopy, verifying_call};
 
@@ -60,7 +60,7 @@ fn copy_with_files<S: Scheme, P: Source, Q: Source, R: Rereader, O: Sink, W: Sin
 ) -> Result<()>
     ensures accepted { OnOk result (FilesVouchForCopy (S.accepts scheme.now)
         (verifying_call P.Source Q.Source R.Source R.steady devices.old devices.new)
-        (sink_call O.Sink out.old out.new) (Takes (sink_call W.Sink errors.old errors.new))) }
+        (sink_call O.Sink out.old out.new) (SinkReceives (sink_call W.Sink errors.old errors.new))) }
     ensures no_new_fault { OnOk result (W.sink_faults errors.new ≡ W.sink_faults errors.old) }
     ensures out_no_new_fault { OnOk result (O.sink_faults out.new ≡ O.sink_faults out.old) }
     ensures refused { IfErr result (FilesFailToCopy (S.accepts scheme.now)

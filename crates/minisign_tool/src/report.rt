@@ -4,7 +4,7 @@
 
 ghost use Rattle.std.specs.Prelude.{◌≡◌, ◌++◌, codes, MatchResult, OnOk, OnErr};
 ghost use Rattle.std.specs.Io.KnownBytes.{Appends};
-ghost use Rattle.minisign.specs.Devices.{Rose, AppendsFront};
+ghost use Rattle.minisign.specs.Devices.{ErrorCountRises, AppendsPrefix};
 ghost use Rattle.minisign.specs.Texts.{line};
 ghost use Rattle.minisign_tool.specs.Report.{TakesOrFails, fault_line, usage_line, warning_line};
 
@@ -74,9 +74,9 @@ fn put_fault<W: Sink>(errors: &mut W, text: &[u8]) -> std::result::Result<(), De
     ensures bytes { OnOk result
         (Appends (W.taken errors.old) (W.taken errors.new) (codes "error: " ++ line text.now)) }
     ensures no_new_fault { OnOk result (W.sink_faults errors.new ≡ W.sink_faults errors.old) }
-    ensures refused { OnErr result (Rose (W.sink_faults errors.old) (W.sink_faults errors.new)) }
+    ensures refused { OnErr result (ErrorCountRises (W.sink_faults errors.old) (W.sink_faults errors.new)) }
     ensures front { OnErr result
-        (AppendsFront (W.taken errors.old) (W.taken errors.new) (codes "error: " ++ line text.now)) }
+        (AppendsPrefix (W.taken errors.old) (W.taken errors.new) (codes "error: " ++ line text.now)) }
 {
     let mut room = [0; 512];
     if text.len() <= 504 {

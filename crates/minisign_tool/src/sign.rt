@@ -2,8 +2,8 @@
 //! text.
 
 ghost use Rattle.std.specs.Prelude.{◌≡◌, ◌≤◌, string_bytes, IfOk, IfErr, OnOk};
-ghost use Rattle.minisign.specs.Devices.{HasGiven};
-ghost use Rattle.minisign.specs.DeviceCalls.{TakesPart, sink_call};
+ghost use Rattle.minisign.specs.Devices.{PrefixIsRemoved};
+ghost use Rattle.minisign.specs.DeviceCalls.{SinkCompletesPart, sink_call};
 ghost use Rattle.minisign_tool.specs.Report.{ShowsOnlyFault, TakesOrFails, warning_line};
 ghost use Rattle.minisign_tool.specs.Sign.{FileSigningFails, HasWrittenSigned, HasWrittenVouched};
 ghost use Rattle.minisign_tool.specs.Sign.{MakesSigned, MakesVouched, NoSignature, WriteFails, signing_call};
@@ -80,8 +80,8 @@ pub fn run_sign<
 
     // The unread bytes of the source and of the random source are suffixes of those before the
     // call, whatever the result.
-    ensures given { HasGiven (R.ahead devices.old.data_reader) (R.ahead devices.new.data_reader) }
-    ensures drawn { HasGiven (Z.random_ahead devices.old.random) (Z.random_ahead devices.new.random) }
+    ensures given { PrefixIsRemoved (R.ahead devices.old.data_reader) (R.ahead devices.new.data_reader) }
+    ensures drawn { PrefixIsRemoved (Z.random_ahead devices.old.random) (Z.random_ahead devices.new.random) }
 {
     warn(errors);
     match write_signature(alloc, scheme, devices, moment, signature) {
@@ -107,8 +107,8 @@ fn write_signature<S: Scheme, K: Source, R: Source, Z: RandomSource, A: Source, 
     ensures refused { IfErr result (FileSigningFails S.Scheme scheme.now
         (signing_call K.Source R.Source Z.RandomSource A.Source B.Sink devices.old devices.new)
         (sink_call G.Sink signature.old signature.new) moment) }
-    ensures given { HasGiven (R.ahead devices.old.data_reader) (R.ahead devices.new.data_reader) }
-    ensures drawn { HasGiven (Z.random_ahead devices.old.random) (Z.random_ahead devices.new.random) }
+    ensures given { PrefixIsRemoved (R.ahead devices.old.data_reader) (R.ahead devices.new.data_reader) }
+    ensures drawn { PrefixIsRemoved (Z.random_ahead devices.old.random) (Z.random_ahead devices.new.random) }
 {
     let text = make_text(alloc, scheme, devices, moment)?;
     write_text(signature, &text)
@@ -129,8 +129,8 @@ fn make_text<S: Scheme, K: Source, R: Source, Z: RandomSource, A: Source, B: Sin
         (string_bytes t)) }
     ensures refused { IfErr result (NoSignature
         (signing_call K.Source R.Source Z.RandomSource A.Source B.Sink devices.old devices.new)) }
-    ensures given { HasGiven (R.ahead devices.old.data_reader) (R.ahead devices.new.data_reader) }
-    ensures drawn { HasGiven (Z.random_ahead devices.old.random) (Z.random_ahead devices.new.random) }
+    ensures given { PrefixIsRemoved (R.ahead devices.old.data_reader) (R.ahead devices.new.data_reader) }
+    ensures drawn { PrefixIsRemoved (Z.random_ahead devices.old.random) (Z.random_ahead devices.new.random) }
 {
     let sk_text = read_text(alloc, &mut devices.sk_file)?;
     let (password, trusted_comment, untrusted_comment) = (None, None, None);
@@ -150,7 +150,7 @@ fn make_text<S: Scheme, K: Source, R: Source, Z: RandomSource, A: Source, B: Sin
 }
 
 fn write_text<G: Sink>(sink: &mut G, text: &str) -> Result<()>
-    ensures written { OnOk result (TakesPart (sink_call G.Sink sink.old sink.new) text.now) }
+    ensures written { OnOk result (SinkCompletesPart (sink_call G.Sink sink.old sink.new) text.now) }
     ensures refused { IfErr result (WriteFails (sink_call G.Sink sink.old sink.new) text.now) }
 {
     match put_and_flush(sink, text.as_bytes()) {

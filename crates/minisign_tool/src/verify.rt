@@ -1,8 +1,8 @@
 //! The command `verify`: verifies the data in a file with the texts of a public key and a signature.
 
 ghost use Rattle.std.specs.Prelude.{◌≡◌, ◌≤◌, false, OnOk, IfErr};
-ghost use Rattle.minisign.specs.Devices.{HasGiven};
-ghost use Rattle.minisign.specs.DeviceCalls.{Takes, sink_call};
+ghost use Rattle.minisign.specs.Devices.{PrefixIsRemoved};
+ghost use Rattle.minisign.specs.DeviceCalls.{SinkReceives, sink_call};
 ghost use Rattle.minisign_tool.specs.Report.{EndsWithFault, SaysAfterWarning};
 ghost use Rattle.minisign_tool.specs.Verify.{FilesFail, FilesVouch, verifying_call};
 
@@ -49,7 +49,7 @@ pub fn run_verify<S: Scheme, P: Source, Q: Source, R: Rereader, W: Sink>(
     ensures refused { result ≡ 1 → EndsWithFault W.Sink errors.old errors.new
         (FilesFail (S.accepts scheme.now)
         (verifying_call P.Source Q.Source R.Source R.steady devices.old devices.new)) }
-    ensures given { HasGiven (R.ahead devices.old.data_reader) (R.ahead devices.new.data_reader) }
+    ensures given { PrefixIsRemoved (R.ahead devices.old.data_reader) (R.ahead devices.new.data_reader) }
 {
     warn(errors);
     match verify_with_files(alloc, scheme, devices, errors) {
@@ -68,12 +68,12 @@ fn verify_with_files<S: Scheme, P: Source, Q: Source, R: Rereader, W: Sink>(
 ) -> Result<()>
     ensures accepted { OnOk result (FilesVouch (S.accepts scheme.now)
         (verifying_call P.Source Q.Source R.Source R.steady devices.old devices.new)
-        (Takes (sink_call W.Sink errors.old errors.new))) }
+        (SinkReceives (sink_call W.Sink errors.old errors.new))) }
     ensures no_new_fault { OnOk result (W.sink_faults errors.new ≡ W.sink_faults errors.old) }
     ensures refused { IfErr result (FilesFail (S.accepts scheme.now)
         (verifying_call P.Source Q.Source R.Source R.steady devices.old devices.new)
         (sink_call W.Sink errors.old errors.new)) }
-    ensures given { HasGiven (R.ahead devices.old.data_reader) (R.ahead devices.new.data_reader) }
+    ensures given { PrefixIsRemoved (R.ahead devices.old.data_reader) (R.ahead devices.new.data_reader) }
 {
     let (pk_text, sig_text) = read_both_texts(alloc, &mut devices.pk_file, &mut devices.sig_file)?;
     let (quiet, output, allow_legacy) = (false, false, false);

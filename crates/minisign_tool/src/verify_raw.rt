@@ -2,8 +2,8 @@
 
 ghost use Rattle.std.specs.Prelude.{◌≡◌, ℕ, ◌≤◌, List, OnOk, OnErr, IfErr};
 ghost use Rattle.std.specs.Io.KnownBytes.{Appends};
-ghost use Rattle.minisign.specs.Devices.{HasGiven};
-ghost use Rattle.minisign.specs.DeviceCalls.{Takes, rereader_call, sink_call, source_call};
+ghost use Rattle.minisign.specs.Devices.{PrefixIsRemoved};
+ghost use Rattle.minisign.specs.DeviceCalls.{SinkReceives, rereader_call, sink_call, source_call};
 ghost use Rattle.minisign.specs.Acceptance.{verified_text};
 ghost use Rattle.minisign.specs.Texts.{line};
 ghost use Rattle.minisign.specs.Reading.{ReadsWhole};
@@ -49,7 +49,7 @@ pub fn run_verify_raw<S: Scheme, P: Source, Q: Source, R: Rereader, W: Sink>(
     ensures refused { result ≡ 1 → EndsWithFault W.Sink errors.old errors.new (RawFilesFail
         (S.accepts scheme.now) (source_call P.Source pk_file.old pk_file.new) (source_call Q.Source
         sig_file.old sig_file.new) (rereader_call R.Source R.steady data_reader.old data_reader.new)) }
-    ensures given { HasGiven (R.ahead data_reader.old) (R.ahead data_reader.new) }
+    ensures given { PrefixIsRemoved (R.ahead data_reader.old) (R.ahead data_reader.new) }
 {
     warn(errors);
     match verify_with_files(alloc, scheme, pk_file, sig_file, data_reader, errors) {
@@ -69,12 +69,12 @@ fn verify_with_files<S: Scheme, P: Source, Q: Source, R: Rereader, W: Sink>(
 ) -> Result<()>
     ensures accepted { OnOk result (RawFilesVouch (S.accepts scheme.now) (source_call P.Source pk_file.old
         pk_file.new) (source_call Q.Source sig_file.old sig_file.new) (rereader_call R.Source R.steady
-        data_reader.old data_reader.new) (Takes (sink_call W.Sink errors.old errors.new))) }
+        data_reader.old data_reader.new) (SinkReceives (sink_call W.Sink errors.old errors.new))) }
     ensures no_new_fault { OnOk result (W.sink_faults errors.new ≡ W.sink_faults errors.old) }
     ensures refused { IfErr result (RawFilesFail (S.accepts scheme.now) (source_call P.Source pk_file.old
         pk_file.new) (source_call Q.Source sig_file.old sig_file.new) (rereader_call R.Source R.steady
         data_reader.old data_reader.new) (sink_call W.Sink errors.old errors.new)) }
-    ensures given { HasGiven (R.ahead data_reader.old) (R.ahead data_reader.new) }
+    ensures given { PrefixIsRemoved (R.ahead data_reader.old) (R.ahead data_reader.new) }
 {
     let key = read_to_end(alloc, pk_file)?;
     let signature = read_to_end(alloc, sig_file)?;
@@ -111,7 +111,7 @@ pub fn verify_raw<S: Scheme, R: Rereader, W: Sink>(
         (rereader_call R.Source R.steady data_reader.old data_reader.new)
         (sink_call W.Sink errors.old errors.new)) }
     ensures front { OnErr result (SaysLineFront (sink_call W.Sink errors.old errors.new)) }
-    ensures given { HasGiven (R.ahead data_reader.old) (R.ahead data_reader.new) }
+    ensures given { PrefixIsRemoved (R.ahead data_reader.old) (R.ahead data_reader.new) }
 {
     let pk = PublicKey::from_bytes(key)?;
     let bones = SignatureBones::from_bytes(signature)?;

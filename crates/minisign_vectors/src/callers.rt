@@ -208,7 +208,7 @@ fn is_refused_for_its_name(answer: &Result<()>) -> bool {
 }
 
 // Returns true if checking the update has the expected outcome.
-fn is_taken(alloc: Global, row: &Update) -> bool {
+fn is_checked_as_expected(alloc: Global, row: &Update) -> bool {
     let (update, name, expected) = *row;
     let answer = checked(alloc, WORKED, update.as_bytes(), name);
     match expected {
@@ -221,7 +221,7 @@ fn is_taken(alloc: Global, row: &Update) -> bool {
 #[test]
 fn accepts_update_only_under_its_name(rt: HostRuntime) {
     for row in updates() {
-        assert_row(&rt, is_taken(rt.alloc(), row), row);
+        assert_row(&rt, is_checked_as_expected(rt.alloc(), row), row);
     }
 }
 

@@ -110,7 +110,12 @@ fn all_rows_hold(rt: &HostRuntime) -> bool {
 
 // Writes a signature file and a data file, checks all rows with them and removes them. Signing must
 // not have written a signature file beside the data.
-fn are_right(rt: &HostRuntime, sig_path: &str, path: &str, beside: &str) -> io::Result<bool> {
+fn all_rows_hold_with_files(
+    rt: &HostRuntime,
+    sig_path: &str,
+    path: &str,
+    beside: &str,
+) -> io::Result<bool> {
     fs::write(rt, sig_path, SIGNATURE_TEXT)?;
     fs::write(rt, path, "abc")?;
     let right = all_rows_hold(rt);
@@ -121,15 +126,15 @@ fn are_right(rt: &HostRuntime, sig_path: &str, path: &str, beside: &str) -> io::
 }
 
 // Runs this check in the directory for temporary files.
-fn are_right_in_temporary_directory(rt: &HostRuntime) -> Result<bool> {
+fn all_rows_hold_in_temporary_directory(rt: &HostRuntime) -> Result<bool> {
     let sig_path = path_of(rt, "abc.sig")?;
     let path = path_of(rt, "abc")?;
     let beside = path_of(rt, "abc.minisig")?;
-    let right = are_right(rt, sig_path.as_str(), path.as_str(), beside.as_str())?;
+    let right = all_rows_hold_with_files(rt, sig_path.as_str(), path.as_str(), beside.as_str())?;
     Ok(right)
 }
 
 #[test]
 fn verifies_and_signs_files_by_path(rt: HostRuntime) {
-    assert!(rt; check_holds(are_right_in_temporary_directory(&rt)));
+    assert!(rt; check_holds(all_rows_hold_in_temporary_directory(&rt)));
 }

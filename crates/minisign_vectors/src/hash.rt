@@ -39,7 +39,7 @@ fn are_read_and_written() -> bool {
 }
 
 // Returns true if a writer receives a number of each width.
-fn are_taken(alloc: Global) -> bool {
+fn writes_each_width(alloc: Global) -> bool {
     let mut bytes: Vec<u8> = Vec::new(alloc);
     let one = bytes.write_u8(0xab).is_ok();
     let four = bytes.write_u32_le(0x01020304).is_ok();
@@ -49,7 +49,7 @@ fn are_taken(alloc: Global) -> bool {
 
 #[test]
 fn writers_receive_numbers_in_little_endian(rt: HostRuntime) {
-    assert!(rt; are_taken(rt.alloc()));
+    assert!(rt; writes_each_width(rt.alloc()));
 }
 
 const WRITTEN: [u8; 13] = [

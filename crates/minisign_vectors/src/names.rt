@@ -19,7 +19,7 @@ use minisign::{
 use minisign_fixtures::keys::KEY_ID;
 use minisign_fixtures::outcomes::Outcome::Accepted;
 use minisign_fixtures::outcomes::{gives_text, is_outcome};
-use minisign_fixtures::texts::{KEY_TEXT, SAID, SECRET_TEXT, SIGNATURE_TEXT};
+use minisign_fixtures::texts::{KEY_TEXT, SECRET_TEXT, SIGNATURE_TEXT, STATUS_LINES};
 use std::alloc::Global;
 use std::io::Cursor;
 
@@ -74,21 +74,21 @@ const STRICT: VerifyOptions = VerifyOptions {
 };
 
 // Verifies and copies a file, with a writer as the status sink.
-fn copied(alloc: Global, said: &mut Vec<u8>, out: &mut VecSink) -> Result<()> {
+fn copied(alloc: Global, status_lines: &mut Vec<u8>, out: &mut VecSink) -> Result<()> {
     let mut data = FileSource::new(Cursor::new(b"abc".as_slice()));
-    let mut status = WriterSink::new(said);
+    let mut status = WriterSink::new(status_lines);
     let texts = (KEY_TEXT, SIGNATURE_TEXT);
     verified_texts(alloc, texts, &mut data, STRICT, &mut status, out)
 }
 
 // Returns true if the file is verified, with the expected status lines and copy.
 fn is_copied(alloc: Global) -> bool {
-    let mut said = Vec::new(alloc);
+    let mut status_lines = Vec::new(alloc);
     let mut out = VecSink::new(alloc);
-    let came = is_outcome(copied(alloc, &mut said, &mut out), Accepted);
-    let is_said = said.as_slice() == SAID;
+    let matches = is_outcome(copied(alloc, &mut status_lines, &mut out), Accepted);
+    let has_status_lines = status_lines.as_slice() == STATUS_LINES;
     let is_out = out.as_slice() == b"abc".as_slice();
-    came && is_said && is_out
+    matches && has_status_lines && is_out
 }
 
 #[test]
@@ -133,13 +133,13 @@ fn is_stored() -> bool {
 fn library_reexports_helpers(rt: HostRuntime) {
     let numbers = limits_are_usual() && is_stored() && is_filled();
     assert!(rt; numbers);
-    assert!(rt; is_past(&unix_timestamp(&rt)));
+    assert!(rt; is_recent(&unix_timestamp(&rt)));
     assert!(rt; displays_as(rt.alloc(), &KeyId(KEY_ID), "0807060504030201"));
     assert!(rt; is_asked(rt.alloc()));
 }
 
 // Returns true if the clock returns a time after November 2023.
-fn is_past(moment: &Result<u64>) -> bool {
+fn is_recent(moment: &Result<u64>) -> bool {
     match moment {
         Ok(moment) => *moment > 1700000000,
         Err(_) => false,

@@ -36,7 +36,7 @@ fn are_released(alloc: Global, texts: (&str, &str)) -> bool {
 }
 
 // Returns true if a release was made and its texts are as expected.
-fn are_made(alloc: Global, made: &Result<Release>) -> bool {
+fn is_release_as_expected(alloc: Global, made: &Result<Release>) -> bool {
     match made {
         Ok(made) => are_released(alloc, (made.pk_text.as_str(), made.sig_text.as_str())),
         Err(_) => false,
@@ -47,6 +47,6 @@ fn are_made(alloc: Global, made: &Result<Release>) -> bool {
 #[test]
 fn makes_valid_release(rt: HostRuntime) {
     let made = released(rt.alloc(), &counted());
-    assert!(rt; are_made(rt.alloc(), &made));
+    assert!(rt; is_release_as_expected(rt.alloc(), &made));
     assert!(rt; is_outcome(released(rt.alloc(), &[7; 199]), Refused(RandomSourceFailed)));
 }

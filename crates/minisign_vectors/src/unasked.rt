@@ -2,7 +2,7 @@
 //! a password, and the silent prompt. `files` has signing of files.
 
 use crate::keys::refused_allocations::{has_sealed_text, public_text};
-use crate::keys::sealed::calls::{Way, opened};
+use crate::keys::sealed::calls::{OpeningCall, opened};
 use crate::signatures::calls::{SIGNED_BY_DEFAULT, key_of};
 use crate::tables::assert_row;
 use minisign::{KeyPair, Result, SecretKey, SecretKeyBox, sign_reader};
@@ -80,9 +80,9 @@ fn letters_of(alloc: Global, count: usize) -> Result<String> {
 
 // The length of the password, the number of random bytes, and the expected outcome of generating a
 // pair.
-type Made = (usize, usize, Outcome);
+type PairRow = (usize, usize, Outcome);
 
-const MADE: [Made; 4] = [
+const PAIR_ROWS: [PairRow; 4] = [
     (1024, 200, Accepted),
     (1025, 200, Refused(PasswordTooLong)),
     (1025, 0, Refused(PasswordTooLong)),
@@ -90,7 +90,7 @@ const MADE: [Made; 4] = [
 ];
 
 // Returns true if generating a pair has the expected outcome.
-fn is_made(alloc: Global, row: &Made) -> bool {
+fn generates_as_expected(alloc: Global, row: &PairRow) -> bool {
     let (letters, drawn, expected) = *row;
     let Ok(password) = letters_of(alloc, letters) else {
         return false;
@@ -104,8 +104,8 @@ fn is_made(alloc: Global, row: &Made) -> bool {
 
 #[test]
 fn rejects_password_over_1024_bytes(rt: HostRuntime) {
-    for row in &MADE {
-        assert_row(&rt, is_made(rt.alloc(), row), row);
+    for row in &PAIR_ROWS {
+        assert_row(&rt, generates_as_expected(rt.alloc(), row), row);
     }
 }
 
@@ -117,7 +117,7 @@ fn opened_silently(alloc: Global, password: Option<&str>) -> Result<SecretKey> {
         sk_box,
         password,
         &mut Prompt::silent(),
-        Way::AnyParts,
+        OpeningCall::FromBox,
     )
 }
 

@@ -1,26 +1,36 @@
-//! Decides whether recorded runs of an installer are those of lawful applications, for tests. Reads one run
-//! from each line of standard input, and prints `lawful`, or the number of the first call or change that a
-//! lawful application, or another process, cannot have made.
+//! Decides, for tests, whether recorded runs of an installer are lawful: the application performs the
+//! operation that is due and reports what happened, and only other processes change the files otherwise.
 //!
-//! The words on a line are separated by spaces. Bytes are hexadecimal digits between brackets. A line begins
-//! with:
+//! Reads one run from each line of standard input, and prints one line for each run: `lawful`; or the index,
+//! from 0 on, of the first item that a lawful application or another process cannot have caused; or
+//! `malformed` if the line cannot be parsed. The exit status is 3 if there is not enough memory.
 //!
-//!     OPTIONS KEY KEY FILE SIGNATURE DATA MOST RECORD TARGET-NUMBER TARGET RECORD-NUMBER RECORD
+//! The words on a line are separated by single spaces. Bytes are hexadecimal digits between brackets. `-`
+//! stands for a file that does not exist. A line begins with these words:
 //!
-//! OPTIONS are the letters of the options, or `-`: F `--first`, A `--again`, C `--check`, X
-//! `--must-expire`, K `--new-key`, B `--roll-back`, and T if the version is the field `timestamp:`. A KEY
-//! is the key ID and the key. MOST is the greatest size of the installed file. `-` is written for a file
-//! that does not exist. Then come the signatures that Ed25519 accepts, and what happened, in any number:
+//!     OPTIONS KEY KEY NAME SIGNATURE DATA MAX-SIZE RECORD-READ TARGET-INODE TARGET RECORD-INODE RECORD
+//!
+//! - OPTIONS are the letters of the options, or `-`: F `--first`, A `--again`, C `--check`, X
+//!   `--must-expire`, K `--new-key`, B `--roll-back`, and T if the version is the field `timestamp:`.
+//! - KEY is a key ID and a public key. NAME is the file name that the trusted comment has to contain.
+//! - SIGNATURE is the content of the signature file, and DATA is the update.
+//! - MAX-SIZE is the maximum size that the installed file ever has.
+//! - RECORD-READ is the content of the record that the run reads.
+//! - TARGET and RECORD are the installed file and the record at the beginning. Files with the same INODE
+//!   number are the same file.
+//!
+//! Any number of items follow, each in one of these forms:
 //!
 //!     signed MESSAGE KEY SIGNATURE
-//!     target NUMBER BYTES
-//!     record NUMBER BYTES
+//!     target INODE BYTES
+//!     record INODE BYTES
 //!     busy 0|1 -
-//!     call REPORT BYTES NUMBER EFFECT NUMBER BYTES
+//!     call REPORT BYTES NUMBER EFFECT INODE BYTES
 //!
-//! `target`, `record` and `busy` are changes by another process. In a `call`, REPORT is the event that is
-//! reported to the installer, with its bytes and its number, and EFFECT is the effect of the operation on the
-//! files, with its number and its bytes.
+//! `signed` lists a signature that Ed25519 accepts. `target`, `record` and `busy` are changes by another
+//! process: it replaces a file, or takes or releases the lock. In a `call`, REPORT is the event that the
+//! application reports to the installer, with its bytes and its number. EFFECT is the effect of the operation
+//! on the files, with the file and its bytes. The functions `report` and `effect` below list their names.
 
 #![tactic(auto)]
 
@@ -35,10 +45,10 @@ use std::alloc::{AllocError, AllocFailed, Global};
 use std::io::{self, BufRead, BufReader, BufWriter, Write};
 use std::process::ExitCode;
 
-// The reason for which there is no decision.
+// The reason why there is no decision.
 #[derive(Drop)]
 enum Failure {
-    BadRequest,
+    Malformed,
     OutOfMemory,
 }
 
@@ -50,20 +60,20 @@ struct Words<'a> {
 }
 
 fn main(rt: HostRuntime) -> io::Result<ExitCode> {
-    let mut answers = BufWriter::new(rt.alloc(), io::writer(&rt))?;
+    let mut out = BufWriter::new(rt.alloc(), io::writer(&rt))?;
     for line in BufReader::new(rt.alloc(), rt.reader())?.lines(rt.alloc()) {
         let line = line?;
-        match decided(rt.alloc(), line.as_str()) {
-            Ok(Some(at)) => writeln!(answers, "{at}")?,
-            Ok(None) => writeln!(answers, "lawful")?,
-            Err(Failure::BadRequest) => writeln!(answers, "malformed")?,
+        match decide(rt.alloc(), line.as_str()) {
+            Ok(Some(at)) => writeln!(out, "{at}")?,
+            Ok(None) => writeln!(out, "lawful")?,
+            Err(Failure::Malformed) => writeln!(out, "malformed")?,
             Err(Failure::OutOfMemory) => {
-                answers.flush()?;
+                out.flush()?;
                 return Ok(ExitCode::from(3));
             }
         }
     }
-    answers.flush()?;
+    out.flush()?;
     Ok(ExitCode::SUCCESS)
 }
 
@@ -73,16 +83,17 @@ fn bytes_of(alloc: Global, word: &str) -> Result<Vec<u8>, Failure> {
         return Ok(Vec::new(alloc));
     };
     let Some(digits) = rest.strip_suffix("]") else {
-        return Err(Failure::BadRequest);
+        return Err(Failure::Malformed);
     };
     match hex::decode(alloc, digits) {
         Ok(bytes) => Ok(bytes),
         Err(FromHexError::OutOfMemory) => Err(Failure::OutOfMemory),
-        Err(_) => Err(Failure::BadRequest),
+        Err(_) => Err(Failure::Malformed),
     }
 }
 
 impl<'a> Words<'a> {
+    // Returns a word, or the empty word after the last one.
     fn word(&self, at: usize) -> &'a str {
         match self.words.get(at) {
             Some(word) => *word,
@@ -97,6 +108,7 @@ impl<'a> Words<'a> {
         }
     }
 
+    // Returns a word as a number, or 0 if it is not a number.
     fn number(&self, at: usize) -> u64 {
         match self.word(at).parse::<u64>() {
             Ok(number) => number,
@@ -141,6 +153,7 @@ impl<'a> Words<'a> {
         }
     }
 
+    // Returns a key ID with its key, or zeros if the word does not have 40 bytes.
     fn key(&self, at: usize) -> PublicKeyValue {
         let bytes = self.bytes(at);
         let mut key_id = [0u8; 8];
@@ -157,6 +170,7 @@ impl<'a> Words<'a> {
         }
     }
 
+    // Returns a signature that Ed25519 accepts. If a length is wrong, the key and the signature are zeros.
     fn signed(&self, at: usize) -> Signed<'a> {
         let mut key = [0u8; 32];
         let mut signature = [0u8; 64];
@@ -216,8 +230,8 @@ impl<'a> Words<'a> {
         })
     }
 
-    // Returns the line of the trace that begins at a word.
-    fn line(&self, at: usize) -> Option<Line<'a>> {
+    // Returns the item that begins at a word, as a line of the trace.
+    fn item(&self, at: usize) -> Option<Line<'a>> {
         let next = at.saturating_add(1);
         match self.word(at) {
             "target" => Some(Line::Others(Change::Target(self.file(next)))),
@@ -253,7 +267,7 @@ fn all_bytes(alloc: Global, words: &[&str]) -> Result<Vec<Vec<u8>>, Failure> {
     Ok(all)
 }
 
-// Returns the signatures that Ed25519 accepts, and the lines of the trace.
+// Returns the signatures that Ed25519 accepts, and the other items as lines of a trace.
 fn items<'a>(alloc: Global, words: Words<'a>) -> Result<(Vec<Signed<'a>>, Vec<Line<'a>>), Failure> {
     let mut signed = Vec::new(alloc);
     let mut lines = Vec::new(alloc);
@@ -263,8 +277,8 @@ fn items<'a>(alloc: Global, words: Words<'a>) -> Result<(Vec<Signed<'a>>, Vec<Li
             signed.push(words.signed(at))?;
             at += 4;
         } else {
-            let Some(line) = words.line(at) else {
-                return Err(Failure::BadRequest);
+            let Some(line) = words.item(at) else {
+                return Err(Failure::Malformed);
             };
             lines.push(line)?;
             at += if words.word(at) == "call" { 7 } else { 3 };
@@ -273,8 +287,8 @@ fn items<'a>(alloc: Global, words: Words<'a>) -> Result<(Vec<Signed<'a>>, Vec<Li
     Ok((signed, lines))
 }
 
-// Decides about the run on a line.
-fn decided(alloc: Global, line: &str) -> Result<Option<usize>, Failure> {
+// Parses a run, and returns the index of its first unlawful item, or `None` if the run is lawful.
+fn decide(alloc: Global, line: &str) -> Result<Option<usize>, Failure> {
     let words: Vec<&str> = line.split(' ').collect(alloc)?;
     let bytes = all_bytes(alloc, &words)?;
     let words = Words {
@@ -282,7 +296,7 @@ fn decided(alloc: Global, line: &str) -> Result<Option<usize>, Failure> {
         bytes: &bytes,
     };
     let (signed, lines) = items(alloc, words)?;
-    let begun = Files {
+    let initial_files = Files {
         target: words.file(8),
         recorded: words.file(10),
         data_file: None,
@@ -303,7 +317,7 @@ fn decided(alloc: Global, line: &str) -> Result<Option<usize>, Failure> {
         &words.key(2),
         &words.choices(),
         words.bytes(3),
-        &begun,
+        &initial_files,
         &inputs,
         &mut message,
         &lines,

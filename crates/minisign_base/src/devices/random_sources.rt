@@ -3,7 +3,7 @@
 ghost use Rattle.std.specs.Prelude.{Option, ◌≡◌, ℕ, ◌≤◌, ◌↔◌, List, length, Some, IsSomeAnd, IsOk, OnOk};
 ghost use Rattle.std.specs.Prelude.{OnErr, ◌⊎◌};
 ghost use Rattle.std.specs.Io.KnownBytes.{IsAtEnd};
-ghost use Rattle.minisign_base.specs.Devices.{Rose, HasFilled};
+ghost use Rattle.minisign_base.specs.Devices.{ErrorCountRises, HasFilled};
 
 use super::sources::{Source, fill_from};
 use super::{DeviceFault, FaultCount};
@@ -101,7 +101,7 @@ impl<S: Source> RandomSource for SourceRandom<S> {
         ensures fill { HasFilled ⟦<SourceRandom<S> as RandomSource>⟧.random_ahead
             ⟦<SourceRandom<S> as RandomSource>⟧.random_faults self.old self.new buf.new result }
         ensures source_no_new_fault { OnOk result (S.faults self.new.source ≡ S.faults self.old.source) }
-        ensures refused { OnErr result (Rose (S.faults self.old.source) (S.faults self.new.source)
+        ensures refused { OnErr result (ErrorCountRises (S.faults self.old.source) (S.faults self.new.source)
             ⊎ IsAtEnd (S.ahead self.new.source)) }
     {
         match fill_from(&mut self.source, buf) {

@@ -3,7 +3,8 @@
 ghost use Rattle.std.specs.Prelude.{Option, ◌≡◌, ◌⊎◌, ℕ, ◌<◌, List, [], ◌∷◌, ◌++◌, length, None, Some, IsOk};
 ghost use Rattle.std.specs.Prelude.{IfOk, IfErr, OnOk, OnErr};
 ghost use Rattle.std.specs.Io.KnownBytes.{Appends};
-ghost use Rattle.minisign_base.specs.Devices.{Rose, AppendsFront, HasWritten, HasFlushed, SameWhereKnown};
+ghost use Rattle.minisign_base.specs.Devices.{ErrorCountRises, AppendsPrefix, HasWritten, HasFlushed};
+ghost use Rattle.minisign_base.specs.Devices.{EqualIfSecondKnown};
 ghost use Rattle.minisign_base.specs.Fault.{Named};
 ghost use Rattle.minisign_base.specs.declared.faults.NamedFault.TheVariants.{OutOfMemory, WritingFailed};
 
@@ -180,9 +181,9 @@ pub fn put_line<S: Sink>(
         (Appends (S.taken sink.old) (S.taken sink.new) (label.now ++ text.now ++ 10 ∷ [])) }
     ensures no_new_fault { OnOk result (S.sink_faults sink.new ≡ S.sink_faults sink.old) }
     ensures refused { IfErr result (λ e. ((e ≡ Named OutOfMemory) × (sink.new ≡ sink.old))
-        ⊎ ((e ≡ Named WritingFailed) × Rose (S.sink_faults sink.old) (S.sink_faults sink.new))) }
+        ⊎ ((e ≡ Named WritingFailed) × ErrorCountRises (S.sink_faults sink.old) (S.sink_faults sink.new))) }
     ensures front { OnErr result
-        (AppendsFront (S.taken sink.old) (S.taken sink.new) (label.now ++ text.now ++ 10 ∷ [])) }
+        (AppendsPrefix (S.taken sink.old) (S.taken sink.new) (label.now ++ text.now ++ 10 ∷ [])) }
 
     // Nothing is flushed.
     ensures unflushed { S.flushed sink.new ≡ S.flushed sink.old }
@@ -200,13 +201,13 @@ pub fn put_and_flush<S: Sink>(sink: &mut S, bytes: &[u8]) -> Result<(), DeviceFa
     ensures bytes { OnOk result (Appends (S.taken sink.old) (S.taken sink.new) bytes.now) }
 
     // On success, everything that the sink received is flushed.
-    ensures flushed { OnOk result (SameWhereKnown (S.taken sink.new) (S.flushed sink.new)) }
+    ensures flushed { OnOk result (EqualIfSecondKnown (S.taken sink.new) (S.flushed sink.new)) }
 
     // After an error, the sink's error count has risen, and the sink received a prefix of the bytes. On
     // success, the error count is unchanged.
     ensures no_new_fault { OnOk result (S.sink_faults sink.new ≡ S.sink_faults sink.old) }
-    ensures refused { OnErr result (Rose (S.sink_faults sink.old) (S.sink_faults sink.new)) }
-    ensures front { OnErr result (AppendsFront (S.taken sink.old) (S.taken sink.new) bytes.now) }
+    ensures refused { OnErr result (ErrorCountRises (S.sink_faults sink.old) (S.sink_faults sink.new)) }
+    ensures front { OnErr result (AppendsPrefix (S.taken sink.old) (S.taken sink.new) bytes.now) }
 {
     write_all(sink, bytes)?;
     match sink.flush() {
@@ -223,8 +224,8 @@ pub fn write_all<S: Sink>(sink: &mut S, bytes: &[u8]) -> Result<(), DeviceFault>
     // After an error, the sink's error count has risen, and the sink received a prefix of the bytes. On
     // success, the error count is unchanged.
     ensures no_new_fault { OnOk result (S.sink_faults sink.new ≡ S.sink_faults sink.old) }
-    ensures refused { OnErr result (Rose (S.sink_faults sink.old) (S.sink_faults sink.new)) }
-    ensures front { OnErr result (AppendsFront (S.taken sink.old) (S.taken sink.new) bytes.now) }
+    ensures refused { OnErr result (ErrorCountRises (S.sink_faults sink.old) (S.sink_faults sink.new)) }
+    ensures front { OnErr result (AppendsPrefix (S.taken sink.old) (S.taken sink.new) bytes.now) }
 
     // Nothing is flushed.
     ensures unflushed { S.flushed sink.new ≡ S.flushed sink.old }

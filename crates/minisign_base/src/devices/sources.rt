@@ -5,7 +5,8 @@ ghost use Rattle.std.specs.Prelude.{◌↔◌, min, List, [], length, take, drop
 ghost use Rattle.std.specs.Prelude.{IsNone, OnOk, OnErr, if◌then◌else◌, ⊤, ◌⊎◌};
 ghost use Rattle.std.specs.Option.{is_some};
 ghost use Rattle.std.specs.Io.KnownBytes.{Consumes, IsAtEnd};
-ghost use Rattle.minisign_base.specs.Devices.{Rose, HasGiven, HasRead, HasMarked, HasGoneBack};
+ghost use Rattle.minisign_base.specs.Devices.{ErrorCountRises, PrefixIsRemoved, HasRead, HasMarked};
+ghost use Rattle.minisign_base.specs.Devices.{HasGoneBack};
 
 use super::{DeviceFault, FaultCount};
 use std::io::{Read, Seek, SeekFrom};
@@ -30,17 +31,16 @@ pub trait Source {
     // The number of errors so far.
     ghost faults: { Self → ℕ };
 
-    /// Moves the next bytes to the start of `buf`, any number of them up to the length of `buf`,
-    /// and returns that number. It is 0 only if `buf` is empty or no bytes are left. After an error
-    /// The unread bytes are unchanged or no longer known.
+    /// Moves the next bytes to the start of `buf`, any number of them up to the length of `buf`, and returns
+    /// that number. It is 0 only if `buf` is empty or no bytes are left. After an error the unread bytes are
+    /// unchanged or no longer known.
     fn read(&mut self, buf: &mut [u8]) -> Result<usize, DeviceFault>
         // On success, the result is the number of bytes moved from the front of the source to `buf`. It is
         // at most the length of `buf`, and 0 only if `buf` is empty or the source has ended.
         //
-        // On success, the mark and the error count are unchanged. After an error, the error count
-        // has risen, and the unread bytes are unchanged or no longer known; nothing is promised
-        // then about what going back would restore. In both cases a place is marked exactly if one
-        // was marked before.
+        // On success, the mark and the error count are unchanged. After an error, the error count has risen,
+        // and the unread bytes are unchanged or no longer known; nothing is promised then about the bytes
+        // that going back restores. In both cases a place is marked exactly if one was marked before.
         //
         // If the bytes read since the mark was set or gone back to are known, each read adds to them. They
         // are known for slices, but not for readers and files.
@@ -245,7 +245,7 @@ impl<R: Read> Rereader for ReaderSource<R> {
     // Always fails. Afterwards the unread bytes are no longer known.
     fn mark(&mut self) -> Result<(), DeviceFault>
         ensures fails { IsErr result }
-        ensures refused { Rose (⟦<ReaderSource<R> as Source>⟧.faults self.old)
+        ensures refused { ErrorCountRises (⟦<ReaderSource<R> as Source>⟧.faults self.old)
             (⟦<ReaderSource<R> as Source>⟧.faults self.new) }
         ensures hides { IsNone (⟦<ReaderSource<R> as Source>⟧.ahead self.new) }
     {
@@ -256,7 +256,7 @@ impl<R: Read> Rereader for ReaderSource<R> {
     // Always fails. Afterwards the unread bytes are no longer known.
     fn back(&mut self) -> Result<(), DeviceFault>
         ensures fails { IsErr result }
-        ensures refused { Rose (⟦<ReaderSource<R> as Source>⟧.faults self.old)
+        ensures refused { ErrorCountRises (⟦<ReaderSource<R> as Source>⟧.faults self.old)
             (⟦<ReaderSource<R> as Source>⟧.faults self.new) }
         ensures hides { IsNone (⟦<ReaderSource<R> as Source>⟧.ahead self.new) }
     {
@@ -344,9 +344,9 @@ pub fn fill_from<S: Source>(source: &mut S, buf: &mut [u8]) -> Result<(), Device
     // error means that the source failed or ended.
     ensures bytes { OnOk result (Consumes (S.ahead source.old) (S.ahead source.new) buf.new) }
     ensures no_new_fault { OnOk result (S.faults source.new ≡ S.faults source.old) }
-    ensures refused { OnErr result (Rose (S.faults source.old) (S.faults source.new)
+    ensures refused { OnErr result (ErrorCountRises (S.faults source.old) (S.faults source.new)
         ⊎ IsAtEnd (S.ahead source.new)) }
-    ensures given { OnErr result (HasGiven (S.ahead source.old) (S.ahead source.new)) }
+    ensures given { OnErr result (PrefixIsRemoved (S.ahead source.old) (S.ahead source.new)) }
 {
     let mut at = 0;
     'rest: while at < buf.len() {

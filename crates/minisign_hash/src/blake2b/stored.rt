@@ -40,7 +40,8 @@ impl StoredBlake2b {
     }
 
     /// Returns a state for a digest of 64 bytes, not finalized, with the data that the stored one was fed.
-    /// Returns `None` only if the stored numbers are those of no state.
+    /// Returns `None` if the stored values are those of no state, namely if `used` is greater than the length
+    /// of the buffer.
     ///
     /// That is the case if the stored length of the buffer is greater than the buffer.
     pub fn restore(&self) -> Option<Blake2b>

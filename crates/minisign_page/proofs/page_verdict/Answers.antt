@@ -1,6 +1,6 @@
 use Rattle.std.proofs.Common.{◌≡◌, ◌∙◌, ◌<◌, ℕ, List, Bool, Result, Ok, Err, ap, inl, inr, lit<, refl, subst}
 use Rattle.std.proofs.Common.{sym}
-use Rattle.minisign_base.specs.Fault.{Fault, Named, Worded}
+use Rattle.minisign_base.specs.Fault.{Fault, Named, Custom}
 use Rattle.minisign_base.specs.Faults.{fault_row}
 use Rattle.minisign_base.specs.declared.faults.NamedFault.{NamedFault}
 use Rattle.minisign_base.specs.declared.faults.NamedFault.TheVariants.{OutOfMemory}
@@ -20,7 +20,7 @@ named_positive _ = lit< tt
 
 positive : (e : Fault) → 0 < fault_number e
 positive (Named f) = named_positive f
-positive (Worded kind text) = lit< tt
+positive (Custom kind text) = lit< tt
 
 -- a verdict that is no success has the number of its error
 given_number : (accepts : Verifier) (pk_text sig_text message : List ℕ) (legacy : Bool) (r : Refusal Fault)

@@ -51,16 +51,16 @@ fn readers_cannot_go_back(rt: HostRuntime) {
 }
 
 // Returns true if a file whose seek reports this position goes back, or does not, as expected.
-fn is_reached(place: Option<u64>, reached: bool) -> bool {
+fn goes_back_as_expected(place: Option<u64>, reached: bool) -> bool {
     let mut source = FileSource::new(FailsOnce::new(place));
     follows(&mut source, &[Marks(true), GoesBack(reached)])
 }
 
 #[test]
 fn wrong_seek_position_is_an_error(rt: HostRuntime) {
-    let is_sought = is_reached(None, false);
-    let is_other = is_reached(Some(4), false);
-    let is_place = is_reached(Some(5), true);
+    let is_sought = goes_back_as_expected(None, false);
+    let is_other = goes_back_as_expected(Some(4), false);
+    let is_place = goes_back_as_expected(Some(5), true);
     assert!(rt; is_sought && is_other && is_place);
 }
 

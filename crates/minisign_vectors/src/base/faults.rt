@@ -24,7 +24,7 @@ const ENCRYPTED: &str =
 
 // Errors of each form and their texts: a constant one, the longest, and those with one and with two
 // key IDs.
-const SHOWN: [(NamedFault, &str); 4] = [
+const ERROR_TEXTS: [(NamedFault, &str); 4] = [
     (OutOfMemory, "out of memory"),
     (EncryptedKeyRefused, ENCRYPTED),
     (
@@ -41,8 +41,8 @@ const SHOWN: [(NamedFault, &str); 4] = [
 ];
 
 // Hides the table from proofs, which would otherwise unfold all of it.
-fn shown() -> &'static [(NamedFault, &'static str)] {
-    &SHOWN
+fn error_texts() -> &'static [(NamedFault, &'static str)] {
+    &ERROR_TEXTS
 }
 
 // Returns true if the error has this text, without allocating.
@@ -52,7 +52,7 @@ fn is_text(fault: &PError, text: &str) -> bool {
 }
 
 // Returns true if a named error has this text, and an error made from it has the same text and the same name.
-fn is_shown(alloc: Global, row: &(NamedFault, &str)) -> bool {
+fn displays_text(alloc: Global, row: &(NamedFault, &str)) -> bool {
     let (named, text) = *row;
     let named_says = displays_as(alloc, &named, text);
     let fault = PError::from(named);
@@ -63,22 +63,22 @@ fn is_shown(alloc: Global, row: &(NamedFault, &str)) -> bool {
 
 #[test]
 fn named_errors_display_their_text(rt: HostRuntime) {
-    for row in shown() {
-        assert_row(&rt, is_shown(rt.alloc(), row), row);
+    for row in error_texts() {
+        assert_row(&rt, displays_text(rt.alloc(), row), row);
     }
 }
 
-fn is(fault: PError, named: NamedFault) -> bool {
+fn has_name(fault: PError, named: NamedFault) -> bool {
     fault.named() == Some(named)
 }
 
 #[test]
 fn errors_of_std_convert_to_named_errors(rt: HostRuntime) {
     let device = io::Error::from(io::ErrorKind::Other);
-    let refused = is(PError::from(AllocError), OutOfMemory);
-    let given_back = is(PError::from(AllocFailed { value: 0u8 }), OutOfMemory);
-    let failed = is(PError::from(device), InputOrOutputFailed);
-    let unformatted = is(PError::from(fmt::Error), FormattingFailed);
+    let refused = has_name(PError::from(AllocError), OutOfMemory);
+    let given_back = has_name(PError::from(AllocFailed { value: 0u8 }), OutOfMemory);
+    let failed = has_name(PError::from(device), InputOrOutputFailed);
+    let unformatted = has_name(PError::from(fmt::Error), FormattingFailed);
     assert!(rt; refused && given_back && failed && unformatted);
     assert!(rt; is_no_text(rt.alloc()));
 }
@@ -90,23 +90,23 @@ fn is_no_text(alloc: Global) -> bool {
     };
     match String::from_utf8(bytes) {
         Ok(_) => false,
-        Err(fault) => is(PError::from(fault), InvalidUtf8),
+        Err(fault) => has_name(PError::from(fault), InvalidUtf8),
     }
 }
 
 #[test]
 fn errors_of_kdf_and_base64_convert_to_named_errors(rt: HostRuntime) {
-    let params = is(PError::from(InvalidParams), InvalidParameters);
-    let len = is(PError::from(InvalidOutputLen), InvalidOutputLength);
-    let len_of_key = is(
+    let params = has_name(PError::from(InvalidParams), InvalidParameters);
+    let len = has_name(PError::from(InvalidOutputLen), InvalidOutputLength);
+    let len_of_key = has_name(
         PError::from(KdfError::InvalidOutputLen),
         InvalidOutputLength,
     );
-    let memory = is(PError::from(KdfError::OutOfMemory), OutOfMemory);
+    let memory = has_name(PError::from(KdfError::OutOfMemory), OutOfMemory);
     assert!(rt; params && len && len_of_key && memory);
     let padding = DecodeAllocError::DecodeError(DecodeError::InvalidPadding);
-    let no_base64 = is(PError::from(padding), SecretKeyNotBase64);
-    let memory = is(PError::from(DecodeAllocError::OutOfMemory), OutOfMemory);
+    let no_base64 = has_name(PError::from(padding), SecretKeyNotBase64);
+    let memory = has_name(PError::from(DecodeAllocError::OutOfMemory), OutOfMemory);
     assert!(rt; no_base64 && memory);
 }
 

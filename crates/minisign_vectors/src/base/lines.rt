@@ -52,7 +52,7 @@ fn uncalled(allowed: u8, takes: bool) -> Counting {
 }
 
 // Returns true if writing a line has this outcome.
-fn is_put<W: Sink>(
+fn writes_line_as_expected<W: Sink>(
     alloc: Global,
     sink: &mut W,
     (label, text): (&str, &str),
@@ -65,9 +65,9 @@ fn is_put<W: Sink>(
 // Returns true if three lines are written one after another.
 fn lines_are_put(alloc: Global) -> bool {
     let mut sink = VecSink::new(alloc);
-    let first = is_put(alloc, &mut sink, ("error: ", "reading failed"), Accepted);
-    let second = is_put(alloc, &mut sink, ("", ""), Accepted);
-    let third = is_put(alloc, &mut sink, ("warning", ""), Accepted);
+    let first = writes_line_as_expected(alloc, &mut sink, ("error: ", "reading failed"), Accepted);
+    let second = writes_line_as_expected(alloc, &mut sink, ("", ""), Accepted);
+    let third = writes_line_as_expected(alloc, &mut sink, ("warning", ""), Accepted);
     let are_written = sink.as_slice() == b"error: reading failed\n\nwarning\n".as_slice();
     first && second && third && are_written
 }
@@ -78,8 +78,8 @@ fn is_one_write(alloc: Global) -> bool {
     let mut writer = uncalled(1, true);
     let mut sink = WriterSink::new(&mut writer);
     let line = ("a label ", "a text");
-    let first = is_put(alloc, &mut sink, line, Accepted);
-    let second = is_put(alloc, &mut sink, line, Refused(WritingFailed));
+    let first = writes_line_as_expected(alloc, &mut sink, line, Accepted);
+    let second = writes_line_as_expected(alloc, &mut sink, line, Refused(WritingFailed));
     first && second && writer.calls == 2 && writer.last == b'\n'
 }
 

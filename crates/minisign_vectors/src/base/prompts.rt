@@ -14,7 +14,9 @@ use minisign_fixtures::outcomes::matches_outcome;
 use minisign_fixtures::prompts::bytes_left;
 use std::alloc::{AllocError, Global};
 
-// The number and the value of the typed bytes, what follows them, and the expected outcome.
+// The number and the value of the typed bytes, the bytes that follow them, and the expected outcome.
+// The limit is 1024 bytes. Lines of up to 1025 bytes are checked for UTF-8 first. Longer lines are
+// too long, whatever their bytes are.
 type Line = (usize, u8, &'static str, Outcome);
 
 const LINES: [Line; 8] = [
@@ -41,7 +43,7 @@ fn typed(alloc: Global, row: &Line) -> std::result::Result<Vec<u8>, AllocError> 
     Ok(bytes)
 }
 
-fn asked<R: Source, W: Sink>(alloc: Global, prompt: &mut Prompt<R, W>) -> Result<String> {
+fn read_password<R: Source, W: Sink>(alloc: Global, prompt: &mut Prompt<R, W>) -> Result<String> {
     get_password(alloc, prompt, "Password: ")
 }
 
@@ -54,13 +56,13 @@ fn is_expected(answer: &Result<String>, row: &Line) -> bool {
     }
 }
 
-// Returns true if the result is as expected and all of the input was read.
+// Returns true if the result is as expected, all of the input was read, and `Password: ` was shown.
 fn reads_as_expected<R: Source + Drop>(alloc: Global, reader: R, row: &Line) -> bool {
     let mut prompt = Prompt::new(reader, VecSink::new(alloc));
-    let answer = asked(alloc, &mut prompt);
-    let came = is_expected(&answer, row);
+    let answer = read_password(alloc, &mut prompt);
+    let matches = is_expected(&answer, row);
     let is_read = bytes_left(&mut prompt.reader) == 0;
-    came && is_read && prompt.writer.as_slice() == b"Password: ".as_slice()
+    matches && is_read && prompt.writer.as_slice() == b"Password: ".as_slice()
 }
 
 // Returns true if the result is as expected with a reader that returns the whole line, and with one

@@ -127,7 +127,7 @@ fn bytes_of(row: &[u32]) -> [u8; 128]
 
 // Returns true if the words are this number of rows in diagonal order: the block, and its
 // scryptBlockMix.
-fn are_first(alloc: Global, words: &[u32], count: u64) -> bool {
+fn are_first_rows(alloc: Global, words: &[u32], count: u64) -> bool {
     if words.len() == 32 {
         return count == 1 && bytes_of(words) == BLOCK;
     }
@@ -155,7 +155,7 @@ const FILLED: [Filled; 5] = [
 fn fills(alloc: Global, row: &Filled) -> bool {
     let (n_log2, k, count) = *row;
     match Rows::fill(alloc, &BLOCK, n_log2.clamp(1, 63), k.max(1)) {
-        Ok(rows) => rows.len() == count && are_first(alloc, rows.words(), count),
+        Ok(rows) => rows.len() == count && are_first_rows(alloc, rows.words(), count),
         Err(fault) => count == 0 && fault == OutOfMemory,
     }
 }

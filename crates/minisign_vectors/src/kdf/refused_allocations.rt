@@ -8,7 +8,7 @@ use minisign_kdf::{KdfError, Params, Rows, scrypt, scrypt_keeping};
 use std::alloc::Global;
 
 // The first bytes of the smallest vector.
-const FRONT: [u8; 8] = [0x77, 0xd6, 0x57, 0x62, 0x38, 0x65, 0x7b, 0x20];
+const KEY_PREFIX: [u8; 8] = [0x77, 0xd6, 0x57, 0x62, 0x38, 0x65, 0x7b, 0x20];
 
 // There are two requests: one for all rows, and one for the buffers for mixing.
 #[test]
@@ -20,9 +20,9 @@ fn reserves_all_rows_in_a_single_request(rt: HostRuntime) {
 }
 
 // Returns true if the key was derived, or an allocation failed and the output is unchanged.
-fn is_right(fault: Option<KdfError>, key: &[u8; 8]) -> bool {
+fn is_derived_or_unchanged(fault: Option<KdfError>, key: &[u8; 8]) -> bool {
     match fault {
-        None => *key == FRONT,
+        None => *key == KEY_PREFIX,
         Some(fault) => fault == KdfError::OutOfMemory && *key == [0xa5; 8],
     }
 }
@@ -34,7 +34,7 @@ fn is_derived(alloc: Global) -> bool {
     };
     let mut key = [0xa5u8; 8];
     let derived = scrypt(alloc, b"", b"", &params, &mut key);
-    is_right(derived.err(), &key)
+    is_derived_or_unchanged(derived.err(), &key)
 }
 
 // Returns true if `scrypt_keeping` with every third row, which is six rows, derives the key or
@@ -46,7 +46,7 @@ fn is_derived_with_every_third_row(alloc: Global) -> bool {
     let mut key = [0xa5u8; 8];
     let rows_kept = scrypt_keeping(alloc, b"", b"", &params, 3, &mut key);
     let is_counted = rows_kept == Ok(6) || rows_kept.is_err();
-    is_counted && is_right(rows_kept.err(), &key)
+    is_counted && is_derived_or_unchanged(rows_kept.err(), &key)
 }
 
 #[test]

@@ -57,21 +57,21 @@ pub fn wrote_sealed_over<R: Source, W: Sink, K: Sink>(
 }
 
 // Returns true if a sink that accepts one byte at a time receives the whole text and one flush.
-fn is_taken(alloc: Global) -> bool {
+fn sink_receives_whole_keys(alloc: Global) -> bool {
     let mut public = LimitedSink::new(alloc, 114).by(1).flushed(1);
     let mut secret = LimitedSink::new(alloc, 259).by(1).flushed(1);
     let mut prompt = prompt_of(b"p\np\n", 4, LimitedSink::new(alloc, 300));
     let answer = wrote_sealed_over(alloc, &mut prompt, &mut public, &mut secret);
-    let came = is_outcome(answer, Accepted);
+    let matches = is_outcome(answer, Accepted);
     let has_public = public.as_slice() == COUNTED_PUBLIC_TEXT.as_bytes();
     let has_secret = secret.as_slice() == SECRET_TEXT.as_bytes();
     let is_prompted = prompt.writer.as_slice() == SHOWN.as_bytes();
-    came && has_public && has_secret && is_prompted
+    matches && has_public && has_secret && is_prompted
 }
 
 #[test]
 fn writes_pair_to_sinks_of_one_byte_per_write(rt: HostRuntime) {
-    assert!(rt; is_taken(rt.alloc()));
+    assert!(rt; sink_receives_whole_keys(rt.alloc()));
 }
 
 // The typed bytes, the number of reads before the reader fails, the space in the prompt's writer,
@@ -112,9 +112,9 @@ fn is_refused(alloc: Global, row: &Fails) -> bool {
     let mut public = LimitedSink::new(alloc, 300);
     let mut secret = LimitedSink::new(alloc, 300);
     let answer = wrote_sealed_over(alloc, &mut prompt, &mut public, &mut secret);
-    let came = is_outcome(answer, expected);
+    let matches = is_outcome(answer, expected);
     let shown = prompt.writer.as_slice() == front(SHOWN.as_bytes(), length);
-    came && shown && public.as_slice().is_empty() && secret.as_slice().is_empty()
+    matches && shown && public.as_slice().is_empty() && secret.as_slice().is_empty()
 }
 
 #[test]

@@ -4,7 +4,7 @@
 //! `WritingFailed`, because a buffer that cannot grow fails like any other sink.
 
 use crate::keys::generated::wrote_sealed_over;
-use crate::keys::sealed::calls::{Way, opened};
+use crate::keys::sealed::calls::{OpeningCall, opened};
 use crate::keys::sealed::in_parts::SEALED_IN_PARTS;
 use crate::signatures::calls::has_text;
 use minisign::{KeyPair, PublicKey, Result, SecretKey, SecretKeyBox};
@@ -107,9 +107,9 @@ fn is_opened(key: &SecretKey) -> Result<bool> {
 }
 
 // Returns true if the encrypted text of key A decrypts with a typed password.
-fn opens(alloc: Global, text: &str, way: Way) -> Result<bool> {
+fn opens(alloc: Global, text: &str, call: OpeningCall) -> Result<bool> {
     let sk_box = SecretKeyBox::from_string(alloc, text);
-    let key = opened(alloc, sk_box, None, &mut typed(b"password\n"), way)?;
+    let key = opened(alloc, sk_box, None, &mut typed(b"password\n"), call)?;
     is_opened(&key)
 }
 
@@ -148,10 +148,14 @@ fn writes_encrypted_pair_or_reports_out_of_memory(rt: HostRuntime) {
 
 #[test]
 fn opens_with_every_third_row_or_reports_out_of_memory(rt: HostRuntime) {
-    assert!(rt; check_holds_or_out_of_memory(opens(rt.alloc(), SEALED, Way::Keeping(3))));
+    assert!(rt;
+        check_holds_or_out_of_memory(opens(rt.alloc(), SEALED, OpeningCall::FromBoxKeeping(3)))
+    );
 }
 
 #[test]
 fn opens_in_many_parts_or_reports_out_of_memory(rt: HostRuntime) {
-    assert!(rt; check_holds_or_out_of_memory(opens(rt.alloc(), SEALED_IN_PARTS, Way::AnyParts)));
+    assert!(rt;
+        check_holds_or_out_of_memory(opens(rt.alloc(), SEALED_IN_PARTS, OpeningCall::FromBox))
+    );
 }

@@ -25,7 +25,7 @@ pub const COPYING: VerifyOptions = VerifyOptions {
 #[derive(Clone, Copy)]
 pub struct Expected<'a> {
     pub outcome: Outcome,
-    pub said: &'a [u8],
+    pub status_lines: &'a [u8],
     pub copied: &'a [u8],
 }
 
@@ -46,8 +46,9 @@ pub fn ample(alloc: Global) -> Sinks {
 
 /// Returns true if the outcome and the contents of the sinks are as expected.
 fn has_expected_result(answer: Result<()>, sinks: &Sinks, expected_result: Expected) -> bool {
-    let came = is_outcome(answer, expected_result.outcome);
-    came && sinks.status.as_slice() == expected_result.said
+    let matches = is_outcome(answer, expected_result.outcome);
+    matches
+        && sinks.status.as_slice() == expected_result.status_lines
         && sinks.out.as_slice() == expected_result.copied
 }
 

@@ -42,7 +42,7 @@ const COMMENT_SIGNATURE: [u8; 64] = [
 ];
 
 // The status lines after success.
-const SAID: &[u8] =
+const STATUS_LINES: &[u8] =
     b"Signature and comment signature verified\nTrusted comment: timestamp:1555779966\tfile:test\n";
 
 const UNACCEPTED: Outcome = Refused(LegacyNotAccepted);
@@ -106,9 +106,13 @@ fn gives_expected(alloc: Global, row: &Row) -> bool {
     let (_, _, _, outcome, copied) = *row;
     let mut sinks = ample(alloc);
     let answer = verified(alloc, row, &mut sinks);
-    let came = is_outcome(answer, outcome);
-    let said = if outcome == Accepted { SAID } else { b"" };
-    came && sinks.status.as_slice() == said && sinks.out.as_slice() == copied.as_bytes()
+    let matches = is_outcome(answer, outcome);
+    let status_lines = if outcome == Accepted {
+        STATUS_LINES
+    } else {
+        b""
+    };
+    matches && sinks.status.as_slice() == status_lines && sinks.out.as_slice() == copied.as_bytes()
 }
 
 #[test]

@@ -1,5 +1,5 @@
-//! Tests of signing with the text of a secret key: what is rejected before anything is read, and
-//! what the prompt shows.
+//! Tests that signing with an encoded secret key reports the first error before it reads the data, and tests
+//! the output of its prompt.
 
 use crate::signatures::calls::signed_text;
 use crate::tables::assert_row;
@@ -19,13 +19,13 @@ use minisign_fixtures::prompts::{bytes_left, password_copy, typed};
 use minisign_fixtures::texts::SEALED;
 use std::alloc::Global;
 
-const SAID: &str =
+const PROMPT_OUTPUT: &str =
     "Password: Deriving a key from the password and decrypting the secret key... done\n";
 
 // The random bytes of the precomputed signatures.
 const ZEROS: [u8; 128] = [0; 128];
 
-// Key A's secret texts with a checksum of zeros: with the key derivations `Xx` and `SC`, and with
+// Encoded secret keys with a checksum of zeros: with the key derivations `Xx` and `SC`, and with
 // none.
 const UNDER_XX: &str =
     "c\nRWRYeEIyAAAAAAAAAAAAAAAAAAAAAAAAAAAAAAAAAAAAAAAAAAAAAAAAAAAAAAAAAAAAAAAAAQIDBAUGBwgAAAAAAAAAAAAAAAAAAAAAAAAAAAAAAAAAAAAAAAAAAFpaWlpaWlpaWlpaWlpaWlpaWlpaWlpaWlpaWlpaWlpaAAAAAAAAAAAAAAAAAAAAAAAAAAAAAAAAAAAAAAAAAAA=\n";
@@ -36,8 +36,8 @@ const UNDER_SC: &str =
 const CORRUPTED: &str =
     "c\nRWQAAEIyAAAAAAAAAAAAAAAAAAAAAAAAAAAAAAAAAAAAAAAAAAAAAAAAAAAAAAAAAAAAAAAAAQIDBAUGBwgAAAAAAAAAAAAAAAAAAAAAAAAAAAAAAAAAAAAAAAAAAFpaWlpaWlpaWlpaWlpaWlpaWlpaWlpaWlpaWlpaWlpaAAAAAAAAAAAAAAAAAAAAAAAAAAAAAAAAAAAAAAAAAAA=\n";
 
-// The text of a secret key, the number of reads before the data fails, the error, and what the
-// prompt shows.
+// The encoded secret key, the number of reads after which the source fails, the error, and the output of
+// the prompt.
 type Row = (&'static str, usize, NamedFault, &'static str);
 
 const ROWS: [Row; 7] = [
@@ -47,7 +47,7 @@ const ROWS: [Row; 7] = [
     (UNDER_XX, 0, UnsupportedEncryptionAlgorithm, ""),
     (UNDER_SC, 0, UnsupportedEncryptionAlgorithm, ""),
     (CORRUPTED, 0, CorruptedKey, ""),
-    (SEALED, 2, ReadingFailed, SAID),
+    (SEALED, 2, ReadingFailed, PROMPT_OUTPUT),
 ];
 
 // Hides the table from proofs, which would otherwise unfold all of it.
@@ -69,16 +69,20 @@ fn signed<P: Source, Q: Sink>(
     signed_text(alloc, sk_text, password, prompt, &mut data, &mut random)
 }
 
-// Returns true if signing fails as expected. The prompt must show this text, and be unread if it
-// shows nothing.
+// Returns true if signing fails as expected. The prompt must show this text. If it shows nothing, its input
+// must be unread.
 fn is_refused(alloc: Global, password: Option<&str>, row: &Row) -> bool {
     let (sk_text, reads, fault, prompted) = *row;
     let mut prompt = typed(alloc, b"password\n");
     let answer = signed(alloc, sk_text, password, &mut prompt, reads);
-    let came = is_outcome(answer, Refused(fault));
-    let unread = if prompted.is_empty() { 9 } else { 0 };
+    let matches = is_outcome(answer, Refused(fault));
+    let unread = if prompted.is_empty() {
+        "password\n".len()
+    } else {
+        0
+    };
     let left = bytes_left(&mut prompt.reader) == unread;
-    came && left && prompt.writer.as_slice() == prompted.as_bytes()
+    matches && left && prompt.writer.as_slice() == prompted.as_bytes()
 }
 
 // A text is rejected before anything is read, and the error of a failing source comes after the
@@ -90,7 +94,7 @@ fn returns_the_first_error(rt: HostRuntime) {
     }
 }
 
-// A wrong password that is given is rejected before the data is read.
+// A wrong password that is passed to the call is rejected before the data is read.
 #[test]
 fn rejects_wrong_password_before_reading_data(rt: HostRuntime) {
     let row = (SEALED, 0, WrongPassword, "");

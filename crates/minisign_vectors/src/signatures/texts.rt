@@ -25,7 +25,7 @@ const LETTERS: [u8; 48] = [
 ];
 
 // Returns true if `Display` writes exactly these characters for the signature of a record.
-fn is_shown(alloc: Global, record: &[u8; 74], letters: &str) -> bool {
+fn displays_signature_as(alloc: Global, record: &[u8; 74], letters: &str) -> bool {
     let Ok(signature) = Signature::from_bytes(record) else {
         return false;
     };
@@ -38,23 +38,23 @@ fn is_shown(alloc: Global, record: &[u8; 74], letters: &str) -> bool {
 fn signature_displays_as_base64(rt: HostRuntime) {
     let alloc = rt.alloc();
     let record = signature_record(b"ED", &KEY_ID, &TIED_TO_ABC);
-    assert!(rt; is_shown(alloc, &record, SIGNED));
+    assert!(rt; displays_signature_as(alloc, &record, SIGNED));
     let mut record = [0u8; 74];
     record[..48].copy_from_slice(&LETTERS);
     let letters =
         "ABCDEFGHIJKLMNOPQRSTUVWXYZabcdefghijklmnopqrstuvwxyz0123456789+/AAAAAAAAAAAAAAAAAAAAAAAAAAAAAAAAAAA=";
-    assert!(rt; is_shown(alloc, &record, letters));
+    assert!(rt; displays_signature_as(alloc, &record, letters));
 }
 
 // Parses a text by the call that takes ownership of it.
-fn taken(alloc: Global) -> Result<SignatureBox> {
+fn parse_owned_text(alloc: Global) -> Result<SignatureBox> {
     let text = String::from_str(alloc, SIGNATURE_TEXT)?;
     SignatureBox::try_from_string(alloc, text)
 }
 
 // Returns true if this box gives its text as bytes and from a copy.
 fn is_given_text(alloc: Global) -> bool {
-    let Ok(read) = taken(alloc) else {
+    let Ok(read) = parse_owned_text(alloc) else {
         return false;
     };
     let written = gives_record(read.to_bytes(alloc), SIGNATURE_TEXT.as_bytes());

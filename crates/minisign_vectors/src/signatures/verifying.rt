@@ -15,7 +15,7 @@ use minisign_fixtures::devices::sources::Changes;
 use minisign_fixtures::outcomes::Outcome::{self, Accepted, Refused};
 use minisign_fixtures::outcomes::{gives_record, is_outcome};
 use minisign_fixtures::texts::{
-    KEY_TEXT as KEY, LEGACY_TEXT as LEGACY, SAID, SIGNATURE_TEXT as SIGNED,
+    KEY_TEXT as KEY, LEGACY_TEXT as LEGACY, SIGNATURE_TEXT as SIGNED, STATUS_LINES,
 };
 use std::alloc::Global;
 
@@ -39,14 +39,14 @@ fn is_buffered(
     let mut status = BufferedSink::new(alloc);
     let mut out = BufferedSink::new(alloc);
     let answer = verified_texts(alloc, texts, &mut data, COPYING, &mut status, &mut out);
-    let came = is_outcome(answer, outcome);
-    let unsaid = has_taken(&status, b"", SAID);
-    let copied = has_taken(&out, flushed_bytes, waiting);
-    came && unsaid && copied
+    let matches = is_outcome(answer, outcome);
+    let is_unflushed = has_flushed_and_holds(&status, b"", STATUS_LINES);
+    let copied = has_flushed_and_holds(&out, flushed_bytes, waiting);
+    matches && is_unflushed && copied
 }
 
 // Returns true if the sink has passed on the bytes `flushed_bytes` and still holds the bytes `waiting`.
-fn has_taken(sink: &BufferedSink, flushed_bytes: &[u8], waiting: &[u8]) -> bool {
+fn has_flushed_and_holds(sink: &BufferedSink, flushed_bytes: &[u8], waiting: &[u8]) -> bool {
     sink.flushed_bytes() == flushed_bytes && sink.waiting() == waiting
 }
 
@@ -118,14 +118,18 @@ fn is_read_once(alloc: Global, row: &ReadOnce) -> bool {
         output,
         allow_legacy,
     };
-    let said = if outcome == Accepted { SAID } else { b"" };
+    let status_lines = if outcome == Accepted {
+        STATUS_LINES
+    } else {
+        b""
+    };
     let expected_result = Expected {
         outcome,
-        said,
+        status_lines,
         copied: copied.as_bytes(),
     };
     let texts = (pk_text, sig_text);
-    let came = texts_give_expected(
+    let matches = texts_give_expected(
         alloc,
         texts,
         &mut data,
@@ -134,7 +138,7 @@ fn is_read_once(alloc: Global, row: &ReadOnce) -> bool {
         expected_result,
     );
     let rest = gives_record(read_to_end(alloc, &mut data), left.as_bytes());
-    came && rest
+    matches && rest
 }
 
 #[test]

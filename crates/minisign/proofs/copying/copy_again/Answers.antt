@@ -1,6 +1,6 @@
 -- Proves the goals of `copy_again` that the prover leaves open.
 use Rattle.std.proofs.Common.{[], ◌∷◌, inl, inr, refl, sym, ◌∙◌, true≢false}
-use Rattle.minisign.proofs.Common.{bytes_eq-Decides, rereader_call, sink_call, unused}
+use Rattle.minisign.proofs.Common.{bytes_eq-Decides, rereader_call, sink_call, no_sink}
 use Rattle.minisign.specs.Verifying.{Compare, Copy, Devices, Flush, Return}
 use Rattle.minisign.proofs.Passes.{OneEnds, last_step, next_step}
 use Rattle.minisign.proofs.Beginnings.{err_is}
@@ -22,7 +22,7 @@ pub returns : goal.returns
 returns g c =
     let (second, digest, copies) = c.in_ok-second.ensures.copied in
     let end = c.copy_hashed.new.data_reader in
-    let ends = OneEnds (rereader_call g.R.Source g.R.Rereader.steady c.args.data_reader.now end) unused
+    let ends = OneEnds (rereader_call g.R.Source g.R.Rereader.steady c.args.data_reader.now end) no_sink
     (sink_call g.O.Sink c.args.out.now c.flush.new.out) in
     let taken : Devices _ _ _ = record { reader = end; status = tt; out = c.copy_hashed.new.out } in (
       second,
@@ -32,15 +32,15 @@ returns g c =
           (next_step ends (Copy second) (Compare c.args.digest.now second ∷ Flush ∷ []) _ taken _
           c.flush.result (copies, refl)
           (next_step ends (Compare c.args.digest.now second) (Flush ∷ []) _ taken _ c.flush.result
-          (sym digest ∙ (bytes_eq-Decides _ _).0 c.in_ok-test_same.ensures, refl, refl, refl)
+          (sym digest ∙ (bytes_eq-Decides _ _).0 c.in_ok-check_same.ensures, refl, refl, refl)
           (last_step ends Flush _ _ c.flush.result (c.flush.ensures, refl, refl)))),
     )
 
-pub returns-in_err-test_same : goal.returns-in_err-test_same
-returns-in_err-test_same g c =
+pub returns-in_err-check_same : goal.returns-in_err-check_same
+returns-in_err-check_same g c =
     let (second, digest, copies) = c.in_ok-second.ensures.copied in
-    let (fault, unlike) = c.in_err-test_same.ensures in
-    rw (err_is _ _ c.from_residual-in_err-test_same.ensures.1) (
+    let (fault, unlike) = c.in_err-check_same.ensures in
+    rw (err_is _ _ c.from_residual-in_err-check_same.ensures.1) (
       second,
       inr (
         record { reader = c.go_back.new.data_reader; status = tt; out = c.args.out.now },

@@ -1,6 +1,6 @@
 -- Proves the goal of `copy_hashed` that the prover leaves open.
 use Rattle.std.proofs.Common.{[], refl, rules}
-use Rattle.minisign.proofs.Common.{AppendsFront-keeps}
+use Rattle.minisign.proofs.Common.{AppendsPrefix-keeps}
 use Rattle.minisign.proofs.Beginnings.{passed_up}
 use Rattle.minisign.proofs.Copies.{front_of_nothing, keeps_same}
 use Rattle.minisign.proofs.copying.copy_hashed.Goals as goal
@@ -13,13 +13,13 @@ returns-in_err-buf-clause-refused g c =
       record {
         read = tt;
         since = tt;
-        all = tt;
+        received = tt;
         no_new_fault = tt;
         failed = search rules;
         ahead = ahead;
         left = search rules;
         front = front;
-        given_front = ([], c.requires, AppendsFront-keeps _ _ _ (keeps_same _));
+        given_front = ([], c.requires, AppendsPrefix-keeps _ _ _ (keeps_same _));
         marked = refl;
         unflushed = refl;
       },

@@ -1,6 +1,6 @@
 -- Proves the goal of `copy_out` that the prover leaves open.
 use Rattle.std.proofs.Common.{[], ◌∷◌, refl}
-use Rattle.minisign.proofs.Common.{rereader_call, sink_call, unused}
+use Rattle.minisign.proofs.Common.{rereader_call, sink_call, no_sink}
 use Rattle.minisign.specs.Verifying.{Flush, Put}
 use Rattle.minisign.proofs.Passes.{OneEnds, kept_steps, last_step, next_step}
 use Rattle.minisign.proofs.copying.copy_out.Goals as goal
@@ -13,8 +13,8 @@ returns-in_ok-put_bytes-in-Message g c =
     let stages = kept_steps _ _ _ _ c.if-not-output.false c.in-Message.is in
     let put = rw c.deref.ensures.value at c.in_ok-put_bytes-in-Message.ensures in (
       bytes,
-      rw stages at (next_step (OneEnds reader unused out) (Put bytes) (Flush ∷ []) _
+      rw stages at (next_step (OneEnds reader no_sink out) (Put bytes) (Flush ∷ []) _
           (record { reader = c.args.data_reader.now; status = tt; out = c.put_bytes.new.out }) _
           c.flush.result (put, refl, refl)
-          (last_step (OneEnds reader unused out) Flush _ _ c.flush.result (c.flush.ensures, refl, refl))),
+          (last_step (OneEnds reader no_sink out) Flush _ _ c.flush.result (c.flush.ensures, refl, refl))),
     )

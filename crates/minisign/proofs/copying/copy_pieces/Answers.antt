@@ -1,6 +1,6 @@
 -- Proves the goals of `copy_pieces` that the prover leaves open.
 use Rattle.std.proofs.Common.{◌∙◌, append_assoc, inr, rules}
-use Rattle.minisign.proofs.Common.{Appends-trans, Consumes-trans, AppendsFront-after}
+use Rattle.minisign.proofs.Common.{Appends-trans, Consumes-trans, AppendsPrefix-after}
 use Rattle.minisign.proofs.Beginnings.{consumed, passed_up}
 use Rattle.minisign.proofs.Copies.{front_of_ahead, front_of_all, given_more, given_still, keeps_same}
 use Rattle.minisign.proofs.copying.copy_pieces.Goals as goal
@@ -34,7 +34,7 @@ returns-then-n-eq0-clause-copied g c =
       record {
         read = search rules;
         since = search rules;
-        all = taken;
+        received = taken;
         no_new_fault = c.pieces.invariant.out_no_new_fault;
         failed = tt;
         ahead = tt;
@@ -51,14 +51,14 @@ returns-in_err-put_bytes-in-Ok-clause-refused g c =
     let (done, given, taken, fed, since) = c.pieces.invariant.given in
     let more = Consumes-trans _ _ _ _ _ given c.in-Ok.ensures.bytes in
     let (((fault, rose), put_front), unflushed) = c.in_err-put_bytes-in-Ok.ensures in
-    let put = AppendsFront-after _ _ _ _ _ taken put_front in
+    let put = AppendsPrefix-after _ _ _ _ _ taken put_front in
     let (message, ahead, front) = front_of_ahead _ _ _ _ _ more put in
     passed_up _ _ _ c.from_residual.ensures.1 (
       message,
       record {
         read = tt;
         since = tt;
-        all = tt;
+        received = tt;
         no_new_fault = tt;
         failed = inr (inr (
           fault,
@@ -82,7 +82,7 @@ returns-in-Err-clause-refused g c =
       record {
         read = tt;
         since = tt;
-        all = tt;
+        received = tt;
         no_new_fault = tt;
         failed = search rules;
         ahead = ahead;

@@ -1,7 +1,7 @@
 -- The loop invariant and termination measure of `copy_pieces`.
 use Rattle.std.proofs.Common.{◌≡◌, ℕ, List, ◌++◌, false}
 use Rattle.minisign.proofs.Common.{Appends, Consumes, IsFed, has_finalized, output_length}
-use Rattle.minisign.specs.Reading.{IsAhead}
+use Rattle.minisign.specs.Reading.{KnownBytesAre}
 use Rattle.minisign.proofs.copying.copy_pieces.Given as goal
 
 abbrev pub invariant-pieces : goal.invariant-pieces
@@ -16,7 +16,7 @@ invariant-pieces g l = record {
   given : (done : List ℕ) × Consumes (g.R.Source.ahead l.fn.data_reader) (g.R.Source.ahead l.data_reader) done
       × Appends (g.O.Sink.taken l.fn.out) (g.O.Sink.taken l.out) done
       × ((m : List ℕ) → IsFed l.fn.hasher m → IsFed l.hasher (m ++ done))
-      × IsAhead (g.R.Source.since l.data_reader) done;
+      × KnownBytesAre (g.R.Source.since l.data_reader) done;
 }
 
 abbrev pub decreases-pieces : goal.decreases-pieces

@@ -47,7 +47,7 @@ returns-then-not-is_base64-clause-refused c =
     let encodes = rw c.trim.ensures.trim at c.in_ok-signature.ensures in
     let trusted = texts.begins _ trusted_comment_label _ c.in_ok-trusted_comment.ensures in
     let same = c.in_ok-signature-2.ensures in
-    let algorithm = texts.known _ (rw same.0 at same.1) in
+    let algorithm = texts.known_is_accepted _ (rw same.0 at same.1) in
     let other : is_base64 c.trim-comment_signature.result.now ≡ false = search rules in
     rw c.into.ensures (texts.no_comment_base64 _ _ _ _ label _ encodes trusted algorithm
     (ap is_base64 (sym c.trim-comment_signature.ensures.trim) ∙ other))
@@ -59,7 +59,7 @@ returns-clause-read c =
     let encoded = rw c.trim.ensures.trim at c.in_ok-signature.ensures in
     let encodes = rw (sym same.0) at encoded in
     let trusted = texts.begins _ trusted_comment_label _ c.in_ok-trusted_comment.ensures in
-    let algorithm = texts.known _ same.1 in
+    let algorithm = texts.known_is_accepted _ same.1 in
     let signed : is_base64 c.trim-comment_signature.result.now ≡ true = search rules in
     texts.all_passed _ _ _ _ label _ encodes trusted algorithm _ _ _
     (ap is_base64 (sym c.trim-comment_signature.ensures.trim) ∙ signed)

@@ -4,7 +4,7 @@ use Rattle.std.proofs.Common.{inr, refl, ℕ, List, None, Some, bytes_eq}
 use Rattle.minisign.proofs.Common.{bytes_eq-Decides, prompt_call, second_ended, stopped_first, typed_is, Test}
 use Rattle.minisign.proofs.Common.{asking_steps, typed_password, Fault, Named, PasswordsDiffer}
 use Rattle.minisign.proofs.Beginnings.{passed_up}
-use Rattle.minisign.specs.Generation.{difference, purpose_line, second_question}
+use Rattle.minisign.specs.Generation.{password_difference, purpose_line, second_question}
 use Rattle.minisign.specs.Sealing.{asking_text}
 use Rattle.minisign.proofs.keypair.choose_password.Goals as goal
 
@@ -18,13 +18,14 @@ unturned false false h = absurd (cc)
 two_differ : (first second password again : List ℕ) (e : Fault) → typed_password first ≡ password
     → typed_password second ≡ again
     → true ≡ not (bytes_eq password again) → e ≡ Named PasswordsDiffer
-    → difference (typed_password first) (typed_password second) ≡ Some e
+    → password_difference (typed_password first) (typed_password second) ≡ Some e
 two_differ _ _ _ _ e one two differ is =
     let test = unturned _ _ differ in rw (one, two, test, is) refl
 
 two_agree : (first second password again : List ℕ) → typed_password first ≡ password
     → typed_password second ≡ again
-    → false ≡ not (bytes_eq password again) → difference (typed_password first) (typed_password second) ≡ None
+    → false ≡ not (bytes_eq password again) → password_difference (typed_password first)
+    (typed_password second) ≡ None
 two_agree _ _ _ _ one two same =
     let test = unturned _ _ same in rw (one, two, test) refl
 
@@ -40,7 +41,8 @@ returns-in_err-password-clause-refused g c =
         c.say.new.self,
         c.in_ok-say.ensures.ended,
         stopped_first p (asking_steps asking_text first)
-            (asking_steps second_question [] ++ Test (difference (typed_password first) (typed_password []))
+            (asking_steps second_question [] ++ Test (password_difference (typed_password first)
+            (typed_password []))
             ∷ []) _ stopped,
       ),
     )
@@ -52,7 +54,7 @@ returns-in_err-again-clause-refused g c =
     let (second, stopped) = c.in_err-again.ensures.refused in
     let both = prompt_call g.R.Source g.W.Sink c.say.new.self c.get_password-2.new.prompt in
     let p = prompt_call g.R.Source g.W.Sink c.get_password.new.prompt c.get_password-2.new.prompt in
-    let test = Test (difference (typed_password first) (typed_password second)) ∷ [] in
+    let test = Test (password_difference (typed_password first) (typed_password second)) ∷ [] in
     passed_up _ _ _ c.from_residual-in_err-again.ensures.1 (
       first,
       second,
@@ -73,7 +75,7 @@ returns-then-ne-clause-refused g c =
     let end = c.get_password-2.new.prompt in
     let both = prompt_call g.R.Source g.W.Sink c.say.new.self end in
     let p = prompt_call g.R.Source g.W.Sink c.get_password.new.prompt end in
-    let test = Test (difference (typed_password first) (typed_password second)) ∷ [] in (
+    let test = Test (password_difference (typed_password first) (typed_password second)) ∷ [] in (
       first,
       second,
       inr (
@@ -99,7 +101,7 @@ returns-clause-chosen g c =
     let end = c.get_password-2.new.prompt in
     let both = prompt_call g.R.Source g.W.Sink c.say.new.self end in
     let p = prompt_call g.R.Source g.W.Sink c.get_password.new.prompt end in
-    let test = Test (difference (typed_password first) (typed_password second)) ∷ [] in (
+    let test = Test (password_difference (typed_password first) (typed_password second)) ∷ [] in (
       first,
       second,
       answered,

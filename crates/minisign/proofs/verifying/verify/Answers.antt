@@ -1,5 +1,5 @@
 -- Proves the goals of `verify` that the prover leaves open.
-use Rattle.minisign.proofs.Common.{rereader_call, sink_call, AppendsFront-keeps}
+use Rattle.minisign.proofs.Common.{rereader_call, sink_call, AppendsPrefix-keeps}
 use Rattle.minisign.specs.Acceptance.{options_of}
 use Rattle.minisign.proofs.Beginnings.{on_err_of, passed_up}
 use Rattle.minisign.proofs.Copies.{front_of_all, keeps_same}
@@ -8,10 +8,10 @@ use Rattle.minisign.proofs.VouchedTexts.{judged_exactly, refused_exactly}
 use Rattle.minisign.proofs.verifying.verify.Goals as goal
 
 pub returns-in_err-signed-clause-said_front : goal.returns-in_err-signed-clause-said_front
-returns-in_err-signed-clause-said_front g c = on_err_of _ _ (AppendsFront-keeps _ _ _ (keeps_same _))
+returns-in_err-signed-clause-said_front g c = on_err_of _ _ (AppendsPrefix-keeps _ _ _ (keeps_same _))
 
 pub returns-in_err-judge-clause-said_front : goal.returns-in_err-judge-clause-said_front
-returns-in_err-judge-clause-said_front g c = on_err_of _ _ (AppendsFront-keeps _ _ _ (keeps_same _))
+returns-in_err-judge-clause-said_front g c = on_err_of _ _ (AppendsPrefix-keeps _ _ _ (keeps_same _))
 
 pub returns-in_err-signed-clause-refused : goal.returns-in_err-signed-clause-refused
 returns-in_err-signed-clause-refused g c = passed_up _ _ _ c.from_residual.ensures.1

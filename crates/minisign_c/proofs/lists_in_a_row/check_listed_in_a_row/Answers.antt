@@ -3,7 +3,7 @@ use Rattle.std.proofs.Common.{◌≡◌, ◌∙◌, ◌==◌, ℕ, ap, rules}
 use Rattle.minisign.specs.KeyTexts.{read_public_key}
 use Rattle.minisign_external.specs.PublicKeys.{read_utf8, value_of}
 use Rattle.minisign_external.specs.Signing.{joined}
-use Rattle.minisign_external.specs.StrictCalls.{number_with}
+use Rattle.minisign_external.specs.StrictCalls.{number_with_key}
 use Rattle.minisign_c.specs.ListsInARow.{lookup_of, strict_listed_number}
 use Rattle.minisign_c.proofs.ListVerdicts.{accepted_listed}
 use Rattle.minisign_c.proofs.ListedVerdicts.{accepted_defined}
@@ -13,7 +13,7 @@ pub returns-clause-accepted : goal.returns-clause-accepted
 returns-clause-accepted g c =
     let accepts = g.S.Scheme.accepts c.args.scheme.now in
     let x = lookup_of c.args.list_name.now c.args.list.now c.args.long_digest c.args.name.now in
-    let returned : c.check_under.result ≡ number_with (read_utf8 read_public_key c.args.pk_text.now)
+    let returned : c.check_under.result ≡ number_with_key (read_utf8 read_public_key c.args.pk_text.now)
     (λ k. strict_listed_number accepts (value_of k) c.args.sig_text.now x (joined c.args.pieces.now)) =
     search rules in
     ap (λ (n : ℕ). n == 0) returned
@@ -25,7 +25,7 @@ returns-then-number-ne0-clause-verdict g c = λ long meant utf8.
     let accepts = g.S.Scheme.accepts c.args.scheme.now in
     let x = lookup_of c.args.list_name.now c.args.list.now c.args.long_digest c.args.name.now in
     let returned : c.minisign_read_public_key-number.result
-    ≡ number_with (read_utf8 read_public_key c.args.pk_text.now)
+    ≡ number_with_key (read_utf8 read_public_key c.args.pk_text.now)
     (λ k. strict_listed_number accepts (value_of k) c.args.sig_text.now x (joined c.args.pieces.now)) =
     search rules in
     accepted_defined accepts c.args.pk_text.now c.args.sig_text.now x
@@ -36,7 +36,7 @@ pub returns-clause-verdict : goal.returns-clause-verdict
 returns-clause-verdict g c = λ long meant utf8.
     let accepts = g.S.Scheme.accepts c.args.scheme.now in
     let x = lookup_of c.args.list_name.now c.args.list.now c.args.long_digest c.args.name.now in
-    let returned : c.check_under.result ≡ number_with (read_utf8 read_public_key c.args.pk_text.now)
+    let returned : c.check_under.result ≡ number_with_key (read_utf8 read_public_key c.args.pk_text.now)
     (λ k. strict_listed_number accepts (value_of k) c.args.sig_text.now x (joined c.args.pieces.now)) =
     search rules in
     accepted_defined accepts c.args.pk_text.now c.args.sig_text.now x

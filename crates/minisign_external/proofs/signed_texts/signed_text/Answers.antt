@@ -10,4 +10,4 @@ returns-clause-text c =
     answered_text c.args.key_id.now (comments_of c.args.trusted.now c.args.untrusted.now) c.args.first.now
     c.args.second.now _ long
     (IsUtf8-string_bytes c.in_ok-written.field-0) c.in_ok-written.ensures.text
-    (c.in_ok-written.ensures.reads_back c.in_ok-test_comments.ensures.0)
+    (c.in_ok-written.ensures.reads_back c.in_ok-check_comments.ensures.0)

@@ -12,8 +12,8 @@ returns-in_default-clause-opened c =
     (no_text (λ p. open_within (unopened_record c.args.unopened.now) p c.args.most_rows)
     c.args.password.now c.in_default.ensures.cases.0)
 
-pub returns-then-not-makes_within-clause-opened : goal.returns-then-not-makes_within-clause-opened
-returns-then-not-makes_within-clause-opened c =
+pub returns-then-not-computes_at_most-clause-opened : goal.returns-then-not-computes_at_most-clause-opened
+returns-then-not-computes_at_most-clause-opened c =
     let (same, utf8) = c.in-Ok.ensures.cases in
     let held = c.in_ok-key.ensures in
     let is : c.in_ok-key.key ≡ unopened_record c.args.unopened.now = cc held in
@@ -21,7 +21,7 @@ returns-then-not-makes_within-clause-opened c =
     (sym is)
     ∙ sym (of_text (λ p. open_within c.in_ok-key.key p c.args.most_rows) c.args.password.now
     c.in-Ok.typed.now same utf8)
-    ∙ c.too_many_rows.ensures c.in-Ok.typed.now)
+    ∙ c.too_many_rows_error.ensures c.in-Ok.typed.now)
 
 pub returns-clause-opened : goal.returns-clause-opened
 returns-clause-opened c =

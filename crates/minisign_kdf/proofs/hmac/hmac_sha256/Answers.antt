@@ -15,7 +15,7 @@ returns c =
     ≡ c.args.parts.now = take_all c.parts.part-index c.args.parts.now (omega arith) in
     let ipad : map (λ b. bit_xor b 0x36) c.key_block-block.result
     ≡ padded_key 0x36 = ap (map (λ (b : ℕ). bit_xor b 0x36)) c.key_block-block.ensures in
-    let opad : c.padded-2.result ≡ padded_key 0x5c = c.padded-2.ensures
+    let opad : c.xor_pad-2.result ≡ padded_key 0x5c = c.xor_pad-2.ensures
     ∙ ap (map (λ (b : ℕ). bit_xor b 0x5c)) c.key_block-block.ensures in
     let inner : c.finalize-digest.result ≡ sha256 (padded_key 0x36 ++ text) =
     c.finalize-digest.ensures _ c.parts.invariant

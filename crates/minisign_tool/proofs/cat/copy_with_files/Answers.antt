@@ -25,12 +25,12 @@ returns-clause-accepted g c =
           vouches =
               h.verified.vouches;
         };
-        said = h.verified.said;
+        said = h.verified.status_received;
       };
       copied = copied;
       copy = record {
         copy = copied.copy;
-        taken = copied.all;
+        taken = copied.received;
         flushed = copied.flushed;
         vouched = record {
           key = h.key;

@@ -25,7 +25,7 @@ returns-clause-accepted g c =
         vouches =
             h.verified.vouches;
       };
-      said = h.verified.said;
+      said = h.verified.status_received;
     })
     c.verify_texts.ensures.accepted
 

@@ -5,7 +5,7 @@ use Rattle.std.proofs.lemmas.Result.{IfOk-weaker}
 use Rattle.minisign.specs.Signing.{SigningHeadline}
 use Rattle.minisign.specs.Sealing.{IsOpenedOrNoMemory, is_sealed_text, key_with_password, open_key}
 use Rattle.minisign.specs.Sealing.{read_unencrypted_key}
-use Rattle.minisign.specs.Reading.{IsAhead}
+use Rattle.minisign.specs.Reading.{KnownBytesAre}
 use Rattle.minisign.specs.Records.{SecretKeyRecord}
 use Rattle.minisign_vectors.proofs.passwords.sign_with_password.Goals as goal
 
@@ -30,7 +30,7 @@ pub returns : goal.returns
 returns g c = λ key opened.
     IfOk-weaker c.sign_texts.result _ _
     (λ t (sk, given, (message, read, (signed, headline))).
-    let same = subst (λ known. IsAhead known message) c.new.ensures.ahead read.given in
+    let same = subst (λ known. KnownBytesAre known message) c.new.ensures.ahead read.given in
     let this = same_key _ _ c.args.sk_text.now (string_bytes c.args.password) sk key given opened in
     subst (λ k. SigningHeadline (g.S.Scheme.accepts c.args.scheme.now)
     (g.S.Scheme.public_of c.args.scheme.now) k c.args.message.now _ _) this

@@ -9,13 +9,13 @@ use minisign_fixtures::outcomes::{Outcome, gives_text, is_outcome};
 use minisign_fixtures::prompts::{bytes_left, password_copy, typed};
 use std::alloc::Global;
 
-/// The way in which a key is decrypted: without a bound on the parallelization, with a bound, or
+/// The call that decrypts a key: without a bound on the parallelization, with a bound, or
 /// with only every k-th row kept.
 #[derive(Clone, Copy)]
-pub enum Way {
-    AnyParts,
-    Within(u32),
-    Keeping(u64),
+pub enum OpeningCall {
+    FromBox,
+    FromBoxWithin(u32),
+    FromBoxKeeping(u64),
 }
 
 /// The expected result of decrypting: the outcome, what the prompt shows, and the number of unread
@@ -33,14 +33,22 @@ pub fn opened<R: Source, W: Sink>(
     sk_box: Result<SecretKeyBox>,
     password: Option<&str>,
     prompt: &mut Prompt<R, W>,
-    way: Way,
+    call: OpeningCall,
 ) -> Result<SecretKey> {
     let sk_box = sk_box?;
     let password = password_copy(alloc, password)?;
-    match way {
-        Way::AnyParts => SecretKey::from_box(alloc, sk_box, password, prompt),
-        Way::Within(max_p) => SecretKey::from_box_within(alloc, sk_box, password, prompt, max_p),
-        Way::Keeping(k) => SecretKey::from_box_keeping(alloc, sk_box, password, prompt, k.max(1)),
+    match call {
+        OpeningCall::FromBox => SecretKey::from_box(alloc, sk_box, password, prompt),
+        OpeningCall::FromBoxWithin(max_p) => SecretKey::from_box_within(
+            alloc, sk_box, password, prompt, max_p,
+        ),
+        OpeningCall::FromBoxKeeping(k) => SecretKey::from_box_keeping(
+            alloc,
+            sk_box,
+            password,
+            prompt,
+            k.max(1),
+        ),
     }
 }
 
@@ -50,14 +58,15 @@ pub fn opens_as_expected(
     sk_box: Result<SecretKeyBox>,
     password: Option<&str>,
     bytes: &[u8],
-    way: Way,
+    call: OpeningCall,
     expected_result: Expected,
 ) -> bool {
     let mut prompt = typed(alloc, bytes);
-    let answer = opened(alloc, sk_box, password, &mut prompt, way);
-    let came = is_outcome(answer, expected_result.outcome);
+    let answer = opened(alloc, sk_box, password, &mut prompt, call);
+    let matches = is_outcome(answer, expected_result.outcome);
     let left = bytes_left(&mut prompt.reader);
-    came && left == expected_result.unread
+    matches
+        && left == expected_result.unread
         && prompt.writer.as_slice() == expected_result.prompted.as_bytes()
 }
 
@@ -67,7 +76,7 @@ pub fn has_outcome(
     alloc: Global,
     sk_box: Result<SecretKeyBox>,
     password: &str,
-    way: Way,
+    call: OpeningCall,
     outcome: Outcome,
 ) -> bool {
     let expected_result = Expected {
@@ -80,7 +89,7 @@ pub fn has_outcome(
         sk_box,
         Some(password),
         b"typed\n",
-        way,
+        call,
         expected_result,
     )
 }
@@ -92,12 +101,12 @@ pub fn gives(
     sealed: &str,
     password: Option<&str>,
     bytes: &[u8],
-    way: Way,
+    call: OpeningCall,
     text: &str,
 ) -> bool {
     let sk_box = SecretKeyBox::from_string(alloc, sealed);
     let mut prompt = typed(alloc, bytes);
-    let answer = opened(alloc, sk_box, password, &mut prompt, way);
+    let answer = opened(alloc, sk_box, password, &mut prompt, call);
     has_text(alloc, &answer, text)
 }
 

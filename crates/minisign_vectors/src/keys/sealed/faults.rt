@@ -1,7 +1,7 @@
 //! Tests of each error of a prompt, for each call that decrypts a key. With enough memory none of
 //! them is reported as out of memory. `tests/rows/sealed_keys.py` has the errors of texts.
 
-use crate::keys::sealed::calls::{Way, opened};
+use crate::keys::sealed::calls::{OpeningCall, opened};
 use crate::tables::assert_row;
 use minisign::SecretKeyBox;
 use minisign_base::faults::NamedFault::{
@@ -38,23 +38,23 @@ fn rows() -> &'static [Row] {
 }
 
 // Returns true if this call rejects the encrypted key as expected.
-fn is_refused_by(alloc: Global, way: Way, row: &Row) -> bool {
+fn is_refused_by(alloc: Global, call: OpeningCall, row: &Row) -> bool {
     let (typed, reads, room, expected) = *row;
     let sk_box = SecretKeyBox::from_string(alloc, SEALED);
     let reader = FailingSource::for_good(typed, reads);
     let mut prompt = Prompt::new(reader, LimitedSink::new(alloc, room));
-    is_outcome(opened(alloc, sk_box, None, &mut prompt, way), expected)
+    is_outcome(opened(alloc, sk_box, None, &mut prompt, call), expected)
 }
 
 #[test]
 fn returns_errors_of_prompts(rt: HostRuntime) {
     let alloc = rt.alloc();
     for row in rows() {
-        let by_any = is_refused_by(alloc, Way::AnyParts, row);
+        let by_any = is_refused_by(alloc, OpeningCall::FromBox, row);
         assert_row(&rt, by_any, &("any parts", row.3));
-        let within = is_refused_by(alloc, Way::Within(512), row);
+        let within = is_refused_by(alloc, OpeningCall::FromBoxWithin(512), row);
         assert_row(&rt, within, &("parts within a bound", row.3));
-        let keeping = is_refused_by(alloc, Way::Keeping(3), row);
+        let keeping = is_refused_by(alloc, OpeningCall::FromBoxKeeping(3), row);
         assert_row(&rt, keeping, &("every third row", row.3));
     }
 }

@@ -1,6 +1,6 @@
 //! Tests of keys with a high parallelization: both limits are 0, so N is 2, r is 8 and p is 512.
 
-use crate::keys::sealed::calls::{Way, gives, has_outcome};
+use crate::keys::sealed::calls::{OpeningCall, gives, has_outcome};
 use crate::tables::assert_row;
 use minisign::SecretKeyBox;
 use minisign_base::faults::NamedFault::WorkTooHigh;
@@ -20,8 +20,8 @@ const OPENED: &str =
 
 // Returns true if this key decrypts with every k-th row kept.
 fn opens(alloc: Global, k: u64) -> bool {
-    let way = Way::Keeping(k);
-    gives(alloc, SEALED_IN_PARTS, Some("password"), b"", way, OPENED)
+    let call = OpeningCall::FromBoxKeeping(k);
+    gives(alloc, SEALED_IN_PARTS, Some("password"), b"", call, OPENED)
 }
 
 #[test]
@@ -53,7 +53,13 @@ fn bounded() -> &'static [Bounded] {
 fn is_bounded(alloc: Global, row: &Bounded) -> bool {
     let (text, password, max_p, expected) = *row;
     let sk_box = SecretKeyBox::from_string(alloc, text);
-    has_outcome(alloc, sk_box, password, Way::Within(max_p), expected)
+    has_outcome(
+        alloc,
+        sk_box,
+        password,
+        OpeningCall::FromBoxWithin(max_p),
+        expected,
+    )
 }
 
 #[test]

@@ -45,8 +45,8 @@ fn opens_as_expected(alloc: Global, row: &Row) -> bool {
     };
     let answer = key.open_in_place(password.as_bytes(), 16, max_p, &mut words, &mut bytes);
     let are_left_zeros = are_zeros(&words, &bytes);
-    let came = is_opened(alloc, &answer, outcome);
-    are_left_zeros && came
+    let matches = is_opened(alloc, &answer, outcome);
+    are_left_zeros && matches
 }
 
 // Returns true if the result has this outcome, and a decrypted key has the expected text.

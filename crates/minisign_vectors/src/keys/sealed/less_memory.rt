@@ -1,6 +1,6 @@
 //! Tests of decrypting keys with every k-th row kept.
 
-use crate::keys::sealed::calls::{Expected, Way, gives, opens_as_expected};
+use crate::keys::sealed::calls::{Expected, OpeningCall, gives, opens_as_expected};
 use crate::tables::assert_row;
 use minisign::SecretKeyBox;
 use minisign_base::faults::NamedFault::WrongPassword;
@@ -25,9 +25,9 @@ pub const OPENED: &str =
 // Returns true if it decrypts to the same key with every k-th row kept, with a given and with a
 // typed password.
 fn opens(alloc: Global, k: u64) -> bool {
-    let way = Way::Keeping(k);
-    let passed = gives(alloc, MADE, Some("password"), b"", way, OPENED);
-    let typed = gives(alloc, MADE, None, b"password\n", way, OPENED);
+    let call = OpeningCall::FromBoxKeeping(k);
+    let passed = gives(alloc, MADE, Some("password"), b"", call, OPENED);
+    let typed = gives(alloc, MADE, None, b"password\n", call, OPENED);
     passed && typed
 }
 
@@ -47,7 +47,14 @@ fn opens_typed_as_expected(alloc: Global, k: u64, bytes: &[u8], outcome: Outcome
         prompted: PROMPTED,
         unread: 0,
     };
-    opens_as_expected(alloc, sk_box, None, bytes, Way::Keeping(k), expected_result)
+    opens_as_expected(
+        alloc,
+        sk_box,
+        None,
+        bytes,
+        OpeningCall::FromBoxKeeping(k),
+        expected_result,
+    )
 }
 
 #[test]

@@ -1,7 +1,9 @@
 //! Tests of decrypting keys within a bound, in less memory, and with prompts that cannot be written
 //! to.
 
-use crate::keys::sealed::calls::{Expected, Way, gives, has_outcome, opened, opens_as_expected};
+use crate::keys::sealed::calls::{
+    Expected, OpeningCall, gives, has_outcome, opened, opens_as_expected,
+};
 use crate::tables::assert_row;
 use minisign::{Result, SecretKey, SecretKeyBox};
 use minisign_base::devices::sources::SliceSource;
@@ -81,7 +83,13 @@ fn limits() -> &'static [Limits] {
 fn is_bounded(alloc: Global, row: &Limits) -> bool {
     let (memory, operations, max_p, expected) = *row;
     let sk_box = limited_box(alloc, memory, operations);
-    has_outcome(alloc, sk_box, "p", Way::Within(max_p), expected)
+    has_outcome(
+        alloc,
+        sk_box,
+        "p",
+        OpeningCall::FromBoxWithin(max_p),
+        expected,
+    )
 }
 
 #[test]
@@ -94,17 +102,17 @@ fn rejects_limits_above_the_bounds(rt: HostRuntime) {
 // The default limits give p = 1.
 #[test]
 fn opens_key_with_default_limits_within_one_part(rt: HostRuntime) {
-    let (alloc, way) = (rt.alloc(), Way::Within(1));
+    let (alloc, call) = (rt.alloc(), OpeningCall::FromBoxWithin(1));
     let text = OPENED_AS_USUAL;
-    assert!(rt; gives(alloc, SEALED_AS_USUAL, Some("password"), b"", way, text));
+    assert!(rt; gives(alloc, SEALED_AS_USUAL, Some("password"), b"", call, text));
 }
 
 // The limits of the C program need 1 GiB for rows. With every 16th row kept, 64 MiB are enough.
 #[test]
 fn opens_key_of_minisign_in_less_memory(rt: HostRuntime) {
-    let (alloc, way) = (rt.alloc(), Way::Keeping(16));
+    let (alloc, call) = (rt.alloc(), OpeningCall::FromBoxKeeping(16));
     let text = OPENED_AS_MINISIGN;
-    assert!(rt; gives(alloc, SEALED_AS_MINISIGN, None, b"password\n", way, text));
+    assert!(rt; gives(alloc, SEALED_AS_MINISIGN, None, b"password\n", call, text));
 }
 
 const LATE: [Limits; 3] = [
@@ -128,7 +136,7 @@ fn is_bounded_late(alloc: Global, row: &Limits) -> bool {
         sk_box,
         None,
         b"p\n",
-        Way::Within(max_p),
+        OpeningCall::FromBoxWithin(max_p),
         expected_result,
     )
 }
@@ -167,9 +175,9 @@ fn fills(alloc: Global, row: &(usize, u64, &str, Outcome)) -> bool {
     let sk_box = limited_box(alloc, memory, 0);
     let writer = LimitedSink::new(alloc, room);
     let mut prompt = Prompt::new(SliceSource::new(line.as_bytes()), writer);
-    let answer = opened(alloc, sk_box, None, &mut prompt, Way::AnyParts);
-    let came = is_outcome(answer, outcome);
-    came && prompt.writer.as_slice() == front(DONE.as_bytes(), room)
+    let answer = opened(alloc, sk_box, None, &mut prompt, OpeningCall::FromBox);
+    let matches = is_outcome(answer, outcome);
+    matches && prompt.writer.as_slice() == front(DONE.as_bytes(), room)
 }
 
 // The error of a failing writer is returned at the point where it writes, between the errors of earlier and

@@ -3,7 +3,7 @@
 //! until a run has no error. `tests/rows/failing_devices.py` has data that fails at a read, for
 //! `sign`, `verify` and `verify_texts`.
 
-use crate::keys::sealed::calls::{Way, opened};
+use crate::keys::sealed::calls::{OpeningCall, opened};
 use crate::signatures::calls::{
     COPYING, Expected, Sinks, ample, box_gives_expected, gives_comment, key_a, signed_from,
     signed_text, texts_give_expected,
@@ -24,7 +24,7 @@ use minisign_fixtures::outcomes::Outcome::{self, Accepted, Refused};
 use minisign_fixtures::outcomes::{front, gives_record, is_outcome};
 use minisign_fixtures::prompts::bytes_left;
 use minisign_fixtures::texts::{
-    KEY_TEXT, LEGACY_TEXT, SAID, SEALED, SEALED_WITH_NOTHING, SIGNATURE_TEXT,
+    KEY_TEXT, LEGACY_TEXT, SEALED, SEALED_WITH_NOTHING, SIGNATURE_TEXT, STATUS_LINES,
 };
 use std::alloc::Global;
 
@@ -52,10 +52,10 @@ const ALL: usize = 1000;
 
 // Returns true if verifying `abc` by both calls fails with `GoingBackFailed` when the data fails
 // after this number of calls, with this many status bytes, no copy, and these bytes unread.
-fn cannot_go_back(alloc: Global, calls: usize, said: usize, left: &[u8]) -> bool {
+fn cannot_go_back(alloc: Global, calls: usize, status_lines: usize, left: &[u8]) -> bool {
     let expected_result = Expected {
         outcome: Refused(GoingBackFailed),
-        said: front(SAID, said),
+        status_lines: front(STATUS_LINES, status_lines),
         copied: b"",
     };
     let mut data = FailingSource::new(b"abc", calls);
@@ -137,13 +137,13 @@ fn result_for(row: &Failing, calls: usize) -> Expected<'static> {
     if most == 0 {
         return Expected {
             outcome,
-            said: SAID,
+            status_lines: STATUS_LINES,
             copied: front(whole, calls),
         };
     }
     Expected {
         outcome,
-        said: front(SAID, calls.saturating_mul(most)),
+        status_lines: front(STATUS_LINES, calls.saturating_mul(most)),
         copied: if is_made { whole } else { b"" },
     }
 }
@@ -181,12 +181,12 @@ type Fails = (usize, usize, usize, usize, usize);
 
 // The expected outcome, the number of bytes that the prompt shows, the unread bytes of the typed
 // input and of the data, and whether no random bytes were taken.
-type Comes = (Outcome, usize, usize, usize, bool);
+type ExpectedUse = (Outcome, usize, usize, usize, bool);
 
 // Only the prompt is used until an encrypted key is decrypted. Its reader is read up to the line
 // feed, so the `x` after it is unread. Its writer writes and flushes three texts; one that is never
 // flushed has space for four bytes. Then signing reads four times and fills twice.
-const SIGNINGS: [(Fails, Comes); 23] = [
+const SIGNINGS: [(Fails, ExpectedUse); 23] = [
     ((0, ALL, ALL, ALL, ALL), (UNREAD, 10, 10, 3, true)),
     ((1, ALL, ALL, ALL, ALL), (UNREAD, 10, 9, 3, true)),
     ((2, ALL, ALL, ALL, ALL), (UNREAD, 10, 8, 3, true)),
@@ -213,7 +213,7 @@ const SIGNINGS: [(Fails, Comes); 23] = [
 ];
 
 // Hides the table from proofs, which would otherwise unfold all of it.
-fn signings() -> &'static [(Fails, Comes)] {
+fn signings() -> &'static [(Fails, ExpectedUse)] {
     &SIGNINGS
 }
 
@@ -234,13 +234,13 @@ fn prompt_of<'a>(
 }
 
 // Returns true if the devices of signing are as expected afterwards.
-fn are_left(
+fn devices_are_as_expected(
     prompt: &mut Typed,
     data: &mut FailingSource,
     random: &mut FailingRandom,
-    comes: &Comes,
+    expected_use: &ExpectedUse,
 ) -> bool {
-    let (_, prompted, typed_left, left, is_undrawn) = *comes;
+    let (_, prompted, typed_left, left, is_undrawn) = *expected_use;
     let is_prompted = prompt.writer.as_slice() == front(ASKED_AND_DONE, prompted);
     let typed = bytes_left(&mut prompt.reader) == typed_left;
     let read = bytes_left(data) == left;
@@ -249,14 +249,14 @@ fn are_left(
 }
 
 // Returns true if signing has the expected result.
-fn is_signed(alloc: Global, row: &(Fails, Comes)) -> bool {
-    let ((reads, flushes, writes, data_reads, draws), comes) = *row;
+fn is_signed(alloc: Global, row: &(Fails, ExpectedUse)) -> bool {
+    let ((reads, flushes, writes, data_reads, draws), expected_use) = *row;
     let mut prompt = prompt_of(alloc, b"password\nx", reads, flushes, writes);
     let mut data = FailingSource::new(b"abc", data_reads);
     let mut random = FailingRandom::new(&ZEROS, draws);
     let answer = signed_text(alloc, SEALED, None, &mut prompt, &mut data, &mut random);
-    let came = gives_comment(&answer, SIGNATURE_TEXT, comes.0);
-    came && are_left(&mut prompt, &mut data, &mut random, &comes)
+    let matches = gives_comment(&answer, SIGNATURE_TEXT, expected_use.0);
+    matches && devices_are_as_expected(&mut prompt, &mut data, &mut random, &expected_use)
 }
 
 #[test]
@@ -275,9 +275,9 @@ fn is_undrawn(alloc: Global, draws: usize) -> bool {
     let mut data = SliceSource::new(b"abc");
     let mut random = FailingRandom::new(&ZEROS, draws);
     let answer = signed_from(alloc, None, &secret, &mut data, &mut random, 0);
-    let came = is_outcome(answer, UNDRAWN);
+    let matches = is_outcome(answer, UNDRAWN);
     let undrawn = random.random.fill(&mut [0; 128]).is_ok();
-    came && undrawn == (draws == 0)
+    matches && undrawn == (draws == 0)
 }
 
 // A fill that failed is not repeated.
@@ -342,9 +342,9 @@ fn opens(alloc: Global, row: &Opening) -> bool {
     let (text, typed, whole) = if is_typed { TYPED } else { NOTHING };
     let sk_box = SecretKeyBox::from_string(alloc, text);
     let mut prompt = prompt_of(alloc, typed.as_bytes(), reads, ALL, writes);
-    let answer = opened(alloc, sk_box, None, &mut prompt, Way::AnyParts);
-    let came = is_outcome(answer, expected);
-    came && prompt.writer.as_slice() == front(whole, prompted)
+    let answer = opened(alloc, sk_box, None, &mut prompt, OpeningCall::FromBox);
+    let matches = is_outcome(answer, expected);
+    matches && prompt.writer.as_slice() == front(whole, prompted)
 }
 
 #[test]

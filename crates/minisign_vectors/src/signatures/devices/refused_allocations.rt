@@ -17,7 +17,9 @@ use minisign_base::prompt::Prompt;
 use minisign_fixtures::devices::sinks::Counting;
 use minisign_fixtures::keys::{KEY_ID, PUBLIC_BYTES, TIED_TO_ABC, signature_record};
 use minisign_fixtures::outcomes::{check_holds_or_out_of_memory, check_holds_or_unwritten};
-use minisign_fixtures::texts::{KEY_TEXT, LEGACY_TEXT, SAID, SEALED, SECRET_TEXT, SIGNATURE_TEXT};
+use minisign_fixtures::texts::{
+    KEY_TEXT, LEGACY_TEXT, SEALED, SECRET_TEXT, SIGNATURE_TEXT, STATUS_LINES,
+};
 use std::alloc::Global;
 
 // The random bytes of the precomputed signatures.
@@ -94,11 +96,11 @@ fn copied_into_buffer(alloc: Global) -> Result<bool> {
     let mut out = VecSink::new(alloc);
     let texts = (KEY_TEXT, SIGNATURE_TEXT);
     verified_texts(alloc, texts, &mut data, COPYING, &mut status, &mut out)?;
-    Ok(status.as_slice() == SAID && out.as_slice() == b"abc".as_slice())
+    Ok(status.as_slice() == STATUS_LINES && out.as_slice() == b"abc".as_slice())
 }
 
 // Returns true if each call that derives no key gives the right result or out of memory.
-fn are_right(alloc: Global) -> bool {
+fn calls_without_kdf_hold(alloc: Global) -> bool {
     let copied_prehashed = check_holds_or_out_of_memory(copied(alloc, SIGNATURE_TEXT));
     let legacy = check_holds_or_out_of_memory(copied(alloc, LEGACY_TEXT));
     let unsealed = check_holds_or_out_of_memory(signed(alloc, SECRET_TEXT));
@@ -109,7 +111,7 @@ fn are_right(alloc: Global) -> bool {
 
 #[test]
 fn signs_and_verifies_or_reports_out_of_memory(rt: HostRuntime) {
-    assert!(rt; are_right(rt.alloc()));
+    assert!(rt; calls_without_kdf_hold(rt.alloc()));
 }
 
 #[test]

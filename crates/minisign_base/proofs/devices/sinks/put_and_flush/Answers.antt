@@ -1,7 +1,7 @@
 -- Proves the goal of `sinks::put_and_flush` that the prover leaves open.
-use Rattle.minisign_base.proofs.SinkLaws.{AppendsFront-whole}
+use Rattle.minisign_base.proofs.SinkLaws.{AppendsPrefix-whole}
 use Rattle.minisign_base.proofs.devices.sinks.put_and_flush.Goals as goal
 
 pub returns-in-Err-clause-front : goal.returns-in-Err-clause-front
-returns-in-Err-clause-front g c = AppendsFront-whole _ _ _ _ c.in_ok-write_all.ensures.bytes
+returns-in-Err-clause-front g c = AppendsPrefix-whole _ _ _ _ c.in_ok-write_all.ensures.bytes
     c.flush.ensures.bytes

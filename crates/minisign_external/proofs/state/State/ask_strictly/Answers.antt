@@ -3,23 +3,23 @@ use Rattle.minisign_base.specs.Fault.{Fault}
 use Rattle.minisign_external.specs.States.{asking_result}
 use Rattle.minisign_external.specs.StrictCalls.{asked_strictly, is_strict_value}
 use Rattle.minisign_external.specs.declared.state.Refusal.{Refusal}
-use Rattle.minisign_external.proofs.Strictness.{asked_strictly_as}
+use Rattle.minisign_external.proofs.Strictness.{asked_strictly_as_text}
 use Rattle.minisign_external.proofs.state.State.ask_strictly.Goals as goal
 
-pub returns-in-Ok-test_asking-clause-text : goal.returns-in-Ok-test_asking-clause-text
-returns-in-Ok-test_asking-clause-text c = λ t from.
+pub returns-in-Ok-check_asking-clause-text : goal.returns-in-Ok-check_asking-clause-text
+returns-in-Ok-check_asking-clause-text c = λ t from.
     let a = c.args in
     let value : ◌≡◌ {A = Result Bool (Refusal Fault)} (Ok false)
     (asked_strictly (is_strict_value a.key.now a.signature.now) (asking_result a.self.now a.key.now
     a.signature.now a.sig_text.now a.allow_legacy (length a.message.now))) = search rules in
-    asked_strictly_as a.signature.now a.sig_text.now t from a.self.now a.key.now a.allow_legacy
+    asked_strictly_as_text a.signature.now a.sig_text.now t from a.self.now a.key.now a.allow_legacy
     (length a.message.now) (Ok false) value
 
-pub returns-in-Err-test_asking-clause-text : goal.returns-in-Err-test_asking-clause-text
-returns-in-Err-test_asking-clause-text c = λ t from.
+pub returns-in-Err-check_asking-clause-text : goal.returns-in-Err-check_asking-clause-text
+returns-in-Err-check_asking-clause-text c = λ t from.
     let a = c.args in
-    let value : ◌≡◌ {A = Result Bool (Refusal Fault)} (Err c.in-Err-test_asking.refusal)
+    let value : ◌≡◌ {A = Result Bool (Refusal Fault)} (Err c.in-Err-check_asking.refusal)
     (asked_strictly (is_strict_value a.key.now a.signature.now) (asking_result a.self.now a.key.now
     a.signature.now a.sig_text.now a.allow_legacy (length a.message.now))) = search rules in
-    asked_strictly_as a.signature.now a.sig_text.now t from a.self.now a.key.now a.allow_legacy
-    (length a.message.now) (Err c.in-Err-test_asking.refusal) value
+    asked_strictly_as_text a.signature.now a.sig_text.now t from a.self.now a.key.now a.allow_legacy
+    (length a.message.now) (Err c.in-Err-check_asking.refusal) value

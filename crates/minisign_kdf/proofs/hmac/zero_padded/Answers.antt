@@ -1,7 +1,7 @@
--- Proves the goal of `filled` that the prover leaves open.
+-- Proves the goal of `zero_padded` that the prover leaves open.
 use Rattle.std.proofs.Common.{◌≡◌, ◌-◌, ◌++◌, length, replicate, ◌∙◌}
 use Rattle.std.proofs.lemmas.List.{drop-replicate}
-use Rattle.minisign_kdf.proofs.hmac.filled.Goals as goal
+use Rattle.minisign_kdf.proofs.hmac.zero_padded.Goals as goal
 
 pub returns : goal.returns
 returns c =

@@ -1,5 +1,5 @@
 use Rattle.minisign_c.proofs.Refusals.{sealed_refusal, unsealed_refusal}
-use Rattle.minisign_c.proofs.in_a_row.open_read.Goals as goal
+use Rattle.minisign_c.proofs.in_a_row.open_parsed.Goals as goal
 
 pub returns-in-Some-clause-refused : goal.returns-in-Some-clause-refused
 returns-in-Some-clause-refused c some = rw c.in-Some.is
