@@ -463,7 +463,7 @@ typedef struct minisign_signature {
     uint8_t key_id[8];             /* of the key that signed, according to the file */
     uint8_t signature[64];         /* of the digest of the data, or of the data itself if legacy is 1 */
     uint8_t comment_signature[64]; /* zeros if the file has fewer than 64 bytes of it */
-    /* Where the trusted comment is in the file: offset of its first byte, and length. */
+    /* The offset and length of the trusted comment in the file. */
     uint64_t comment_offset;
     uint64_t comment_len;
     uint8_t text_digest[32]; /* the Blake2b-256 digest of the file */
@@ -512,8 +512,8 @@ typedef struct minisign_questions {
      * file has fewer than 64 bytes of it. Then minisign_verdict rejects the file, whatever result you pass. */
     uint8_t comment_signature[64];
     uint64_t message_len;
-    /* Where the trusted comment is in that message: offset of its first byte, and length. If you show the comment,
-     * show this copy of it, because Ed25519 checks this copy. */
+    /* The offset and length of the trusted comment in that message. If you show the comment, show this copy of it,
+     * because Ed25519 checks this copy. */
     uint64_t comment_offset;
     uint64_t comment_len;
     uint32_t legacy;   /* 1 if the signature is over the data itself ("Ed"), 0 if it is over the digest ("ED") */
@@ -560,7 +560,7 @@ enum minisign_answer {
 };
 /* The end of the answers. */
 
-/* Verifies only the trusted comment, by the result of the second check. MINISIGN_OK means that the owner of the secret
+/* Verifies only the trusted comment, from the result of the second check. MINISIGN_OK means that the owner of the secret
  * key signed this trusted comment together with the first signature. It says nothing about the data, and nothing about
  * the validity of the first signature. You may make this call as often as you like after minisign_ask and before
  * minisign_verdict; the state is unchanged. Does not allocate. The errors, in this order: MINISIGN_BAD_ANSWER;
@@ -570,7 +570,7 @@ MINISIGN_MUST_USE enum minisign_error minisign_comment_verdict(const minisign_st
                                                                enum minisign_answer second);
 
 /*
- * Returns whether the signature file is valid, by the results of the two checks. Call it after minisign_ask and
+ * Decides from the results of the two checks whether the signature file is valid. Call it after minisign_ask and
  * minisign_digest, which is required for a legacy signature as well. It finishes the state, which takes no more calls
  * until minisign_init. Does not allocate.
  *
@@ -603,7 +603,7 @@ MINISIGN_MUST_USE enum minisign_error minisign_ask_bare(
     minisign_questions *questions MINISIGN_ROLE(output));
 
 /*
- * Returns whether a bare signature is valid, by the result of its check. Call it after minisign_ask_bare and
+ * Decides from the result of its check whether a bare signature is valid. Call it after minisign_ask_bare and
  * minisign_digest. It finishes the state, which takes no more calls until minisign_init. Does not allocate.
  *
  * MINISIGN_OK means that the signature is a valid signature of all data that was fed, under the public key: the key IDs
@@ -625,7 +625,7 @@ typedef struct minisign_unopened_key {
     uint8_t bytes[158] MINISIGN_ROLE(secret); /* the decoded key, with the secret itself if it is not sealed */
     /* 1 if the key is sealed, so that it needs a password, otherwise 0. */
     uint8_t is_sealed;
-    /* What it takes to open the key. log2_rows is the logarithm to base 2 of the number of rows of 1 KiB that scrypt
+    /* The cost of opening the key. log2_rows is the logarithm to base 2 of the number of rows of 1 KiB that scrypt
      * computes, at most 20. work is how many times scrypt computes all of them. So opening the key takes 2^log2_rows *
      * work rows. In RFC 7914 these fields are log2 N and p. Both are 0 if the key is not sealed, or if its limits are
      * rejected. */
@@ -663,8 +663,8 @@ MINISIGN_MUST_USE enum minisign_error minisign_encode_unopened_key(
     const minisign_unopened_key *unopened, const uint8_t *comment, size_t comment_len,
     uint8_t *text MINISIGN_ROLE(room SECRET_KEY_BYTES + comment_len), size_t room, size_t *text_len);
 
-/* Checks everything about a sealed key that needs no password. Call it before you ask for the password, which is needed
- * if is_sealed is 1: so nobody types one for a key that cannot be opened. If the call succeeds, the only errors that
+/* Checks everything about a sealed key that needs no password. If is_sealed is 1, make this call before you ask for the
+ * password, so that nobody types a password for a key that cannot be opened. If the call succeeds, the only errors that
  * minisign_open_sealed_key can return for the same most_rows are MINISIGN_NOT_UTF8, MINISIGN_OUT_OF_MEMORY and
  * MINISIGN_WRONG_PASSWORD. Does not allocate. The errors, in this order: MINISIGN_KEY_NOT_READ; MINISIGN_KEY_NOT_SEALED;
  * MINISIGN_UNSUPPORTED_KEY_DERIVATION; MINISIGN_PARAMETERS_TOO_HIGH, MINISIGN_INVALID_PARAMETERS;
@@ -697,9 +697,11 @@ typedef struct minisign_secret_key {
 MINISIGN_MUST_USE enum minisign_error minisign_open_unsealed_key(
     const minisign_unopened_key *unopened, minisign_secret_key *key MINISIGN_ROLE(output));
 
-/* Values of keep_every and of most_rows: see minisign_open_sealed_key. */
+/* Values of the parameter keep_every: see minisign_open_sealed_key. */
 #define MINISIGN_KEEP_EVERY_ROW 1
 #define MINISIGN_KEEP_FEW_ROWS 16
+
+/* Values of the parameter most_rows: see minisign_open_sealed_key. */
 #define MINISIGN_USUAL_ROWS 1048576
 #define MINISIGN_ANY_ROWS UINT64_MAX
 
@@ -831,8 +833,8 @@ MINISIGN_MUST_USE enum minisign_error minisign_signed_text(
  * To change a password, open the key with minisign_open_sealed_key and write it again with a new salt. To recover a
  * lost public key, write it from the secret key. */
 
-/* How a secret key is sealed: the salt, and the limits of libsodium's scrypt call. Use minisign_usual_sealing, unless
- * you need less memory. */
+/* The parameters for sealing a secret key: the salt, and the limits of libsodium's scrypt call. Use
+ * minisign_usual_sealing, unless you need less memory. */
 typedef struct minisign_sealing {
     uint8_t salt[32];          /* random bytes, different for each key */
     uint64_t operations_limit; /* how much scrypt computes */
@@ -895,11 +897,11 @@ static inline minisign_sealing minisign_usual_sealing(const uint8_t salt[32])
  * two halves of the secret belong together, because that takes Ed25519.
  *
  * After an error, *text and *text_len are unchanged. The errors, in this order: MINISIGN_BAD_PASSWORD_FLAG;
- * MINISIGN_EMPTY_PASSWORD; MINISIGN_WEAK_SEALING, if the key is to be sealed with a salt of zeros or a limit below the
- * least ones; MINISIGN_KEY_NOT_OPENED; MINISIGN_NOT_UTF8, for the comment or the password; MINISIGN_BAD_COMMENT, if
- * the comment contains a line feed; MINISIGN_UNREADABLE_COMMENT, if it contains a carriage return or a zero byte, or
- * has more than 1,003 bytes; MINISIGN_NO_ROOM; with a password MINISIGN_PARAMETERS_TOO_HIGH or
- * MINISIGN_INVALID_PARAMETERS, for the limits; MINISIGN_OUT_OF_MEMORY. Since 0.3.
+ * MINISIGN_EMPTY_PASSWORD; MINISIGN_WEAK_SEALING, if the key is to be sealed with a salt of zeros, or with a limit below
+ * MINISIGN_LEAST_OPERATIONS_LIMIT or MINISIGN_LEAST_MEMORY_LIMIT; MINISIGN_KEY_NOT_OPENED; MINISIGN_NOT_UTF8, for the
+ * comment or the password; MINISIGN_BAD_COMMENT, if the comment contains a line feed; MINISIGN_UNREADABLE_COMMENT, if
+ * it contains a carriage return or a zero byte, or has more than 1,003 bytes; MINISIGN_NO_ROOM; with a password
+ * MINISIGN_PARAMETERS_TOO_HIGH or MINISIGN_INVALID_PARAMETERS, for the limits; MINISIGN_OUT_OF_MEMORY. Since 0.3.
  */
 MINISIGN_MUST_USE enum minisign_error minisign_secret_key_text(
     const minisign_secret_key *key, uint32_t with_password MINISIGN_ROLE(presence),

@@ -171,7 +171,7 @@ typedef struct minisign_installing_options {
     uint32_t mode;
     uint32_t has_mode;
 
-    /* How many seconds to wait for the lock if another run holds it, at most 86400. */
+    /* The number of seconds to wait for the lock if another run holds it, at most 86400. */
     uint32_t wait;
 
     /* The file name that the trusted comment must contain. NULL: the last part of `target`. */
