@@ -5,11 +5,11 @@
 
 #include "checking.h"
 
-/* Checks the only file, prints the result on standard error, and records it. */
-void check_for_copy(struct files *files);
+/* Checks the file that is to be copied, which is the only one. Prints the result on standard error, and records it. */
+void check_before_copy(struct files *files);
 
-/* Copies the file that `check_for_copy` has checked to standard output. It is read again, and each piece is written
- * only if it is the one that was verified. */
-void copy_checked(const struct files *files);
+/* Copies the file that `check_before_copy` has verified to standard output. Reads the file again, and writes a piece
+ * only if it is the same as in the first reading. Otherwise ends the program with status OTHER_CONTENT. */
+void copy_checked_file(const struct files *files);
 
 #endif

@@ -1,5 +1,5 @@
 /* SPDX-License-Identifier: MIT */
-/* Reads and verifies the list, and finds its entries. */
+/* Reads and verifies the list, and looks up its entries. */
 #include "listing.h"
 
 #include <sodium.h>
@@ -11,17 +11,17 @@
 #include "shared/streams.h"
 #include "shared/text.h"
 
-/* The largest size of a key file or signature file. */
-#define MAX_TEXT_BYTES (1 << 20)
+/* The maximum size of a key file or signature file. */
+#define MAX_KEY_OR_SIGNATURE_BYTES (1 << 20)
 
-/* The size of the first buffer for a file whose size is unknown. */
-#define FIRST_BYTES 65536
+/* The initial size of the buffer for a file whose size is unknown. */
+#define INITIAL_FILE_BYTES 65536
 
 #define KEY_HINT "use -p PUBKEY to name the public key file, or -P KEY to give the key itself"
 #define SIGNATURE_HINT "use -x SIG to name the signature of the list"
 
-/* A file in memory. */
-struct file_text {
+/* The content of a file, in memory. */
+struct file_content {
     uint8_t *bytes;
     size_t len;
     struct stat status;
@@ -29,22 +29,22 @@ struct file_text {
 
 /* ---- Files ---- */
 
-/* Prints the error of errno and the hint if the file does not exist, and ends the program. */
-static _Noreturn void end_unread(const char *file, const char *hint)
+/* Prints the text of errno, and the hint if the file does not exist, and ends the program. */
+static _Noreturn void exit_unreadable(const char *file, const char *hint)
 {
-    end_with(UNUSABLE_FILE, file, strerror(errno), errno == ENOENT ? hint : NULL);
+    exit_with_error(UNUSABLE_FILE, file, strerror(errno), errno == ENOENT ? hint : NULL);
 }
 
-/* Reads a whole file. */
-static struct file_text read_file(const char *file, const char *hint)
+/* Reads a whole file. Ends the program on failure, with the hint if the file does not exist. */
+static struct file_content read_file(const char *file, const char *hint)
 {
-    struct file_text text = { 0 };
+    struct file_content text = { 0 };
     int fd = AGAIN(open(file, O_RDONLY | O_CLOEXEC));
-    size_t size = FIRST_BYTES;
-    ssize_t n;
+    size_t size = INITIAL_FILE_BYTES;
+    ssize_t count;
 
     if (fd < 0 || fstat(fd, &text.status) != 0) {
-        end_unread(file, hint);
+        exit_unreadable(file, hint);
     }
     if (S_ISREG(text.status.st_mode) && (uint64_t) text.status.st_size < SIZE_MAX / 4) {
         size = (size_t) text.status.st_size + 1;
@@ -53,25 +53,25 @@ static struct file_text read_file(const char *file, const char *hint)
         size = text.len > 0 ? 2 * size : size;
         text.bytes = realloc(text.bytes, size);
         if (text.bytes == NULL) {
-            end_with(UNUSABLE_FILE, file, "out of memory", NULL);
+            exit_with_error(UNUSABLE_FILE, file, "out of memory", NULL);
         }
-        n = read_whole(fd, text.bytes + text.len, size - text.len);
-        if (n < 0) {
-            end_unread(file, NULL);
+        count = read_whole(fd, text.bytes + text.len, size - text.len);
+        if (count < 0) {
+            exit_unreadable(file, NULL);
         }
-        text.len += (size_t) n;
+        text.len += (size_t) count;
     } while (text.len == size);
     close(fd);
     return text;
 }
 
 /* Reads a key file or signature file. */
-static struct file_text read_short_file(const char *file, const char *hint)
+static struct file_content read_key_or_signature_file(const char *file, const char *hint)
 {
-    struct file_text text = read_file(file, hint);
+    struct file_content text = read_file(file, hint);
 
-    if (text.len > MAX_TEXT_BYTES) {
-        end_with(LIST_REJECTED, file, "this file is larger than 1 MiB", hint);
+    if (text.len > MAX_KEY_OR_SIGNATURE_BYTES) {
+        exit_with_error(LIST_REJECTED, file, "this file is larger than 1 MiB", hint);
     }
     return text;
 }
@@ -89,7 +89,7 @@ static const char *name_in_path(const char *path)
 static minisign_public_key read_key(const struct check_options *options)
 {
     bool is_bare = options->bare_key != NULL;
-    struct file_text file = { .bytes = NULL };
+    struct file_content file = { .bytes = NULL };
     const uint8_t *text = (const uint8_t *) options->bare_key;
     minisign_public_key key = { 0 };
     enum minisign_error error;
@@ -98,7 +98,7 @@ static minisign_public_key read_key(const struct check_options *options)
         file.len = strlen(options->bare_key);
         error = minisign_read_bare_public_key(text, file.len, &key);
     } else {
-        file = read_short_file(options->key_file, KEY_HINT);
+        file = read_key_or_signature_file(options->key_file, KEY_HINT);
         text = file.bytes;
         error = minisign_read_public_key(text, file.len, &key);
     }
@@ -127,12 +127,12 @@ static const char *signature_path(const struct check_options *options)
 
 /* ---- The verdict ---- */
 
-/* The input of the two Ed25519 checks, and their results. */
+/* The verification of the list's signature: its input, and the two Ed25519 checks to make. */
 struct verification {
     const struct check_options *options;
     const minisign_public_key *key;
     const char *signature_file;
-    struct file_text signature_text;
+    struct file_content signature_text;
     minisign_signature signature;
     minisign_questions questions;
     uint8_t *message;
@@ -146,20 +146,23 @@ static enum minisign_answer verify_ed25519(const uint8_t signature[64], const ui
     return result == 0 ? MINISIGN_ANSWER_YES : MINISIGN_ANSWER_NO;
 }
 
-/* Returns the verdict on the list. `must_be_named` says whether the trusted comment must name the list. */
-static enum minisign_error judge_list(struct listing *listing, struct verification *run, bool must_be_named)
+/* Verifies the signature of the list. If `must_be_named`, the trusted comment must name the list. */
+static enum minisign_error check_list_signature(struct listing *listing, struct verification *run, bool must_be_named)
 {
     const char *name = name_in_path(listing->file);
-    const struct file_text *text = &run->signature_text;
+    const struct file_content *text = &run->signature_text;
     minisign_questions *questions = &run->questions;
-    size_t room = 64 + (size_t) run->signature.comment_len;
-    enum minisign_error error =
-        must_be_named ? minisign_list_ask(&listing->verified, run->key, &run->signature, text->bytes, text->len,
-                                          (const uint8_t *) name, strlen(name), listing->text, listing->len, questions,
-                                          run->message, room)
-                      : minisign_list_ask_any(&listing->verified, run->key, &run->signature, text->bytes, text->len,
-                                              listing->text, listing->len, questions, run->message, room);
+    size_t capacity = 64 + (size_t) run->signature.comment_len;
+    enum minisign_error error;
 
+    if (must_be_named) {
+        error = minisign_list_ask(&listing->verified, run->key, &run->signature, text->bytes, text->len,
+                                  (const uint8_t *) name, strlen(name), listing->text, listing->len, questions,
+                                  run->message, capacity);
+    } else {
+        error = minisign_list_ask_any(&listing->verified, run->key, &run->signature, text->bytes, text->len,
+                                      listing->text, listing->len, questions, run->message, capacity);
+    }
     if (error != MINISIGN_OK) {
         return error;
     }
@@ -188,7 +191,7 @@ static _Noreturn void reject_list(const struct listing *listing, const struct ve
     default: break;
     }
     minisign_error_text(error, text, sizeof text);
-    end_with(LIST_REJECTED, file, text, hint);
+    exit_with_error(LIST_REJECTED, file, text, hint);
 }
 
 static void print_trusted_comment(const struct verification *run)
@@ -203,7 +206,7 @@ static void verify_list(struct listing *listing, const struct check_options *opt
     struct verification run = { .options = options, .key = key, .signature_file = signature_path(options) };
     enum minisign_error error;
 
-    run.signature_text = read_short_file(run.signature_file, SIGNATURE_HINT);
+    run.signature_text = read_key_or_signature_file(run.signature_file, SIGNATURE_HINT);
     listing->signature_status = run.signature_text.status;
     error = minisign_read_signature(run.signature_text.bytes, run.signature_text.len, &run.signature);
     if (error != MINISIGN_OK) {
@@ -212,9 +215,9 @@ static void verify_list(struct listing *listing, const struct check_options *opt
         exit(LIST_REJECTED);
     }
     run.message = allocate(64 + (size_t) run.signature.comment_len, 1);
-    error = judge_list(listing, &run, true);
+    error = check_list_signature(listing, &run, true);
     if (error == MINISIGN_OTHER_LIST && options->any_list) {
-        error = judge_list(listing, &run, false);
+        error = check_list_signature(listing, &run, false);
         if (error == MINISIGN_OK) {
             fprintf(stderr, "warning: %s: the trusted comment does not name this list\n",
                     escape_name(listing->file).text);
@@ -230,7 +233,7 @@ static void verify_list(struct listing *listing, const struct check_options *opt
 
 /* ---- The entries ---- */
 
-/* Explains why the verified text is not a list, and ends the program. */
+/* Explains why the file is not a list, although its signature is valid, and ends the program. */
 static _Noreturn void reject_entries(const char *file, enum minisign_error error, uint64_t line)
 {
     char text[MINISIGN_ERROR_TEXT_BYTES];
@@ -241,31 +244,31 @@ static _Noreturn void reject_entries(const char *file, enum minisign_error error
         exit(LIST_REJECTED);
     }
     minisign_error_text(error, text, sizeof text);
-    end_with(LIST_REJECTED, file, error == MINISIGN_NOT_UTF8 ? "this list is not UTF-8" : text, NULL);
+    exit_with_error(LIST_REJECTED, file, error == MINISIGN_NOT_UTF8 ? "this list is not UTF-8" : text, NULL);
 }
 
 static int compare_names(const void *first, const void *second)
 {
-    const struct listed *const *one = first, *const *other = second;
+    const struct named_entry *const *one = first, *const *other = second;
 
     return strcmp((*one)->name, (*other)->name);
 }
 
-/* Returns true if a file can match the entry. Names with escapes, or with a backslash, match no file. */
-static bool can_match(const struct listed *listed)
+/* Returns true if a file can match the entry. No file matches a name that has escapes or a backslash. */
+static bool can_match(const struct named_entry *listed)
 {
     return !listed->entry.is_escaped && strchr(listed->name, '\\') == NULL;
 }
 
-/* Copies the names, each with a terminating zero, and sorts the entries by name. */
+/* Copies the names, each with a terminating zero, and sorts the entries that a file can match by name. */
 static void index_names(struct listing *listing)
 {
-    /* Each line has more bytes besides the name than the zero that is added. */
+    /* This is enough: each line has other bytes besides the name, so there is room for the terminating zero. */
     char *names = allocate(listing->len + 1, 1);
 
     listing->by_name = allocate(listing->count, sizeof *listing->by_name);
     for (size_t i = 0; i < listing->count; i++) {
-        struct listed *listed = &listing->entries[i];
+        struct named_entry *listed = &listing->entries[i];
         size_t len = (size_t) listed->entry.name_len;
 
         memcpy(names, listing->text + listed->entry.name_offset, len);
@@ -280,17 +283,17 @@ static void index_names(struct listing *listing)
 
 static void read_entries(struct listing *listing)
 {
-    size_t room = MINISIGN_LIST_ENTRIES(listing->len);
-    minisign_list_entry *entries = allocate(room, sizeof *entries);
+    size_t capacity = MINISIGN_LIST_ENTRIES(listing->len);
+    minisign_list_entry *entries = allocate(capacity, sizeof *entries);
     uint64_t line;
     enum minisign_error error = minisign_list_entries(&listing->verified, listing->text, listing->len,
-                                                      listing->long_digest, entries, room, &listing->count, &line);
+                                                      listing->long_digest, entries, capacity, &listing->count, &line);
 
     if (error != MINISIGN_OK) {
         reject_entries(listing->file, error, line);
     }
     if (listing->count == 0) {
-        end_with(LIST_REJECTED, listing->file, "this list has no entries", NULL);
+        exit_with_error(LIST_REJECTED, listing->file, "this list has no entries", NULL);
     }
     listing->entries = allocate(listing->count, sizeof *listing->entries);
     for (size_t i = 0; i < listing->count; i++) {
@@ -306,7 +309,7 @@ struct listing load_listing(const struct check_options *options)
         .file = options->list, .long_digest = options->blake2b ? MINISIGN_HASH_BLAKE2B : MINISIGN_HASH_SHA512
     };
     minisign_public_key key = read_key(options);
-    struct file_text text = read_file(options->list, NULL);
+    struct file_content text = read_file(options->list, NULL);
 
     listing.text = text.bytes;
     listing.len = text.len;
@@ -316,7 +319,7 @@ struct listing load_listing(const struct check_options *options)
     return listing;
 }
 
-size_t entries_of_name(const struct listing *listing, const char *name)
+size_t count_matching_entries(const struct listing *listing, const char *name)
 {
     size_t low = 0, high = listing->name_count, count = 0;
 

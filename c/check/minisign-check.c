@@ -3,9 +3,9 @@
  * The program minisign-check, which checks files against a signed list.
  *
  * The library of minisign_list.h parses and verifies the list, finds entries, hashes files and compares the digests.
- * The other files of this directory read the command line (options), read and verify the list (listing), open and
- * compare the files in several threads (checking, parallel), find files that are not listed (unlisted), copy a verified
- * file (copying), and choose the exit status (outcomes).
+ * The other files of this directory parse the command line (options), read and verify the list (listing), open files
+ * and compare them with their entries in several threads (checking, parallel), find files that are not listed
+ * (unlisted), copy a verified file (copying), and choose the exit status (outcomes).
  */
 #include "checking.h"
 
@@ -19,7 +19,7 @@
 #include "shared/streams.h"
 #include "unlisted.h"
 
-/* Returns true if a file has this error. */
+/* Returns true if the check of any file ended with this error. */
 static bool has_error(const struct files *files, enum minisign_error error)
 {
     for (size_t i = 0; i < files->count; i++) {
@@ -30,8 +30,9 @@ static bool has_error(const struct files *files, enum minisign_error error)
     return false;
 }
 
-/* Returns what the user can do about the outcome, or NULL. */
-static const char *hint_about(enum outcome outcome, const struct check_options *options, const struct files *files)
+/* Returns the hint for this outcome, or NULL if there is none. */
+static const char *hint_for_outcome(enum outcome outcome, const struct check_options *options,
+                                    const struct files *files)
 {
     switch (outcome) {
     case OTHER_CONTENT: return "download the file again, or the list if it is older than the file";
@@ -53,23 +54,23 @@ int main(int argc, char *argv[])
     struct listing listing;
     struct files files;
 
-    if (!fill_standard_streams()) {
+    if (!reserve_standard_streams()) {
         return UNUSABLE_FILE;
     }
-    if (!read_arguments(&argc, &argv)) {
-        end_with(WRONG_USAGE, NULL, "an argument is not Unicode", "rename the file, or use another name for it");
+    if (!arguments_to_utf8(&argc, &argv)) {
+        exit_with_error(WRONG_USAGE, NULL, "an argument is not Unicode", "rename the file, or use another name for it");
     }
     options = parse_arguments(argc, argv);
     if (sodium_init() < 0) {
-        end_with(UNUSABLE_FILE, NULL, "libsodium could not be initialized", NULL);
+        exit_with_error(UNUSABLE_FILE, NULL, "libsodium could not be initialized", NULL);
     }
     listing = load_listing(&options);
     if (options.directory != NULL && chdir(options.directory) != 0) {
-        end_with_errno(options.directory);
+        exit_with_errno(options.directory);
     }
     files = files_to_check(&listing, &options);
     if (options.copies) {
-        check_for_copy(&files);
+        check_before_copy(&files);
     } else {
         check_files(&files);
     }
@@ -77,14 +78,14 @@ int main(int argc, char *argv[])
         find_unlisted(&listing);
     }
     if (options.copies && final_outcome() == ALL_MATCH) {
-        copy_checked(&files);
+        copy_checked_file(&files);
     }
     if (fflush(stdout) != 0 || ferror(stdout)) {
         print_error("standard output", strerror(errno));
-        add_outcome(UNUSABLE_FILE);
+        record_outcome(UNUSABLE_FILE);
     }
     if (final_outcome() != ALL_MATCH) {
-        print_hint(hint_about(final_outcome(), &options, &files));
+        print_hint(hint_for_outcome(final_outcome(), &options, &files));
     }
     return final_outcome();
 }

@@ -7,28 +7,50 @@
 #include "shared/reports.h"
 #include "usage.h"
 
-/* The options. Those up to IN have a value. */
+/* The options. KEY_FILE to IN take a value. */
 enum check_option {
-    KEY_FILE, BARE_KEY, SIGNATURE_FILE, IN, LISTED, NOTHING_ELSE, ANY_LIST, BLAKE2B, COPIES, NO_OPTION
+    KEY_FILE,
+    BARE_KEY,
+    SIGNATURE_FILE,
+    IN,
+    LISTED,
+    NOTHING_ELSE,
+    ANY_LIST,
+    BLAKE2B,
+    COPIES,
+    CHECK_OPTION_COUNT
 };
 
-static const char *const option_words[] = { "-p", "-P", "-x", "--in", "--listed", "--nothing-else", "--any-list",
-                                            "--blake2b", "-o" };
+/* The name of each option. */
+static const char *const option_words[] = {
+    [KEY_FILE] = "-p",
+    [BARE_KEY] = "-P",
+    [SIGNATURE_FILE] = "-x",
+    [IN] = "--in",
+    [LISTED] = "--listed",
+    [NOTHING_ELSE] = "--nothing-else",
+    [ANY_LIST] = "--any-list",
+    [BLAKE2B] = "--blake2b",
+    [COPIES] = "-o"
+};
 
-/* The value of each option, or for an option without a value its name; NULL for an option that is not given. */
-struct given {
-    const char *values[NO_OPTION];
+/* The arguments, split into options and paths. */
+struct arguments {
+    /* For each option that was given: its value, or any string if it takes none. NULL if it was not given. */
+    const char *values[CHECK_OPTION_COUNT];
+    /* LIST and all FILE. */
     const char **paths;
     size_t count;
 };
 
-static _Noreturn void print_and_end(const char *text, const char *more_text)
+/* Prints the help or the version, in two parts, and ends the program. */
+static _Noreturn void print_help_and_exit(const char *text, const char *more_text)
 {
     exit(fputs(text, stdout) >= 0 && fputs(more_text, stdout) >= 0 && fflush(stdout) == 0 ? ALL_MATCH : UNUSABLE_FILE);
 }
 
-/* Ends the program because of an argument, or of all of them if `word` is NULL. */
-static _Noreturn void reject_usage(const char *word, const char *what)
+/* Prints what is wrong with an argument, or with the whole command line if `word` is NULL, and ends the program. */
+static _Noreturn void reject_arguments(const char *word, const char *what)
 {
     print_error(word, what);
     fputs(USAGE "\n", stderr);
@@ -36,11 +58,12 @@ static _Noreturn void reject_usage(const char *word, const char *what)
     exit(WRONG_USAGE);
 }
 
-/* Finds an option. *value is set to the value that is part of the word, as in -pFILE, or to NULL. */
+/* Returns the option that an argument names, or CHECK_OPTION_COUNT if there is none. If the argument also contains the
+ * value, as in -pFILE, *value points to it, otherwise *value is NULL. Only -p, -P and -x may be given so. */
 static enum check_option find_option(const char *word, const char **value)
 {
     *value = NULL;
-    for (enum check_option option = KEY_FILE; option < NO_OPTION; option++) {
+    for (enum check_option option = KEY_FILE; option < CHECK_OPTION_COUNT; option++) {
         if (strcmp(word, option_words[option]) == 0) {
             return option;
         }
@@ -49,85 +72,86 @@ static enum check_option find_option(const char *word, const char **value)
             return option;
         }
     }
-    return NO_OPTION;
+    return CHECK_OPTION_COUNT;
 }
 
-static struct given take_arguments(int argc, char *argv[])
+/* Splits the command line into options and paths. Ends the program for an unknown or repeated option. */
+static struct arguments split_arguments(int argc, char *argv[])
 {
-    struct given given = { .paths = allocate((size_t) argc, sizeof *given.paths) };
-    bool is_ended = false;
+    struct arguments arguments = { .paths = allocate((size_t) argc, sizeof *arguments.paths) };
+    bool options_have_ended = false;
 
     for (int i = 1; i < argc; i++) {
         const char *word = argv[i], *value;
         enum check_option option;
 
-        if (is_ended || word[0] != '-' || word[1] == 0) {
-            given.paths[given.count++] = word;
+        if (options_have_ended || word[0] != '-' || word[1] == 0) {
+            arguments.paths[arguments.count++] = word;
             continue;
         }
         if (strcmp(word, "--") == 0) {
-            is_ended = true;
+            options_have_ended = true;
             continue;
         }
         option = find_option(word, &value);
-        if (option == NO_OPTION) {
-            reject_usage(word, "unknown option");
+        if (option == CHECK_OPTION_COUNT) {
+            reject_arguments(word, "unknown option");
         }
         if (option <= IN && value == NULL && ++i == argc) {
-            reject_usage(word, "this option needs a value");
+            reject_arguments(word, "this option needs a value");
         }
-        if (given.values[option] != NULL) {
-            reject_usage(option_words[option], "this option can be given only once");
+        if (arguments.values[option] != NULL) {
+            reject_arguments(option_words[option], "this option can be given only once");
         }
-        given.values[option] = value != NULL ? value : argv[i];
+        arguments.values[option] = value != NULL ? value : argv[i];
     }
-    return given;
+    return arguments;
 }
 
-/* Ends the program if the arguments do not fit together. */
-static void judge_arguments(const struct given *given)
+/* Ends the program if an argument is missing, or options cannot be combined. */
+static void check_arguments(const struct arguments *arguments)
 {
-    if (given->values[KEY_FILE] != NULL && given->values[BARE_KEY] != NULL) {
-        reject_usage("-P", "this option cannot be combined with -p");
+    if (arguments->values[KEY_FILE] != NULL && arguments->values[BARE_KEY] != NULL) {
+        reject_arguments("-P", "this option cannot be combined with -p");
     }
-    if (given->values[KEY_FILE] == NULL && given->values[BARE_KEY] == NULL) {
-        reject_usage(NULL, "the public key is missing, expected -p PUBKEY or -P KEY");
+    if (arguments->values[KEY_FILE] == NULL && arguments->values[BARE_KEY] == NULL) {
+        reject_arguments(NULL, "the public key is missing, expected -p PUBKEY or -P KEY");
     }
-    if (given->count == 0) {
-        reject_usage(NULL, "missing argument, expected LIST");
+    if (arguments->count == 0) {
+        reject_arguments(NULL, "missing argument, expected LIST");
     }
-    if (given->values[LISTED] != NULL && given->count > 1) {
-        reject_usage("--listed", "this option cannot be combined with FILE");
+    if (arguments->values[LISTED] != NULL && arguments->count > 1) {
+        reject_arguments("--listed", "this option cannot be combined with FILE");
     }
-    if (given->values[COPIES] != NULL && given->count != 2) {
-        reject_usage("-o", "this option needs exactly one FILE");
+    if (arguments->values[COPIES] != NULL && arguments->count != 2) {
+        reject_arguments("-o", "this option needs exactly one FILE");
     }
 }
 
 struct check_options parse_arguments(int argc, char *argv[])
 {
-    struct given given;
+    struct arguments arguments;
 
     if (argc == 2 && (strcmp(argv[1], "--help") == 0 || strcmp(argv[1], "-h") == 0)) {
-        print_and_end(USAGE "\n" OPTIONS_HELP, STATUS_HELP);
+        print_help_and_exit(USAGE "\n" OPTIONS_HELP, STATUS_HELP);
     }
     if (argc == 2 && strcmp(argv[1], "--version") == 0) {
-        print_and_end("minisign-check " MINISIGN_VERSION_TEXT "\n", "");
+        print_help_and_exit("minisign-check " MINISIGN_VERSION_TEXT "\n", "");
     }
-    given = take_arguments(argc, argv);
-    judge_arguments(&given);
+    arguments = split_arguments(argc, argv);
+    check_arguments(&arguments);
     return (struct check_options) {
-        .key_file = given.values[KEY_FILE],
-        .bare_key = given.values[BARE_KEY],
-        .signature = given.values[SIGNATURE_FILE],
-        .directory = given.values[IN],
-        .listed_only = given.values[LISTED] != NULL,
-        .nothing_else = given.values[NOTHING_ELSE] != NULL,
-        .any_list = given.values[ANY_LIST] != NULL,
-        .blake2b = given.values[BLAKE2B] != NULL,
-        .copies = given.values[COPIES] != NULL,
-        .list = given.paths[0],
-        .files = given.paths + 1,
-        .file_count = given.count - 1
+        .key_file = arguments.values[KEY_FILE],
+        .bare_key = arguments.values[BARE_KEY],
+        .signature = arguments.values[SIGNATURE_FILE],
+        .directory = arguments.values[IN],
+        .listed_only = arguments.values[LISTED] != NULL,
+        .nothing_else = arguments.values[NOTHING_ELSE] != NULL,
+        .any_list = arguments.values[ANY_LIST] != NULL,
+        .blake2b = arguments.values[BLAKE2B] != NULL,
+        .copies = arguments.values[COPIES] != NULL,
+        .list = arguments.paths[0],
+        .files = arguments.paths + 1,
+        .file_count = arguments.count - 1
     };
 }

@@ -1,5 +1,5 @@
 /* SPDX-License-Identifier: MIT */
-/* Defines the exit statuses of minisign-check, and chooses the one of a run. */
+/* Defines the exit statuses of minisign-check, and chooses the status of a run, in which several may apply. */
 #ifndef CHECK_OUTCOMES_H
 #define CHECK_OUTCOMES_H
 
@@ -19,19 +19,21 @@ enum outcome {
     UNLISTED_FILE = 7
 };
 
-/* Records an outcome of the run. ALL_MATCH changes nothing. */
-void add_outcome(enum outcome outcome);
+/* Records an outcome of the run. Recording ALL_MATCH changes nothing. */
+void record_outcome(enum outcome outcome);
 
-/* Returns the exit status: of the recorded outcomes the first of 3, 4, 5, 6, 7 and 1, or 0 if there is none. */
+/* Returns the exit status of the run: the first of 3, 4, 5, 6, 7 and 1, in this order, that was recorded, otherwise
+ * 0. */
 enum outcome final_outcome(void);
 
-/* Prints an error about a file, or about none if it is NULL, and a hint unless it is NULL, and ends the program. */
-_Noreturn void end_with(enum outcome outcome, const char *file, const char *what, const char *hint);
+/* Prints an error and a hint, and ends the program with this outcome. `file` is NULL if the error is not about a file.
+ * `hint` is NULL if there is none. */
+_Noreturn void exit_with_error(enum outcome outcome, const char *file, const char *what, const char *hint);
 
-/* Ends the program after a system call about this file failed, with the error of errno. */
-_Noreturn void end_with_errno(const char *file);
+/* Prints the text of errno for this file, and ends the program with status UNUSABLE_FILE. */
+_Noreturn void exit_with_errno(const char *file);
 
-/* Returns memory of malloc, set to zeros, or ends the program. */
+/* Allocates count * size bytes with malloc and sets them to zeros. Ends the program if there is not enough memory. */
 void *allocate(size_t count, size_t size);
 
 #endif

@@ -8,20 +8,21 @@
 
 #define MAX_THREADS 32
 
-/* How often `wait` is called, in nanoseconds. */
-#define WAIT_NS 200000000
+/* The interval at which `while_waiting` is called, in nanoseconds. */
+#define WAIT_INTERVAL_NS 200000000
 
-/* The tasks of a run. The lock protects `next` and `has_ended`. */
-struct run {
+/* The state of a call of `run_tasks`. */
+struct task_run {
     const struct tasks *tasks;
     pthread_mutex_t lock;
-    pthread_cond_t task_ended;
+    pthread_cond_t task_done;
+    /* The index of the next task to start, and for each task whether it is done. Both are protected by `lock`. */
     size_t next;
-    bool *has_ended;
+    bool *is_done;
 };
 
 struct thread {
-    struct run *run;
+    struct task_run *run;
     uint8_t *buffer;
     pthread_t id;
 };
@@ -36,37 +37,37 @@ static size_t processor_count(void)
     return count < 1 ? 1 : count > MAX_THREADS ? MAX_THREADS : (size_t) count;
 }
 
-/* Takes the next task and runs it. Returns false if there is none. */
-static bool run_next(struct run *run, uint8_t *buffer)
+/* Runs the next task that no thread has started. Returns false if there is none. */
+static bool run_next(struct task_run *run, uint8_t *buffer)
 {
     const struct tasks *tasks = run->tasks;
-    size_t number;
+    size_t index;
 
     pthread_mutex_lock(&run->lock);
-    number = run->next;
-    run->next += number < tasks->count ? 1 : 0;
+    index = run->next;
+    run->next += index < tasks->count ? 1 : 0;
     pthread_mutex_unlock(&run->lock);
-    if (number == tasks->count) {
+    if (index == tasks->count) {
         return false;
     }
-    tasks->work(tasks->context, number, buffer);
+    tasks->work(tasks->context, index, buffer);
     pthread_mutex_lock(&run->lock);
-    run->has_ended[number] = true;
-    pthread_cond_signal(&run->task_ended);
+    run->is_done[index] = true;
+    pthread_cond_signal(&run->task_done);
     pthread_mutex_unlock(&run->lock);
     return true;
 }
 
-static void *run_thread(void *given)
+static void *run_thread(void *argument)
 {
-    struct thread *thread = given;
+    struct thread *thread = argument;
 
     while (run_next(thread->run, thread->buffer)) {
     }
     return NULL;
 }
 
-/* Starts up to `count` threads, and returns how many were started. */
+/* Starts up to `count` threads, and returns the number of threads that were started. */
 static size_t start_threads(struct thread *threads, size_t count)
 {
     size_t started = 0;
@@ -77,21 +78,21 @@ static size_t start_threads(struct thread *threads, size_t count)
     return started;
 }
 
-/* Waits until a task has ended. A change of the clock only makes one wait longer or shorter. */
-static void wait_for(struct run *run, size_t number)
+/* Waits until a task is done. If somebody sets the clock, only the current interval becomes longer or shorter. */
+static void wait_for_task(struct task_run *run, size_t index)
 {
     struct timespec until;
 
     pthread_mutex_lock(&run->lock);
-    while (!run->has_ended[number]) {
+    while (!run->is_done[index]) {
         clock_gettime(CLOCK_REALTIME, &until);
-        until.tv_nsec += WAIT_NS;
+        until.tv_nsec += WAIT_INTERVAL_NS;
         until.tv_sec += until.tv_nsec / 1000000000;
         until.tv_nsec %= 1000000000;
-        pthread_cond_timedwait(&run->task_ended, &run->lock, &until);
-        if (run->tasks->wait != NULL) {
+        pthread_cond_timedwait(&run->task_done, &run->lock, &until);
+        if (run->tasks->while_waiting != NULL) {
             pthread_mutex_unlock(&run->lock);
-            run->tasks->wait(run->tasks->context);
+            run->tasks->while_waiting(run->tasks->context);
             pthread_mutex_lock(&run->lock);
         }
     }
@@ -100,33 +101,33 @@ static void wait_for(struct run *run, size_t number)
 
 void run_tasks(const struct tasks *tasks)
 {
-    size_t wanted = processor_count() < tasks->count ? processor_count() : tasks->count, started;
-    struct run run = { .tasks = tasks, .has_ended = allocate(tasks->count, sizeof *run.has_ended) };
-    struct thread *threads = allocate(wanted, sizeof *threads);
-    uint8_t *buffers = allocate(wanted, WORK_BYTES);
+    size_t thread_count = processor_count() < tasks->count ? processor_count() : tasks->count, started;
+    struct task_run run = { .tasks = tasks, .is_done = allocate(tasks->count, sizeof *run.is_done) };
+    struct thread *threads = allocate(thread_count, sizeof *threads);
+    uint8_t *buffers = allocate(thread_count, WORK_BYTES);
 
     pthread_mutex_init(&run.lock, NULL);
-    pthread_cond_init(&run.task_ended, NULL);
-    for (size_t i = 0; i < wanted; i++) {
+    pthread_cond_init(&run.task_done, NULL);
+    for (size_t i = 0; i < thread_count; i++) {
         threads[i] = (struct thread) { .run = &run, .buffer = buffers + i * WORK_BYTES };
     }
-    started = start_threads(threads, wanted);
-    for (size_t number = 0; number < tasks->count; number++) {
+    started = start_threads(threads, thread_count);
+    for (size_t index = 0; index < tasks->count; index++) {
         if (started > 0) {
-            wait_for(&run, number);
+            wait_for_task(&run, index);
         } else {
             run_next(&run, buffers);
         }
         if (tasks->report != NULL) {
-            tasks->report(tasks->context, number);
+            tasks->report(tasks->context, index);
         }
     }
     for (size_t i = 0; i < started; i++) {
         pthread_join(threads[i].id, NULL);
     }
-    pthread_cond_destroy(&run.task_ended);
+    pthread_cond_destroy(&run.task_done);
     pthread_mutex_destroy(&run.lock);
-    free(run.has_ended);
+    free(run.is_done);
     free(threads);
     free(buffers);
 }

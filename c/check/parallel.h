@@ -5,22 +5,22 @@
 
 #include "shared/system.h"
 
-/* The size of the buffer that each thread has. */
+/* The size of the buffer of each thread. */
 #define WORK_BYTES 131072
 
 /*
- * The tasks have the numbers 0 to count - 1. `work` runs a task in any thread, with the buffer of this thread.
+ * Tasks, which have the indexes 0 to count - 1. `work` runs one task, in any thread, with the buffer of this thread.
  *
- * The other two functions may be NULL, and are called in the calling thread. `report` is called for each task, in the
- * order of the numbers, as soon as this task and all before it have ended. `wait` is called several times a second
- * while the calling thread waits for a task.
+ * The other two functions may be NULL. They are called in the thread that has called `run_tasks`. `report` is called
+ * once for each task, in the order of the indexes, as soon as this task and all tasks before it are done.
+ * `while_waiting` is called several times a second while this thread waits for a task.
  */
 struct tasks {
     size_t count;
     void *context;
-    void (*work)(void *context, size_t number, uint8_t *buffer);
-    void (*report)(void *context, size_t number);
-    void (*wait)(void *context);
+    void (*work)(void *context, size_t index, uint8_t *buffer);
+    void (*report)(void *context, size_t index);
+    void (*while_waiting)(void *context);
 };
 
 /* Runs all tasks. Uses one thread per processor, or the calling thread if no thread can be created. Ends the program if

@@ -1,5 +1,5 @@
 /* SPDX-License-Identifier: MIT */
-/* Finds files that no line of the list has. */
+/* Finds files that are not in the list. */
 #include "unlisted.h"
 
 #include <dirent.h>
@@ -8,7 +8,7 @@
 #include "shared/handles.h"
 #include "shared/reports.h"
 
-/* The names of a directory, in memory of malloc. */
+/* The names of unlisted files, allocated with malloc. */
 struct names {
     char **names;
     size_t count;
@@ -22,23 +22,23 @@ static void add_name(struct names *names, const char *name)
     if ((names->count & (names->count - 1)) == 0) {
         names->names = realloc(names->names, (names->count == 0 ? 1 : 2 * names->count) * sizeof *names->names);
         if (names->names == NULL) {
-            end_with(UNUSABLE_FILE, NULL, "out of memory", NULL);
+            exit_with_error(UNUSABLE_FILE, NULL, "out of memory", NULL);
         }
     }
     names->names[names->count] = allocate(size, 1);
     memcpy(names->names[names->count++], name, size);
 }
 
-/* Returns true if this is a regular file, or a link to one, that is neither the list nor its signature. */
-static bool has_to_be_listed(const struct listing *listing, const char *name)
+/* Returns true if this is a regular file, or a symbolic link to one, and neither the list nor its signature file. */
+static bool must_be_listed(const struct listing *listing, const char *name)
 {
     struct handle handle;
 
     if (!look_up(&handle, AT_FDCWD, name, true)) {
-        /* A link that leads nowhere is no file, and a file may have been removed meanwhile. */
+        /* ENOENT: a dangling symbolic link, or a file that was removed meanwhile. */
         if (errno != ENOENT) {
             print_error(name, strerror(errno));
-            add_outcome(UNUSABLE_FILE);
+            record_outcome(UNUSABLE_FILE);
         }
         return false;
     }
@@ -61,24 +61,25 @@ void find_unlisted(const struct listing *listing)
     struct dirent *entry;
 
     if (directory == NULL) {
-        end_with_errno(".");
+        exit_with_errno(".");
     }
     for (;;) {
         errno = 0;
         entry = readdir(directory);
         if (entry == NULL && errno != 0 && errno != EINTR) {
-            end_with_errno(".");
+            exit_with_errno(".");
         } else if (entry == NULL && errno == 0) {
             break;
         }
-        if (entry != NULL && entries_of_name(listing, entry->d_name) == 0 && has_to_be_listed(listing, entry->d_name)) {
+        if (entry != NULL && count_matching_entries(listing, entry->d_name) == 0
+            && must_be_listed(listing, entry->d_name)) {
             add_name(&names, entry->d_name);
         }
     }
     closedir(directory);
     if (names.count > 0) {
         qsort(names.names, names.count, sizeof *names.names, compare_strings);
-        add_outcome(UNLISTED_FILE);
+        record_outcome(UNLISTED_FILE);
     }
     for (size_t i = 0; i < names.count; i++) {
         print_error(names.names[i], "no line of the list has this file");

@@ -1,12 +1,12 @@
 /* SPDX-License-Identifier: MIT */
-/* Finds files that no line of the list has. */
+/* Finds files that are not in the list, for --nothing-else. */
 #ifndef CHECK_UNLISTED_H
 #define CHECK_UNLISTED_H
 
 #include "listing.h"
 
-/* Prints and records each regular file of the current directory that no line lists, except the list and its signature.
- * Links are followed. */
+/* Prints and records each regular file in the current directory that is not in the list, except the list itself and its
+ * signature file. Symbolic links are followed. */
 void find_unlisted(const struct listing *listing);
 
 #endif

@@ -2,7 +2,7 @@
 // Signs a file with a key that an ssh-agent holds. The secret key never enters this program. A token or a signing
 // service is used in the same way.
 //
-//     agent_sign PUBLIC_KEY DATA SIGNATURE COMMENT
+//     agent_sign PUBLIC_KEY DATA SIGNATURE TRUSTED_COMMENT
 //
 // The signature file is written after the signature was verified under the public key.
 #include <stdio.h>
@@ -19,10 +19,11 @@
 // Message numbers of the ssh-agent protocol (draft-miller-ssh-agent, section 5.1).
 enum { SIGN_REQUEST = 13, SIGN_RESPONSE = 14 };
 
+// The maximum size of a key file, a signature file, a piece of the data, and a message that the agent signs.
 enum { TEXT_BYTES = 65536 };
 
 static const char ALGORITHM[] = "ssh-ed25519";
-static const char UNTRUSTED[] = "signature from an ssh-agent";
+static const char UNTRUSTED_COMMENT[] = "signature from an ssh-agent";
 
 static void fail(const char *what)
 {
@@ -110,7 +111,7 @@ static int sign_by_agent(void *context, uint8_t sig[64], const uint8_t *message,
 {
     const struct agent *agent = context;
     uint8_t key[4 + sizeof ALGORITHM - 1 + 4 + 32], expected[4 + 1 + 4 + 4 + sizeof ALGORITHM - 1 + 4];
-    uint8_t response[sizeof expected + 64], request[128 + TEXT_BYTES], *end = request + 4;
+    uint8_t response[sizeof expected + 64], request[128 + TEXT_BYTES], *end = request + 4, *expected_end;
 
     if (len > TEXT_BYTES) {
         return -1;
@@ -123,11 +124,14 @@ static int sign_by_agent(void *context, uint8_t sig[64], const uint8_t *message,
     if (write_all(agent->socket, request, (size_t) (end - request)) != 0) {
         return -1;
     }
-    // If the agent does not hold the key, or its user refuses, its response has fewer bytes.
-    end = put_number(expected, sizeof response - 4);
-    *end++ = SIGN_RESPONSE;
-    end = put_string(put_number(end, sizeof response - 4 - 1 - 4), ALGORITHM, sizeof ALGORITHM - 1);
-    put_number(end, 64);
+    // The response to a successful request begins with: its length, SIGN_RESPONSE, the length of the signature with its
+    // algorithm, the algorithm, and the length of the Ed25519 signature, 64. If the agent does not hold the key, or its
+    // user refuses, the response has fewer bytes, so the length is checked before more is read.
+    expected_end = put_number(expected, sizeof response - 4);
+    *expected_end++ = SIGN_RESPONSE;
+    expected_end = put_number(expected_end, sizeof response - 4 - 1 - 4);
+    expected_end = put_string(expected_end, ALGORITHM, sizeof ALGORITHM - 1);
+    put_number(expected_end, 64);
     if (read_all(agent->socket, response, 4) != 0 || memcmp(response, expected, 4) != 0
         || read_all(agent->socket, response + 4, sizeof response - 4) != 0
         || memcmp(response, expected, sizeof expected) != 0) {
@@ -162,15 +166,18 @@ int main(int argc, char **argv)
 {
     static minisign_signer signer;
     static uint8_t text[TEXT_BYTES];
-    minisign_signed_parts parts = { .untrusted_comment = (const uint8_t *) UNTRUSTED,
-                                    .untrusted_comment_len = sizeof UNTRUSTED - 1 };
+    minisign_signed_parts parts = { .untrusted_comment = (const uint8_t *) UNTRUSTED_COMMENT,
+                                    .untrusted_comment_len = sizeof UNTRUSTED_COMMENT - 1 };
     minisign_public_key key = { 0 };
     struct agent agent;
     size_t len;
     FILE *file;
 
-    if (argc != 5 || sodium_init() < 0) {
-        fail("usage: agent_sign PUBLIC_KEY DATA SIGNATURE COMMENT");
+    if (argc != 5) {
+        fail("usage: agent_sign PUBLIC_KEY DATA SIGNATURE TRUSTED_COMMENT");
+    }
+    if (sodium_init() < 0) {
+        fail("libsodium cannot be initialized");
     }
     expect(minisign_read_public_key(text, read_piece(open_file(argv[1], "rb"), text), &key));
     memcpy(agent.public_key, key.key, sizeof agent.public_key);

@@ -18,7 +18,7 @@
 
 enum { TEXT_BYTES = 65536 };
 
-static const char UNTRUSTED[] = MINISIGN_SIGNATURE_COMMENT;
+static const char UNTRUSTED_COMMENT[] = MINISIGN_SIGNATURE_COMMENT;
 
 static uint8_t text[TEXT_BYTES], password[TEXT_BYTES], message[TEXT_BYTES];
 static minisign_unopened_key unopened;
@@ -115,8 +115,8 @@ int main(int argc, char **argv)
     expect(minisign_digest(&state, digest));
     parts.trusted_comment = (const uint8_t *) argv[4];
     parts.trusted_comment_len = strlen(argv[4]);
-    parts.untrusted_comment = (const uint8_t *) UNTRUSTED;
-    parts.untrusted_comment_len = strlen(UNTRUSTED);
+    parts.untrusted_comment = (const uint8_t *) UNTRUSTED_COMMENT;
+    parts.untrusted_comment_len = strlen(UNTRUSTED_COMMENT);
     sign(parts.signature, digest, sizeof digest);
     expect(minisign_comment_message(parts.signature, parts.trusted_comment, parts.trusted_comment_len, message,
                                     sizeof message));

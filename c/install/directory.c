@@ -11,117 +11,129 @@
 #include "shared/stages.h"
 #include "shared/streams.h"
 
-/* The mode of new files, and that of the record, which everybody may read. Nobody else may open the lock file, because
- * whoever can open it can hold it for ever. */
-#define FOR_THE_OWNER 0600
-#define FOR_ALL_TO_READ 0644
+/* The mode of new files. The lock file keeps it, because whoever can open the lock file can hold the lock for ever. */
+#define OWNER_ONLY_MODE 0600
+/* The mode of the version record. All users may read it, so that they can use --check. */
+#define READABLE_MODE 0644
 
-/* How often to open a file again that other processes keep replacing. */
-#define MAX_OPENINGS 100
+/* The maximum number of attempts to open a file that other processes keep replacing. */
+#define MAX_OPEN_TRIES 100
 
-/* How many random bytes the name of a temporary file has, as hexadecimal digits. */
-#define DRAWN_BYTES 16
+/* The number of random bytes in the name of a temporary file. The name has two hexadecimal digits for each byte. */
+#define RANDOM_NAME_BYTES 16
 
-/* After this many bytes were read back, the system is asked to start writing them to the disk, so that fsync takes less
- * time. */
-#define BEGUN_BYTES (8 << 20)
+/* Whenever this many bytes were read back, the system is asked to start writing them to the disk, so that fsync takes
+ * less time. */
+#define WRITEBACK_BYTES (8 << 20)
 
-/* How many names `struct directory` stores, and how many bytes each may add to the target's path. */
-#define NAMES 6
-#define MORE_BYTES 64
+/* `names` of struct directory holds this many strings: the path of the directory; the paths of the lock file, of the
+ * record and of temporary files; and the names of the new file and of the new record. */
+#define NAME_COUNT 6
+/* The maximum number of bytes by which such a string, with its final 0 byte, is longer than the path of the target. */
+#define MAX_ADDED_BYTES 64
 
-/* Links in the last component are not followed, and opening a pipe does not wait. */
-#define SAFELY (O_NOFOLLOW | O_NONBLOCK | O_CLOEXEC)
+/* A symbolic link in the last component is not followed, and opening a named pipe does not wait. */
+#define SAFE_OPEN_FLAGS (O_NOFOLLOW | O_NONBLOCK | O_CLOEXEC)
 
 /* ---- Names ---- */
 
-bool name_directory(struct directory *directory, const char *target)
+bool init_directory(struct directory *directory, const char *target)
 {
-    static const char *const after[] = { "lock", "number", "stage-*" };
-    struct part *const beside[] = { &directory->lock, &directory->record, &directory->stages };
+    static const char *const suffixes[] = { "lock", "number", "stage-*" };
+    struct named_file *const derived_files[] = { &directory->lock, &directory->record, &directory->temporary };
     const char *slash = strrchr(target, '/');
     const char *name = slash == NULL ? target : slash + 1, *prefix = slash == NULL ? "." : target;
     int length = slash == NULL || slash == target ? 1 : (int) (slash - target);
-    size_t size = strlen(target) + MORE_BYTES;
-    char *names;
+    size_t size = strlen(target) + MAX_ADDED_BYTES;
+    char *names, *new_file_name, *new_record_name;
 
     if (*name == 0 || strcmp(name, ".") == 0 || strcmp(name, "..") == 0) {
         errno = EINVAL;
         return false;
     }
-    names = malloc(NAMES * size);
+    names = malloc(NAME_COUNT * size);
     if (names == NULL) {
         return false;
     }
-    *directory = (struct directory) { .target = { target, name }, .fd = -1, .locked = -1, .names = names };
+    *directory = (struct directory) { .target = { target, name }, .fd = -1, .lock_fd = -1, .names = names };
     snprintf(names, size, "%.*s", length, prefix);
-    directory->itself = (struct part) { names, "." };
-    for (size_t i = 0; i < sizeof beside / sizeof beside[0]; i++) {
+    directory->self = (struct named_file) { names, "." };
+    for (size_t i = 0; i < sizeof derived_files / sizeof derived_files[0]; i++) {
         names += size;
-        snprintf(names, size, "%.*s/.%s.%s", length, prefix, name, after[i]);
-        *beside[i] = (struct part) { names, names + length + 1 };
+        snprintf(names, size, "%.*s/.%s.%s", length, prefix, name, suffixes[i]);
+        *derived_files[i] = (struct named_file) { names, names + length + 1 };
     }
-    directory->update = (struct stage) { &directory->stages, strcpy(names + size, beside[2]->name), .fd = -1 };
-    directory->number = (struct stage) { &directory->stages, strcpy(names + 2 * size, beside[2]->name), .fd = -1 };
-    directory->installed = (struct stage) { .shown = &directory->target, .fd = -1 };
+    /* The names of the two temporary files begin as a copy of the pattern. A random part replaces its star. */
+    new_file_name = strcpy(names + size, directory->temporary.name);
+    new_record_name = strcpy(names + 2 * size, directory->temporary.name);
+    directory->new_file = (struct work_file) { .file = &directory->temporary, .name = new_file_name, .fd = -1 };
+    directory->new_record = (struct work_file) { .file = &directory->temporary, .name = new_record_name, .fd = -1 };
+    directory->installed = (struct work_file) { .file = &directory->target, .fd = -1 };
     return true;
 }
 
 void close_directory(struct directory *directory)
 {
-    close_if_open(&directory->update.fd);
-    close_if_open(&directory->number.fd);
+    close_if_open(&directory->new_file.fd);
+    close_if_open(&directory->new_record.fd);
     close_target(directory);
-    close_if_open(&directory->locked);
+    close_if_open(&directory->lock_fd);
     close_if_open(&directory->fd);
     free(directory->names);
 }
 
 /* ---- Errors ---- */
 
-/* Remembers the first error: the file, and either the cause with a hint, or errno if `cause` is NULL. */
-static void remember(struct directory *directory, const struct part *part, const char *cause, const char *hint)
+/* Remembers the error, unless there was an earlier one. If `cause` is NULL, errno is the cause. */
+static void remember_failure(struct directory *directory, const struct named_file *file, const char *cause,
+                             const char *hint)
 {
-    if (!directory->trouble.is_there) {
-        directory->trouble = (struct trouble) { true, part->shown, cause, errno, hint };
+    if (!directory->failure.is_set) {
+        directory->failure = (struct failure) { true, file->path, cause, errno, hint };
     }
 }
 
-/* Remembers an error with its cause, and returns `error`. */
-static enum minisign_error fails_for(struct directory *directory, const struct part *part, const char *cause,
-                                     const char *hint, enum minisign_error error)
+/* Remembers a failure with its cause and hint, and returns `error`. */
+static enum minisign_error fail_with_cause(struct directory *directory, const struct named_file *file,
+                                           const char *cause, const char *hint, enum minisign_error error)
 {
-    remember(directory, part, cause, hint);
+    remember_failure(directory, file, cause, hint);
     return error;
 }
 
-/* Remembers an error of the system, and returns `error`. */
-static enum minisign_error fails(struct directory *directory, const struct part *part, enum minisign_error error)
+/* Remembers a failure whose cause is errno, and returns `error`. */
+static enum minisign_error fail_with_errno(struct directory *directory, const struct named_file *file,
+                                           enum minisign_error error)
 {
-    return fails_for(directory, part, NULL, NULL, error);
+    return fail_with_cause(directory, file, NULL, NULL, error);
 }
 
-static enum minisign_error wrote(struct directory *directory, const struct part *part, bool is_written)
+/* Returns MINISIGN_OK if `is_written`. Otherwise remembers errno and returns MINISIGN_WRITING_FAILED. */
+static enum minisign_error fail_unless_written(struct directory *directory, const struct named_file *file,
+                                               bool is_written)
 {
-    return is_written ? MINISIGN_OK : fails(directory, part, MINISIGN_WRITING_FAILED);
+    return is_written ? MINISIGN_OK : fail_with_errno(directory, file, MINISIGN_WRITING_FAILED);
 }
 
-static enum minisign_error remove_stage(struct directory *directory, const struct stage *stage)
+static enum minisign_error unlink_temporary_file(struct directory *directory, const struct work_file *work_file)
 {
-    /* Another run that has the lock may have removed it. */
-    return wrote(directory, &directory->stages, AGAIN(unlinkat(directory->fd, stage->name, 0)) == 0 || errno == ENOENT);
+    /* ENOENT: another run, which holds the lock, has removed the file as a leftover. (A temporary file can be created
+     * without the lock.) */
+    return fail_unless_written(directory, &directory->temporary,
+                               AGAIN(unlinkat(directory->fd, work_file->name, 0)) == 0 || errno == ENOENT);
 }
 
 /* ---- Existing files ---- */
 
-/* The file exists, does not exist, or cannot be used, which is remembered. */
+/* The result of inspecting a name. UNUSABLE: the failure was remembered. */
 enum presence { PRESENT, ABSENT, UNUSABLE };
 
-static enum presence find(struct directory *directory, const struct part *part, struct stat *status)
+/* Inspects the file with this name, without following a link. A file that is not regular is unusable. */
+static enum presence inspect_name(struct directory *directory, const struct named_file *file, struct stat *status)
 {
     const char *cause = NULL, *hint = NULL;
 
-    if (AGAIN(fstatat(directory->fd, part->name, status, AT_SYMLINK_NOFOLLOW)) == 0) {
+    if (AGAIN(fstatat(directory->fd, file->name, status, AT_SYMLINK_NOFOLLOW)) == 0) {
         if (S_ISREG(status->st_mode)) {
             return PRESENT;
         }
@@ -129,14 +141,14 @@ static enum presence find(struct directory *directory, const struct part *part, 
         cause = S_ISLNK(status->st_mode)   ? "this is a symbolic link, which is not followed"
                 : S_ISDIR(status->st_mode) ? "this is a directory"
                                            : "this is not a regular file";
-        hint = part != &directory->target || !(S_ISLNK(status->st_mode) || S_ISDIR(status->st_mode))
+        hint = file != &directory->target || !(S_ISLNK(status->st_mode) || S_ISDIR(status->st_mode))
                    ? "remove it or move it away"
                : S_ISLNK(status->st_mode) ? "use the path that it points to"
                                           : "give the path of a file in it";
     } else if (errno == ENOENT) {
         return ABSENT;
     }
-    remember(directory, part, cause, hint);
+    remember_failure(directory, file, cause, hint);
     return UNUSABLE;
 }
 
@@ -155,91 +167,97 @@ static bool is_mounted_at(int directory, const char *name)
 #endif
 }
 
-/* Calls find for the target, which is unusable also if another file is mounted there. */
-static enum presence find_replaceable(struct directory *directory, struct stat *status)
+/* Inspects the target. It is also unusable if another file is mounted there. */
+static enum presence inspect_target(struct directory *directory, struct stat *status)
 {
-    const struct part *target = &directory->target;
-    enum presence presence = find(directory, target, status);
+    const struct named_file *target = &directory->target;
+    enum presence presence = inspect_name(directory, target, status);
 
     if (presence == PRESENT && is_mounted_at(directory->fd, target->name)) {
         errno = EBUSY;
-        remember(directory, target, "another file is mounted here", "unmount it, or give the path of another file");
+        remember_failure(directory, target, "another file is mounted here",
+                         "unmount it, or give the path of another file");
         return UNUSABLE;
     }
     return presence;
 }
 
-enum minisign_error expect_regular_files(struct directory *directory)
+enum minisign_error require_regular_files(struct directory *directory)
 {
     struct stat status;
-    bool is_usable = find(directory, &directory->target, &status) != UNUSABLE
-                     && find(directory, &directory->lock, &status) != UNUSABLE;
+    bool is_usable = inspect_name(directory, &directory->target, &status) != UNUSABLE
+                     && inspect_name(directory, &directory->lock, &status) != UNUSABLE;
 
     return is_usable ? MINISIGN_OK : MINISIGN_READING_FAILED;
 }
 
-enum minisign_error expect_replaceable_target(struct directory *directory)
+enum minisign_error require_replaceable_target(struct directory *directory)
 {
     struct stat status;
 
-    return find_replaceable(directory, &status) == UNUSABLE ? MINISIGN_WRITING_FAILED : MINISIGN_OK;
+    return inspect_target(directory, &status) == UNUSABLE ? MINISIGN_WRITING_FAILED : MINISIGN_OK;
 }
 
-/* Calls fstat. On failure, remembers the error and returns false. */
-static bool look_at(struct directory *directory, const struct part *part, int fd, struct stat *status)
+/* Calls fstat for an open file. On failure, remembers the error and returns false. */
+static bool stat_open_file(struct directory *directory, const struct named_file *file, int fd, struct stat *status)
 {
     if (AGAIN(fstat(fd, status)) != 0) {
-        remember(directory, part, NULL, NULL);
+        remember_failure(directory, file, NULL, NULL);
         return false;
     }
     return true;
 }
 
-/* Returns PRESENT if the name of a part leads to this open file, without a link. */
-static enum presence leads_to(struct directory *directory, const struct part *part, int fd)
+/* Returns PRESENT if the name still refers to this open file, and ABSENT if it refers to another file or to none. */
+static enum presence compare_with_open_file(struct directory *directory, const struct named_file *file, int fd)
 {
     struct stat named, opened;
     enum presence presence;
 
-    if (!look_at(directory, part, fd, &opened)) {
+    if (!stat_open_file(directory, file, fd, &opened)) {
         return UNUSABLE;
     }
-    presence = find(directory, part, &named);
+    presence = inspect_name(directory, file, &named);
     return presence == PRESENT && !is_same_file(&named, &opened) ? ABSENT : presence;
 }
 
-/* Finds the keeper, who must own the lock file and the record: the owner and group of the existing lock file or record,
- * if that does not belong to root; otherwise those of the installed file or, if that belongs to root or does not exist
- * either, of the directory. Therefore a run by root neither takes these files away from a user nor prevents later runs
- * by the usual owner. */
-static bool find_keeper(struct directory *directory, const struct part *existing, struct stat *keeper)
+/*
+ * Finds the owner and group that the lock file or the record, `existing`, should have. They are those of the first file
+ * in this list that exists and does not belong to root: the file itself, and the installed file. If there is none, they
+ * are those of the directory. So a run by root neither takes these files away from a user nor locks out the user who
+ * usually installs.
+ */
+static bool find_designated_owner(struct directory *directory, const struct named_file *existing, struct stat *owner)
 {
-    const struct part *const parts[] = { existing, &directory->target };
+    const struct named_file *const candidates[] = { existing, &directory->target };
 
-    for (size_t i = 0; i < sizeof parts / sizeof parts[0]; i++) {
-        enum presence presence = find(directory, parts[i], keeper);
+    for (size_t i = 0; i < sizeof candidates / sizeof candidates[0]; i++) {
+        enum presence presence = inspect_name(directory, candidates[i], owner);
 
-        if (presence == UNUSABLE || (presence == PRESENT && keeper->st_uid != 0)) {
+        if (presence == UNUSABLE || (presence == PRESENT && owner->st_uid != 0)) {
             return presence == PRESENT;
         }
     }
-    return look_at(directory, &directory->itself, directory->fd, keeper);
+    return stat_open_file(directory, &directory->self, directory->fd, owner);
 }
 
-/* Gives a new lock file or record to the keeper, if the system allows it. `existing` is the file that it replaces, and
- * `part` what messages call it. This run must have created the file: whoever can write to the directory could have
- * renamed another user's file. */
-static bool give_to_keeper(struct directory *directory, const struct part *existing, const struct part *part, int fd)
+/*
+ * Gives a new lock file or record, open as `fd`, to the designated owner, if the system allows it. `existing` is the
+ * name of the file that it replaces, and `file` the name that messages show. This run must have created the open file:
+ * an existing one could be another user's file, to which somebody who can write to the directory gave this name.
+ */
+static bool give_to_designated_owner(struct directory *directory, const struct named_file *existing,
+                                     const struct named_file *file, int fd)
 {
-    struct stat keeper, status;
+    struct stat owner, status;
     bool is_given;
 
-    if (!find_keeper(directory, existing, &keeper) || !look_at(directory, part, fd, &status)) {
+    if (!find_designated_owner(directory, existing, &owner) || !stat_open_file(directory, file, fd, &status)) {
         return false;
     }
-    if ((status.st_uid != keeper.st_uid || status.st_gid != keeper.st_gid)
-        && !give_owner(fd, keeper.st_uid, keeper.st_gid, &is_given)) {
-        remember(directory, part, NULL, NULL);
+    if ((status.st_uid != owner.st_uid || status.st_gid != owner.st_gid)
+        && !give_owner(fd, owner.st_uid, owner.st_gid, &is_given)) {
+        remember_failure(directory, file, NULL, NULL);
         return false;
     }
     return true;
@@ -247,34 +265,34 @@ static bool give_to_keeper(struct directory *directory, const struct part *exist
 
 /* ---- Opening ---- */
 
-static enum minisign_error keeps_changing(struct directory *directory, const struct part *part)
+static enum minisign_error fail_after_retries(struct directory *directory, const struct named_file *file)
 {
     errno = EBUSY;
-    return fails_for(directory, part, "other processes keep replacing this file", "run the command again",
-                     MINISIGN_READING_FAILED);
+    return fail_with_cause(directory, file, "other processes keep replacing this file", "run the command again",
+                           MINISIGN_READING_FAILED);
 }
 
-/* Opens a file, again if other processes replaced it in between, until its name leads to the open file. *fd is -1 if
- * the file does not exist. */
-static enum minisign_error open_part(struct directory *directory, const struct part *part, int flags, int *fd)
+/* Opens an existing file. If another process replaces the file in between, tries again until the name refers to the
+ * open file. *fd is -1 if the file does not exist. */
+static enum minisign_error open_checked(struct directory *directory, const struct named_file *file, int flags, int *fd)
 {
-    for (int i = 0; i < MAX_OPENINGS; i++) {
+    for (int i = 0; i < MAX_OPEN_TRIES; i++) {
         struct stat named;
-        enum presence presence = find(directory, part, &named);
+        enum presence presence = inspect_name(directory, file, &named);
         *fd = -1;
         if (presence != PRESENT) {
             return presence == ABSENT ? MINISIGN_OK : MINISIGN_READING_FAILED;
         }
-        *fd = AGAIN(openat(directory->fd, part->name, flags | SAFELY));
-        /* Another process may have removed it, or put a link there. */
+        *fd = AGAIN(openat(directory->fd, file->name, flags | SAFE_OPEN_FLAGS));
+        /* ENOENT or ELOOP: another process has removed the file, or has put a symbolic link there. */
         if (*fd < 0 && errno != ENOENT && errno != ELOOP) {
-            return errno == EACCES && part != &directory->target
-                       ? fails_for(directory, part, "only the owner of this file can open it",
-                                   "use chown to change its owner to that of the installed file",
-                                   MINISIGN_READING_FAILED)
-                       : fails(directory, part, MINISIGN_READING_FAILED);
+            return errno == EACCES && file != &directory->target
+                       ? fail_with_cause(directory, file, "only the owner of this file can open it",
+                                         "use chown to change its owner to that of the installed file",
+                                         MINISIGN_READING_FAILED)
+                       : fail_with_errno(directory, file, MINISIGN_READING_FAILED);
         }
-        presence = *fd < 0 ? ABSENT : leads_to(directory, part, *fd);
+        presence = *fd < 0 ? ABSENT : compare_with_open_file(directory, file, *fd);
         if (presence == PRESENT) {
             return MINISIGN_OK;
         }
@@ -283,7 +301,7 @@ static enum minisign_error open_part(struct directory *directory, const struct p
             return MINISIGN_READING_FAILED;
         }
     }
-    return keeps_changing(directory, part);
+    return fail_after_retries(directory, file);
 }
 
 /* ---- The lock ---- */
@@ -291,137 +309,146 @@ static enum minisign_error open_part(struct directory *directory, const struct p
 enum minisign_error open_directory(struct directory *directory)
 {
     if (directory->fd < 0) {
-        directory->fd = AGAIN(open(directory->itself.shown, O_RDONLY | O_DIRECTORY | O_CLOEXEC));
+        directory->fd = AGAIN(open(directory->self.path, O_RDONLY | O_DIRECTORY | O_CLOEXEC));
     }
-    return directory->fd >= 0  ? MINISIGN_OK
-           : errno == ENOENT ? fails_for(directory, &directory->itself, "this directory does not exist",
-                                         "create it first", MINISIGN_READING_FAILED)
-                             : fails(directory, &directory->itself, MINISIGN_READING_FAILED);
+    return directory->fd >= 0 ? MINISIGN_OK
+           : errno == ENOENT  ? fail_with_cause(directory, &directory->self, "this directory does not exist",
+                                                "create it first", MINISIGN_READING_FAILED)
+                              : fail_with_errno(directory, &directory->self, MINISIGN_READING_FAILED);
 }
 
-/* Opens or creates the lock file. *fd is -1 if another process created it in between. */
-static enum minisign_error open_lock(struct directory *directory, int *fd, bool *is_made)
+/* Opens or creates the lock file. *fd is -1 if another process created the file in between. Otherwise *is_created says
+ * whether this process created it. */
+static enum minisign_error open_lock(struct directory *directory, int *fd, bool *is_created)
 {
-    enum minisign_error error = open_part(directory, &directory->lock, O_RDWR, fd);
+    enum minisign_error error = open_checked(directory, &directory->lock, O_RDWR, fd);
 
-    *is_made = error == MINISIGN_OK && *fd < 0;
-    if (*is_made) {
-        *fd = AGAIN(openat(directory->fd, directory->lock.name, O_RDWR | O_CREAT | O_EXCL | SAFELY, FOR_THE_OWNER));
+    *is_created = error == MINISIGN_OK && *fd < 0;
+    if (*is_created) {
+        *fd = AGAIN(
+            openat(directory->fd, directory->lock.name, O_RDWR | O_CREAT | O_EXCL | SAFE_OPEN_FLAGS, OWNER_ONLY_MODE));
         if (*fd < 0 && errno != EEXIST) {
-            error = fails(directory, &directory->lock, MINISIGN_READING_FAILED);
+            error = fail_with_errno(directory, &directory->lock, MINISIGN_READING_FAILED);
         }
     }
     return error;
 }
 
-/* Locks the lock file, if its name still leads to it: the last run that held the lock may have removed it. Otherwise
- * closes it. */
-static enum minisign_error lock_file(struct directory *directory, int fd, bool is_made)
+/* Locks the open lock file. If its name no longer refers to it, because it was removed or replaced meanwhile, closes it
+ * and returns MINISIGN_OK without the lock. */
+static enum minisign_error lock_file(struct directory *directory, int fd, bool is_created)
 {
     enum minisign_error error = MINISIGN_OK;
     enum presence presence = ABSENT;
 
     if (AGAIN(flock(fd, LOCK_EX | LOCK_NB)) == 0) {
-        presence = leads_to(directory, &directory->lock, fd);
+        presence = compare_with_open_file(directory, &directory->lock, fd);
     } else if (errno == EWOULDBLOCK) {
         error = MINISIGN_TARGET_IN_USE;
     } else {
-        error = fails(directory, &directory->lock, MINISIGN_READING_FAILED);
+        error = fail_with_errno(directory, &directory->lock, MINISIGN_READING_FAILED);
     }
     if (presence == UNUSABLE
-        || (presence == PRESENT && is_made && !give_to_keeper(directory, &directory->lock, &directory->lock, fd))) {
+        || (presence == PRESENT && is_created
+            && !give_to_designated_owner(directory, &directory->lock, &directory->lock, fd))) {
         error = MINISIGN_READING_FAILED;
     }
     if (presence == PRESENT && error == MINISIGN_OK) {
-        directory->locked = fd;
+        directory->lock_fd = fd;
     } else {
         close(fd);
     }
     return error;
 }
 
-static enum minisign_error lock_found(struct directory *directory)
+/* Opens or creates the lock file and locks it. Tries again if other processes remove or replace it meanwhile. */
+static enum minisign_error open_and_lock(struct directory *directory)
 {
-    for (int i = 0; i < MAX_OPENINGS; i++) {
-        bool is_made;
+    for (int i = 0; i < MAX_OPEN_TRIES; i++) {
+        bool is_created;
         int fd;
-        enum minisign_error error = open_lock(directory, &fd, &is_made);
+        enum minisign_error error = open_lock(directory, &fd, &is_created);
 
         if (error == MINISIGN_OK && fd >= 0) {
-            error = lock_file(directory, fd, is_made);
+            error = lock_file(directory, fd, is_created);
         }
-        if (error != MINISIGN_OK || directory->locked >= 0) {
+        if (error != MINISIGN_OK || directory->lock_fd >= 0) {
             return error;
         }
     }
-    return keeps_changing(directory, &directory->lock);
+    return fail_after_retries(directory, &directory->lock);
 }
 
-/* Returns true if the lock file is still in place. */
-static bool is_locked(struct directory *directory)
+/* Returns true if the name of the lock file still refers to the file that is locked. Otherwise remembers the
+ * failure. */
+static bool still_holds_lock(struct directory *directory)
 {
-    enum presence presence = leads_to(directory, &directory->lock, directory->locked);
+    enum presence presence = compare_with_open_file(directory, &directory->lock, directory->lock_fd);
 
     if (presence == ABSENT) {
         errno = ENOENT;
-        remember(directory, &directory->lock, "another process removed or replaced this lock file",
-                 "run the command again");
+        remember_failure(directory, &directory->lock, "another process removed or replaced this lock file",
+                         "run the command again");
     }
     return presence == PRESENT;
 }
 
-/* If this is a run by root, and the lock file or record belongs to root but not to the keeper (as after an earlier run
- * by root), creates the file that is to replace it. An existing file is never given away. */
-static enum minisign_error begin_renewal(struct directory *directory, const struct part *part, bool is_lock,
-                                         struct stage *fresh)
+/* Creates a new file to replace the lock file or the record, if this process runs as root, and `file` does not belong to
+ * the designated owner (for example because an earlier run by root created it). The owner of an existing file is never
+ * changed. */
+static enum minisign_error begin_renewal(struct directory *directory, const struct named_file *file, bool is_lock,
+                                         struct work_file *replacement)
 {
-    struct stat keeper, status;
-    enum presence presence = find(directory, part, &status);
+    struct stat owner, status;
+    enum presence presence = inspect_name(directory, file, &status);
 
-    if (presence == UNUSABLE || !find_keeper(directory, part, &keeper)) {
+    if (presence == UNUSABLE || !find_designated_owner(directory, file, &owner)) {
         return MINISIGN_READING_FAILED;
     }
-    /* Lock files of this program are empty. */
-    return presence == ABSENT || status.st_uid == keeper.st_uid || (is_lock && status.st_size > 0) || geteuid() != 0
+    /* A lock file that is not empty is not from this program, so it is not replaced. */
+    return presence == ABSENT || status.st_uid == owner.st_uid || (is_lock && status.st_size > 0) || geteuid() != 0
                ? MINISIGN_OK
-               : create_stage(directory, fresh);
+               : create_temporary_file(directory, replacement);
 }
 
-/* Replaces the lock file if necessary. The new one is locked before it is renamed. */
+/* Replaces the lock file if root owns it although another user should. The new lock file is locked before it is
+ * renamed, so that this run always holds the lock. If the new file cannot be used, it is removed and the old lock file
+ * stays, which is no error. */
 static enum minisign_error renew_lock(struct directory *directory)
 {
-    struct stage fresh = directory->number;
-    enum minisign_error error = begin_renewal(directory, &directory->lock, true, &fresh);
+    /* The name of the new record is not in use yet, so the new lock file gets it first. */
+    struct work_file replacement = directory->new_record;
+    enum minisign_error error = begin_renewal(directory, &directory->lock, true, &replacement);
 
-    if (error != MINISIGN_OK || fresh.fd < 0) {
+    if (error != MINISIGN_OK || replacement.fd < 0) {
         return error;
     }
-    if (give_to_keeper(directory, &directory->lock, &directory->lock, fresh.fd)
-        && AGAIN(flock(fresh.fd, LOCK_EX | LOCK_NB)) == 0
-        && AGAIN(renameat(directory->fd, fresh.name, directory->fd, directory->lock.name)) == 0) {
-        close(directory->locked);
-        directory->locked = fresh.fd;
+    if (give_to_designated_owner(directory, &directory->lock, &directory->lock, replacement.fd)
+        && AGAIN(flock(replacement.fd, LOCK_EX | LOCK_NB)) == 0
+        && AGAIN(renameat(directory->fd, replacement.name, directory->fd, directory->lock.name)) == 0) {
+        close(directory->lock_fd);
+        directory->lock_fd = replacement.fd;
         return MINISIGN_OK;
     }
-    close(fresh.fd);
-    return remove_stage(directory, &fresh);
+    close(replacement.fd);
+    return unlink_temporary_file(directory, &replacement);
 }
 
 enum minisign_error lock_target(struct directory *directory)
 {
     enum minisign_error error = open_directory(directory);
 
-    if (directory->locked >= 0) {
-        return is_locked(directory) ? MINISIGN_OK : MINISIGN_READING_FAILED;
+    if (directory->lock_fd >= 0) {
+        return still_holds_lock(directory) ? MINISIGN_OK : MINISIGN_READING_FAILED;
     }
-    error = error == MINISIGN_OK ? expect_regular_files(directory) : error;
-    error = error == MINISIGN_OK ? lock_found(directory) : error;
+    error = error == MINISIGN_OK ? require_regular_files(directory) : error;
+    error = error == MINISIGN_OK ? open_and_lock(directory) : error;
     return error == MINISIGN_OK ? renew_lock(directory) : error;
 }
 
 /* ---- Leftovers and the record ---- */
 
-/* Leaves what cannot be removed, such as a directory of this name. */
+/* Removes a file. Ignores errors, for example if this is the name of a directory. */
 static void remove_name(int directory, const char *name)
 {
     (void) AGAIN(unlinkat(directory, name, 0));
@@ -429,64 +456,65 @@ static void remove_name(int directory, const char *name)
 
 enum minisign_error remove_leftovers(struct directory *directory)
 {
-    /* Messages show temporary names with a star instead of the digits. */
+    /* The start of all temporary names: `temporary.name` without its star. */
     char prefix[NAME_MAX + 1];
 
-    if (!is_locked(directory)) {
+    if (!still_holds_lock(directory)) {
         return MINISIGN_WRITING_FAILED;
     }
-    snprintf(prefix, sizeof prefix, "%.*s", (int) strlen(directory->stages.name) - 1, directory->stages.name);
-    return wrote(directory, &directory->itself, for_each_random_name(directory->fd, prefix, DRAWN_BYTES, remove_name));
+    snprintf(prefix, sizeof prefix, "%.*s", (int) strlen(directory->temporary.name) - 1, directory->temporary.name);
+    return fail_unless_written(directory, &directory->self,
+                               for_each_random_name(directory->fd, prefix, RANDOM_NAME_BYTES, remove_name));
 }
 
 enum minisign_error read_record(struct directory *directory, struct record *record)
 {
     uint8_t bytes[MINISIGN_RECORD_TEXT_BYTES + 1];
-    ssize_t n;
+    ssize_t count;
     int fd;
-    enum minisign_error error = open_part(directory, &directory->record, O_RDONLY, &fd);
+    enum minisign_error error = open_checked(directory, &directory->record, O_RDONLY, &fd);
 
     if (fd < 0) {
         return error;
     }
-    n = read_whole(fd, bytes, sizeof bytes);
+    count = read_whole(fd, bytes, sizeof bytes);
     close_if_open(&fd);
-    if (n < 0 || n == sizeof bytes) {
-        errno = n < 0 ? errno : EFBIG;
-        return n < 0 ? fails(directory, &directory->record, MINISIGN_READING_FAILED)
-                     : fails_for(directory, &directory->record, "this file is too long for a version record",
-                                 "remove it and use --first to install anyway", MINISIGN_READING_FAILED);
+    if (count < 0 || count == sizeof bytes) {
+        errno = count < 0 ? errno : EFBIG;
+        return count < 0 ? fail_with_errno(directory, &directory->record, MINISIGN_READING_FAILED)
+                         : fail_with_cause(directory, &directory->record, "this file is too long for a version record",
+                                           "remove it and use --first to install anyway", MINISIGN_READING_FAILED);
     }
-    *record = (struct record) { .is_there = true, .len = (size_t) n };
+    *record = (struct record) { .exists = true, .len = (size_t) count };
     memcpy(record->text, bytes, record->len);
     return MINISIGN_OK;
 }
 
 enum minisign_error renew_record(struct directory *directory, const struct record *record)
 {
-    struct stage fresh = directory->number;
-    enum minisign_error error = begin_renewal(directory, &directory->record, false, &fresh);
+    struct work_file replacement = directory->new_record;
+    enum minisign_error error = begin_renewal(directory, &directory->record, false, &replacement);
 
-    if (error != MINISIGN_OK || fresh.fd < 0) {
+    if (error != MINISIGN_OK || replacement.fd < 0) {
         return error;
     }
-    error = write_stage(directory, &fresh, record->text, record->len);
-    error = error == MINISIGN_OK ? sync_record(directory, &fresh) : error;
-    error = error == MINISIGN_OK ? rename_stage(directory, &fresh, &directory->record) : error;
-    close(fresh.fd);
+    error = append_to_file(directory, &replacement, record->text, record->len);
+    error = error == MINISIGN_OK ? sync_record(directory, &replacement) : error;
+    error = error == MINISIGN_OK ? rename_file(directory, &replacement, &directory->record) : error;
+    close(replacement.fd);
     if (error != MINISIGN_OK) {
-        (void) remove_stage(directory, &fresh);
+        (void) unlink_temporary_file(directory, &replacement);
         return error;
     }
-    return sync_names(directory);
+    return sync_directory(directory);
 }
 
 /* ---- The target ---- */
 
 enum minisign_error open_target(struct directory *directory)
 {
-    directory->installed = (struct stage) { .shown = &directory->target, .fd = -1 };
-    return open_part(directory, &directory->target, O_RDONLY, &directory->installed.fd);
+    directory->installed = (struct work_file) { .file = &directory->target, .fd = -1 };
+    return open_checked(directory, &directory->target, O_RDONLY, &directory->installed.fd);
 }
 
 void close_target(struct directory *directory)
@@ -496,135 +524,138 @@ void close_target(struct directory *directory)
 
 /* ---- Temporary files ---- */
 
-/* Creates a file under a new random name. */
-static enum minisign_error make_file(struct directory *directory, struct stage *stage)
+/* Creates a file with a new random name. */
+static enum minisign_error create_with_random_name(struct directory *directory, struct work_file *work_file)
 {
-    if (!random_hex(stage->name + strlen(directory->stages.name) - 1, DRAWN_BYTES)) {
+    if (!random_hex(work_file->name + strlen(directory->temporary.name) - 1, RANDOM_NAME_BYTES)) {
         return MINISIGN_RANDOM_SOURCE_FAILED;
     }
-    stage->fd = open_named(directory->fd, stage->name, FOR_THE_OWNER);
-    stage->has_name = stage->fd >= 0;
-    return wrote(directory, &directory->stages, stage->has_name);
+    work_file->fd = open_named(directory->fd, work_file->name, OWNER_ONLY_MODE);
+    work_file->has_name = work_file->fd >= 0;
+    return fail_unless_written(directory, &directory->temporary, work_file->has_name);
 }
 
-enum minisign_error create_stage(struct directory *directory, struct stage *stage)
+enum minisign_error create_temporary_file(struct directory *directory, struct work_file *work_file)
 {
-    return is_locked(directory) ? make_file(directory, stage) : MINISIGN_WRITING_FAILED;
+    return still_holds_lock(directory) ? create_with_random_name(directory, work_file) : MINISIGN_WRITING_FAILED;
 }
 
-enum minisign_error create_nameless(struct directory *directory, struct stage *stage)
+enum minisign_error create_unnamed_file(struct directory *directory, struct work_file *work_file)
 {
     enum minisign_error error = open_directory(directory);
 
     if (error != MINISIGN_OK) {
         return error;
     }
-    *stage = directory->update;
-    error = make_file(directory, stage);
-    return error == MINISIGN_OK ? remove_stage(directory, stage) : error;
+    *work_file = directory->new_file;
+    error = create_with_random_name(directory, work_file);
+    return error == MINISIGN_OK ? unlink_temporary_file(directory, work_file) : error;
 }
 
-enum minisign_error write_stage(struct directory *directory, const struct stage *stage, const uint8_t *bytes,
-                                size_t len)
+enum minisign_error append_to_file(struct directory *directory, const struct work_file *work_file, const uint8_t *bytes,
+                                   size_t len)
 {
-    return wrote(directory, &directory->stages, write_whole(stage->fd, bytes, len));
+    return fail_unless_written(directory, &directory->temporary, write_whole(work_file->fd, bytes, len));
 }
 
-enum minisign_error read_stage(struct directory *directory, struct stage *stage, uint8_t *bytes, size_t size,
-                               size_t *len)
+enum minisign_error read_next_piece(struct directory *directory, struct work_file *work_file, uint8_t *bytes,
+                                    size_t size, size_t *len)
 {
-    ssize_t n = AGAIN(pread(stage->fd, bytes, size, (off_t) stage->read));
+    ssize_t count = AGAIN(pread(work_file->fd, bytes, size, (off_t) work_file->read));
 
-    if (n < 0) {
-        return fails(directory, stage->shown, MINISIGN_READING_FAILED);
+    if (count < 0) {
+        return fail_with_errno(directory, work_file->file, MINISIGN_READING_FAILED);
     }
-    stage->read += (uint64_t) n;
-    if (stage->read - stage->begun >= BEGUN_BYTES) {
-        begin_sync(stage->fd, stage->begun, stage->read - stage->begun);
-        stage->begun = stage->read;
+    work_file->read += (uint64_t) count;
+    if (work_file->read - work_file->writeback_begun >= WRITEBACK_BYTES) {
+        start_writeback(work_file->fd, work_file->writeback_begun, work_file->read - work_file->writeback_begun);
+        work_file->writeback_begun = work_file->read;
     }
-    *len = (size_t) n;
+    *len = (size_t) count;
     return MINISIGN_OK;
 }
 
-/* Sets the permissions of the update: those of the existing file, if there is one, or the mode of the options. */
-static enum minisign_error give(struct directory *directory, struct permissions *older)
+/* Sets the permissions of the new file to the mode of the options or, without one, to the permissions of the existing
+ * file. `existing` is NULL if there is no such file. */
+static enum minisign_error set_new_file_permissions(struct directory *directory, struct permissions *existing)
 {
-    mode_t mode = directory->has_mode ? directory->mode : older != NULL ? older->mode : FOR_THE_OWNER;
+    mode_t mode = directory->has_mode ? directory->mode : existing != NULL ? existing->mode : OWNER_ONLY_MODE;
     bool is_denied;
 
-    if (older != NULL && directory->has_mode) {
-        replace_mode(older, mode);
+    if (existing != NULL && directory->has_mode) {
+        replace_mode(existing, mode);
     }
-    if (older != NULL ? give_permissions(directory->update.fd, older) : give_mode(directory->update.fd, mode)) {
+    if (existing != NULL ? give_permissions(directory->new_file.fd, existing)
+                         : give_mode(directory->new_file.fd, mode)) {
         return MINISIGN_OK;
     }
     is_denied = errno == EPERM || errno == EACCES;
-    snprintf(directory->words, sizeof directory->words, "the system does not allow the mode %03o for this file",
-             (unsigned) mode);
-    return fails_for(directory, &directory->stages, is_denied ? directory->words : NULL,
-                     is_denied ? "use --mode to choose another mode" : NULL, MINISIGN_WRITING_FAILED);
+    snprintf(directory->cause_text, sizeof directory->cause_text,
+             "the system does not allow the mode %03o for this file", (unsigned) mode);
+    return fail_with_cause(directory, &directory->temporary, is_denied ? directory->cause_text : NULL,
+                           is_denied ? "use --mode to choose another mode" : NULL, MINISIGN_WRITING_FAILED);
 }
 
-enum minisign_error take_permissions(struct directory *directory)
+enum minisign_error set_permissions(struct directory *directory)
 {
-    for (int i = 0; i < MAX_OPENINGS; i++) {
-        struct permissions older;
+    for (int i = 0; i < MAX_OPEN_TRIES; i++) {
+        struct permissions existing;
         struct stat status;
 
-        switch (find_replaceable(directory, &status)) {
+        switch (inspect_target(directory, &status)) {
         case UNUSABLE: return MINISIGN_WRITING_FAILED;
-        case ABSENT: return give(directory, NULL);
+        case ABSENT: return set_new_file_permissions(directory, NULL);
         case PRESENT: break;
         }
-        if (read_permissions(&older, directory->fd, directory->target.name)) {
-            return give(directory, &older);
+        if (read_permissions(&existing, directory->fd, directory->target.name)) {
+            return set_new_file_permissions(directory, &existing);
         }
         if (errno != ENOENT && errno != ELOOP) {
-            return fails(directory, &directory->target, MINISIGN_WRITING_FAILED);
+            return fail_with_errno(directory, &directory->target, MINISIGN_WRITING_FAILED);
         }
     }
-    return keeps_changing(directory, &directory->target);
+    return fail_after_retries(directory, &directory->target);
 }
 
-enum minisign_error sync_stage(struct directory *directory, const struct stage *stage)
+enum minisign_error sync_file(struct directory *directory, const struct work_file *work_file)
 {
-    return wrote(directory, stage->shown, sync_to_disk(stage->fd));
+    return fail_unless_written(directory, work_file->file, sync_to_disk(work_file->fd));
 }
 
-enum minisign_error sync_record(struct directory *directory, const struct stage *stage)
+enum minisign_error sync_record(struct directory *directory, const struct work_file *work_file)
 {
-    if (!give_mode(stage->fd, FOR_ALL_TO_READ)) {
-        return fails(directory, &directory->stages, MINISIGN_WRITING_FAILED);
+    if (!give_mode(work_file->fd, READABLE_MODE)) {
+        return fail_with_errno(directory, &directory->temporary, MINISIGN_WRITING_FAILED);
     }
-    return give_to_keeper(directory, &directory->record, &directory->stages, stage->fd) ? sync_stage(directory, stage)
-                                                                                         : MINISIGN_WRITING_FAILED;
+    return give_to_designated_owner(directory, &directory->record, &directory->temporary, work_file->fd)
+               ? sync_file(directory, work_file)
+               : MINISIGN_WRITING_FAILED;
 }
 
 /* ---- Renaming and removing ---- */
 
-enum minisign_error rename_stage(struct directory *directory, struct stage *stage, const struct part *to)
+enum minisign_error rename_file(struct directory *directory, struct work_file *work_file, const struct named_file *to)
 {
-    if (!is_locked(directory)) {
+    if (!still_holds_lock(directory)) {
         return MINISIGN_WRITING_FAILED;
     }
-    stage->has_name = AGAIN(renameat(directory->fd, stage->name, directory->fd, to->name)) != 0;
-    return wrote(directory, to, !stage->has_name);
+    work_file->has_name = AGAIN(renameat(directory->fd, work_file->name, directory->fd, to->name)) != 0;
+    return fail_unless_written(directory, to, !work_file->has_name);
 }
 
-enum minisign_error sync_names(struct directory *directory)
+enum minisign_error sync_directory(struct directory *directory)
 {
     /* EINVAL: the file system cannot sync directories. */
-    return wrote(directory, &directory->itself, sync_to_disk(directory->fd) || errno == EINVAL);
+    return fail_unless_written(directory, &directory->self, sync_to_disk(directory->fd) || errno == EINVAL);
 }
 
-enum minisign_error remove_files(struct directory *directory)
+enum minisign_error remove_temporary_files(struct directory *directory)
 {
-    struct stage *const stages[] = { &directory->number, &directory->update };
+    struct work_file *const temporary_files[] = { &directory->new_record, &directory->new_file };
     enum minisign_error error = MINISIGN_OK;
 
-    for (size_t i = 0; i < sizeof stages / sizeof stages[0]; i++) {
-        if (stages[i]->has_name && remove_stage(directory, stages[i]) != MINISIGN_OK) {
+    for (size_t i = 0; i < sizeof temporary_files / sizeof temporary_files[0]; i++) {
+        if (temporary_files[i]->has_name && unlink_temporary_file(directory, temporary_files[i]) != MINISIGN_OK) {
             error = MINISIGN_WRITING_FAILED;
         }
     }

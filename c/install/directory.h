@@ -1,8 +1,8 @@
 /* SPDX-License-Identifier: MIT */
 /*
- * Makes the system calls of an installation: one function for each operation that the state machine of
- * minisign_install.h asks for. The directory of the target is opened once, and names are looked up in it. Links in the
- * last component are not followed. Calls that a signal interrupts are retried. The first error is remembered.
+ * Makes the system calls of an installation. For each operation that the state machine of minisign_install.h asks for,
+ * there is one function. The directory of the target is opened once, and names are looked up in it. Symbolic links in
+ * the last component are not followed. Calls that a signal interrupts are retried. The first error is remembered.
  */
 #ifndef DIRECTORY_H
 #define DIRECTORY_H
@@ -10,67 +10,73 @@
 #include "shared/system.h"
 #include "minisign_install.h"
 
-/* A file or directory: its path for messages, and its name in the directory. */
-struct part {
-    const char *shown;
+/* A file or directory: its path for messages, and its name relative to the open directory. */
+struct named_file {
+    const char *path;
     const char *name;
 };
 
-/* A file that is written or read back: what messages call it, its random temporary name, if it is new, and whether it
- * still has this name. */
-struct stage {
-    const struct part *shown;
+/* A temporary file of this run, or the installed file. */
+struct work_file {
+    /* The path that messages show. For a temporary file, this is a pattern. */
+    const struct named_file *file;
+    /* The random name of a temporary file, and whether the file has this name now. */
     char *name;
     bool has_name;
+    /* -1 if the file is not open. */
     int fd;
-    /* How many bytes were read back, and how many of them the system was asked to start writing to the disk. */
+    /* The number of bytes that were read back. For the first `writeback_begun` of them, the system was asked to start
+     * writing them to the disk. */
     uint64_t read;
-    uint64_t begun;
+    uint64_t writeback_begun;
 };
 
-/* The record, if there is one. */
+/* The version record as it was read. */
 struct record {
-    bool is_there;
+    bool exists;
     uint8_t text[MINISIGN_RECORD_TEXT_BYTES];
     size_t len;
 };
 
-/* The file that could not be used, if there is one; the cause in words, or NULL and errno; and a hint or NULL. */
-struct trouble {
-    bool is_there;
-    const char *shown;
+/* The first error of a run. */
+struct failure {
+    bool is_set;
+    /* The file that could not be used. */
+    const char *path;
+    /* The cause in words. If it is NULL, `error_number` (an errno) is the cause. */
     const char *cause;
-    int number;
+    int error_number;
+    /* NULL if there is no hint. */
     const char *hint;
 };
 
 struct directory {
-    /* The first error, if any. */
-    struct trouble trouble;
-    struct part itself;
-    struct part target;
-    struct part lock;
-    struct part record;
-    /* The name of each temporary file in messages. */
-    struct part stages;
-    /* The temporary files of the update and of the record, and the installed file while it is read. */
-    struct stage update;
-    struct stage number;
-    struct stage installed;
-    /* The mode of the update, if one was given. */
+    struct failure failure;
+    struct named_file self;
+    struct named_file target;
+    struct named_file lock;
+    struct named_file record;
+    /* Stands for all temporary files in messages: a name that ends with a star instead of the random digits. */
+    struct named_file temporary;
+    /* The temporary files that will replace the target and the record; and the installed file while it is read. */
+    struct work_file new_file;
+    struct work_file new_record;
+    struct work_file installed;
+    /* The mode of the new file, if the options have one. */
     bool has_mode;
     mode_t mode;
-    /* The cause of the first error, if it is made at run time. */
-    char words[80];
+    /* The buffer for a `failure.cause` that is made at run time. */
+    char cause_text[80];
+    /* The descriptors of the directory and of the lock file, or -1. */
     int fd;
-    int locked;
-    /* The memory of all names, from malloc. */
+    int lock_fd;
+    /* The memory of all names and paths, from malloc. */
     char *names;
 };
 
-/* Prepares the directory of this target, whose path must remain valid. On failure, returns false with errno EINVAL if
- * the path does not end with a file name, or ENOMEM. */
-bool name_directory(struct directory *directory, const char *target);
+/* Initializes `directory` for this target. The string `target` must remain valid. On failure, returns false and sets
+ * errno: EINVAL if the path does not end with a file name, or ENOMEM. */
+bool init_directory(struct directory *directory, const char *target);
 
 /* Closes everything that is open, which releases the lock, and frees the names. */
 void close_directory(struct directory *directory);
@@ -80,17 +86,16 @@ void close_directory(struct directory *directory);
 /* Opens the directory, if it is not open yet. */
 enum minisign_error open_directory(struct directory *directory);
 
-/* Fails if the target or the lock file is a link or a directory, or is no regular file for another reason. Either may
- * be missing. */
-enum minisign_error expect_regular_files(struct directory *directory);
+/* Fails if the target or the lock file exists but is not a regular file. */
+enum minisign_error require_regular_files(struct directory *directory);
 
-/* Fails if no file can be renamed to the target, because something is mounted there, or the target is no regular
- * file. */
-enum minisign_error expect_replaceable_target(struct directory *directory);
+/* Fails if no file can be renamed to the target, because something is mounted there, or the target exists but is not a
+ * regular file. */
+enum minisign_error require_replaceable_target(struct directory *directory);
 
-/* Locks the target, if it is not locked yet. Returns MINISIGN_TARGET_IN_USE if another run has the lock. A new lock
- * file gets the owner who may install the next update, if the system allows it. An existing file is never given
- * away. */
+/* Locks the target, if it is not locked yet. Returns MINISIGN_TARGET_IN_USE if another run holds the lock. If the lock
+ * file is created, it gets the owner who may install the next update, as far as the system allows it. The owner of an
+ * existing file is never changed. */
 enum minisign_error lock_target(struct directory *directory);
 
 /* Closes the installed file, if it is open. */
@@ -101,42 +106,46 @@ enum minisign_error remove_leftovers(struct directory *directory);
 
 enum minisign_error read_record(struct directory *directory, struct record *record);
 
-/* If this is a run by root, and the record belongs to root but should belong to another user (as after an earlier run
- * by root), replaces it by a new file of that user with the same text. The old file is never given away. */
+/* If root makes this run, and root owns the record although another user should own it (as after an earlier run by
+ * root), replaces the record with a new file that has the same text and belongs to this user. The owner of the old file
+ * is not changed. */
 enum minisign_error renew_record(struct directory *directory, const struct record *record);
 
 /* Opens the installed file for reading. Its descriptor is -1 if there is none. */
 enum minisign_error open_target(struct directory *directory);
 
 /* Creates a temporary file with a random name and mode 0600. */
-enum minisign_error create_stage(struct directory *directory, struct stage *stage);
+enum minisign_error create_temporary_file(struct directory *directory, struct work_file *work_file);
 
 /* Creates a file without a name, with mode 0600. The lock need not be held. */
-enum minisign_error create_nameless(struct directory *directory, struct stage *stage);
+enum minisign_error create_unnamed_file(struct directory *directory, struct work_file *work_file);
 
 /* Appends these bytes to a temporary file. */
-enum minisign_error write_stage(struct directory *directory, const struct stage *stage, const uint8_t *bytes,
-                                size_t len);
+enum minisign_error append_to_file(struct directory *directory, const struct work_file *work_file, const uint8_t *bytes,
+                                   size_t len);
 
-/* Reads the next bytes of a temporary file or of the installed file. `len` is 0 at its end. */
-enum minisign_error read_stage(struct directory *directory, struct stage *stage, uint8_t *bytes, size_t size,
-                               size_t *len);
+/* Reads the next bytes of a temporary file or of the installed file. *len is 0 at the end of the file. */
+enum minisign_error read_next_piece(struct directory *directory, struct work_file *work_file, uint8_t *bytes,
+                                    size_t size, size_t *len);
 
-/* Sets the permissions of the update to those of the installed file, or to the mode of the options. */
-enum minisign_error take_permissions(struct directory *directory);
+/* Sets the permissions of the new file: the mode of the options or, without one, the permissions of the installed
+ * file. */
+enum minisign_error set_permissions(struct directory *directory);
 
-/* Syncs a temporary file or the installed file. A record is first made readable by everybody, and given to the owner
- * who may install the next update, if the system allows it. */
-enum minisign_error sync_stage(struct directory *directory, const struct stage *stage);
-enum minisign_error sync_record(struct directory *directory, const struct stage *stage);
+/* Syncs a temporary file or the installed file. */
+enum minisign_error sync_file(struct directory *directory, const struct work_file *work_file);
+
+/* Makes a new record readable by all users, gives it to the owner who may install the next update, as far as the system
+ * allows it, and syncs it. */
+enum minisign_error sync_record(struct directory *directory, const struct work_file *work_file);
 
 /* Renames a temporary file to the record or to the target. */
-enum minisign_error rename_stage(struct directory *directory, struct stage *stage, const struct part *to);
+enum minisign_error rename_file(struct directory *directory, struct work_file *work_file, const struct named_file *to);
 
-/* Syncs the directory. */
-enum minisign_error sync_names(struct directory *directory);
+/* Syncs the directory, so that a crash does not undo a rename. */
+enum minisign_error sync_directory(struct directory *directory);
 
-/* Removes the temporary files that still have their names. */
-enum minisign_error remove_files(struct directory *directory);
+/* Removes the temporary files of this run that still have their temporary names. */
+enum minisign_error remove_temporary_files(struct directory *directory);
 
 #endif

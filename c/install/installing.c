@@ -1,85 +1,91 @@
 /* SPDX-License-Identifier: MIT */
-/* Installs an update: performs the operations that the state machine of minisign_install.h asks for, and reports their
- * results to it. minisign_installing.h declares the function. */
+/*
+ * Implements minisign_install_file, which minisign_installing.h declares. It performs the operations that the state
+ * machine of minisign_install.h asks for, and reports their results to the machine.
+ */
 #include "directory.h"
 
-#include "endings.h"
 #include "minisign_installing.h"
+#include "results.h"
 #include "shared/handles.h"
 
-/* How often per second to try to get the lock. */
-#define WAITS 10
+#define LOCK_TRIES_PER_SECOND 10
 
 /* The size of an Ed25519 signature. */
 #define SIGNATURE_BYTES 64
 
 #define PIECE_BYTES (256 << 10)
-#define MAX_WAIT (24 * 60 * 60)
+#define MAX_WAIT_SECONDS (24 * 60 * 60)
 
-/* A run. */
-struct installing {
+/* The state of one call of minisign_install_file. */
+struct install_run {
     const minisign_installing_options *options;
     minisign_installation machine;
-    /* The last operation, or how the run ended; and why the update was rejected, or MINISIGN_OK. */
-    enum minisign_due call;
+    /* The operation that was performed last, or how the run ended. */
+    enum minisign_due operation;
+    /* The reason why the update is rejected, or MINISIGN_OK. */
     enum minisign_error error;
-    /* True if the data exceeds the maximum size; if the caller has stopped the run; and if it got the trusted
-     * comment. */
+    /* True if the data exceeds the maximum size. */
     bool is_too_large;
+    /* True if the caller has stopped the run. */
     bool is_stopped;
+    /* True once the trusted comment was passed to the caller. */
     bool is_comment_passed;
-    /* True while data that is not in a regular file is received, and while another run holds the lock. */
+    /* True while data is received from a pipe, or from another file that is not regular. */
     bool is_receiving;
+    /* True while another run holds the lock. */
     bool is_waiting;
-    /* How many bytes the last operation has handled, and how many there are, or 0 if that is unknown. */
+    /* The progress of the operation: the number of bytes so far, and in total, or 0 if that is unknown. */
     uint64_t done;
     uint64_t size;
-    /* `directory.trouble` is the first error, also of the data. */
+    /* `directory.failure` is the first error of the run, even if it is about the data, which is somewhere else. */
     struct directory directory;
     struct record record;
-    /* The message that the signature of the trusted comment is over: the signature of the data, and the comment. */
+    /* The message that the comment signature covers: the signature of the data, followed by the trusted comment. */
     uint8_t *message;
     size_t message_len;
     /* How often the run has waited for the lock. */
-    uint64_t waited;
-    /* True if the machine makes a check; and if this is the check that comes before data is received. */
+    uint64_t wait_count;
+    /* True if the machine makes a check. */
     bool is_check;
-    bool is_slow;
-    /* The file that was opened, or -1; the descriptor of the data, or -1; and its size, or 0 if that is unknown. */
-    int opened;
-    int data;
+    /* True if the machine makes the check after which the data still has to be received. */
+    bool must_receive;
+    /* The descriptor of the file that this run opened, or -1. */
+    int opened_fd;
+    /* The descriptor of the data, or -1; and the size of the data, or 0 if it is unknown. */
+    int data_fd;
     uint64_t data_size;
-    /* The unnamed file into which data is received, and the most bytes to receive. */
-    struct stage received;
-    uint64_t to_receive;
+    /* The unnamed file into which data is received, and the maximum number of bytes to receive. */
+    struct work_file received;
+    uint64_t max_received;
     uint8_t piece[PIECE_BYTES];
 };
 
-static bool make_due_call(struct installing *run);
+static bool perform_operation(struct install_run *run);
 
-/* The machine is only told about the operation that is due, so no call is misuse. Every other error rejects the run,
- * and the machine then says what is due. */
-static void must(enum minisign_error error)
+/* Aborts if the machine reports API misuse, which would be an error in this file: results are reported only for the
+ * operation that is due. After any other error, the machine has rejected the run, and still says what is due next. */
+static void abort_on_misuse(enum minisign_error error)
 {
     if (minisign_error_kind(error) == MINISIGN_KIND_MISUSE) {
         abort();
     }
 }
 
-/* Returns NULL and sets errno if the target does not end with a file name, or if there is no memory. */
-static struct installing *begin_installing(const minisign_installing_options *options)
+/* On failure, returns NULL and sets errno: EINVAL if the target does not end with a file name, or ENOMEM. */
+static struct install_run *create_run(const minisign_installing_options *options)
 {
-    struct installing *run = calloc(1, sizeof *run);
+    struct install_run *run = calloc(1, sizeof *run);
 
-    if (run == NULL || !name_directory(&run->directory, options->target)) {
+    if (run == NULL || !init_directory(&run->directory, options->target)) {
         free(run);
         return NULL;
     }
     run->directory.has_mode = options->has_mode != 0;
     run->directory.mode = (mode_t) options->mode;
     run->options = options;
-    run->opened = -1;
-    run->data = -1;
+    run->opened_fd = -1;
+    run->data_fd = -1;
     run->received.fd = -1;
     run->message = malloc(SIGNATURE_BYTES + options->signature_len);
     if (run->message == NULL) {
@@ -90,55 +96,56 @@ static struct installing *begin_installing(const minisign_installing_options *op
     return run;
 }
 
-/* Ends a run, at any time: removes its temporary files, closes everything that is open, which unlocks the target, and
- * frees the memory. */
-static void end_installing(struct installing *run)
+/* Ends a run, even one that was stopped early: removes its temporary files, closes everything that is open, which
+ * releases the lock, and frees the memory. */
+static void destroy_run(struct install_run *run)
 {
-    /* A run that was stopped removes its temporary files. */
+    /* If the run was stopped, the machine does not know that yet. Reporting a failure makes it ask for the removal. */
     while (minisign_install_due(&run->machine) == MINISIGN_DUE_REMOVE_FILES
            || minisign_install_failed(&run->machine, MINISIGN_WRITING_FAILED) != MINISIGN_NOT_DUE) {
-        make_due_call(run);
+        perform_operation(run);
     }
     close_if_open(&run->received.fd);
-    close_if_open(&run->opened);
+    close_if_open(&run->opened_fd);
     close_directory(&run->directory);
     free(run->message);
     free(run);
 }
 
-/* Reports the result of a call to the machine. */
-static void tell(struct installing *run, enum minisign_error error)
+/* Reports to the machine whether an operation succeeded. */
+static void report_result(struct install_run *run, enum minisign_error error)
 {
-    must(error == MINISIGN_OK ? minisign_install_done(&run->machine) : minisign_install_failed(&run->machine, error));
+    abort_on_misuse(error == MINISIGN_OK ? minisign_install_done(&run->machine)
+                                         : minisign_install_failed(&run->machine, error));
 }
 
 /* ---- The signature ---- */
 
-/* Returns the current time in seconds since 1970, or a negative number if there is none. */
-static int64_t now(const struct installing *run)
+/* Returns the current time in seconds since 1970, or a negative number if it is unknown. */
+static int64_t current_time(const struct install_run *run)
 {
-    struct timespec shown;
-    int64_t passed = -1;
+    struct timespec clock_time;
+    int64_t seconds = -1;
 
     if (run->options->now != NULL) {
-        run->options->now(run->options->context, &passed);
-        return passed;
+        run->options->now(run->options->context, &seconds);
+        return seconds;
     }
-    return clock_gettime(CLOCK_REALTIME, &shown) == 0 ? (int64_t) shown.tv_sec : -1;
+    return clock_gettime(CLOCK_REALTIME, &clock_time) == 0 ? (int64_t) clock_time.tv_sec : -1;
 }
 
-/* Passes on the signature file and the time. */
-static void pass_signature(struct installing *run)
+/* Passes the signature file and the time to the machine. */
+static void pass_signature(struct install_run *run)
 {
     const minisign_installing_options *options = run->options;
     const char *name = options->name == NULL ? run->directory.target.name : options->name;
 
-    must(minisign_install_signature(&run->machine, options->signature, options->signature_len, (const uint8_t *) name,
-                                    strlen(name), now(run), run->message, SIGNATURE_BYTES + options->signature_len,
-                                    &run->message_len));
+    abort_on_misuse(minisign_install_signature(&run->machine, options->signature, options->signature_len,
+                                               (const uint8_t *) name, strlen(name), current_time(run), run->message,
+                                               SIGNATURE_BYTES + options->signature_len, &run->message_len));
 }
 
-/* Returns false if the public key or the signature is weak: libsodium rejects such inputs, but other implementations of
+/* Returns false if the public key or the signature is weak. libsodium rejects such inputs, but other implementations of
  * Ed25519 accept some of them. */
 static bool is_strict(const uint8_t signature[64], const uint8_t public_key[32])
 {
@@ -151,15 +158,15 @@ static bool is_strict(const uint8_t signature[64], const uint8_t public_key[32])
 
     memcpy(key_record + sizeof key_record - 32, public_key, 32);
     memcpy(signature_record + sizeof signature_record - 64, signature, 64);
-    must(minisign_read_public_key_record(key_record, sizeof key_record, &key));
-    must(minisign_read_signature_record(signature_record, sizeof signature_record, &parsed));
+    abort_on_misuse(minisign_read_public_key_record(key_record, sizeof key_record, &key));
+    abort_on_misuse(minisign_read_signature_record(signature_record, sizeof signature_record, &parsed));
     minisign_init(&state);
     return minisign_ask_bare(&state, &key, &parsed, 0, &questions) == MINISIGN_OK;
 }
 
-/* Verifies a signature with the function of the options. */
-static enum minisign_answer answer_of(const minisign_installing_options *options, const uint8_t signature[64],
-                                      const uint8_t *message, size_t len, const uint8_t public_key[32])
+/* Checks a signature with the function that the options name. */
+static enum minisign_answer check_signature(const minisign_installing_options *options, const uint8_t signature[64],
+                                            const uint8_t *message, size_t len, const uint8_t public_key[32])
 {
     enum minisign_answer answer = (enum minisign_answer) 0;
 
@@ -173,26 +180,26 @@ static enum minisign_answer answer_of(const minisign_installing_options *options
     return options->verify(signature, message, len, public_key) == 0 ? MINISIGN_ANSWER_YES : MINISIGN_ANSWER_NO;
 }
 
-/* Passes on the result of the Ed25519 check that is due. */
-static void answer_question(struct installing *run)
+/* Makes the Ed25519 check that is due, and passes the result to the machine. */
+static void answer_question(struct install_run *run)
 {
     uint8_t key[32], signature[SIGNATURE_BYTES], digest[64];
-    bool is_comment = run->call == MINISIGN_DUE_CHECK_COMMENT;
+    bool is_comment = run->operation == MINISIGN_DUE_CHECK_COMMENT;
     enum minisign_error error;
 
-    must(minisign_install_question(&run->machine, key, signature, digest));
+    abort_on_misuse(minisign_install_question(&run->machine, key, signature, digest));
     error = minisign_install_answer(&run->machine,
-                                    answer_of(run->options, signature, is_comment ? run->message : digest,
-                                              is_comment ? run->message_len : sizeof digest, key));
+                                    check_signature(run->options, signature, is_comment ? run->message : digest,
+                                                    is_comment ? run->message_len : sizeof digest, key));
     if (error == MINISIGN_BAD_ANSWER) {
-        tell(run, MINISIGN_READING_FAILED);
+        report_result(run, MINISIGN_READING_FAILED);
     } else {
-        must(error);
+        abort_on_misuse(error);
     }
 }
 
-/* Passes the trusted comment to the caller, once, if a key has signed it. */
-static void pass_comment(struct installing *run)
+/* Passes the trusted comment to the caller once it is known to be signed. */
+static void pass_comment(struct install_run *run)
 {
     const minisign_installing_options *options = run->options;
 
@@ -207,14 +214,15 @@ static void pass_comment(struct installing *run)
 
 /* ---- The data ---- */
 
-static enum minisign_error data_fails(struct installing *run, const char *cause)
+/* Records that the data could not be used: `cause` is the reason in words, or NULL if errno is the reason. */
+static enum minisign_error fail_on_data(struct install_run *run, const char *cause)
 {
-    run->directory.trouble = (struct trouble) { true, data_name(run->options), cause, errno, NULL };
+    run->directory.failure = (struct failure) { true, name_of_data(run->options), cause, errno, NULL };
     return MINISIGN_READING_FAILED;
 }
 
-/* Starts the machine: for a check, or for an installation. */
-static enum minisign_error begin_machine(struct installing *run, bool is_check)
+/* Starts the machine, for a check or for an installation. */
+static enum minisign_error begin_machine(struct install_run *run, bool is_check)
 {
     const minisign_installing_options *options = run->options;
     const minisign_public_key *other_key = options->other_key == NULL ? options->key : options->other_key;
@@ -224,117 +232,119 @@ static enum minisign_error begin_machine(struct installing *run, bool is_check)
         choices.is_check = is_check ? 1 : 0;
     }
     run->is_check = is_check;
-    run->call = MINISIGN_DUE_NOTHING;
+    run->operation = MINISIGN_DUE_NOTHING;
     return minisign_install_init(&run->machine, options->key, other_key, &choices);
 }
 
-/* Opens the data, if its path was given. */
-static bool open_source(struct installing *run)
+/* Opens the data if the options have its path, and finds out whether it still has to be received. Returns false and
+ * sets errno on failure. */
+static bool open_source(struct install_run *run)
 {
     const minisign_installing_options *options = run->options;
     struct stat status = { 0 };
 
     if (options->data == NULL && options->read != NULL) {
-        run->is_slow = true;
+        run->must_receive = true;
         return true;
     }
     if (options->data != NULL) {
-        run->opened = AGAIN(open(options->data, O_RDONLY | O_CLOEXEC));
-        if (run->opened < 0) {
+        run->opened_fd = AGAIN(open(options->data, O_RDONLY | O_CLOEXEC));
+        if (run->opened_fd < 0) {
             return false;
         }
     }
-    run->data = options->data != NULL ? run->opened : options->data_fd;
-    if (AGAIN(fstat(run->data, &status)) != 0) {
+    run->data_fd = options->data != NULL ? run->opened_fd : options->data_fd;
+    if (AGAIN(fstat(run->data_fd, &status)) != 0) {
         return false;
     }
     run->data_size = S_ISREG(status.st_mode) ? (uint64_t) status.st_size : 0;
-    run->is_slow = !S_ISREG(status.st_mode);
+    run->must_receive = !S_ISREG(status.st_mode);
     return true;
 }
 
-/* Begins with a check if the data is not a regular file, for example a pipe: it may arrive slowly, and only if the
- * check succeeds is it worth receiving. */
-static enum minisign_error begin(struct installing *run)
+/* Begins the run. If the data is not in a regular file, but for example in a pipe, the run begins with a check, because
+ * such data may arrive slowly, and need not be received at all if the check fails. */
+static enum minisign_error begin_run(struct install_run *run)
 {
     bool is_check = run->options->choices.is_check != 0, is_open = is_check || open_source(run);
-    int number = errno;
-    enum minisign_error error = begin_machine(run, is_check || run->is_slow);
+    int saved_errno = errno;
+    enum minisign_error error = begin_machine(run, is_check || run->must_receive);
 
     if (error == MINISIGN_OK && !is_open) {
-        errno = number;
-        tell(run, data_fails(run, NULL));
+        errno = saved_errno;
+        report_result(run, fail_on_data(run, NULL));
     }
     return error;
 }
 
-/* Ends the run for this error, if no machine is running. */
-static void reject_run(struct installing *run, enum minisign_error error)
+/* Rejects the update for this error. Used only when the machine has ended. */
+static void reject_run(struct install_run *run, enum minisign_error error)
 {
-    run->call = MINISIGN_DUE_REJECTED;
+    run->operation = MINISIGN_DUE_REJECTED;
     run->error = error;
 }
 
 /* Returns the maximum size of the data. */
-static uint64_t max_size(const struct installing *run)
+static uint64_t max_size(const struct install_run *run)
 {
     return run->options->has_max_size != 0 ? run->options->max_size : INT64_MAX;
 }
 
-/* Reads the next piece of the data, of at most `size` bytes. Returns its length, or a greater number and sets errno. */
-static size_t read_data(struct installing *run, size_t size)
+/* Reads the next piece of the data, of at most `size` bytes, and returns its length. On failure, sets errno and returns
+ * a number greater than `size`. */
+static size_t read_data(struct install_run *run, size_t size)
 {
     const minisign_installing_options *options = run->options;
     size_t len = SIZE_MAX;
     ssize_t n;
 
-    if (size == 0 || (run->data < 0 && !run->is_receiving)) {
+    if (size == 0 || (run->data_fd < 0 && !run->is_receiving)) {
         return 0;
     }
-    if (run->data < 0) {
+    if (run->data_fd < 0) {
         errno = EIO;
         options->read(options->context, run->piece, size, &len);
         return len;
     }
-    n = AGAIN(read(run->data, run->piece, size));
+    n = AGAIN(read(run->data_fd, run->piece, size));
     return n < 0 ? SIZE_MAX : (size_t) n;
 }
 
-/* Reads the next piece of the data, of at most `most` bytes, and appends it to a temporary file. `len` is 0 at the end
- * of the data, and if there is no data. */
-static enum minisign_error move_piece(struct installing *run, struct stage *to, uint64_t most, size_t *len)
+/* Reads the next piece of the data, of at most `max` bytes, and appends it to a temporary file. *len is 0 at the end of
+ * the data, or if the run needs no data. */
+static enum minisign_error move_piece(struct install_run *run, struct work_file *destination, uint64_t max, size_t *len)
 {
-    size_t size = most < PIECE_BYTES ? (size_t) most : PIECE_BYTES;
+    size_t size = max < PIECE_BYTES ? (size_t) max : PIECE_BYTES;
 
     *len = read_data(run, size);
     if (*len > size) {
-        return data_fails(run, NULL);
+        return fail_on_data(run, NULL);
     }
     if (*len > max_size(run) - run->done) {
         run->is_too_large = true;
-        return data_fails(run, "the data is larger than the limit");
+        return fail_on_data(run, "the data is larger than the limit");
     }
     run->done += *len;
-    return write_stage(&run->directory, to, run->piece, *len);
+    return append_to_file(&run->directory, destination, run->piece, *len);
 }
 
-static void copy_piece(struct installing *run)
+static void copy_piece(struct install_run *run)
 {
     size_t len;
-    enum minisign_error error = move_piece(run, &run->directory.update, PIECE_BYTES, &len);
+    enum minisign_error error = move_piece(run, &run->directory.new_file, PIECE_BYTES, &len);
 
     if (error == MINISIGN_OK && len > 0) {
-        must(minisign_install_copied(&run->machine, len));
+        abort_on_misuse(minisign_install_copied(&run->machine, len));
     } else {
-        tell(run, error);
+        report_result(run, error);
     }
 }
 
-/* Begins to receive data that is not in a regular file, after the check. */
-static void begin_receiving(struct installing *run)
+/* Begins, after the check, to receive data that is not in a regular file. */
+static void begin_receiving(struct install_run *run)
 {
     uint64_t size, limit = max_size(run);
-    enum minisign_error error = create_nameless(&run->directory, &run->received);
+    enum minisign_error error = create_unnamed_file(&run->directory, &run->received);
 
     if (error != MINISIGN_OK) {
         reject_run(run, error);
@@ -347,28 +357,28 @@ static void begin_receiving(struct installing *run)
         run->size = size;
         limit = size < limit ? size : limit;
     }
-    /* One byte more, so that longer data is rejected. */
-    run->to_receive = limit < UINT64_MAX ? limit + 1 : limit;
+    /* One byte more than allowed, so that longer data is noticed and rejected. */
+    run->max_received = limit < UINT64_MAX ? limit + 1 : limit;
 }
 
-/* Begins the installation from this file, after the check. */
-static void begin_installation(struct installing *run, int data, uint64_t size)
+/* Begins, after the check, the installation from an open file. */
+static void begin_installation(struct install_run *run, int data_fd, uint64_t size)
 {
-    run->data = data;
+    run->data_fd = data_fd;
     run->data_size = size;
-    run->is_slow = false;
+    run->must_receive = false;
     close_target(&run->directory);
-    must(begin_machine(run, false));
+    abort_on_misuse(begin_machine(run, false));
 }
 
-/* Receives a piece of the data. At its end, begins the installation from the file that has the data. */
-static void receive_piece(struct installing *run)
+/* Receives a piece of the data. At the end of the data, begins the installation from the file that now contains it. */
+static void receive_piece(struct install_run *run)
 {
     size_t len;
-    enum minisign_error error = move_piece(run, &run->received, run->to_receive - run->done, &len);
+    enum minisign_error error = move_piece(run, &run->received, run->max_received - run->done, &len);
 
     if (error == MINISIGN_OK && len == 0 && lseek(run->received.fd, 0, SEEK_SET) != 0) {
-        error = data_fails(run, NULL);
+        error = fail_on_data(run, NULL);
     }
     if (error == MINISIGN_OK && len > 0) {
         return;
@@ -383,125 +393,128 @@ static void receive_piece(struct installing *run)
 
 /* ---- Reading back ---- */
 
-/* Passes on the record. If it should belong to another user than root, and has the form of a record, it is renewed. A
- * check first looks for what would make a run fail when it takes the lock. */
-static void read_record_whole(struct installing *run)
+/* Reads the record and passes it to the machine. If root owns the record although another user should, it is replaced
+ * by a file of that user; not if its content is not a record, which the machine accepts with is_first. A check also
+ * fails if an installation could not lock the target. */
+static void pass_record(struct install_run *run)
 {
     struct record *record = &run->record;
     enum minisign_error error = open_directory(&run->directory);
 
-    record->is_there = false;
+    record->exists = false;
     if (error == MINISIGN_OK && run->is_check) {
-        error = expect_regular_files(&run->directory);
+        error = require_regular_files(&run->directory);
     }
     error = error == MINISIGN_OK ? read_record(&run->directory, record) : error;
     if (error == MINISIGN_OK) {
-        must(record->is_there ? minisign_install_record(&run->machine, record->text, record->len)
-                              : minisign_install_no_record(&run->machine));
+        abort_on_misuse(record->exists ? minisign_install_record(&run->machine, record->text, record->len)
+                                       : minisign_install_no_record(&run->machine));
     }
-    if (record->is_there && minisign_install_due(&run->machine) == MINISIGN_DUE_READ_SIGNATURE
+    if (record->exists && minisign_install_due(&run->machine) == MINISIGN_DUE_READ_SIGNATURE
         && run->options->choices.is_first == 0 && !run->is_check && memchr(record->text, ':', record->len) != NULL) {
         error = renew_record(&run->directory, record);
     }
     if (error != MINISIGN_OK) {
-        must(minisign_install_failed(&run->machine, error));
+        abort_on_misuse(minisign_install_failed(&run->machine, error));
     }
 }
 
-/* Passes on the next piece of a temporary file or of the installed file. */
-static void read_piece(struct installing *run, struct stage *from)
+/* Passes the next piece of a temporary file or of the installed file to the machine. */
+static void pass_piece(struct install_run *run, struct work_file *from)
 {
     size_t len = 0;
-    enum minisign_error error = read_stage(&run->directory, from, run->piece, PIECE_BYTES, &len);
+    enum minisign_error error = read_next_piece(&run->directory, from, run->piece, PIECE_BYTES, &len);
 
     run->done += len;
-    must(error == MINISIGN_OK ? minisign_install_piece(&run->machine, run->piece, len)
-                              : minisign_install_failed(&run->machine, error));
+    abort_on_misuse(error == MINISIGN_OK ? minisign_install_piece(&run->machine, run->piece, len)
+                                         : minisign_install_failed(&run->machine, error));
 }
 
-/* Passes on the next piece of the installed file, which is opened first, or reports that there is none. */
-static void read_target(struct installing *run)
+/* Opens the installed file if necessary, and passes its next piece to the machine, or reports that there is no such
+ * file. */
+static void pass_target_piece(struct install_run *run)
 {
     struct directory *directory = &run->directory;
     enum minisign_error error = directory->installed.fd < 0 ? open_target(directory) : MINISIGN_OK;
 
     if (error == MINISIGN_OK && directory->installed.fd >= 0) {
-        read_piece(run, &directory->installed);
+        pass_piece(run, &directory->installed);
     } else {
-        must(error == MINISIGN_OK ? minisign_install_no_target(&run->machine)
-                                  : minisign_install_failed(&run->machine, error));
+        abort_on_misuse(error == MINISIGN_OK ? minisign_install_no_target(&run->machine)
+                                             : minisign_install_failed(&run->machine, error));
     }
 }
 
 /* ---- The operations that are due ---- */
 
-/* Locks the target. If another run has the lock, each call waits for a tenth of a second, up to the time of the
- * options. */
-static void lock(struct installing *run)
+/* Tries to lock the target. If another run holds the lock, waits a tenth of a second and leaves the operation due,
+ * until the waiting time of the options is over. */
+static void try_lock(struct install_run *run)
 {
-    static const struct timespec pause = { .tv_nsec = 1000000000 / WAITS };
+    static const struct timespec pause = { .tv_nsec = 1000000000 / LOCK_TRIES_PER_SECOND };
     enum minisign_error error = lock_target(&run->directory);
 
-    run->is_waiting = error == MINISIGN_TARGET_IN_USE && run->waited < (uint64_t) run->options->wait * WAITS;
+    run->is_waiting = error == MINISIGN_TARGET_IN_USE
+                      && run->wait_count < (uint64_t) run->options->wait * LOCK_TRIES_PER_SECOND;
     if (run->is_waiting) {
-        run->waited++;
+        run->wait_count++;
         nanosleep(&pause, NULL);
         return;
     }
-    tell(run, error);
+    report_result(run, error);
 }
 
-static enum minisign_error write_record(struct installing *run)
+static enum minisign_error write_record(struct install_run *run)
 {
     uint8_t text[MINISIGN_RECORD_TEXT_BYTES];
     size_t len = minisign_install_record_text(&run->machine, text, sizeof text);
 
-    return write_stage(&run->directory, &run->directory.number, text, len);
+    return append_to_file(&run->directory, &run->directory.new_record, text, len);
 }
 
-static void begin_call(struct installing *run)
+static void begin_operation(struct install_run *run)
 {
     enum minisign_due due = minisign_install_due(&run->machine);
 
-    if (run->call != due) {
-        run->call = due;
+    if (run->operation != due) {
+        run->operation = due;
         run->done = 0;
         run->size = due == MINISIGN_DUE_COPY_DATA ? run->data_size : 0;
     }
 }
 
-/* Performs the operation that is due. Returns false if the run has ended. */
-static bool make_due_call(struct installing *run)
+/* Performs the operation that is due. Returns false if the machine has ended. */
+static bool perform_operation(struct install_run *run)
 {
     struct directory *directory = &run->directory;
-    struct stage *update = &directory->update, *number = &directory->number;
+    struct work_file *new_file = &directory->new_file, *new_record = &directory->new_record;
 
-    begin_call(run);
-    switch (run->call) {
-    case MINISIGN_DUE_LOCK: lock(run); break;
-    case MINISIGN_DUE_READ_RECORD: read_record_whole(run); break;
+    begin_operation(run);
+    switch (run->operation) {
+    case MINISIGN_DUE_LOCK: try_lock(run); break;
+    case MINISIGN_DUE_READ_RECORD: pass_record(run); break;
     case MINISIGN_DUE_READ_SIGNATURE: pass_signature(run); break;
     case MINISIGN_DUE_CHECK_COMMENT:
     case MINISIGN_DUE_CHECK_RECORD:
     case MINISIGN_DUE_CHECK_TARGET:
     case MINISIGN_DUE_CHECK_DATA: answer_question(run); break;
-    case MINISIGN_DUE_READ_TARGET: read_target(run); break;
-    case MINISIGN_DUE_SYNC_TARGET: tell(run, sync_stage(directory, &directory->installed)); break;
-    case MINISIGN_DUE_REMOVE_LEFTOVERS: tell(run, remove_leftovers(directory)); break;
-    case MINISIGN_DUE_CREATE_FILE: tell(run, create_stage(directory, update)); break;
+    case MINISIGN_DUE_READ_TARGET: pass_target_piece(run); break;
+    case MINISIGN_DUE_SYNC_TARGET: report_result(run, sync_file(directory, &directory->installed)); break;
+    case MINISIGN_DUE_REMOVE_LEFTOVERS: report_result(run, remove_leftovers(directory)); break;
+    case MINISIGN_DUE_CREATE_FILE: report_result(run, create_temporary_file(directory, new_file)); break;
     case MINISIGN_DUE_COPY_DATA: copy_piece(run); break;
-    case MINISIGN_DUE_READ_BACK: read_piece(run, update); break;
-    case MINISIGN_DUE_SET_PERMISSIONS: tell(run, take_permissions(directory)); break;
-    case MINISIGN_DUE_SYNC_FILE: tell(run, sync_stage(directory, update)); break;
-    case MINISIGN_DUE_CREATE_RECORD: tell(run, create_stage(directory, number)); break;
-    case MINISIGN_DUE_WRITE_RECORD: tell(run, write_record(run)); break;
-    case MINISIGN_DUE_SYNC_RECORD: tell(run, sync_record(directory, number)); break;
-    case MINISIGN_DUE_RENAME_RECORD: tell(run, rename_stage(directory, number, &directory->record)); break;
-    case MINISIGN_DUE_RENAME_FILE: tell(run, rename_stage(directory, update, &directory->target)); break;
+    case MINISIGN_DUE_READ_BACK: pass_piece(run, new_file); break;
+    case MINISIGN_DUE_SET_PERMISSIONS: report_result(run, set_permissions(directory)); break;
+    case MINISIGN_DUE_SYNC_FILE: report_result(run, sync_file(directory, new_file)); break;
+    case MINISIGN_DUE_CREATE_RECORD: report_result(run, create_temporary_file(directory, new_record)); break;
+    case MINISIGN_DUE_WRITE_RECORD: report_result(run, write_record(run)); break;
+    case MINISIGN_DUE_SYNC_RECORD: report_result(run, sync_record(directory, new_record)); break;
+    case MINISIGN_DUE_RENAME_RECORD: report_result(run, rename_file(directory, new_record, &directory->record)); break;
+    case MINISIGN_DUE_RENAME_FILE: report_result(run, rename_file(directory, new_file, &directory->target)); break;
     case MINISIGN_DUE_SYNC_TARGET_NAME:
     case MINISIGN_DUE_SYNC_RECORD_NAME:
-    case MINISIGN_DUE_SYNC_FILE_NAME: tell(run, sync_names(directory)); break;
-    case MINISIGN_DUE_REMOVE_FILES: tell(run, remove_files(directory)); break;
+    case MINISIGN_DUE_SYNC_FILE_NAME: report_result(run, sync_directory(directory)); break;
+    case MINISIGN_DUE_REMOVE_FILES: report_result(run, remove_temporary_files(directory)); break;
     default: return false;
     }
     return true;
@@ -520,32 +533,32 @@ static void block_end_signals(sigset_t *old_mask)
     pthread_sigmask(SIG_BLOCK, &ends, old_mask);
 }
 
-/* Performs the operations from the renaming of the record until the target is renamed, or that has failed. A signal in
- * between would leave the new version number beside the old file. */
-static void rename_both(struct installing *run)
+/* Renames the new record and then the new file, with the operations in between, until both are renamed or one has
+ * failed. Signals are blocked, because one in between would leave the new version number beside the old file. */
+static void rename_both(struct install_run *run)
 {
     sigset_t old_mask;
 
     block_end_signals(&old_mask);
     do {
-        make_due_call(run);
+        perform_operation(run);
     } while (minisign_install_due(&run->machine) == MINISIGN_DUE_SYNC_RECORD_NAME
              || minisign_install_due(&run->machine) == MINISIGN_DUE_RENAME_FILE);
     pthread_sigmask(SIG_SETMASK, &old_mask, NULL);
 }
 
-/* Takes the result of a machine that has ended. */
-static void take_result(struct installing *run)
+/* Stores the result of the machine after it has ended. */
+static void take_result(struct install_run *run)
 {
     run->error = minisign_install_error(&run->machine);
-    /* A check rejects a target that cannot be replaced, as a run does. */
-    if (run->call == MINISIGN_DUE_WOULD_INSTALL && expect_replaceable_target(&run->directory) != MINISIGN_OK) {
+    /* A check rejects a target that cannot be replaced, as an installation does. */
+    if (run->operation == MINISIGN_DUE_WOULD_INSTALL && require_replaceable_target(&run->directory) != MINISIGN_OK) {
         reject_run(run, MINISIGN_WRITING_FAILED);
     }
 }
 
-/* Calls the function `progress` of the options, if it has one. */
-static void report_progress(struct installing *run, enum minisign_install_phase phase, uint64_t done, uint64_t size)
+/* Reports the progress to the caller, who may stop the run. */
+static void report_progress(struct install_run *run, enum minisign_install_phase phase, uint64_t done, uint64_t size)
 {
     const minisign_installing_options *options = run->options;
     minisign_installing_progress progress = { phase, 0, done, size };
@@ -556,13 +569,13 @@ static void report_progress(struct installing *run, enum minisign_install_phase 
     }
 }
 
-/* Reports the progress of the last operation, unless it has rejected the update. */
-static void report_call(struct installing *run)
+/* Reports the progress of the operation that was performed last, unless it has rejected the update. */
+static void report_operation(struct install_run *run)
 {
     if (minisign_install_error(&run->machine) != MINISIGN_OK) {
         return;
     }
-    switch (run->call) {
+    switch (run->operation) {
     case MINISIGN_DUE_LOCK:
         if (run->is_waiting) {
             report_progress(run, MINISIGN_PHASE_WAITING, 0, 0);
@@ -575,24 +588,26 @@ static void report_call(struct installing *run)
     }
 }
 
-/* Goes on after a machine that has ended. Returns false if the run has ended too. */
-static bool go_on(struct installing *run)
+/* Continues after the machine has ended: if it made the check before the data is received, the installation follows.
+ * Returns false if the run has ended too. */
+static bool continue_run(struct install_run *run)
 {
     take_result(run);
-    if (run->call == MINISIGN_DUE_REJECTED || !run->is_slow) {
+    if (run->operation == MINISIGN_DUE_REJECTED || !run->must_receive) {
         return false;
     }
-    if (run->call == MINISIGN_DUE_WOULD_INSTALL) {
+    if (run->operation == MINISIGN_DUE_WOULD_INSTALL) {
         begin_receiving(run);
     } else {
-        /* The update is installed already, so no data is needed. The installation syncs the installed file. */
+        /* The update is already installed, so the data is not needed. This installation only syncs the file. */
         begin_installation(run, -1, 0);
     }
     return true;
 }
 
-/* Performs the operation that is due, or handles one piece of data. Returns false if the run has ended. */
-static bool make_call(struct installing *run)
+/* Makes one step of the run: performs the operation that is due, or receives one piece of data. Returns false if the
+ * run has ended. */
+static bool advance(struct install_run *run)
 {
     if (run->is_receiving) {
         receive_piece(run);
@@ -604,10 +619,10 @@ static bool make_call(struct installing *run)
         if (!run->is_stopped) {
             rename_both(run);
         }
-    } else if (make_due_call(run)) {
+    } else if (perform_operation(run)) {
         pass_comment(run);
-        report_call(run);
-    } else if (!go_on(run)) {
+        report_operation(run);
+    } else if (!continue_run(run)) {
         return false;
     }
     return run->error == MINISIGN_OK && !run->is_stopped;
@@ -615,21 +630,21 @@ static bool make_call(struct installing *run)
 
 /* ---- The result ---- */
 
-/* Returns what is wrong with the options, or NULL. */
-static const char *misuse_of(const minisign_installing_options *options)
+/* Returns what is wrong with the options, or NULL if they are valid. */
+static const char *find_misuse(const minisign_installing_options *options)
 {
-    return options->target == NULL                            ? "the options have no target"
-           : options->signature == NULL                       ? "the options have no signature file"
-           : options->key == NULL                             ? "the options have no public key"
+    return options->target == NULL                              ? "the options have no target"
+           : options->signature == NULL                         ? "the options have no signature file"
+           : options->key == NULL                               ? "the options have no public key"
            : options->verify == NULL && options->answer == NULL ? "the options have no function that verifies"
-           : options->has_mode != 0 && options->mode > 0777   ? "the mode in the options is above 0777"
-           : options->wait > MAX_WAIT                         ? "the wait in the options is longer than a day"
-           : options->name != NULL && *options->name == 0     ? "the name in the options is empty"
-                                                              : NULL;
+           : options->has_mode != 0 && options->mode > 0777     ? "the mode in the options is above 0777"
+           : options->wait > MAX_WAIT_SECONDS                   ? "the wait in the options is longer than a day"
+           : options->name != NULL && *options->name == 0       ? "the name in the options is empty"
+                                                                : NULL;
 }
 
-/* Warns that an installed file keeps its permissions, if the options ask for others. */
-static void compare_mode(const struct installing *run)
+/* Warns if the options ask for permissions that differ from those of a file that was already installed. */
+static void warn_about_mode(const struct install_run *run)
 {
     const struct directory *directory = &run->directory;
     struct stat status;
@@ -637,75 +652,75 @@ static void compare_mode(const struct installing *run)
     if (directory->has_mode && !run->is_check
         && AGAIN(fstatat(directory->fd, directory->target.name, &status, AT_SYMLINK_NOFOLLOW)) == 0
         && (status.st_mode & 0777) != directory->mode) {
-        say(run->options, MINISIGN_MESSAGE_WARNING, directory->target.shown,
-            "already installed, so its permissions are unchanged");
-        say(run->options, MINISIGN_MESSAGE_HINT, NULL, "use chmod to change them");
+        send_message(run->options, MINISIGN_MESSAGE_WARNING, directory->target.path,
+                     "already installed, so its permissions are unchanged");
+        send_message(run->options, MINISIGN_MESSAGE_HINT, NULL, "use chmod to change them");
     }
 }
 
-/* Returns the result of a run that has ended, and says why the update is not installed. */
-static enum minisign_install_status end_of(const struct installing *run)
+/* Returns the result of a run that has ended. If the update is not installed, sends messages that say why. */
+static enum minisign_install_status status_of(const struct install_run *run)
 {
     if (run->is_stopped) {
         return MINISIGN_STATUS_STOPPED;
     }
-    switch (run->call) {
+    switch (run->operation) {
     case MINISIGN_DUE_INSTALLED:
     case MINISIGN_DUE_WOULD_INSTALL: return MINISIGN_STATUS_INSTALLED;
-    case MINISIGN_DUE_ALREADY_INSTALLED: compare_mode(run); return MINISIGN_STATUS_ALREADY_INSTALLED;
+    case MINISIGN_DUE_ALREADY_INSTALLED: warn_about_mode(run); return MINISIGN_STATUS_ALREADY_INSTALLED;
     default: break;
     }
     return report_rejection(run->options, &run->directory, run->error, run->is_too_large);
 }
 
 /* Reports API misuse. */
-static enum minisign_install_status misused(const minisign_installing_options *options, const char *file,
-                                            const char *what)
+static enum minisign_install_status report_misuse(const minisign_installing_options *options, const char *file,
+                                                  const char *what)
 {
-    say(options, MINISIGN_MESSAGE_ERROR, file, what);
+    send_message(options, MINISIGN_MESSAGE_ERROR, file, what);
     return MINISIGN_STATUS_MISUSE;
 }
 
-/* Makes a run with valid options. */
-static enum minisign_install_status make_run(struct installing *run, enum minisign_error *error)
+/* Begins a run, whose options are valid, and continues it to its end. */
+static enum minisign_install_status run_to_end(struct install_run *run, enum minisign_error *error)
 {
     enum minisign_install_status status;
 
-    *error = begin(run);
+    *error = begin_run(run);
     if (*error != MINISIGN_OK) {
         char text[MINISIGN_ERROR_TEXT_BYTES];
 
         minisign_error_text(*error, text, sizeof text);
-        return misused(run->options, NULL, text);
+        return report_misuse(run->options, NULL, text);
     }
-    while (make_call(run)) {
+    while (advance(run)) {
     }
-    status = end_of(run);
+    status = status_of(run);
     *error = run->error;
     return status;
 }
 
 enum minisign_install_status minisign_install_file(const minisign_installing_options *options, enum minisign_error *why)
 {
-    const char *misuse = misuse_of(options);
+    const char *misuse = find_misuse(options);
     enum minisign_error ignored, *error = why == NULL ? &ignored : why;
     enum minisign_install_status status;
-    struct installing *run;
+    struct install_run *run;
 
     *error = MINISIGN_BAD_OPTION;
     if (misuse != NULL) {
-        return misused(options, NULL, misuse);
+        return report_misuse(options, NULL, misuse);
     }
-    run = begin_installing(options);
+    run = create_run(options);
     if (run == NULL && errno == EINVAL) {
-        return misused(options, options->target, "this path does not end with a file name");
+        return report_misuse(options, options->target, "this path does not end with a file name");
     }
     if (run == NULL) {
         *error = MINISIGN_OUT_OF_MEMORY;
-        say(options, MINISIGN_MESSAGE_ERROR, NULL, "out of memory");
+        send_message(options, MINISIGN_MESSAGE_ERROR, NULL, "out of memory");
         return MINISIGN_STATUS_FAILED;
     }
-    status = make_run(run, error);
-    end_installing(run);
+    status = run_to_end(run, error);
+    destroy_run(run);
     return status;
 }

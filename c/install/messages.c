@@ -1,10 +1,10 @@
 /* SPDX-License-Identifier: MIT */
-/* Prints minisign-install's messages. */
+/* Prints a system error. */
 #include "messages.h"
 
 #include "shared/text.h"
 
-void say_system_error(const char *file, int number)
+void print_system_error(const char *file, int error_number)
 {
-    fprintf(stderr, "error: %s: %s (os error %d)\n", escape_name(file).text, strerror(number), number);
+    fprintf(stderr, "error: %s: %s (os error %d)\n", escape_name(file).text, strerror(error_number), error_number);
 }

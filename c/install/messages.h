@@ -1,10 +1,10 @@
 /* SPDX-License-Identifier: MIT */
-/* Prints minisign-install's messages, each line by one write. The exit status is the same if a message cannot be
- * written. */
+/* Prints the message of minisign-install that no other program has. A message that cannot be written does not change
+ * the exit status. */
 #ifndef INSTALL_MESSAGES_H
 #define INSTALL_MESSAGES_H
 
-/* Prints a system error about a file, for this value of errno. */
-void say_system_error(const char *file, int number);
+/* Prints `error: FILE: TEXT (os error NUMBER)` for this value of errno. */
+void print_system_error(const char *file, int error_number);
 
 #endif

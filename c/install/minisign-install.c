@@ -1,9 +1,9 @@
 /* SPDX-License-Identifier: MIT */
 /*
- * The program minisign-install, which installs an update that has a valid signature. With --check it only says, from
- * the signature, whether there is a newer update.
+ * The program minisign-install, which installs an update that has a valid signature. With --check it reads only the
+ * signature, and says whether there is a newer update.
  *
- * minisign_install_file does the work. This file reads the key and the signature, and prints the messages.
+ * minisign_install_file installs the update. This file reads the keys and the signature, and prints the messages.
  */
 #include "options.h"
 
@@ -16,44 +16,44 @@
 #include "shared/streams.h"
 #include "shared/text.h"
 
-/* A key file or signature file. One byte more than allowed is read, to notice that it is too long. */
-struct long_text {
-    uint8_t bytes[TEXT_BYTES + 1];
+/* A key file or signature file. The buffer has one byte more than is allowed, so that a longer file is noticed. */
+struct text_file {
+    uint8_t bytes[MAX_FILE_BYTES + 1];
     size_t len;
 };
 
-#define ORDER_HINT "give PK DATA SIG TARGET in this order"
+#define ARGUMENT_ORDER_HINT "give PK DATA SIG TARGET in this order"
 #define DOWNLOAD_HINT "download the file and its signature again"
 
-static minisign_public_key keys[MAX_KEYS];
-static struct long_text signature_text;
+static minisign_public_key keys[MAX_PUBLIC_KEYS];
+static struct text_file signature_text;
 
 /* ---- Files that are read ---- */
 
-static void read_long_text(struct long_text *text, const char *file)
+static void read_text_file(struct text_file *text, const char *file)
 {
     int fd = AGAIN(open(file, O_RDONLY | O_CLOEXEC));
-    ssize_t n = fd < 0 ? -1 : read_whole(fd, text->bytes, sizeof text->bytes);
+    ssize_t count = fd < 0 ? -1 : read_whole(fd, text->bytes, sizeof text->bytes);
     const char *why;
 
-    if (n < 0) {
-        say_system_error(file, errno);
+    if (count < 0) {
+        print_system_error(file, errno);
         exit(MINISIGN_STATUS_FAILED);
     }
-    text->len = (size_t) n;
+    text->len = (size_t) count;
     close(fd);
     why = text->len == sizeof text->bytes    ? "this file is larger than 1 MiB"
           : !is_utf8(text->bytes, text->len) ? "this file is not UTF-8"
                                              : NULL;
     if (why != NULL) {
         print_error(file, why);
-        print_hint(ORDER_HINT);
+        print_hint(ARGUMENT_ORDER_HINT);
         exit(MINISIGN_STATUS_REJECTED);
     }
 }
 
-/* Prints an error of the library about a file. */
-static void say_library_error(const char *file, enum minisign_error error)
+/* Prints an error with the library's text. `file` is the path of the file, or the public key that --key gave. */
+static void print_library_text(const char *file, enum minisign_error error)
 {
     char text[MINISIGN_ERROR_TEXT_BYTES];
 
@@ -61,69 +61,71 @@ static void say_library_error(const char *file, enum minisign_error error)
     print_error(file, text);
 }
 
-/* Prints what a file is and what to do, if it is not of the expected kind. */
-static void explain_text(const char *file, const struct long_text *text, enum text_kind expected_kind)
+/* If the file is recognized as something other than the expected kind, says what it is and what to do. */
+static void explain_text(const char *file, const struct text_file *text, enum text_kind expected_kind)
 {
     if (text->len > 0) {
-        explain_other_kind(file, text->bytes, text->len, expected_kind, ORDER_HINT);
+        explain_other_kind(file, text->bytes, text->len, expected_kind, ARGUMENT_ORDER_HINT);
     }
 }
 
-/* Ends the program if this is not a public key. */
-static void must_be_key(const char *shown, const struct long_text *text, enum minisign_error error)
+/* Ends the program if `error`, the result of parsing a public key, is an error. `source` is the path of the file, or
+ * the public key that --key gave. */
+static void require_public_key(const char *source, const struct text_file *text, enum minisign_error error)
 {
     if (error != MINISIGN_OK) {
-        say_library_error(shown, error);
-        explain_text(shown, text, PUBLIC_KEY_TEXT);
+        print_library_text(source, error);
+        explain_text(source, text, PUBLIC_KEY_TEXT);
         exit(MINISIGN_STATUS_REJECTED);
     }
 }
 
-/* Reads the public key file, or the keys of the options, and the signature file. */
-static void read_texts(struct request *request)
+/* Reads the public key file, or parses the keys that --key gave; and reads the signature file. */
+static void read_keys_and_signature(struct request *request)
 {
-    static struct long_text text;
+    static struct text_file text;
     minisign_installing_options *options = &request->options;
 
     for (int i = 0; i < request->key_count; i++) {
-        const char *base64 = request->keys[i];
+        const char *base64 = request->base64_keys[i];
 
-        must_be_key(base64, &text, minisign_read_bare_public_key((const uint8_t *) base64, strlen(base64), &keys[i]));
+        require_public_key(base64, &text,
+                           minisign_read_bare_public_key((const uint8_t *) base64, strlen(base64), &keys[i]));
     }
     if (request->key_count == 0) {
-        read_long_text(&text, request->key);
-        must_be_key(request->key, &text, minisign_read_public_key(text.bytes, text.len, &keys[0]));
+        read_text_file(&text, request->key_file);
+        require_public_key(request->key_file, &text, minisign_read_public_key(text.bytes, text.len, &keys[0]));
     }
     options->key = &keys[0];
     options->other_key = request->key_count > 1 ? &keys[1] : NULL;
-    read_long_text(&signature_text, options->signature_name);
+    read_text_file(&signature_text, options->signature_name);
     options->signature = signature_text.bytes;
     options->signature_len = signature_text.len;
 }
 
 /* ---- The run ---- */
 
-/* The context of the functions below, which minisign_install_file calls during the run. */
-struct shown {
+/* The context of the functions below, which minisign_install_file calls during a run. */
+struct display {
     struct progress progress;
     bool is_check;
     bool has_hint;
 };
 
-/* Prints the version number and the trusted comment of an update that is checked, for programs to read. */
+/* With --check, prints the version number and the trusted comment of the update, for programs to read. */
 static void show_comment(void *context, uint64_t version, const uint8_t *comment, size_t len)
 {
-    const struct shown *shown = context;
+    const struct display *display = context;
 
-    if (shown->is_check) {
+    if (display->is_check) {
         printf("%" PRIu64 "\n", version);
         write_escaped(stdout, comment, len);
         putchar('\n');
     }
 }
 
-/* Returns what the run is doing with the data, or NULL. */
-static const char *work_of(enum minisign_install_phase phase)
+/* Returns the label of the progress line in this phase, or NULL if the phase has none. */
+static const char *progress_label(enum minisign_install_phase phase)
 {
     switch (phase) {
     case MINISIGN_PHASE_RECEIVING: return "received";
@@ -136,8 +138,8 @@ static const char *work_of(enum minisign_install_phase phase)
 
 static void show_phase(void *context, minisign_installing_progress *progress)
 {
-    struct progress *line = &((struct shown *) context)->progress;
-    const char *work = work_of(progress->phase);
+    struct progress *line = &((struct display *) context)->progress;
+    const char *work = progress_label(progress->phase);
 
     if (line->label != work) {
         end_progress(line);
@@ -149,17 +151,17 @@ static void show_phase(void *context, minisign_installing_progress *progress)
 
 static void show_message(void *context, const minisign_installing_message *message)
 {
-    struct shown *shown = context;
+    struct display *display = context;
 
-    end_progress(&shown->progress);
-    shown->progress = (struct progress) { 0 };
+    end_progress(&display->progress);
+    display->progress = (struct progress) { 0 };
     if (message->kind == MINISIGN_MESSAGE_WARNING) {
         fprintf(stderr, "warning: %s: %s\n", escape_name(message->file).text, message->text);
     } else if (message->kind == MINISIGN_MESSAGE_HINT) {
-        shown->has_hint = true;
+        display->has_hint = true;
         print_hint(message->text);
     } else if (message->system_error != 0) {
-        say_system_error(message->file, message->system_error);
+        print_system_error(message->file, message->system_error);
     } else {
         print_error(message->file, message->text);
     }
@@ -187,7 +189,7 @@ static const struct {
     { MINISIGN_NO_NUMBER, "use --numbering version if the comment has a field version:" },
 };
 
-static const char *hint_of(enum minisign_error error)
+static const char *hint_for_error(enum minisign_error error)
 {
     for (size_t i = 0; i < sizeof hints / sizeof hints[0]; i++) {
         if (hints[i].error == error) {
@@ -205,8 +207,8 @@ static const char *signed_name(const minisign_installing_options *options)
     return options->name != NULL ? options->name : slash == NULL ? options->target : slash + 1;
 }
 
-/* Prints what the user can do about the error for which the update was rejected. */
-static void hint_at(const struct request *request, enum minisign_error error)
+/* Prints what the user can do about the error for which an update was rejected. */
+static void print_hint_for(const struct request *request, enum minisign_error error)
 {
     const minisign_installing_options *options = &request->options;
 
@@ -215,18 +217,18 @@ static void hint_at(const struct request *request, enum minisign_error error)
     } else if (error == MINISIGN_OTHER_FILE) {
         fprintf(stderr, "hint: use --name NAME if the update was signed under a name other than %s\n",
                 escape_name(signed_name(options)).text);
-    } else if (hint_of(error) != NULL) {
-        print_hint(hint_of(error));
+    } else if (hint_for_error(error) != NULL) {
+        print_hint(hint_for_error(error));
     } else {
         explain_text(options->signature_name, &signature_text, SIGNATURE_TEXT);
     }
 }
 
-/* Prints a hint for the result of the run, unless the run has printed one. Returns the exit status. */
-static int end(const struct request *request, const struct shown *shown, enum minisign_install_status status,
-               enum minisign_error error)
+/* Prints a hint for the result of the run, unless one was already printed. Returns the exit status. */
+static int print_final_hint(const struct request *request, const struct display *display,
+                            enum minisign_install_status status, enum minisign_error error)
 {
-    bool is_silent = status == MINISIGN_STATUS_OLDER && shown->is_check;
+    bool is_silent = status == MINISIGN_STATUS_OLDER && display->is_check;
 
     if (status == MINISIGN_STATUS_TOO_LARGE) {
         print_hint("use --max-size BYTES to accept larger data");
@@ -234,8 +236,8 @@ static int end(const struct request *request, const struct shown *shown, enum mi
     }
     if (status == MINISIGN_STATUS_MISUSE) {
         print_hint("give the path of the file to install, not of its directory");
-    } else if (error != MINISIGN_OK && status != MINISIGN_STATUS_FAILED && !is_silent && !shown->has_hint) {
-        hint_at(request, error);
+    } else if (error != MINISIGN_OK && status != MINISIGN_STATUS_FAILED && !is_silent && !display->has_hint) {
+        print_hint_for(request, error);
     }
     return status;
 }
@@ -245,32 +247,32 @@ static int end(const struct request *request, const struct shown *shown, enum mi
 int main(int argc, char *argv[])
 {
     struct request request;
-    struct shown shown = { 0 };
+    struct display display = { 0 };
     enum minisign_error error;
     enum minisign_install_status status;
 
-    if (!fill_standard_streams()) {
+    if (!reserve_standard_streams()) {
         return MINISIGN_STATUS_FAILED;
     }
-    /* A write that nobody reads, or that exceeds the file size limit, must fail instead of ending the program. */
+    /* Without these, a write to a pipe without a reader, or beyond the file size limit, would end the program. */
     signal(SIGPIPE, SIG_IGN);
     signal(SIGXFSZ, SIG_IGN);
-    request = read_request(argc, argv);
+    request = parse_request(argc, argv);
     if (sodium_init() < 0) {
         print_error(NULL, "libsodium could not be initialized");
         return MINISIGN_STATUS_FAILED;
     }
-    read_texts(&request);
-    shown.is_check = request.options.choices.is_check != 0;
+    read_keys_and_signature(&request);
+    display.is_check = request.options.choices.is_check != 0;
     request.options.verify = crypto_sign_verify_detached;
     request.options.signed_comment = show_comment;
     request.options.progress = show_phase;
     request.options.message = show_message;
-    request.options.context = &shown;
+    request.options.context = &display;
     status = minisign_install_file(&request.options, &error);
-    end_progress(&shown.progress);
+    end_progress(&display.progress);
     if (fflush(stdout) != 0 || ferror(stdout) != 0) {
         status = MINISIGN_STATUS_FAILED;
     }
-    return end(&request, &shown, status, error);
+    return print_final_hint(&request, &display, status, error);
 }

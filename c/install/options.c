@@ -7,42 +7,59 @@
 #include "shared/text.h"
 #include "usage.h"
 
-enum { PATHS = 4 };
+enum { MAX_PATHS = 4 };
 
-/* The options. Those from MODE on take a value, and those from MODE to WAIT cannot be combined with --check. */
+/* The options. Their order matters: MODE and all options after it take a value. MODE to WAIT cannot be combined with
+ * --check, and NEW_KEY and ROLL_BACK cannot be combined with --first. */
 enum option {
-    IS_CHECK, IS_FIRST, MUST_EXPIRE, IS_AGAIN, NEW_KEY, ROLL_BACK, MODE, MAX_SIZE, WAIT, NUMBERING, NAME, KEY, OPTIONS
+    IS_CHECK,
+    IS_FIRST,
+    MUST_EXPIRE,
+    IS_AGAIN,
+    NEW_KEY,
+    ROLL_BACK,
+    MODE,
+    MAX_SIZE,
+    WAIT,
+    NUMBERING,
+    NAME,
+    KEY,
+    INSTALL_OPTION_COUNT
 };
 
-/* --most is the former name of --max-size. It is not documented, but still accepted. */
+/* The name of each option. --most is the former name of --max-size: it is not documented, but still accepted. */
 static const struct {
     const char *word;
     enum option option;
-} words[] = {
-    { "--check", IS_CHECK }, { "--first", IS_FIRST }, { "--must-expire", MUST_EXPIRE }, { "--again", IS_AGAIN },
-    { "--new-key", NEW_KEY }, { "--roll-back", ROLL_BACK }, { "--mode", MODE }, { "--most", MAX_SIZE },
-    { "--max-size", MAX_SIZE }, { "--wait", WAIT }, { "--numbering", NUMBERING }, { "--name", NAME }, { "--key", KEY },
+} option_table[] = {
+    { "--check", IS_CHECK }, { "--first", IS_FIRST },      { "--must-expire", MUST_EXPIRE },
+    { "--again", IS_AGAIN }, { "--new-key", NEW_KEY },     { "--roll-back", ROLL_BACK },
+    { "--mode", MODE },      { "--most", MAX_SIZE },       { "--max-size", MAX_SIZE },
+    { "--wait", WAIT },      { "--numbering", NUMBERING }, { "--name", NAME },
+    { "--key", KEY },
 };
 
-/* The arguments: for each option its name as given and its value, or NULL; and the paths. */
+/* The arguments, before they are checked. */
 struct command_line {
-    const char *words[OPTIONS];
-    const char *values[OPTIONS];
-    const char *keys[MAX_KEYS];
+    /* For each option, its name as it was given, or NULL if it was not given; and its value, if it takes one. */
+    const char *words[INSTALL_OPTION_COUNT];
+    const char *values[INSTALL_OPTION_COUNT];
+    /* The values of --key. */
+    const char *keys[MAX_PUBLIC_KEYS];
     int key_count;
-    /* The last element is for one path too many, which the error message names. */
-    const char *paths[PATHS + 1];
+    /* One more than the maximum: if there are too many paths, the error message names the last one. */
+    const char *paths[MAX_PATHS + 1];
     int path_count;
 };
 
-/* Prints the help or the version, and ends the program. */
-static _Noreturn void show(const char *text, const char *more_text)
+/* Prints the help or the version, in two parts, and ends the program. */
+static _Noreturn void print_text_and_exit(const char *text, const char *more_text)
 {
     exit(fputs(text, stdout) >= 0 && fputs(more_text, stdout) >= 0 && fflush(stdout) == 0 ? MINISIGN_STATUS_INSTALLED
                                                                                            : MINISIGN_STATUS_FAILED);
 }
 
-static _Noreturn void end_misuse(void)
+static _Noreturn void exit_with_usage(void)
 {
     fputs(USAGE "\n", stderr);
     print_hint("use --help to list the options");
@@ -50,98 +67,99 @@ static _Noreturn void end_misuse(void)
 }
 
 /* Reports what is wrong with an argument, or with the whole command line if `word` is NULL, and ends the program. */
-static _Noreturn void misuse(const char *word, const char *what)
+static _Noreturn void reject_argument(const char *word, const char *what)
 {
     print_error(word, what);
-    end_misuse();
+    exit_with_usage();
 }
 
 /* Stores an option. --key can be given twice, and each other option once. */
 static void add_option(struct command_line *line, enum option option, const char *word, const char *value)
 {
     if (option == KEY) {
-        if (line->key_count == MAX_KEYS) {
-            misuse(word, "this option can be given only twice");
+        if (line->key_count == MAX_PUBLIC_KEYS) {
+            reject_argument(word, "this option can be given only twice");
         }
         line->keys[line->key_count++] = value;
     } else if (line->words[option] != NULL) {
-        misuse(word, "this option can be given only once");
+        reject_argument(word, "this option can be given only once");
     }
     line->words[option] = word;
     line->values[option] = value;
 }
 
-/* Ends the program if there are too many or too few paths, or if options cannot be combined. With --check there is no
- * DATA, and with --key no PK. */
-static void check_line(const struct command_line *line)
+/* Ends the program if there are too many or too few paths, or if options cannot be combined. With --check, DATA is
+ * omitted, and with --key, PK. */
+static void check_command_line(const struct command_line *line)
 {
-    static const char *const paths[2][2] = { { "PK DATA SIG TARGET", "DATA SIG TARGET" },
-                                             { "PK SIG TARGET", "SIG TARGET" } };
+    /* The expected paths: [--check given][--key given]. */
+    static const char *const expected_paths[2][2] = { { "PK DATA SIG TARGET", "DATA SIG TARGET" },
+                                                      { "PK SIG TARGET", "SIG TARGET" } };
     int is_check = line->words[IS_CHECK] != NULL, has_key = line->words[KEY] != NULL;
-    int expected_count = PATHS - is_check - has_key;
+    int expected_count = MAX_PATHS - is_check - has_key;
 
     if (line->path_count > expected_count) {
         fprintf(stderr, "error: %s: unexpected argument, expected %s\n", escape_name(line->paths[expected_count]).text,
-                paths[is_check][has_key]);
-        end_misuse();
+                expected_paths[is_check][has_key]);
+        exit_with_usage();
     }
     for (int option = MODE; line->words[IS_CHECK] != NULL && option <= WAIT; option++) {
         if (line->words[option] != NULL) {
-            misuse(line->words[option], "this option cannot be combined with --check");
+            reject_argument(line->words[option], "this option cannot be combined with --check");
         }
     }
     for (int option = NEW_KEY; line->words[IS_FIRST] != NULL && option <= ROLL_BACK; option++) {
         if (line->words[option] != NULL) {
-            misuse(line->words[option], "this option cannot be combined with --first");
+            reject_argument(line->words[option], "this option cannot be combined with --first");
         }
     }
     if (line->path_count < expected_count) {
-        fprintf(stderr, "error: missing arguments, expected %s\n", paths[is_check][has_key]);
-        end_misuse();
+        fprintf(stderr, "error: missing arguments, expected %s\n", expected_paths[is_check][has_key]);
+        exit_with_usage();
     }
 }
 
-static enum option option_of(const char *word)
+static enum option find_option_by_name(const char *word)
 {
-    for (size_t i = 0; i < sizeof words / sizeof words[0]; i++) {
-        if (strcmp(word, words[i].word) == 0) {
-            return words[i].option;
+    for (size_t i = 0; i < sizeof option_table / sizeof option_table[0]; i++) {
+        if (strcmp(word, option_table[i].word) == 0) {
+            return option_table[i].option;
         }
     }
-    return OPTIONS;
+    return INSTALL_OPTION_COUNT;
 }
 
-static struct command_line read_command_line(int argc, char *argv[])
+static struct command_line parse_command_line(int argc, char *argv[])
 {
     struct command_line line = { 0 };
     bool only_paths = false;
 
     for (int i = 1; i < argc; i++) {
         const char *word = argv[i];
-        enum option option = option_of(word);
+        enum option option = find_option_by_name(word);
 
         if (only_paths || word[0] != '-' || word[1] == 0) {
-            if (line.path_count <= PATHS) {
+            if (line.path_count <= MAX_PATHS) {
                 line.paths[line.path_count++] = word;
             }
         } else if (strcmp(word, "--") == 0) {
             only_paths = true;
-        } else if (option == OPTIONS) {
-            misuse(word, "unknown option");
+        } else if (option == INSTALL_OPTION_COUNT) {
+            reject_argument(word, "unknown option");
         } else if (option >= MODE && ++i == argc) {
-            misuse(word, "this option needs a value");
+            reject_argument(word, "this option needs a value");
         } else {
             add_option(&line, option, word, argv[i]);
         }
     }
-    check_line(&line);
+    check_command_line(&line);
     return line;
 }
 
 static _Noreturn void reject_value(const char *option, const char *expected, const char *value)
 {
     fprintf(stderr, "error: %s: invalid value \"%s\", expected %s\n", option, escape_name(value).text, expected);
-    end_misuse();
+    exit_with_usage();
 }
 
 static enum minisign_numbering numbering_of(const char *text)
@@ -205,7 +223,7 @@ static uint32_t seconds_of(const char *text)
     return (uint32_t) seconds;
 }
 
-struct request read_request(int argc, char *argv[])
+struct request parse_request(int argc, char *argv[])
 {
     struct request request = { 0 };
     minisign_installing_options *options = &request.options;
@@ -213,16 +231,16 @@ struct request read_request(int argc, char *argv[])
 
     for (int i = 1; i < argc; i++) {
         if (!is_utf8((const uint8_t *) argv[i], strlen(argv[i]))) {
-            misuse(NULL, "an argument is not UTF-8");
+            reject_argument(NULL, "an argument is not UTF-8");
         }
     }
     if (argc == 2 && (strcmp(argv[1], "--help") == 0 || strcmp(argv[1], "-h") == 0)) {
-        show(USAGE "\n" OPTIONS_HELP, STATUS_HELP);
+        print_text_and_exit(USAGE "\n" OPTIONS_HELP, STATUS_HELP);
     }
     if (argc == 2 && strcmp(argv[1], "--version") == 0) {
-        show("minisign-install " MINISIGN_VERSION_TEXT "\n", "");
+        print_text_and_exit("minisign-install " MINISIGN_VERSION_TEXT "\n", "");
     }
-    line = read_command_line(argc, argv);
+    line = parse_command_line(argc, argv);
     *options = (minisign_installing_options) {
         .target = line.paths[line.path_count - 1], .signature_name = line.paths[line.path_count - 2],
         .choices = { .numbering = numbering_of(line.values[NUMBERING]), .is_first = line.words[IS_FIRST] != NULL,
@@ -238,8 +256,8 @@ struct request read_request(int argc, char *argv[])
     options->max_size = options->has_max_size != 0 ? bytes_of(line.words[MAX_SIZE], line.values[MAX_SIZE]) : 0;
     options->mode = options->has_mode != 0 ? mode_of(line.values[MODE]) : 0;
     options->wait = line.words[WAIT] != NULL ? seconds_of(line.values[WAIT]) : 0;
-    memcpy(request.keys, line.keys, sizeof request.keys);
+    memcpy(request.base64_keys, line.keys, sizeof request.base64_keys);
     request.key_count = line.key_count;
-    request.key = line.key_count > 0 ? NULL : line.paths[0];
+    request.key_file = line.key_count > 0 ? NULL : line.paths[0];
     return request;
 }

@@ -6,24 +6,25 @@
 #include "shared/system.h"
 #include "minisign_installing.h"
 
-/* The most public keys: two, during a change of keys. */
-#define MAX_KEYS 2
+/* The maximum number of public keys. A run takes two during a change of keys. */
+#define MAX_PUBLIC_KEYS 2
 
-/* The largest size of a signature file. */
-#define TEXT_BYTES (1 << 20)
+/* The maximum size of a key file or signature file. */
+#define MAX_FILE_BYTES (1 << 20)
 
 /* The parsed command line. */
 struct request {
     /* The options of the run. The keys and the signature are filled in later. */
     minisign_installing_options options;
-    /* The path of the public key file, or NULL if `keys` has one or two public keys in base64. */
-    const char *key;
-    const char *keys[MAX_KEYS];
+    /* The path of the public key file (PK), or NULL if --key was given. */
+    const char *key_file;
+    /* The public keys that --key gave, in base64. */
+    const char *base64_keys[MAX_PUBLIC_KEYS];
     int key_count;
 };
 
-/* Parses the command line. Ends the program with the help or the version, if asked for, and with an error if the
- * command line is invalid. */
-struct request read_request(int argc, char *argv[]);
+/* Parses the command line. For --help and --version, prints the text and ends the program. If the command line is
+ * invalid, prints an error and ends the program with status MINISIGN_STATUS_MISUSE. */
+struct request parse_request(int argc, char *argv[]);
 
 #endif

@@ -1,12 +1,13 @@
 /* SPDX-License-Identifier: MIT */
-/* Declares the functions by which the proved calls allocate memory. */
+/* Declares the functions with which the proved calls allocate memory. */
 #ifndef ALLOCATION_H
 #define ALLOCATION_H
 
 #include <stddef.h>
 #include <stdint.h>
 
-/* The result of an allocation: 1 and the block, or 0. */
+/* The result of an allocation: is_granted is 1 on success, and 0 if there is not enough memory. Then block must not be
+ * used, but is not NULL either. */
 struct grant {
     uint64_t is_granted;
     void *block;

@@ -1,11 +1,13 @@
 /*
- * The boundary between the headers and the proved calls of the crate minisign_c. The part after this head is made by
- * tools/header.py.
+ * Defines the functions of the headers, which call the proved functions of the crate minisign_c. tools/header.py
+ * generates the part after minisign_version.
  *
- * Each function does three things. It replaces a NULL pointer with length 0, which the proved calls do not accept. It
- * chooses the build of the proved call: on x86-64, the one for x86-64-v3 if the processor supports that, else the one
- * for x86-64-v2 if it supports that, else the C code of dist/calls.c. After a call with a secret, it clears what the
- * call left on the stack and in registers.
+ * Each function does three things:
+ *
+ * - It replaces a NULL pointer whose length is 0, because the proved functions do not accept NULL.
+ * - It chooses a build of the proved function. On x86-64, this is the build for x86-64-v3 if the processor supports it,
+ *   otherwise the build for x86-64-v2 if the processor supports that, otherwise the C code of dist/calls.c.
+ * - After a call with a secret, it clears what the call has left on the stack and in registers.
  *
  * SPDX-License-Identifier: MIT
  */
@@ -30,10 +32,10 @@
 
 #include <cpuid.h>
 
-/* Declares all builds of a call; and selects one. */
+/* PROVED declares all builds of a function, and CALL selects one of them. */
 #define PROVED(kind, name, parameters) \
     kind v2_##name parameters; kind v3_##name parameters; kind portable_##name parameters
-#ifdef MINISIGN_ARCHIVES_ALONE
+#ifdef MINISIGN_ARCHIVES_ONLY
 #define CALL(name) (has_v3 ? v3_##name : v2_##name)
 #else
 #define CALL(name) (has_v3 ? v3_##name : has_v2 ? v2_##name : portable_##name)
@@ -69,11 +71,13 @@ __attribute__((constructor)) static void detect_processor(void)
 
 #endif
 
-/* Stand in for a NULL pointer with length 0. They are never accessed. */
+/* The targets of pointers that replace a NULL pointer with length 0. They are never accessed. */
 static const uint8_t nothing;
 static const uint32_t no_words;
 static const minisign_list_entry no_entries;
 
+/* Return a pointer to bytes to read, or to bytes, words or entries to write. If it is NULL and its length is 0, they return
+ * another pointer. */
 #define READ(pointer, length) ((pointer) == NULL && (length) == 0 ? &nothing : (const uint8_t *) (pointer))
 #define WRITTEN(pointer, length) ((pointer) == NULL && (length) == 0 ? (uint8_t *) &nothing : (uint8_t *) (pointer))
 #define WORDS(pointer, length) ((pointer) == NULL && (length) == 0 ? (uint32_t *) &no_words : (pointer))

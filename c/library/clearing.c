@@ -1,11 +1,14 @@
 /*
- * Clears what a call with a secret has left behind: the part of the stack that it used, and all registers that a
- * function need not preserve.
+ * Clears what a call with a secret has left behind: the part of the stack that it used, and the general-purpose,
+ * floating-point and vector registers that a function need not preserve (caller-saved registers).
  *
- * This is assembly, because C that clears after a call cannot control what a compiler does in between. The registers
- * are cleared first, so that a signal that arrives later saves cleared registers on the stack. The stack is written
- * downwards, so that the guard page is hit first if too little of the stack is left. Other processors and systems use
- * C, which clears the registers of a few of them. On all others a register keeps its value until it is used again.
+ * For x86-64 and AArch64 with ELF, this is assembly, because C code cannot control which registers and which part of
+ * the stack the compiler uses. The registers are cleared first: if a signal arrives after that, the system saves
+ * cleared registers on the stack. The stack is written downwards. So if too little of the stack is left, the first
+ * access that fails is in the guard page.
+ *
+ * Other processors and systems use C code, which clears the stack, and for some processors also the registers. On all
+ * others, a register keeps its value until it is used again.
  *
  * SPDX-License-Identifier: MIT
  */
@@ -18,15 +21,15 @@
 
 #include <cpuid.h>
 
-/* With -fcf-protection, the instruction that the target of an indirect call must begin with. */
+/* The instruction with which the target of an indirect call must begin, if this is compiled with -fcf-protection. */
 #if defined(__CET__) && (__CET__ & 1) != 0
 #define LANDING "endbr64\n"
 #else
 #define LANDING ""
 #endif
 
-/* True if the processor has the registers of AVX or AVX-512 and the system saves them. Set once, before main. (used:
- * otherwise a compiler that sees no use in C would remove them) */
+/* True if the processor has the registers of AVX or AVX-512, and the system saves them. Set once, before main. The
+ * attribute `used` keeps the compiler from removing them, because only assembly reads them. */
 __attribute__((visibility("hidden"), used)) unsigned char minisign_has_avx, minisign_has_avx512;
 
 __attribute__((constructor)) static void detect_registers(void)
@@ -85,14 +88,15 @@ __asm__(".text\n"
 
 #elif defined(__ELF__) && defined(__GNUC__) && defined(__aarch64__) && defined(__LP64__)
 
-/* As above, with -mbranch-protection. */
+/* The instruction with which the target of an indirect call must begin, if this is compiled with
+ * -mbranch-protection. */
 #ifdef __ARM_FEATURE_BTI_DEFAULT
 #define LANDING "hint #34\n"
 #else
 #define LANDING ""
 #endif
 
-/* Functions preserve the lower halves of v8 to v15. */
+/* Only the upper halves of v8 to v15 are cleared, because a function has to preserve the lower halves. */
 __asm__(".text\n"
         ".globl minisign_clear_used\n"
         ".hidden minisign_clear_used\n"
@@ -131,7 +135,7 @@ __asm__(".text\n"
 
 #include <stdint.h>
 
-/* Clears the registers that a function need not preserve. */
+/* Clears the caller-saved registers, on the processors for which there is code here. */
 static inline void clear_registers(void)
 {
 #if defined(__s390x__)
@@ -146,12 +150,13 @@ static inline void clear_registers(void)
     __asm__ __volatile__(".irp name, t0, t1, t2, t3, t4, t5, t6, a0, a1, a2, a3, a4, a5, a6, a7\n"
                          "li \\name, 0\n"
                          ".endr\n"
-                         ".irp name, ft0, ft1, ft2, ft3, ft4, ft5, ft6, ft7, ft8, ft9, ft10, ft11, fa0, fa1, fa2, fa3, fa4, fa5, fa6, fa7\n"
+                         ".irp name, ft0, ft1, ft2, ft3, ft4, ft5, ft6, ft7, ft8, ft9, ft10, ft11, "
+                         "fa0, fa1, fa2, fa3, fa4, fa5, fa6, fa7\n"
                          "fmv.d.x \\name, zero\n"
                          ".endr\n"
-                         : : : "t0", "t1", "t2", "t3", "t4", "t5", "t6", "a0", "a1", "a2", "a3", "a4", "a5", "a6", "a7", "ft0", "ft1", "ft2",
-                           "ft3", "ft4", "ft5", "ft6", "ft7", "ft8", "ft9", "ft10", "ft11", "fa0", "fa1", "fa2", "fa3", "fa4", "fa5", "fa6",
-                           "fa7");
+                         : : : "t0", "t1", "t2", "t3", "t4", "t5", "t6", "a0", "a1", "a2", "a3", "a4", "a5", "a6", "a7",
+                           "ft0", "ft1", "ft2", "ft3", "ft4", "ft5", "ft6", "ft7", "ft8", "ft9", "ft10", "ft11", "fa0",
+                           "fa1", "fa2", "fa3", "fa4", "fa5", "fa6", "fa7");
 #elif defined(__arm__) && defined(__ARM_PCS_VFP)
     __asm__ __volatile__(".irp name, r0, r1, r2, r3, r12\n"
                          "mov \\name, #0\n"
@@ -163,7 +168,8 @@ static inline void clear_registers(void)
 #endif
 }
 
-/* volatile, so that everything is written, downwards; not inlined, so that the caller's frame is not in the way. */
+/* The array is volatile, so that the compiler writes all of it, and downwards. The function is not inlined, because the
+ * array must be below the caller's frame, where the call with the secret had its frame. */
 #ifdef __GNUC__
 __attribute__((noinline))
 #endif

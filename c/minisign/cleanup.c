@@ -1,10 +1,10 @@
 /* SPDX-License-Identifier: MIT */
-/* Runs cleanup functions when the program ends, also by a signal. */
+/* Runs cleanup functions when the program ends, even if a signal ends it. */
 #include "cleanup.h"
 
 #include "messages.h"
 
-/* keys.c clears secrets, and replacing.c removes temporary files. */
+/* One of keys.c, which clears secrets, and one of replacing.c, which removes temporary files. */
 enum { MAX_CLEANERS = 2 };
 
 static void (*volatile cleaners[MAX_CLEANERS])(void);
@@ -18,7 +18,8 @@ static void clean(void)
     }
 }
 
-/* All signals are blocked while this handler runs, so the raised signal ends the program when the handler returns. */
+/* Handles a signal. All signals are blocked while the handler runs, so the raised signal ends the program when the
+ * handler returns. */
 static void clean_and_end(int signo)
 {
     clean();
@@ -44,8 +45,8 @@ bool is_crash(int signo)
            || signo == SIGSEGV || signo == SIGSYS;
 }
 
-/* Handles all signals that end a program, except those that the program was started to ignore. For signals that the C
- * library reserves for itself, sigaction fails. */
+/* Handles all signals that end a program, unless the program was started with the signal ignored. For signals that the
+ * C library reserves for itself, sigaction fails. */
 static void watch_signals(void)
 {
     struct sigaction action = { 0 }, old_action;
@@ -64,7 +65,7 @@ void clean_at_end(void (*cleaner)(void))
     static int count;
 
     if (count == MAX_CLEANERS || (count == 0 && atexit(clean) != 0)) {
-        fail_error(NULL, "atexit() failed", NULL);
+        fail_with_hint(NULL, "atexit() failed", NULL);
     }
     cleaners[count++] = cleaner;
     if (count == 1) {

@@ -1,5 +1,5 @@
 /* SPDX-License-Identifier: MIT */
-/* Opens, reads and writes files, and ends the program on failure. */
+/* Opens and reads files, flushes standard output and joins strings. Ends the program on failure. */
 #include "files.h"
 
 #include "shared/reports.h"
@@ -12,16 +12,16 @@ int open_file(const char *file, const char *hint)
     if (fd < 0) {
         print_errno(file);
         print_hint(saved_errno == ENOENT ? hint : NULL);
-        exit(TROUBLE);
+        exit(STATUS_ERROR);
     }
     return fd;
 }
 
-size_t read_full(int fd, const char *file, uint8_t *buffer, size_t size)
+size_t read_or_exit(int fd, const char *file, uint8_t *buffer, size_t size)
 {
     ssize_t len = read_whole(fd, buffer, size);
 
-    require(len >= 0, file);
+    check_errno(len >= 0, file);
     return (size_t) len;
 }
 
@@ -30,17 +30,18 @@ uid_t read_text(uint8_t *bytes, size_t size, size_t *len, const char *file, enum
     int fd = open_file(file, hint_for(expected));
     struct stat status;
 
-    require(fstat(fd, &status) == 0, file);
-    *len = read_full(fd, file, bytes, size);
+    check_errno(fstat(fd, &status) == 0, file);
+    *len = read_or_exit(fd, file, bytes, size);
+    /* A file that fills the buffer may be longer. */
     errno = EFBIG;
-    require(*len < size, file);
+    check_errno(*len < size, file);
     close(fd);
     return status.st_uid;
 }
 
-void flush_file(FILE *to)
+void flush_or_exit(FILE *to)
 {
-    require(fflush(to) == 0 && !ferror(to), "standard output");
+    check_errno(fflush(to) == 0 && !ferror(to), "standard output");
 }
 
 char *join(const char *front, const char *middle, const char *end)
@@ -48,7 +49,7 @@ char *join(const char *front, const char *middle, const char *end)
     size_t size = strlen(front) + strlen(middle) + strlen(end) + 1;
     char *text = malloc(size);
 
-    require(text != NULL, front);
+    check_errno(text != NULL, front);
     snprintf(text, size, "%s%s%s", front, middle, end);
     return text;
 }

@@ -21,7 +21,7 @@
 #define COMMENT_LABEL "untrusted comment: "
 #define PUBLIC_COMMENT_BYTES 64
 
-/* If memory is short, fewer rows of scrypt are kept, but at least every 256th. */
+/* If there is too little memory, fewer rows of scrypt are kept in memory, but at least every 256th. */
 #define MAX_ROW_INTERVAL 256
 
 struct secrets *secrets;
@@ -40,14 +40,14 @@ void allocate_secrets(void)
     forbid_core_dumps();
     secrets = sodium_malloc(sizeof *secrets);
     if (secrets == NULL) {
-        fail("sodium_malloc()");
+        fail_as_minisign("sodium_malloc()");
     }
     clear_secrets();
     clean_at_end(clear_secrets);
 }
 
-/* If a key derivation ran out of memory, increases `rows`, so that fewer rows of scrypt are kept, and returns true to
- * try again. */
+/* If a key derivation ran out of memory, increases `rows`, so that fewer rows of scrypt are kept, and returns true: the
+ * caller tries again. */
 static bool retry_with_fewer_rows(enum minisign_error error, uint32_t *rows)
 {
     if (error != MINISIGN_OUT_OF_MEMORY || *rows > MAX_ROW_INTERVAL / MINISIGN_KEEP_FEW_ROWS) {
@@ -59,7 +59,7 @@ static bool retry_with_fewer_rows(enum minisign_error error, uint32_t *rows)
 
 /* ---- Decrypting ---- */
 
-/* Prints which value of -K allows to decrypt a key that exceeds the limit. */
+/* Prints the value of -K with which a key can be decrypted that exceeds the limit. */
 static void print_work_hint(void)
 {
     const minisign_unopened_key *key = &secrets->unopened;
@@ -73,7 +73,7 @@ static void print_work_hint(void)
 static void begin_derivation(const char *purpose)
 {
     printf("Deriving a key from the password %s... ", purpose);
-    flush_file(stdout);
+    flush_or_exit(stdout);
     begin_dots();
 }
 
@@ -84,7 +84,7 @@ static void end_derivation(void)
     sodium_memzero(&secrets->repeated, sizeof secrets->repeated);
     end_dots();
     puts("done\n");
-    flush_file(stdout);
+    flush_or_exit(stdout);
 }
 
 /* Asks for the password, and decrypts the key. */
@@ -98,16 +98,16 @@ static enum minisign_error decrypt_key(const struct options *options)
     begin_derivation("and decrypting the secret key");
     do {
         error = minisign_open_sealed_key(&secrets->unopened, secrets->password.bytes, secrets->password.len, rows,
-                                         max_work, &secrets->open);
+                                         max_work, &secrets->opened);
     } while (retry_with_fewer_rows(error, &rows));
     end_derivation();
     if (error == MINISIGN_NOT_UTF8) {
-        fail_error(NULL, "the password is not UTF-8", UTF8_HINT);
+        fail_with_hint(NULL, "the password is not UTF-8", UTF8_HINT);
     }
     return error;
 }
 
-void open_key(const struct options *options)
+void load_secret_key(const struct options *options)
 {
     enum minisign_error error;
 
@@ -116,29 +116,29 @@ void open_key(const struct options *options)
     error = minisign_read_secret_key(secrets->text, secrets->text_len, &secrets->unopened);
     if (error == MINISIGN_OK) {
         error = secrets->unopened.is_sealed ? decrypt_key(options)
-                                            : minisign_open_unsealed_key(&secrets->unopened, &secrets->open);
+                                            : minisign_open_unsealed_key(&secrets->unopened, &secrets->opened);
     }
     if (error == MINISIGN_OK) {
         return;
     }
-    print_message(options->secret_file,
-                  error == MINISIGN_RECORD_TOO_SHORT ? MINISIGN_SECRET_KEY_NOT_BASE64 : error);
+    print_library_error(options->secret_file,
+                        error == MINISIGN_RECORD_TOO_SHORT ? MINISIGN_SECRET_KEY_NOT_BASE64 : error);
     if (error == MINISIGN_WORK_TOO_HIGH) {
         print_work_hint();
     } else if (error != MINISIGN_WRONG_PASSWORD && error != MINISIGN_OUT_OF_MEMORY) {
         explain_rejection(options->secret_file, secrets->text, secrets->text_len, SECRET_KEY_TEXT, error,
                           hint_for(SECRET_KEY_TEXT));
     }
-    exit(TROUBLE);
+    exit(STATUS_ERROR);
 }
 
-bool halves_match(void)
+bool key_halves_match(void)
 {
     uint8_t *derived = secrets->generated.secret, public_key[crypto_sign_PUBLICKEYBYTES];
 
-    crypto_sign_seed_keypair(public_key, derived, secrets->open.secret);
+    crypto_sign_seed_keypair(public_key, derived, secrets->opened.secret);
     minisign_clear_used();
-    return sodium_memcmp(derived, secrets->open.secret, sizeof secrets->open.secret) == 0;
+    return sodium_memcmp(derived, secrets->opened.secret, sizeof secrets->opened.secret) == 0;
 }
 
 /* ---- Encoding key files ---- */
@@ -150,11 +150,12 @@ static void ask_new_password(void)
     ask_password(&secrets->repeated, "Password (one more time): ");
     if (secrets->password.len != secrets->repeated.len
         || sodium_memcmp(secrets->password.bytes, secrets->repeated.bytes, secrets->repeated.len) != 0) {
-        fail("Passwords don't match");
+        fail_as_minisign("Passwords don't match");
     }
 }
 
-/* Encodes the decrypted key with this comment into `secrets->text`, encrypted with the password unless -W was given. */
+/* Encodes a secret key file with the decrypted key and this comment into `secrets->text`. Encrypts the key with the
+ * password, unless -W was given. */
 static void encode_secret_key(const struct options *options, const uint8_t *comment, size_t comment_len)
 {
     /* Minisign allows an empty password. ask_password prints "(empty)" for it. */
@@ -170,27 +171,27 @@ static void encode_secret_key(const struct options *options, const uint8_t *comm
     }
     sealing = minisign_usual_sealing(salt);
     do {
-        error = minisign_secret_key_text(&secrets->open, with_password, secrets->password.bytes, secrets->password.len,
-                                         &sealing, rows, comment, comment_len, secrets->text, sizeof secrets->text,
-                                         &secrets->text_len);
+        error = minisign_secret_key_text(&secrets->opened, with_password, secrets->password.bytes,
+                                         secrets->password.len, &sealing, rows, comment, comment_len, secrets->text,
+                                         sizeof secrets->text, &secrets->text_len);
     } while (retry_with_fewer_rows(error, &rows));
     if (!options->unsealed) {
         end_derivation();
     }
     if (error == MINISIGN_NOT_UTF8 && !options->unsealed) {
-        fail_error(NULL, "the password or the comment is not UTF-8", UTF8_HINT);
+        fail_with_hint(NULL, "the password or the comment is not UTF-8", UTF8_HINT);
     }
     require_success(error);
 }
 
-/* Encodes the public key of the decrypted secret key. */
+/* Encodes the public key file that belongs to the decrypted secret key. */
 static void encode_public_key(struct text *text)
 {
     char comment[PUBLIC_COMMENT_BYTES];
     int len = snprintf(comment, sizeof comment, MINISIGN_PUBLIC_KEY_COMMENT "%" PRIX64,
-                       key_id_number(secrets->open.key_id));
+                       key_id_number(secrets->opened.key_id));
 
-    require_success(minisign_public_key_text(&secrets->open, (const uint8_t *) comment, (size_t) len, text->bytes,
+    require_success(minisign_public_key_text(&secrets->opened, (const uint8_t *) comment, (size_t) len, text->bytes,
                                              sizeof text->bytes, &text->len));
 }
 
@@ -203,11 +204,12 @@ static _Noreturn void reject_existing(const char *file)
             "Key generation aborted:\n%s already exists.\n\n"
             "If you really want to overwrite the existing key pair, add the -f switch to \nforce this operation.\n",
             escape_name(file).text);
-    exit(BAD);
+    exit(STATUS_REJECTED);
 }
 
-/* Checks an output file before a password is asked for and a key derived, instead of failing after that. */
-static void check_output(const struct options *options, const char *file, enum kind kind)
+/* Rejects an output file that could not be written. Called before the user types a password, instead of failing
+ * afterwards. */
+static void check_output(const struct options *options, const char *file, enum file_kind kind)
 {
     struct stat status;
 
@@ -217,8 +219,8 @@ static void check_output(const struct options *options, const char *file, enum k
     reject_untrusted_file(file, kind);
 }
 
-/* Stages a key file. It may replace an existing file only with -f. */
-static struct replacement *stage_key(const struct options *options, const char *file, enum kind kind,
+/* Writes a key file to a temporary file. It may replace an existing file only with -f. */
+static struct replacement *stage_key(const struct options *options, const char *file, enum file_kind kind,
                                      const uint8_t *text, size_t len)
 {
     struct replacement *stage = stage_file(file, kind, options->force, text, len);
@@ -233,10 +235,10 @@ static _Noreturn void reject_same_file(const char *file, const char *second_name
 {
     fprintf(stderr, "error: %s: this is the same file as %s\n", escape_name(file).text, escape_name(second_name).text);
     print_hint("use -s FILE and -p FILE to name two different files");
-    exit(TROUBLE);
+    exit(STATUS_ERROR);
 }
 
-/* Reads a regular file, and returns its length, or -1. */
+/* Reads the start of a regular file, up to the size of the buffer. Returns the number of bytes, or -1 on failure. */
 static ssize_t read_regular_file(const char *file, uint8_t bytes[TEXT_BUFFER_BYTES])
 {
     struct handle handle = { .fd = -1 };
@@ -269,7 +271,7 @@ void reject_secret_key_as_output(const struct options *options, const char *file
     if (stat(options->secret_file, &key) == 0 && stat(file, &status) == 0 && S_ISREG(key.st_mode)
         && (is_same_file(&key, &status)
             || (has_same_attributes(&key, &status) && are_copies(options->secret_file, file)))) {
-        fail_error(file, "this is the secret key, which would be overwritten", hint);
+        fail_with_hint(file, "this is the secret key, which would be overwritten", hint);
     }
 }
 
@@ -288,15 +290,15 @@ static void create_directory(const char *file)
     free(directory);
 }
 
-/* Puts both key files in place. They must be two different files. */
-static void install_pair(const struct options *options, const struct text *public)
+/* Writes both key files. Ends the program if they are the same file. */
+static void write_key_pair(const struct options *options, const struct text *public)
 {
     struct replacement *secret_stage =
         stage_key(options, options->secret_file, NEW_SECRET_KEY, secrets->text, secrets->text_len);
     struct replacement *public_stage = stage_key(options, options->public_file, PUBLIC_KEY, public->bytes, public->len);
     const char *existing;
 
-    if (have_same_place(secret_stage, public_stage)) {
+    if (have_same_destination(secret_stage, public_stage)) {
         reject_same_file(options->secret_file, options->public_file);
     }
     existing = put_both_in_place(public_stage, secret_stage);
@@ -315,7 +317,7 @@ static void generate_key(void)
     randombytes_buf(secrets->generated.key_id, sizeof secrets->generated.key_id);
     crypto_sign_keypair(public_key, secrets->generated.secret);
     minisign_clear_used();
-    minisign_take_secret_key(&secrets->generated, &secrets->open);
+    minisign_take_secret_key(&secrets->generated, &secrets->opened);
 }
 
 int generate_keys(const struct options *options)
@@ -336,15 +338,15 @@ int generate_keys(const struct options *options)
     encode_secret_key(options, (const uint8_t *) comment, strlen(comment));
     encode_public_key(&public);
     create_directory(options->secret_file);
-    install_pair(options, &public);
+    write_key_pair(options, &public);
     printf("The secret key was saved as %s - Keep it secret!\n"
            "The public key was saved as %s - That one can be public.\n\n"
            "Files signed using this key pair can be verified with the following command:\n\n"
            "minisign -Vm <file> -P %.56s\n\n",
            escape_name(options->secret_file).text, escape_name(options->public_file).text,
            strchr((const char *) public.bytes, '\n') + 1);
-    flush_file(stdout);
-    return GOOD;
+    flush_or_exit(stdout);
+    return STATUS_OK;
 }
 
 int recreate_public_key(const struct options *options)
@@ -353,12 +355,12 @@ int recreate_public_key(const struct options *options)
 
     check_output(options, options->public_file, PUBLIC_KEY);
     reject_secret_key_as_output(options, options->public_file, "use -p FILE to name another file for the public key");
-    open_key(options);
+    load_secret_key(options);
     encode_public_key(&public);
     if (!put_in_place(stage_key(options, options->public_file, PUBLIC_KEY, public.bytes, public.len))) {
         reject_existing(options->public_file);
     }
-    return GOOD;
+    return STATUS_OK;
 }
 
 /* Copies the first line of the secret key file, without the label "untrusted comment: " if it has one. Returns its
@@ -377,14 +379,14 @@ static size_t copy_comment(uint8_t *comment)
 int change_password(const struct options *options)
 {
     static uint8_t comment[SECRET_TEXT_BYTES];
-    enum kind kind = options->unsealed ? UNSEALED_SECRET_KEY : CHANGED_SECRET_KEY;
+    enum file_kind kind = options->unsealed ? UNSEALED_SECRET_KEY : CHANGED_SECRET_KEY;
     size_t comment_len;
 
     if (options->unsealed) {
         printf("Key encryption for [%s] is going to be removed.\n", escape_name(options->secret_file).text);
     }
     reject_untrusted_file(options->secret_file, kind);
-    open_key(options);
+    load_secret_key(options);
     comment_len = copy_comment(comment);
     if (!options->unsealed) {
         ask_new_password();
@@ -392,6 +394,6 @@ int change_password(const struct options *options)
     encode_secret_key(options, comment, comment_len);
     replace_key(options->secret_file, kind, key_owner, secrets->text, secrets->text_len);
     puts(options->unsealed ? "Password removed." : "Password updated.");
-    flush_file(stdout);
-    return GOOD;
+    flush_or_exit(stdout);
+    return STATUS_OK;
 }

@@ -1,11 +1,11 @@
 /* SPDX-License-Identifier: MIT */
-/* Names temporary files, and removes those that killed runs left. */
+/* Names and locks temporary files, and removes those that killed runs left. */
 #include "leftovers.h"
 
 #include "shared/handles.h"
 #include "shared/stages.h"
 
-/* How many directories are remembered as cleaned. */
+/* The maximum number of directories that are remembered as cleaned. After that, the oldest are forgotten. */
 #define MAX_DIRECTORIES 32
 
 bool random_stage_name(char name[STAGE_NAME_BYTES])
@@ -19,8 +19,8 @@ bool lock_stage(int fd)
     return flock(fd, LOCK_EX | LOCK_NB) == 0 || errno != EWOULDBLOCK;
 }
 
-/* Removes a temporary file if it is a regular file that no run has locked. The name is checked again once the lock is
- * held, because another run may have renamed the file in between. */
+/* Removes a temporary file if it is a regular file that no run has locked. Checks the name again after locking the
+ * file, because another run may have renamed the file in between. */
 static void remove_unlocked(int directory, const char *name)
 {
     int fd = openat(directory, name, O_RDWR | O_NOFOLLOW | O_NONBLOCK | O_CLOEXEC);
@@ -36,7 +36,7 @@ static void remove_unlocked(int directory, const char *name)
     close(fd);
 }
 
-/* Returns true if this directory was cleaned before, and remembers it. */
+/* Returns true if this directory was cleaned before. Otherwise remembers it as cleaned. */
 static bool was_cleaned(int directory)
 {
     static struct stat cleaned[MAX_DIRECTORIES];

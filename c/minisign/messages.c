@@ -1,14 +1,14 @@
 /* SPDX-License-Identifier: MIT */
-/* Prints minisign's messages. */
+/* Prints the messages of the program. */
 #include "messages.h"
 
 #include "shared/reports.h"
 #include "shared/text.h"
 
-void fail(const char *line)
+void fail_as_minisign(const char *line)
 {
     fprintf(stderr, "%s\n", line);
-    exit(TROUBLE);
+    exit(STATUS_ERROR);
 }
 
 void print_errno(const char *file)
@@ -21,27 +21,27 @@ void print_errno(const char *file)
 void fail_errno(const char *file)
 {
     print_errno(file);
-    exit(TROUBLE);
+    exit(STATUS_ERROR);
 }
 
-void require(bool ok, const char *file)
+void check_errno(bool ok, const char *file)
 {
     if (!ok) {
         fail_errno(file);
     }
 }
 
-void fail_error(const char *file, const char *what, const char *hint)
+void fail_with_hint(const char *file, const char *what, const char *hint)
 {
     print_error(file, what);
     print_hint(hint);
-    exit(TROUBLE);
+    exit(STATUS_ERROR);
 }
 
 void require_one_line(const char *comment)
 {
     if (comment != NULL && strpbrk(comment, "\r\n") != NULL) {
-        fail_error(NULL, "a comment contains a line break", "write each comment on one line");
+        fail_with_hint(NULL, "a comment contains a line break", "write each comment on one line");
     }
 }
 
@@ -75,7 +75,7 @@ static const struct {
     { MINISIGN_WRONG_PASSWORD, "Wrong password for that key" },
 };
 
-void print_message(const char *file, enum minisign_error error)
+void print_library_error(const char *file, enum minisign_error error)
 {
     char text[MINISIGN_ERROR_TEXT_BYTES];
 
@@ -92,11 +92,11 @@ void print_message(const char *file, enum minisign_error error)
 void require_success(enum minisign_error error)
 {
     if (error == MINISIGN_NOT_UTF8) {
-        fail_error(NULL, "the comment is not UTF-8", UTF8_HINT);
+        fail_with_hint(NULL, "the comment is not UTF-8", UTF8_HINT);
     }
     if (error != MINISIGN_OK) {
-        print_message(NULL, error);
-        exit(TROUBLE);
+        print_library_error(NULL, error);
+        exit(STATUS_ERROR);
     }
 }
 

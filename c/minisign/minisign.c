@@ -4,10 +4,10 @@
  * statuses.
  *
  * The library of minisign.h parses and encodes keys and signatures, hashes the data, derives keys from passwords and
- * returns the verdict. libsodium has Ed25519, random bytes and memory for secrets. The other files of this directory
- * read the command line (options), ask for passwords (terminal), decrypt, generate and change keys (keys), sign
- * (signing), verify (verifying), read data (reading), find out where to write files (places) and replace files in one
- * step (replacing).
+ * decides whether a signature is valid. libsodium has Ed25519, random bytes and memory for secrets. The other files of
+ * this directory parse the command line (options), ask for passwords (terminal), decrypt, generate and change keys
+ * (keys), sign (signing), verify (verifying), read data (reading), find out where to write a file (destinations), and
+ * replace files in one step (replacing).
  */
 #include "keys.h"
 
@@ -19,7 +19,7 @@
 #include "signing.h"
 #include "verifying.h"
 
-/* Each command flushes its output, and fails if it cannot be written. */
+/* Runs the command. Each command flushes its output, and fails if the output cannot be written. */
 static int run(const struct options *options)
 {
     if (options->command == VERIFY) {
@@ -38,18 +38,18 @@ int main(int argc, char *argv[])
 {
     struct options options;
 
-    if (!fill_standard_streams()) {
-        return TROUBLE;
+    if (!reserve_standard_streams()) {
+        return STATUS_ERROR;
     }
-    if (!read_arguments(&argc, &argv)) {
-        fail_error(NULL, "an argument is not Unicode", "rename the file, or use another name for it");
+    if (!arguments_to_utf8(&argc, &argv)) {
+        fail_with_hint(NULL, "an argument is not Unicode", "rename the file, or use another name for it");
     }
-    options = read_options(argc, argv);
-    if (options.quiet != SAY_ALL) {
+    options = parse_options(argc, argv);
+    if (options.quiet != PRINT_ALL) {
         hide_progress();
     }
     if (sodium_init() < 0) {
-        fail("Unable to initialize the Sodium library");
+        fail_as_minisign("Unable to initialize the Sodium library");
     }
     return run(&options);
 }

@@ -8,16 +8,17 @@
 /* The version of Minisign that this program imitates, and this program's own version. */
 #define VERSION "minisign 0.11\nMinisign in Rattle " MINISIGN_VERSION_TEXT
 
+/* The maximum of -k. */
 #define MAX_ROWS 1048576
 
-/* More work than any key can require. */
+/* The maximum and the default of -K. No key can require more work than the maximum. */
 #define MAX_WORK 1073741824
 #define USUAL_WORK 16
 
 static _Noreturn void print_and_exit(const char *text, int status)
 {
     puts(text);
-    flush_file(stdout);
+    flush_or_exit(stdout);
     exit(status);
 }
 
@@ -55,10 +56,11 @@ static _Noreturn void usage(void)
                    "-Q                pretty quiet mode, only print the trusted comment\n"
                    "-f                force. Combined with -G, overwrite a previous key pair\n"
                    "-v                display version number\n",
-                   TROUBLE);
+                   STATUS_ERROR);
 }
 
-/* Returns the default secret key file: in MINISIGN_CONFIG_DIR if it is set, otherwise in ~/.minisign. */
+/* Returns the default secret key file, which is in MINISIGN_CONFIG_DIR if this variable is set, otherwise in
+ * ~/.minisign. */
 static const char *default_secret_file(void)
 {
     const char *directory = getenv("MINISIGN_CONFIG_DIR");
@@ -71,7 +73,7 @@ static const char *default_secret_file(void)
 }
 
 /* Parses a decimal number from 1 to `max`. */
-static uint32_t read_number(const char *text, uint32_t max)
+static uint32_t parse_number(const char *text, uint32_t max)
 {
     char *end;
     unsigned long number;
@@ -92,7 +94,7 @@ static void set_command(struct options *options, enum command command)
     options->command = command;
 }
 
-static struct options read_flags(int argc, char *argv[])
+static struct options parse_flags(int argc, char *argv[])
 {
     struct options options = { .rows = 1, .work = USUAL_WORK };
     int flag;
@@ -107,18 +109,18 @@ static struct options read_flags(int argc, char *argv[])
         case 'H': options.prehashed_only = true; break;
         case 'c': options.comment = optarg; break;
         case 'f': options.force = true; break;
-        case 'k': options.rows = read_number(optarg, MAX_ROWS); break;
-        case 'K': options.work = read_number(optarg, MAX_WORK); break;
+        case 'k': options.rows = parse_number(optarg, MAX_ROWS); break;
+        case 'K': options.work = parse_number(optarg, MAX_WORK); break;
         case 'l': options.legacy = true; break;
         case 'm': options.data_file = optarg; break;
         case 'o': options.output = true; break;
         case 'P': options.public_key = optarg; break;
         case 'p': options.public_file = optarg; break;
-        case 'q': options.quiet = SAY_NOTHING; break;
-        case 'Q': options.quiet = SAY_COMMENT; break;
+        case 'q': options.quiet = PRINT_NOTHING; break;
+        case 'Q': options.quiet = PRINT_COMMENT; break;
         case 's': options.secret_file = optarg; break;
         case 't': options.trusted_comment = optarg; break;
-        case 'v': print_and_exit(VERSION, GOOD);
+        case 'v': print_and_exit(VERSION, STATUS_OK);
         case 'W': options.unsealed = true; break;
         case 'x': options.signature_file = optarg; break;
         default: usage();
@@ -128,15 +130,15 @@ static struct options read_flags(int argc, char *argv[])
     return options;
 }
 
-/* An empty argument means the default. */
+/* An option with an empty value counts as not given. */
 static const char *null_if_empty(const char *text)
 {
     return text == NULL || *text == 0 ? NULL : text;
 }
 
-struct options read_options(int argc, char *argv[])
+struct options parse_options(int argc, char *argv[])
 {
-    struct options options = read_flags(argc, argv);
+    struct options options = parse_flags(argc, argv);
     bool with_data = options.command == SIGN || options.command == VERIFY;
 
     if (options.command == NO_COMMAND || (with_data && options.data_file == NULL)

@@ -5,12 +5,13 @@
 #include "shared/progress.h"
 #include "shared/text.h"
 
-/* How many bytes are read at a time. Data that is read twice has larger pieces (TAGGED_BYTES): each needs a tag. */
+/* The size of a piece of data that is read only once. Data that is read twice has larger pieces, of MAX_TAGGED_BYTES,
+ * because each piece needs a tag. */
 #define READ_BYTES 32768
-/* The first size of the buffer for data that is kept in memory. */
+/* The initial size of the buffer for data that is kept in memory. */
 #define INITIAL_BYTES 65536
 
-static uint8_t piece[TAGGED_BYTES];
+static uint8_t piece[MAX_TAGGED_BYTES];
 
 struct data open_data(const char *file)
 {
@@ -20,7 +21,7 @@ struct data open_data(const char *file)
 static void feed(minisign_state *state, const uint8_t *bytes, size_t len)
 {
     if (minisign_update(state, bytes, len) != MINISIGN_OK) {
-        fail_error(NULL, "the data could not be hashed", NULL);
+        fail_with_hint(NULL, "the data could not be hashed", NULL);
     }
 }
 
@@ -33,19 +34,20 @@ static void read_all(struct data *data)
     do {
         size = size == 0 ? INITIAL_BYTES : 2 * size;
         contents->bytes = realloc(contents->bytes, size);
-        require(contents->bytes != NULL, data->file);
-        contents->len += read_full(data->fd, data->file, contents->bytes + contents->len, size - contents->len);
+        check_errno(contents->bytes != NULL, data->file);
+        contents->len += read_or_exit(data->fd, data->file, contents->bytes + contents->len, size - contents->len);
     } while (contents->len == size);
 }
 
-/* Stores the tag of the piece that was read. The array doubles whenever the number of tags is a power of two. */
+/* Stores the tag of the piece that was read, which has `len` bytes. */
 static void store_tag(struct data *data, size_t len)
 {
+    /* The array doubles whenever the number of tags is a power of two. */
     if ((data->tag_count & (data->tag_count - 1)) == 0) {
         size_t size = data->tag_count == 0 ? 1 : 2 * data->tag_count;
 
         data->tags = realloc(data->tags, size * sizeof *data->tags);
-        require(data->tags != NULL, data->file);
+        check_errno(data->tags != NULL, data->file);
     }
     data->tags[data->tag_count++] = tag_of(piece, len);
     data->size += len;
@@ -62,7 +64,7 @@ void feed_data(struct data *data, minisign_state *state, enum reading_mode mode)
     bool has_size = fstat(data->fd, &status) == 0 && S_ISREG(status.st_mode);
     struct escaped_name name = escape_name(data->file);
     struct progress progress = begin_progress(name.text, has_size ? (uint64_t) status.st_size : 0, false);
-    size_t size = mode == COPY_LATER ? TAGGED_BYTES : READ_BYTES, len;
+    size_t size = mode == COPY_LATER ? MAX_TAGGED_BYTES : READ_BYTES, len;
 
     if (mode == KEEP_BYTES || (mode == COPY_LATER && !can_be_read_again(data))) {
         read_all(data);
@@ -71,7 +73,7 @@ void feed_data(struct data *data, minisign_state *state, enum reading_mode mode)
         if (mode == COPY_LATER) {
             generate_tag_key();
         }
-        while ((len = read_full(data->fd, data->file, piece, size)) > 0) {
+        while ((len = read_or_exit(data->fd, data->file, piece, size)) > 0) {
             feed(state, piece, len);
             if (mode == COPY_LATER) {
                 store_tag(data, len);
@@ -84,7 +86,7 @@ void feed_data(struct data *data, minisign_state *state, enum reading_mode mode)
 
 static void write_data(const uint8_t *bytes, size_t len)
 {
-    require(fwrite(bytes, 1, len, stdout) == len, "standard output");
+    check_errno(fwrite(bytes, 1, len, stdout) == len, "standard output");
 }
 
 bool copy_data(const struct data *data)
@@ -96,8 +98,8 @@ bool copy_data(const struct data *data)
         write_data(data->contents.bytes, data->contents.len);
         return true;
     }
-    require(lseek(data->fd, 0, SEEK_SET) == 0, data->file);
-    for (index = 0; (len = read_full(data->fd, data->file, piece, sizeof piece)) > 0; index++, remaining -= len) {
+    check_errno(lseek(data->fd, 0, SEEK_SET) == 0, data->file);
+    for (index = 0; (len = read_or_exit(data->fd, data->file, piece, sizeof piece)) > 0; index++, remaining -= len) {
         if (index == data->tag_count || len > remaining || !is_same_tag(tag_of(piece, len), data->tags[index])) {
             return false;
         }

@@ -1,70 +1,73 @@
 /* SPDX-License-Identifier: MIT */
-/* Replaces files in one step: a concurrent reader, or a reader after a kill, finds the old file or the new file, each
- * complete. */
+/* Replaces files in one step: a concurrent process, and a process after a kill of this one, finds either the complete
+ * old file or the complete new file. */
 #ifndef REPLACING_H
 #define REPLACING_H
 
 #include "shared/system.h"
 
 /*
- * The kinds of files:
+ * The kinds of files. They differ in the permissions that a file gets, and in what is synced:
  *
  * - A new secret key gets mode 0600 and belongs to the user, whatever file it replaces.
- * - Any other file that replaces one gets its owner, mode and access list. A secret key whose password was removed gets
- *   no permissions except the owner's.
- * - Keys, and files that replace one, are synced before they are renamed, so that a power failure leaves the old file
- *   or the new file, complete. The new name of a key is synced too, so that the key cannot be lost after the program
- *   has succeeded.
- * - A new signature is not synced, because it can be made again.
+ * - Any other file that replaces an existing file gets the owner, mode and access list of that file. A secret key whose
+ *   password was removed gets only the owner's permissions.
+ * - Keys, and all files that replace an existing file, are synced before they are renamed. So after a power failure
+ *   there is either the complete old file or the complete new file. For a key, the new name is synced too, so that the
+ *   key cannot be lost once the program has succeeded.
+ * - A signature that replaces no file is not synced, because it can be made again.
  */
-enum kind { NEW_SECRET_KEY, CHANGED_SECRET_KEY, UNSEALED_SECRET_KEY, PUBLIC_KEY, SIGNATURE };
+enum file_kind { NEW_SECRET_KEY, CHANGED_SECRET_KEY, UNSEALED_SECRET_KEY, PUBLIC_KEY, SIGNATURE };
 
-/* A file that is written and not in place yet. */
+/* A temporary file, also called stage, that is written but does not have its final name yet. Giving it this name is
+ * called putting it in place. */
 struct replacement;
 
 /*
- * Writes a whole file that is not in place yet. It is a temporary file without a name. If the file system cannot do
- * that, or a file exists, it has a name in the directory of its target: STAGE_PREFIX and 16 hexadecimal digits. It is
- * locked (flock) while it is used. Temporary files that killed runs left in the directory are removed first.
+ * Writes the whole content of a file to a temporary file in the directory of the target. The temporary file has no name
+ * if the file system supports that. Otherwise, and while it replaces an existing file, its name is STAGE_PREFIX and 16
+ * hexadecimal digits. It is locked (flock) while it is used. Temporary files that killed runs left in the directory are
+ * removed first.
  *
- * Links and files of other users are handled as places.h says. A file that is not regular, such as a pipe or a device,
- * is written at once. If `may_replace` is false and a file exists, returns NULL, and nothing is opened or written. On
- * failure the program ends, and the temporary file is removed.
+ * destinations.h says how links and files of other users are handled. If the target is not a regular file, but for
+ * example a pipe or a device, the content is written to it at once. If the target exists and `may_replace` is false,
+ * nothing is opened or written, and the result is NULL. On failure, removes the temporary file and ends the program.
  */
-struct replacement *stage_file(const char *file, enum kind kind, bool may_replace, const uint8_t *bytes, size_t len);
+struct replacement *stage_file(const char *file, enum file_kind kind, bool may_replace, const uint8_t *bytes,
+                               size_t len);
 
-/* Ends the program if an untrusted user's file is in the way, as `stage_file` does, but opens nothing. */
-void reject_untrusted_file(const char *file, enum kind kind);
+/* Ends the program if `stage_file` would do so because of a link or file of an untrusted user. Opens nothing. */
+void reject_untrusted_file(const char *file, enum file_kind kind);
 
-/* Returns true if both files would get the same name. */
-bool have_same_place(const struct replacement *first, const struct replacement *second);
+/* Returns true if both files would be put in the same place. */
+bool have_same_destination(const struct replacement *first, const struct replacement *second);
 
-/* Puts a staged file in place. If it must not replace a file and one exists by now, returns false, and the temporary
- * file is removed. */
+/* Puts a temporary file in place. If it must not replace a file, and the target exists by now, removes the temporary
+ * file and returns false. */
 bool put_in_place(struct replacement *stage);
 
 /*
- * Puts a pair of files in place: both, or neither if that fails or a signal ends the program. Two exceptions leave only
- * the first in place: a kill or a power failure in between, and a failure if the first file replaced one and the file
- * system cannot exchange names (renameat2). Returns NULL on success, or the name of the file that exists and must not
- * be replaced.
+ * Puts a pair of files in place: both of them, or none if that fails or a signal ends the program. In two cases, only
+ * the first file may be put in place: after a kill or a power failure in between; and after a failure if the first file
+ * replaced an existing file and the file system cannot exchange names (renameat2). Returns NULL on success. If one of
+ * the files exists and must not be replaced, returns its name.
  */
 const char *put_both_in_place(struct replacement *first, struct replacement *second);
 
-/* Replaces a secret key file by its changed version. `owner` is the owner of the file that was read. Ends the program
- * if the file now belongs to another user, who would otherwise get the key. */
-void replace_key(const char *file, enum kind kind, uid_t owner, const uint8_t *bytes, size_t len);
+/* Replaces a secret key file with its changed version. `owner` is the owner of the file that was read. If the file
+ * belongs to another user by now, that user would get the key, so the program ends with an error. */
+void replace_key(const char *file, enum file_kind kind, uid_t owner, const uint8_t *bytes, size_t len);
 
 /*
- * Writes one of many files, which may replace an existing file. A file that has to be synced waits for others, up to a
- * limit, so that they are synced together. `finish_replacements` puts all waiting files in place, in their order. So
- * does the end of the program, unless a signal ends it.
+ * Writes one of many files, which may replace an existing file. A file that has to be synced is queued, up to a limit,
+ * so that several files are synced together. `finish_replacements` puts all queued files in place, in the order in
+ * which they were queued. The end of the program does that too, unless a signal ends it.
  */
-void queue_replacement(const char *file, enum kind kind, const uint8_t *bytes, size_t len);
+void queue_replacement(const char *file, enum file_kind kind, const uint8_t *bytes, size_t len);
 void finish_replacements(void);
 
-/* Must be called before this file is read. Calls `finish_replacements` if a waiting file would replace this file, or if
- * reading it may take long. */
+/* Must be called before `file` is read. Calls `finish_replacements` if a queued file would replace `file`, or if
+ * reading `file` may take long. */
 void finish_replacements_before(const char *file);
 
 #endif

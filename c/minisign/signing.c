@@ -1,8 +1,8 @@
 /* SPDX-License-Identifier: MIT */
 /*
- * Signs files: minisign -S. The library hashes the data, returns the messages to sign, and encodes the signature file;
+ * Signs files: minisign -S. The library hashes the data, returns the messages to sign, and encodes the signature file.
  * libsodium signs the messages with Ed25519. The key is decrypted once. The first signature is verified as minisign -V
- * would do. Each signature file is replaced in one step.
+ * would do it. Each signature file is replaced in one step.
  */
 #include "signing.h"
 
@@ -18,27 +18,27 @@
 
 #define COMMENT_BYTES 8192
 
-static const char *last_part(const char *path)
+static const char *file_name_in(const char *path)
 {
     const char *separator = last_separator(path);
 
     return separator == NULL ? path : separator + 1;
 }
 
-/* Returns the default trusted comment: the time, and the file's name without its directory. */
+/* Returns the default trusted comment, with the current time and the name of the file without its directory. */
 static const char *default_comment(const char *data_file, bool legacy)
 {
     static char comment[COMMENT_BYTES];
 
     snprintf(comment, sizeof comment, legacy ? "timestamp:%llu\tfile:%s" : MINISIGN_TRUSTED_COMMENT_FORMAT,
-             (unsigned long long) time(NULL), last_part(data_file));
+             (unsigned long long) time(NULL), file_name_in(data_file));
     return comment;
 }
 
-/* Ends the program if the file's name cannot be used in the default trusted comment. */
+/* Ends the program if the name of the file cannot be used in the default trusted comment. */
 static void check_default_comment(const char *data_file, bool legacy)
 {
-    const char *name = last_part(data_file);
+    const char *name = file_name_in(data_file);
     const uint8_t *text = (const uint8_t *) name;
     size_t len = strlen(name);
     const char *error_text = NULL;
@@ -51,10 +51,11 @@ static void check_default_comment(const char *data_file, bool legacy)
         error_text = "this name ends with white space, so the trusted comment cannot end with it";
     }
     if (error_text != NULL) {
-        fail_error(data_file, error_text, "use -t COMMENT to choose the trusted comment");
+        fail_with_hint(data_file, error_text, "use -t COMMENT to choose the trusted comment");
     }
 }
 
+/* Returns the comments of a signature. The fields for the two signatures are zeros. */
 static minisign_signed_parts comments_of(const struct options *options, const char *data_file)
 {
     const char *untrusted = options->comment != NULL ? options->comment : MINISIGN_SIGNATURE_COMMENT;
@@ -67,16 +68,16 @@ static minisign_signed_parts comments_of(const struct options *options, const ch
     };
 }
 
-/* Signs a message that the library returned, or, for a legacy signature, the data. */
+/* Signs a message that the library returned or, for a legacy signature, the data. */
 static void sign(uint8_t signature[64], const uint8_t *bytes, size_t len)
 {
-    crypto_sign_detached(signature, NULL, bytes, len, secrets->open.secret);
+    crypto_sign_detached(signature, NULL, bytes, len, secrets->opened.secret);
     minisign_clear_used();
 }
 
-/* Turns a signature file into a legacy one: the algorithm "Ed" instead of "ED", which is "RW" instead of "RU" at the
- * start of the second line. The library itself does not make legacy signatures, so that its contracts for signing need
- * no exception. */
+/* Turns an encoded signature file into a legacy one: changes the algorithm from "ED" to "Ed", which is "RU" and "RW" in
+ * base64, at the start of the second line. The library itself does not make legacy signatures, so that its contracts
+ * for signing need no exception. */
 static void mark_legacy(struct text *text)
 {
     uint8_t *second_line = (uint8_t *) memchr(text->bytes, '\n', text->len) + 1;
@@ -92,7 +93,7 @@ static void make_signature(struct text *text, minisign_state *state, const struc
     minisign_public_key public = { 0 };
     uint8_t digest[64];
 
-    require_success(minisign_public_key_of(&secrets->open, &public));
+    require_success(minisign_public_key_of(&secrets->opened, &public));
     require_success(minisign_digest(state, digest));
     if (options->legacy) {
         sign(parts->signature, data->contents.bytes, data->contents.len);
@@ -108,31 +109,33 @@ static void make_signature(struct text *text, minisign_state *state, const struc
     }
 }
 
-/* Ends the program if the signature is not valid under this public key. The error names the secret key file if its
- * halves do not match, otherwise the public key file, if there is one. */
+/* Verifies the new signature under this public key. `hashed` is the state to which the data was fed. If the signature
+ * is not valid, ends the program with an error about the secret key file, if the halves of the key do not match,
+ * otherwise about the public key file, if there is one. */
 static void verify_signature(const struct options *options, const minisign_state *hashed, const struct text *text,
                              const struct data *data, const minisign_public_key *public)
 {
     minisign_state state = *hashed;
-    enum minisign_error error = ask(&state, public, text, true);
+    enum minisign_error error = prepare_checks(&state, public, text, true);
 
-    error = error == MINISIGN_OK ? judge(&state, &data->contents) : error;
+    error = error == MINISIGN_OK ? check_signatures(&state, &data->contents) : error;
     if (error == MINISIGN_OK) {
         return;
     }
     fputs("Verification would fail with the given public key\n", stderr);
-    if (!halves_match()) {
-        fail_error(options->secret_file, "this secret key is damaged: its two halves do not match", SECRET_KEY_HINT);
+    if (!key_halves_match()) {
+        fail_with_hint(options->secret_file, "this secret key is damaged: its two halves do not match",
+                       SECRET_KEY_HINT);
     }
     if (name_of_public_key(options) != NULL) {
         fprintf(stderr, "error: %s: this is not the public key of %s\n", escape_name(name_of_public_key(options)).text,
                 escape_name(options->secret_file).text);
         print_hint("use -R to recreate the public key file");
     }
-    exit(TROUBLE);
+    exit(STATUS_ERROR);
 }
 
-/* Signs a file. Verifies the signature unless `public` is NULL. */
+/* Signs a file. Verifies the signature under `public`, unless it is NULL. */
 static void sign_file(const struct options *options, const char *data_file, const char *signature_file,
                       const minisign_public_key *public)
 {
@@ -169,9 +172,9 @@ int sign_files(const struct options *options)
     if (name_of_public_key(options) != NULL) {
         public = load_public_key(options);
     }
-    open_key(options);
+    load_secret_key(options);
     if (name_of_public_key(options) == NULL) {
-        require_success(minisign_public_key_of(&secrets->open, &public));
+        require_success(minisign_public_key_of(&secrets->opened, &public));
     }
     sign_file(options, options->data_file,
               options->signature_file != NULL ? options->signature_file : join(options->data_file, ".minisig", ""),
@@ -180,5 +183,5 @@ int sign_files(const struct options *options)
         sign_file(options, *file, join(*file, ".minisig", ""), NULL);
     }
     finish_replacements();
-    return GOOD;
+    return STATUS_OK;
 }

@@ -5,7 +5,7 @@
 
 #include "options.h"
 
-/* Signs the files of the options, and returns the exit status. */
+/* Signs the files that the options name, and returns the exit status. */
 int sign_files(const struct options *options);
 
 #endif

@@ -1,5 +1,5 @@
 /* SPDX-License-Identifier: MIT */
-/* Asks for passwords. */
+/* Asks the user for passwords, on POSIX. */
 #include "terminal.h"
 
 #include <sys/select.h>
@@ -8,10 +8,10 @@
 #include "cleanup.h"
 #include "files.h"
 
-/* The signal that arrived while a password was typed, or 0. */
+/* The signal that arrived during the prompt, or 0. */
 static volatile sig_atomic_t caught_signal;
 
-/* The state to restore after a prompt: the action for each signal, the signal mask, and the terminal's settings. */
+/* The state that is restored after the prompt: signal actions, the signal mask, and the terminal's settings. */
 struct saved_state {
     struct sigaction actions[NSIG];
     sigset_t mask;
@@ -24,18 +24,19 @@ static void record_signal(int signo)
     caught_signal = signo;
 }
 
-static bool is_stop(int signo)
+static bool is_stop_signal(int signo)
 {
     return signo == SIGTSTP || signo == SIGTTIN || signo == SIGTTOU;
 }
 
-/* Signals that end or stop the program while it waits for a password. */
-static bool is_caught(int signo)
+/* Returns true for the signals that end or stop a program. During the prompt they are caught, so that the echo can be
+ * turned on before they take effect. */
+static bool is_caught_at_prompt(int signo)
 {
-    return is_stop(signo) || (ends_program(signo) && !is_crash(signo));
+    return is_stop_signal(signo) || (ends_program(signo) && !is_crash(signo));
 }
 
-/* Blocks a signal, so that it is delivered only while `read_byte` waits, and catches it unless it is ignored. */
+/* Blocks a signal, so that it is delivered only while `read_byte` waits, and catches it, unless it is ignored. */
 static void catch_signal(struct saved_state *saved, int signo)
 {
     struct sigaction action = { 0 };
@@ -54,11 +55,11 @@ static void catch_signal(struct saved_state *saved, int signo)
 /* Catches the signals, and turns off the terminal's echo. */
 static void disable_echo(struct saved_state *saved)
 {
-    /* A background process is stopped here, by SIGTTOU, until it has the terminal. */
+    /* If this is a background process, SIGTTOU stops it here until it is in the foreground. */
     tcflush(STDIN_FILENO, TCIFLUSH);
     sigprocmask(SIG_BLOCK, NULL, &saved->mask);
     for (int signo = 1; signo < NSIG; signo++) {
-        if (is_caught(signo) && signo != SIGTTOU) {
+        if (is_caught_at_prompt(signo) && signo != SIGTTOU) {
             catch_signal(saved, signo);
         }
     }
@@ -69,7 +70,7 @@ static void disable_echo(struct saved_state *saved)
         modes.c_lflag &= ~(tcflag_t) ECHO;
         tcsetattr(STDIN_FILENO, TCSAFLUSH, &modes);
     }
-    /* Until here, SIGTTOU stops a process that was moved to the background. */
+    /* SIGTTOU is caught only now, so that it still stops a process that was moved to the background meanwhile. */
     catch_signal(saved, SIGTTOU);
 }
 
@@ -79,15 +80,15 @@ static void restore_echo(const struct saved_state *saved)
         tcsetattr(STDIN_FILENO, TCSAFLUSH, &saved->modes);
     }
     for (int signo = 1; signo < NSIG; signo++) {
-        if (is_caught(signo)) {
+        if (is_caught_at_prompt(signo)) {
             sigaction(signo, &saved->actions[signo], NULL);
         }
     }
     sigprocmask(SIG_SETMASK, &saved->mask, NULL);
 }
 
-/* Reads one byte of standard input. Returns 1, 0 at the end of the input, or -1 if a signal arrived or reading
- * failed. */
+/* Reads one byte from standard input. Returns 1 on success, 0 at the end of the input, and -1 if a signal arrived or
+ * reading failed. */
 static ssize_t read_byte(const struct saved_state *saved, char *byte)
 {
     fd_set ready;
@@ -104,7 +105,7 @@ static ssize_t read_byte(const struct saved_state *saved, char *byte)
 
 enum line { LINE_READ, LINE_TOO_LONG, NO_LINE };
 
-/* Reads one line, and no input after its line feed. The password ends at the first carriage return, line feed or zero
+/* Reads one line, and nothing after its line feed. The password ends at the first carriage return, line feed or zero
  * byte. */
 static enum line read_password_line(const struct saved_state *saved, struct password *password)
 {
@@ -135,19 +136,19 @@ void ask_password(struct password *password, const char *prompt)
     do {
         caught_signal = 0;
         disable_echo(&saved);
-        /* Minisign too reads no password if it cannot write the prompt. */
+        /* Like Minisign, read no password if the prompt cannot be written. */
         line = fputs(prompt, stderr) < 0 ? NO_LINE : read_password_line(&saved, password);
         restore_echo(&saved);
         if (caught_signal != 0) {
             putc('\n', stderr);
             raise(caught_signal);
         }
-    } while (is_stop(caught_signal));
+    } while (is_stop_signal(caught_signal));
     if (caught_signal != 0 || line == NO_LINE) {
-        fail("get_password()");
+        fail_as_minisign("get_password()");
     }
     fputs(line == LINE_READ && password->len == 0 ? "(empty)\n" : "\n", stderr);
     if (line == LINE_TOO_LONG) {
-        fail_error(NULL, "the password is too long", "use at most 1023 bytes");
+        fail_with_hint(NULL, "the password is too long", "use at most 1023 bytes");
     }
 }

@@ -10,18 +10,25 @@
 #include "text.h"
 
 /* The lengths of the records that the second lines of key and signature files encode in base64. */
-enum { PUBLIC_KEY_RECORD = 42, SIGNATURE_RECORD = 74, SIGNIFY_SECRET_KEY_RECORD = 104, SECRET_KEY_RECORD = 158 };
+enum {
+    PUBLIC_KEY_RECORD_BYTES = 42,
+    SIGNATURE_RECORD_BYTES = 74,
+    SIGNIFY_SECRET_KEY_RECORD_BYTES = 104,
+    SECRET_KEY_RECORD_BYTES = 158
+};
 #define RECORD_BUFFER_BYTES 192
 
-/* The length of a public key in base64. */
-#define BARE_KEY_LETTERS 56
+/* The length of a public key in base64, without a comment line. */
+#define BARE_KEY_CHARACTERS 56
 #define MAX_LINES 4
 #define TRUSTED_LABEL "trusted comment: "
+/* The size of a buffer for an error that is composed at run time. */
 #define ERROR_BYTES 160
 
 /* ---- Formats of other programs ---- */
 
-/* Says what a file is instead of the expected one. The hint is NULL if the caller's is better. */
+/* The error that says what a file is, instead of what was expected, and a hint. The error is NULL if the file is not
+ * recognized. The hint is NULL if the hint of the caller should be printed. */
 struct diagnosis {
     const char *error;
     const char *hint;
@@ -70,9 +77,9 @@ static const char *openpgp_error(const uint8_t *text, size_t len)
     bool is_new = len > 1 && (text[0] & 0xc0) == 0xc0;
     bool is_old = len > 1 && (text[0] & 0xc0) == 0x80 && (text[0] & 3) != 3;
     int tag = is_new ? text[0] & 63 : text[0] >> 2 & 15;
-    size_t at = is_old ? 1 + ((size_t) 1 << (text[0] & 3)) : len > 1 && text[1] < 192 ? 2 : 3;
+    size_t version_at = is_old ? 1 + ((size_t) 1 << (text[0] & 3)) : len > 1 && text[1] < 192 ? 2 : 3;
 
-    if ((!is_old && !is_new) || at >= len || text[at] < 3 || text[at] > 6) {
+    if ((!is_old && !is_new) || version_at >= len || text[version_at] < 3 || text[version_at] > 6) {
         return NULL;
     }
     switch (tag) {
@@ -83,6 +90,7 @@ static const char *openpgp_error(const uint8_t *text, size_t len)
     }
 }
 
+/* Compares without regard to case. */
 static bool begins_with(const uint8_t *text, size_t len, const char *magic)
 {
     size_t magic_len = strlen(magic);
@@ -90,7 +98,7 @@ static bool begins_with(const uint8_t *text, size_t len, const char *magic)
     return len >= magic_len && strncasecmp((const char *) text, magic, magic_len) == 0;
 }
 
-/* Returns true for a web page, also after leading white space. */
+/* Returns true for a web page. Leading white space is skipped. */
 static bool is_web_page(const uint8_t *text, size_t len)
 {
     while (len > 0 && strchr(" \t\r\n", *text) != NULL && *text != 0) {
@@ -118,6 +126,7 @@ static bool is_utf16(const uint8_t *text, size_t len)
     return true;
 }
 
+/* Recognizes files of other programs. */
 static struct diagnosis diagnose_foreign(const uint8_t *text, size_t len)
 {
     if (len == 0) {
@@ -141,13 +150,13 @@ struct line {
     size_t len;
 };
 
-/* The first MAX_LINES lines of a file. */
+/* The first MAX_LINES lines of a file, without their line ends. */
 struct lines {
     struct line line[MAX_LINES];
     size_t count;
 };
 
-static struct lines lines_of(const uint8_t *text, size_t len)
+static struct lines split_lines(const uint8_t *text, size_t len)
 {
     struct lines lines = { .count = 0 };
 
@@ -174,8 +183,8 @@ static size_t decode(uint8_t record[RECORD_BUFFER_BYTES], const struct line *lin
     return status == 0 ? decoded : 0;
 }
 
-/* The kinds of files with several lines: the name of each kind, a text that Minisign or signify writes into the first
- * line, and the number of lines. */
+/* For each of the first three kinds of enum text_kind: its name in messages, a text that Minisign or signify writes
+ * into the first line of such a file, and the number of its lines. */
 static const struct {
     const char *name, *label;
     size_t lines;
@@ -183,48 +192,53 @@ static const struct {
               { "secret key", "minisign encrypted secret key", 2 },
               { "signature", "signature from minisign secret key", 4 } };
 
-static bool has_words(const struct line *line, const char *label)
+static bool contains_text(const struct line *line, const char *text)
 {
-    size_t len = strlen(label);
+    size_t len = strlen(text);
 
     for (size_t at = 0; at + len <= line->len; at++) {
-        if (memcmp(line->bytes + at, label, len) == 0) {
+        if (memcmp(line->bytes + at, text, len) == 0) {
             return true;
         }
     }
     return false;
 }
 
-/* signify writes two lines: the comment and the signature. */
+/* Returns true if the file has the two lines that signify writes: a comment and the signature. */
 static bool is_signify_signature(const struct lines *lines)
 {
-    return lines->count == 2 && (has_words(&lines->line[0], "verify with ") || has_words(&lines->line[0], "signify"));
+    return lines->count == 2
+           && (contains_text(&lines->line[0], "verify with ") || contains_text(&lines->line[0], "signify"));
 }
 
-static enum text_kind kind_of(const struct lines *lines)
+/* Recognizes a file by the length of the record in its second line, or a public key without a comment line. */
+static enum text_kind recognize_kind(const struct lines *lines)
 {
     static uint8_t record[RECORD_BUFFER_BYTES];
     enum text_kind actual = OTHER_TEXT;
 
-    if (lines->count == 1 && lines->line[0].len == BARE_KEY_LETTERS
-        && decode(record, &lines->line[0]) == PUBLIC_KEY_RECORD) {
+    if (lines->count == 1 && lines->line[0].len == BARE_KEY_CHARACTERS
+        && decode(record, &lines->line[0]) == PUBLIC_KEY_RECORD_BYTES) {
         return BARE_KEY_TEXT;
     }
     switch (lines->count < 2 ? 0 : decode(record, &lines->line[1])) {
-    case PUBLIC_KEY_RECORD: actual = PUBLIC_KEY_TEXT; break;
-    case SECRET_KEY_RECORD: actual = SECRET_KEY_TEXT; break;
-    case SIGNATURE_RECORD: actual = is_signify_signature(lines) ? SIGNIFY_SIGNATURE : SIGNATURE_TEXT; break;
-    case SIGNIFY_SECRET_KEY_RECORD: actual = memcmp(record, "EdBK", 4) == 0 ? SIGNIFY_SECRET_KEY : OTHER_TEXT; break;
+    case PUBLIC_KEY_RECORD_BYTES: actual = PUBLIC_KEY_TEXT; break;
+    case SECRET_KEY_RECORD_BYTES: actual = SECRET_KEY_TEXT; break;
+    case SIGNATURE_RECORD_BYTES: actual = is_signify_signature(lines) ? SIGNIFY_SIGNATURE : SIGNATURE_TEXT; break;
+    case SIGNIFY_SECRET_KEY_RECORD_BYTES:
+        actual = memcmp(record, "EdBK", 4) == 0 ? SIGNIFY_SECRET_KEY : OTHER_TEXT;
+        break;
     }
     sodium_memzero(record, sizeof record);
     return actual;
 }
 
-/* Says which other kind of Minisign or signify file this is. Returns NULL if it may be the expected kind. */
+/* Returns the error that says which other kind of Minisign or signify file this is, or NULL if it may be of the
+ * expected kind. */
 static const char *diagnose_kind(const struct lines *lines, enum text_kind expected)
 {
     static char diagnosis[ERROR_BYTES];
-    enum text_kind actual = kind_of(lines);
+    enum text_kind actual = recognize_kind(lines);
 
     switch (actual) {
     case SIGNIFY_SIGNATURE: return "this is a signify signature, which has no trusted comment";
@@ -239,12 +253,12 @@ static const char *diagnose_kind(const struct lines *lines, enum text_kind expec
 
 /* ---- Messages ---- */
 
-/* Returns true if the comment lines claim that the file has the expected kind. Such a file is damaged, rather than
- * another file. */
+/* Returns true if a comment line shows that the file is meant to be of the expected kind. If the library rejects such a
+ * file, it is damaged, and not some other file. */
 static bool claims_kind(const struct lines *lines, enum text_kind expected)
 {
     return lines->count > 0
-           && (has_words(&lines->line[0], kinds[expected].label)
+           && (contains_text(&lines->line[0], kinds[expected].label)
                || (expected == SIGNATURE_TEXT && lines->count > 2
                    && begins_with(lines->line[2].bytes, lines->line[2].len, TRUSTED_LABEL)));
 }
@@ -253,7 +267,8 @@ static bool claims_kind(const struct lines *lines, enum text_kind expected)
 static void explain_bare_key(const char *name, size_t len, enum minisign_error error)
 {
     if (error == MINISIGN_BARE_PUBLIC_KEY_LENGTH) {
-        fprintf(stderr, "error: %s: a public key has %d characters, but this has %zu\n", name, BARE_KEY_LETTERS, len);
+        fprintf(stderr, "error: %s: a public key has %d characters, but this has %zu\n", name, BARE_KEY_CHARACTERS,
+                len);
     } else {
         fprintf(stderr, "error: %s: this is not a public key: %s\n", name,
                 error == MINISIGN_NOT_UTF8                     ? "it is not UTF-8"
@@ -263,8 +278,8 @@ static void explain_bare_key(const char *name, size_t len, enum minisign_error e
     print_hint("give the second line of the public key file");
 }
 
-/* Returns which part of the file is wrong, or NULL if the error does not say. */
-static const char *damage_of(enum minisign_error error)
+/* Returns what is wrong with the file, or NULL if the error does not say. */
+static const char *damage_reason(enum minisign_error error)
 {
     switch (error) {
     case MINISIGN_NOT_UTF8: return "it is not UTF-8";
@@ -286,7 +301,7 @@ static const char *damage_of(enum minisign_error error)
 
 bool explain_other_kind(const char *name, const uint8_t *text, size_t len, enum text_kind expected, const char *hint)
 {
-    struct lines lines = lines_of(text, len);
+    struct lines lines = split_lines(text, len);
     struct diagnosis diagnosis = diagnose_foreign(text, len);
 
     if (diagnosis.error == NULL) {
@@ -299,14 +314,14 @@ bool explain_other_kind(const char *name, const uint8_t *text, size_t len, enum 
     return diagnosis.error != NULL;
 }
 
-/* Explains the rejection of a file whose format is not recognized as another one. */
+/* Explains why a file was rejected that is not recognized as another kind of file. */
 static void explain_damage(const char *name, const struct lines *lines, enum text_kind expected,
                            enum minisign_error error, const char *hint)
 {
-    const char *kind = kinds[expected].name, *why = damage_of(error);
+    const char *kind = kinds[expected].name, *why = damage_reason(error);
     bool is_short = error != MINISIGN_NOT_UTF8 && lines->count < kinds[expected].lines;
     bool is_damaged = claims_kind(lines, expected) || error == MINISIGN_KEY_CORRUPTED
-                    || (is_short && kind_of(lines) != OTHER_TEXT);
+                    || (is_short && recognize_kind(lines) != OTHER_TEXT);
 
     if (error == MINISIGN_PARAMETERS_TOO_HIGH) {
         fprintf(stderr, "error: %s: %s\n", name, why);
@@ -328,7 +343,7 @@ static void explain_damage(const char *name, const struct lines *lines, enum tex
 void explain_rejection(const char *name, const uint8_t *text, size_t len, enum text_kind expected,
                        enum minisign_error error, const char *hint)
 {
-    struct lines lines = lines_of(text, len);
+    struct lines lines = split_lines(text, len);
 
     if (expected == BARE_KEY_TEXT) {
         explain_bare_key(escape_name(name).text, len, error);

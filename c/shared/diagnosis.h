@@ -6,8 +6,8 @@
 #include "system.h"
 #include "minisign.h"
 
-/* The kinds of files. A caller expects one of the first four. BARE_KEY_TEXT is the base64 of a public key without its
- * file. */
+/* The kinds of files that are recognized. A caller can expect one of the first four. BARE_KEY_TEXT is only the base64
+ * of a public key, without a comment line. */
 enum text_kind {
     PUBLIC_KEY_TEXT, SECRET_KEY_TEXT, SIGNATURE_TEXT, BARE_KEY_TEXT, SIGNIFY_SIGNATURE, SIGNIFY_SECRET_KEY, OTHER_TEXT
 };
@@ -17,10 +17,10 @@ enum text_kind {
 #define SECRET_KEY_HINT "restore the file from a backup"
 
 /*
- * Prints an error and a hint about a file that the library rejected with `error`. `name` is the file's name, or the
- * option that gave a key. The error says what the file is, if its format is recognized, and otherwise what is wrong
- * with it. `hint` is printed for a file of another kind, unless there is a better hint, such as how to convert the
- * file.
+ * Prints an error and a hint about a file that the library rejected with `error`. `name` is the name of the file, or
+ * the option that gave a key. If the file is recognized as another kind of file, the error says which kind, otherwise
+ * it says what is wrong with the file. `hint` is for a file of another kind: it is printed unless there is a better
+ * hint, such as how to convert the file.
  */
 void explain_rejection(const char *name, const uint8_t *text, size_t len, enum text_kind expected,
                        enum minisign_error error, const char *hint);

@@ -1,16 +1,16 @@
 /* SPDX-License-Identifier: MIT */
-/* Inspects files without opening them: by O_PATH and /proc on Linux, by lstat elsewhere. */
+/* Inspects files without opening them: with O_PATH and /proc on Linux, with lstat elsewhere. */
 #define _GNU_SOURCE
 
 #include "handles.h"
 
 #include <poll.h>
 
-/* The magic numbers of procfs and of pipefs, which has the unnamed pipes (linux/magic.h). */
+/* The magic numbers of procfs, and of pipefs, on which the anonymous pipes are (linux/magic.h). */
 #define PROC_MAGIC 0x9fa0
 #define PIPE_MAGIC 0x50495045
 
-/* How often to check whether a pipe has a reader, in milliseconds. */
+/* The interval, in milliseconds, at which a pipe is checked for a reader. */
 #define PIPE_POLL_MS 20
 
 bool is_same_file(const struct stat *first, const struct stat *second)
@@ -36,7 +36,7 @@ void close_if_open(int *fd)
 #include <sys/statvfs.h>
 #include <sys/vfs.h>
 
-/* A mount with this flag follows no symbolic links. Older C libraries do not define the flag. */
+/* The flag of a mount with nosymfollow. Older C libraries do not define it. */
 #ifndef ST_NOSYMFOLLOW
 #define ST_NOSYMFOLLOW 8192
 #endif
@@ -59,7 +59,7 @@ static bool is_on_file_system(int fd, unsigned long file_system)
     return fstatfs(fd, &file_system_status) == 0 && (unsigned long) file_system_status.f_type == file_system;
 }
 
-bool forbids_links(int directory)
+bool has_nosymfollow(int directory)
 {
     struct statvfs mount;
 
@@ -77,8 +77,8 @@ bool look_up(struct handle *handle, int directory, const char *path, bool follow
     return AGAIN(fstatat(directory, path, &handle->status, follow_links ? 0 : AT_SYMLINK_NOFOLLOW)) == 0;
 }
 
-/* POSIX has no such mounts. */
-bool forbids_links(int directory)
+/* POSIX has no nosymfollow. */
+bool has_nosymfollow(int directory)
 {
     (void) directory;
     return false;
@@ -86,19 +86,19 @@ bool forbids_links(int directory)
 
 #endif
 
-bool is_in_proc(int directory)
+bool is_on_procfs(int directory)
 {
     return is_on_file_system(directory, PROC_MAGIC);
 }
 
-bool is_nameless_pipe(const struct handle *handle)
+bool is_anonymous_pipe(const struct handle *handle)
 {
     return S_ISFIFO(handle->status.st_mode) && is_on_file_system(handle->fd, PIPE_MAGIC);
 }
 
 /* ---- Opening ---- */
 
-int enter_directory(int from, const char *name, bool follow_links)
+int open_lookup_directory(int from, const char *name, bool follow_links)
 {
     return openat(from, name, LOOKUP_FLAGS | O_DIRECTORY | O_CLOEXEC | (follow_links ? 0 : O_NOFOLLOW));
 }
@@ -142,6 +142,6 @@ int open_handle(const struct handle *handle, const char *path, int flags)
 {
     int fd = handle->fd < 0 ? -1 : open(proc_path_of(handle->fd).bytes, flags);
 
-    /* /proc may not be mounted. */
+    /* ENOENT: /proc is not mounted. */
     return handle->fd < 0 || (fd < 0 && errno == ENOENT) ? open_by_path(handle, path, flags) : fd;
 }

@@ -13,17 +13,17 @@
 #include <sys/xattr.h>
 
 const bool has_access_lists = true;
-enum { NO_LIST = ENODATA };
+enum { NO_LIST_ERRNO = ENODATA };
 
 #else
 
 const bool has_access_lists = false;
-enum { NO_LIST = EOPNOTSUPP };
+enum { NO_LIST_ERRNO = EOPNOTSUPP };
 
-#define fgetxattr(fd, name, list, room) ((void) (fd), errno = NO_LIST, -1)
-#define getxattr(path, name, list, room) (errno = NO_LIST, -1)
-#define fsetxattr(fd, name, list, len, flags) ((void) (fd), (void) (list), errno = NO_LIST, -1)
-#define fremovexattr(fd, name) ((void) (fd), errno = NO_LIST, -1)
+#define fgetxattr(fd, name, list, size) ((void) (fd), errno = NO_LIST_ERRNO, -1)
+#define getxattr(path, name, list, size) (errno = NO_LIST_ERRNO, -1)
+#define fsetxattr(fd, name, list, len, flags) ((void) (fd), (void) (list), errno = NO_LIST_ERRNO, -1)
+#define fremovexattr(fd, name) ((void) (fd), errno = NO_LIST_ERRNO, -1)
 
 #endif
 
@@ -34,17 +34,18 @@ enum { NO_LIST = EOPNOTSUPP };
 #define VERSION_BYTES 4
 #define ENTRY_BYTES 8
 
-/* The tags of entries that have permissions of their own. The other tags are the owner and all others, whose bits are
- * in the mode, and the mask. */
+/* The tags of the entries whose permission bits are only in the list. The other tags are those of the owner, of others
+ * and of the mask, whose bits are also in the mode. */
 enum { NAMED_USER = 0x02, OWNING_GROUP = 0x04, NAMED_GROUP = 0x08 };
 
 /* Returns true if the file has no list, or its file system has no lists. */
 static bool is_missing_list(int error)
 {
-    return error == NO_LIST || error == EOPNOTSUPP;
+    return error == NO_LIST_ERRNO || error == EOPNOTSUPP;
 }
 
-/* Reads the list of a file, whose descriptor may be an O_PATH one. On failure, returns false and sets errno. */
+/* Reads the list of a file into `permissions`. The descriptor may be one with O_PATH. On failure, returns false and
+ * sets errno. */
 static bool read_list(struct permissions *permissions, int fd)
 {
     ssize_t len = AGAIN(fgetxattr(fd, ACCESS_LIST, permissions->list, sizeof permissions->list));
@@ -57,8 +58,8 @@ static bool read_list(struct permissions *permissions, int fd)
     return len >= 0 || is_missing_list(errno) || !permissions->is_list_known;
 }
 
-/* Returns the permissions that everybody except the owner has: the group, all others, and each user and group of the
- * list. The mask of a list is in the group's bits of the mode. */
+/* Returns the permissions that the group, the others, and each user and group in the list all have. (If there is a
+ * list, the group's bits of the mode are its mask.) */
 static mode_t common_permissions(const struct permissions *permissions)
 {
     mode_t common = permissions->mode & (permissions->mode >> 3) & S_IRWXO;
@@ -126,8 +127,9 @@ bool give_owner(int fd, uid_t owner, gid_t group, bool *is_given)
     return *is_given || errno == EPERM || errno == EINVAL;
 }
 
-/* Sets owner and group as far as the system allows it. `has_group` says whether the file has the group now. */
-static bool give_group(int fd, const struct stat *status, const struct permissions *permissions, bool *has_group)
+/* Sets the owner and the group as far as the system allows it. *has_group says whether the file has the group now. */
+static bool give_owner_and_group(int fd, const struct stat *status, const struct permissions *permissions,
+                                 bool *has_group)
 {
     *has_group = status->st_uid == permissions->owner && status->st_gid == permissions->group;
     return *has_group || (give_owner(fd, permissions->owner, permissions->group, has_group)
@@ -145,13 +147,13 @@ bool give_permissions(int fd, const struct permissions *permissions)
     struct stat status;
     bool has_group;
 
-    if (AGAIN(fstat(fd, &status)) != 0 || !give_group(fd, &status, permissions, &has_group)) {
+    if (AGAIN(fstat(fd, &status)) != 0 || !give_owner_and_group(fd, &status, permissions, &has_group)) {
         return false;
     }
     if (!has_group || !permissions->is_list_known) {
         return give_mode(fd, common);
     }
-    /* A list includes the bits of the mode. */
+    /* Setting a list also sets the mode, whose bits are in the list. */
     if (permissions->list_length > 0) {
         return AGAIN(fsetxattr(fd, ACCESS_LIST, permissions->list, permissions->list_length, 0)) == 0
                || give_mode(fd, common);
@@ -163,7 +165,7 @@ bool give_permissions(int fd, const struct permissions *permissions)
 
 #include <sys/acl.h>
 
-bool close_to_others(int fd)
+bool remove_inherited_list(int fd)
 {
     acl_t empty = acl_init(1);
     bool is_closed = empty != NULL && (acl_set_fd(fd, empty) == 0 || is_missing_list(errno) || errno == ENOTSUP);
@@ -176,7 +178,7 @@ bool close_to_others(int fd)
 
 #else
 
-bool close_to_others(int fd)
+bool remove_inherited_list(int fd)
 {
     (void) fd;
     return true;

@@ -1,30 +1,31 @@
 /* SPDX-License-Identifier: MIT */
 /*
- * Computes tags of the pieces of data that is read twice. The first time, BLAKE2b shows that the data is what was
- * signed. The second time, it is enough to show that the data is the same, which a tag does in less than a tenth of the
- * time.
+ * Computes tags of the pieces of data that is read twice. In the first reading, the data is hashed with BLAKE2b, to
+ * verify its signature. In the second reading, it is enough to check that the data is still the same. Comparing tags
+ * does this in less than a tenth of the time.
  *
- * NH is the hash of that name inside UMAC (Black, Halevi, Krawczyk, Krovetz and Rogaway, "UMAC: Fast and Secure Message
- * Authentication", 1999), with words of 64 bits: under a random key, two different messages of one length have the same
- * sum with a probability of at most 2 to the -64. Here it is computed for each block of a piece and then, under another
- * key, for these sums, so that the keys stay short.
+ * The tags are computed with NH, the universal hash function of UMAC (Black, Halevi, Krawczyk, Krovetz and Rogaway,
+ * "UMAC: Fast and Secure Message Authentication", 1999), with words of 64 bits. Under a random key, two different
+ * messages of the same length have the same hash with a probability of at most 2 to the -64. NH needs a key as long as
+ * the message. To keep the keys short, NH is computed for each block of a piece and then, under a second key, for the
+ * hashes of the blocks.
  */
 #include "piece_tags.h"
 
 #include <sodium.h>
 
 #define BLOCK_BYTES 4096
-#define BLOCKS (TAGGED_BYTES / BLOCK_BYTES)
+#define BLOCKS (MAX_TAGGED_BYTES / BLOCK_BYTES)
 
-/* A 128-bit number. */
-struct sum {
+/* A 128-bit hash. */
+struct hash {
     uint64_t low;
     uint64_t high;
 };
 
 static struct {
-    uint64_t of_block[BLOCK_BYTES / sizeof(uint64_t)];
-    uint64_t of_sums[BLOCKS * sizeof(struct sum) / sizeof(uint64_t)];
+    uint64_t for_blocks[BLOCK_BYTES / sizeof(uint64_t)];
+    uint64_t for_hashes[BLOCKS * sizeof(struct hash) / sizeof(uint64_t)];
 } keys;
 
 void generate_tag_key(void)
@@ -32,7 +33,8 @@ void generate_tag_key(void)
     randombytes_buf(&keys, sizeof keys);
 }
 
-static inline void add_product(struct sum *sum, uint64_t a, uint64_t b)
+/* Adds a * b to *sum, modulo 2 to the 128. */
+static inline void add_product(struct hash *sum, uint64_t a, uint64_t b)
 {
 #ifdef __SIZEOF_INT128__
     __extension__ typedef unsigned __int128 wide;
@@ -53,9 +55,9 @@ static inline void add_product(struct sum *sum, uint64_t a, uint64_t b)
 
 /* Computes NH: the sum of the products of pairs of words, after a word of the key was added to each. The last pair is
  * padded with zeros. */
-static struct sum nh(const uint64_t *key, const uint8_t *bytes, size_t len)
+static struct hash nh(const uint64_t *key, const uint8_t *bytes, size_t len)
 {
-    struct sum sum = { 0, 0 };
+    struct hash sum = { 0, 0 };
     uint64_t pair[2];
     size_t at;
 
@@ -74,14 +76,14 @@ static struct sum nh(const uint64_t *key, const uint8_t *bytes, size_t len)
 
 struct tag tag_of(const uint8_t *piece, size_t len)
 {
-    struct sum sums[BLOCKS], sum;
+    struct hash hashes[BLOCKS], hash;
     size_t blocks = 0;
 
     for (size_t at = 0; at < len; at += BLOCK_BYTES) {
-        sums[blocks++] = nh(keys.of_block, piece + at, len - at < BLOCK_BYTES ? len - at : BLOCK_BYTES);
+        hashes[blocks++] = nh(keys.for_blocks, piece + at, len - at < BLOCK_BYTES ? len - at : BLOCK_BYTES);
     }
-    sum = nh(keys.of_sums, (const uint8_t *) sums, blocks * sizeof *sums);
-    return (struct tag) { sum.low, sum.high };
+    hash = nh(keys.for_hashes, (const uint8_t *) hashes, blocks * sizeof *hashes);
+    return (struct tag) { hash.low, hash.high };
 }
 
 bool is_same_tag(struct tag a, struct tag b)

@@ -1,5 +1,5 @@
 /* SPDX-License-Identifier: MIT */
-/* Starts a program on POSIX. */
+/* Implements platform.h for POSIX. */
 #include "platform.h"
 
 #include <sys/resource.h>
@@ -8,11 +8,12 @@
 
 static bool was_closed[STDERR_FILENO + 1];
 
-bool fill_standard_streams(void)
+bool reserve_standard_streams(void)
 {
     for (int fd = STDIN_FILENO; fd <= STDERR_FILENO; fd++) {
         if (fcntl(fd, F_GETFD) < 0) {
             was_closed[fd] = true;
+            /* A directory can be neither read nor written. open returns the lowest free descriptor. */
             if (open("/", O_RDONLY) != fd) {
                 return false;
             }
@@ -26,7 +27,7 @@ bool was_closed_at_start(int fd)
     return fd >= STDIN_FILENO && fd <= STDERR_FILENO && was_closed[fd];
 }
 
-bool read_arguments(int *argc, char ***argv)
+bool arguments_to_utf8(int *argc, char ***argv)
 {
     (void) argc;
     (void) argv;

@@ -1,5 +1,5 @@
 /* SPDX-License-Identifier: MIT */
-/* Shows progress on standard error if it is a terminal. */
+/* Shows progress on standard error, if standard error is a terminal. */
 #include "progress.h"
 
 static bool is_hidden;
@@ -16,8 +16,8 @@ static bool has_viewer(void)
 
 /* ---- Dots ---- */
 
-/* Uses a real-time signal, since other code in the process may use SIGALRM. A system without POSIX timers or real-time
- * signals shows no dots. */
+/* A timer sends a real-time signal, because other code in the process may use SIGALRM. On a system without POSIX timers
+ * or real-time signals, no dots are shown. */
 #if defined _POSIX_TIMERS && _POSIX_TIMERS > 0 && defined SIGRTMIN
 
 static timer_t timer;
@@ -59,7 +59,7 @@ void end_dots(void)
     if (has_timer) {
         has_timer = false;
         timer_delete(timer);
-        /* Ignoring the signal discards one that is pending. */
+        /* Ignoring the signal discards a pending one. */
         ignore.sa_handler = SIG_IGN;
         sigaction(SIGRTMIN, &ignore, NULL);
         sigaction(SIGRTMIN, &old_action, NULL);

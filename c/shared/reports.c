@@ -1,5 +1,5 @@
 /* SPDX-License-Identifier: MIT */
-/* Prints the errors and hints of both programs. */
+/* Prints errors and hints. */
 #include "reports.h"
 
 #include "text.h"

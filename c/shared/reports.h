@@ -1,7 +1,7 @@
 /* SPDX-License-Identifier: MIT */
 /*
- * Prints errors and hints of the programs on standard error: `error: FILE: what happened`, then `hint: what to do`.
- * Each line is one write, so that lines of concurrent processes do not mix.
+ * Prints the errors and hints of the programs on standard error: `error: FILE: what happened`, then `hint: what to do`.
+ * Each line is written by one call, so that the lines of concurrent processes do not mix.
  */
 #ifndef REPORTS_H
 #define REPORTS_H

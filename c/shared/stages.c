@@ -1,5 +1,5 @@
 /* SPDX-License-Identifier: MIT */
-/* Creates, links and renames temporary files, by calls of Linux or only of POSIX. */
+/* Creates, links, renames and syncs temporary files, with calls of Linux or only with calls of POSIX. */
 #define _GNU_SOURCE
 
 #include "stages.h"
@@ -39,7 +39,7 @@ static bool random_bytes(uint8_t *bytes, size_t len)
 #else
 #define renameat2(from, name, to, second, flags) ((void) (from), (void) (name), (void) (second), errno = ENOSYS, -1)
 #endif
-/* With 0, open_unnamed opens a directory for reading and writing, which always fails. */
+/* With O_TMPFILE as 0, open_unnamed tries to open a directory for reading and writing, which always fails. */
 #undef O_TMPFILE
 #define O_TMPFILE 0
 #define sync_file_range(fd, from, bytes, flags) ((void) (fd), (void) (from), (void) (bytes))
@@ -49,7 +49,7 @@ static bool random_bytes(uint8_t *bytes, size_t len)
 
 /* ---- Files without a name ---- */
 
-/* Returns true if /proc has the path of an open file, by which an unnamed file can be linked. */
+/* Returns true if /proc has a path for this open file. Without one, an unnamed file cannot be linked. */
 static bool can_link(int fd)
 {
     struct stat opened, named;
@@ -144,7 +144,8 @@ bool rename_no_replace(int directory, const char *from, const char *to)
     if (errno != EPERM && errno != ENOTSUP && errno != EOPNOTSUPP) {
         return false;
     }
-    /* The file system has no hard links. A file that another process creates in between is replaced. */
+    /* The file system has no hard links. If another process creates a file with this name after fstatat, it is
+     * replaced. */
     if (fstatat(directory, to, &status, AT_SYMLINK_NOFOLLOW) == 0) {
         errno = EEXIST;
         return false;
@@ -177,7 +178,7 @@ bool sync_to_disk(int fd)
 
 #endif
 
-void begin_sync(int fd, uint64_t from, uint64_t bytes)
+void start_writeback(int fd, uint64_t from, uint64_t bytes)
 {
     sync_file_range(fd, (off_t) from, (off_t) bytes, SYNC_FILE_RANGE_WRITE);
 }

@@ -1,33 +1,36 @@
 /* SPDX-License-Identifier: MIT */
 /*
- * Stages: temporary files that are written completely, in the directory of their target, before they get their names.
- * These functions use what Linux has for this. On other systems, on file systems that lack it (such as NFS), and in
- * builds with -DPOSIX_ONLY,
+ * Creates, links, renames and syncs temporary files, also called stages: a file is written completely, in the directory
+ * of its target, before it gets its final name.
  *
- * - every file has a name from the start: a random one, and after a kill the file remains until the next run removes
- *   it;
- * - to rename without replacing, a file is linked to its new name and then loses the old one, so a kill in between
- *   leaves it both names;
- * - names cannot be exchanged.
+ * These functions use calls that only Linux has. Other systems, some file systems (such as NFS), and builds with
+ * -DPOSIX_ONLY do without these calls. There,
+ *
+ * - every file has a name from the start. It is a random name, and after a kill the file remains until the next run
+ *   removes it;
+ * - to rename a file without replacing another one, it is linked to its new name, and then the old name is removed. A
+ *   kill in between leaves the file with both names;
+ * - two names cannot be exchanged.
  */
 #ifndef STAGES_H
 #define STAGES_H
 
 #include "system.h"
 
-/* Writes `len` random bytes (at most 256) as hexadecimal digits and a terminating zero. Returns false if the system has
- * no random bytes. */
+/* Writes `len` random bytes (at most 256) as hexadecimal digits, with a terminating zero. Returns false if the system
+ * supplies no random bytes. */
 bool random_hex(char *digits, size_t len);
 
-/* Calls `visit` for each name in the directory that consists of this prefix and the digits of `len` bytes. Returns
- * false and sets errno if the directory cannot be read to its end. */
+/* Calls `visit` for each name in the directory that consists of this prefix and the hexadecimal digits of `len` bytes.
+ * Returns false and sets errno if the directory cannot be read to its end. */
 bool for_each_random_name(int directory, const char *prefix, size_t len,
                           void (*visit)(int directory, const char *name));
 
 /* Creates a file for reading and writing. Fails if the name exists. On failure, returns -1 and sets errno. */
 int open_named(int directory, const char *name, mode_t mode);
 
-/* Creates a file without a name. It disappears if the program ends before `link_unnamed` gives it one. */
+/* Creates a file without a name. It disappears if the program ends before `link_unnamed` gives it a name. On failure,
+ * returns -1. */
 int open_unnamed(int directory, mode_t mode);
 
 /* Gives an unnamed file this name. Fails if the name exists. On failure, returns false and sets errno. */
@@ -36,15 +39,15 @@ bool link_unnamed(int fd, int directory, const char *name);
 /* Renames a file. Fails with EEXIST if the new name exists. On failure, returns false and sets errno. */
 bool rename_no_replace(int directory, const char *from, const char *to);
 
-/* Exchanges two names in one step. On failure, returns false, sets errno, and nothing is changed. Async-signal-safe. */
+/* Exchanges two names in one step. On failure, changes nothing, returns false and sets errno. Async-signal-safe. */
 bool exchange_names(int directory, const char *first, const char *second);
 
-/* Writes an open file or directory to the disk. On macOS with F_FULLFSYNC, because fsync leaves the data in the disk's
- * cache there. On failure, returns false and sets errno. */
+/* Writes an open file or directory to the disk: with fsync, but on macOS with F_FULLFSYNC, because fsync leaves the
+ * data in the disk's cache there. On failure, returns false and sets errno. */
 bool sync_to_disk(int fd);
 
-/* Asks the system to start writing these bytes to the disk, so that fsync takes less time; with `bytes` 0, everything
- * from `from` on. Only Linux does so. */
-void begin_sync(int fd, uint64_t from, uint64_t bytes);
+/* Asks the system to start writing `bytes` bytes from the offset `from` to the disk, or if `bytes` is 0 everything from
+ * there on. Then fsync takes less time. Does nothing on systems other than Linux. */
+void start_writeback(int fd, uint64_t from, uint64_t bytes);
 
 #endif

@@ -6,10 +6,10 @@
 
 #include "system.h"
 
-/* Opens a placeholder for each standard stream that is closed, which can be neither read nor written. Otherwise the
- * next file that is opened would get the stream's descriptor, and messages would be written into that file. Must be
- * called before anything is opened. Returns false on failure. */
-bool fill_standard_streams(void);
+/* Opens a placeholder, which can be neither read nor written, for each standard stream that is closed. Otherwise the
+ * next file that is opened would get the descriptor of the stream, and messages would be written into that file. Must
+ * be called before anything is opened. Returns false on failure. */
+bool reserve_standard_streams(void);
 
 /* Returns true if this is a standard stream that was closed when the program started. */
 bool was_closed_at_start(int fd);

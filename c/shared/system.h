@@ -6,8 +6,8 @@
 #ifndef SYSTEM_H
 #define SYSTEM_H
 
-/* Declares POSIX and what glibc, musl and the BSDs share beyond it. A file that needs more defines _GNU_SOURCE
- * before. */
+/* Makes the headers declare POSIX, and the common extensions of glibc, musl and the BSDs. A file that needs more than
+ * that defines _GNU_SOURCE before it includes this file. */
 #if !defined _GNU_SOURCE && !defined _DEFAULT_SOURCE
 #define _DEFAULT_SOURCE
 #endif

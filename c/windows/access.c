@@ -6,9 +6,10 @@
 #include <sddl.h>
 #include <sodium.h>
 
+/* The size of a buffer for an access list in the text form of Windows (SDDL). */
 #define LIST_CHARACTERS 512
 
-/* Returns the security identifier of the user as text, in memory of the system, or NULL. */
+/* Returns the security identifier of the user as text, or NULL. LocalFree frees the text. */
 static wchar_t *own_identifier(void)
 {
     union {
@@ -37,7 +38,7 @@ bool begin_own_access(struct own_access *own, bool is_directory)
 
     own->descriptor = NULL;
     if (user != NULL) {
-        /* Protected (P), so nothing is inherited from the directory. FA is all access, SY is the system. */
+        /* P: protected, so that nothing is inherited from the directory. FA: all access. SY: the system. */
         _snwprintf(list, LIST_CHARACTERS - 1, L"D:P(A;%ls;FA;;;%ls)(A;%ls;FA;;;SY)", inherited, user, inherited);
         list[LIST_CHARACTERS - 1] = 0;
         LocalFree(user);

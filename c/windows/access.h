@@ -11,17 +11,20 @@ struct own_access {
     PSECURITY_DESCRIPTOR descriptor;
 };
 
-/* Fills the attributes. Files in such a directory inherit its list. If the user is unknown, returns false and sets
- * errno. `end_own_access` frees memory and keeps errno. */
+/* Fills the attributes. If `is_directory`, files in the new directory inherit its access list. On failure, returns
+ * false and sets errno. */
 bool begin_own_access(struct own_access *own, bool is_directory);
+
+/* Frees the attributes. errno is unchanged. */
 void end_own_access(struct own_access *own);
 
-/* Returns a digest of the owner's security identifier, or 0 if it is unknown. */
+/* Returns a digest of the security identifier of a file's owner, or 0 if the owner is unknown. */
 uid_t owner_of(HANDLE handle);
 
-/* Gives a file the access list of another one, or a list with only this user and the system. On failure, these return
- * false and set errno. */
+/* Gives a file the access list of another file. On failure, returns false and sets errno. */
 bool copy_access(HANDLE from, HANDLE to);
+
+/* Gives a file an access list with only this user and the system. On failure, returns false and sets errno. */
 bool give_own_access(HANDLE to);
 
 #endif

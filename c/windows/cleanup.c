@@ -1,7 +1,8 @@
 /* SPDX-License-Identifier: MIT */
 /*
- * Runs cleanup functions when the program ends: by exit, by a crash, or by an event of the console, such as Ctrl-C,
- * Ctrl-Break, the closing of the window, or logging off. Windows handles these events in a thread of its own.
+ * Runs cleanup functions when the program ends: by exit, by a crash, or because of a console event, such as Ctrl-C,
+ * Ctrl-Break, closing the window or logging off. For a console event, Windows starts another thread, which runs the
+ * handler.
  */
 #include "minisign/cleanup.h"
 
@@ -13,20 +14,20 @@
 #define STATUS_CONTROL_C_EXIT 0xc000013a
 #endif
 
-/* keys.c and terminal.c clear secrets, and replacing.c removes temporary files. */
+/* One each of keys.c and terminal.c, which clear secrets, and of replacing.c, which removes temporary files. */
 enum { MAX_CLEANERS = 3 };
 
 static void (*volatile cleaners[MAX_CLEANERS])(void);
-static CRITICAL_SECTION ending;
+static CRITICAL_SECTION termination;
 
-void hold_ending(void)
+void block_termination(void)
 {
-    EnterCriticalSection(&ending);
+    EnterCriticalSection(&termination);
 }
 
-void allow_ending(void)
+void allow_termination(void)
 {
-    LeaveCriticalSection(&ending);
+    LeaveCriticalSection(&termination);
 }
 
 static void clean(void)
@@ -38,11 +39,12 @@ static void clean(void)
     }
 }
 
-/* The critical section is not left, so that the other thread cannot put a file in place any more. */
+/* Handles a console event. Does not leave the critical section, so that the main thread can no longer put a file in
+ * place. */
 static BOOL WINAPI clean_and_end(DWORD event)
 {
     (void) event;
-    hold_ending();
+    block_termination();
     clean();
     TerminateProcess(GetCurrentProcess(), STATUS_CONTROL_C_EXIT);
     return TRUE;
@@ -57,7 +59,7 @@ static LONG WINAPI clean_after_crash(EXCEPTION_POINTERS *crash)
 
 static void clean_at_exit(void)
 {
-    hold_ending();
+    block_termination();
     clean();
 }
 
@@ -66,10 +68,10 @@ void clean_at_end(void (*cleaner)(void))
     static int count;
 
     if (count == 0) {
-        InitializeCriticalSection(&ending);
+        InitializeCriticalSection(&termination);
     }
     if (count == MAX_CLEANERS || (count == 0 && atexit(clean_at_exit) != 0)) {
-        fail_error(NULL, "atexit() failed", NULL);
+        fail_with_hint(NULL, "atexit() failed", NULL);
     }
     cleaners[count++] = cleaner;
     if (count == 1) {

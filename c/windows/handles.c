@@ -4,10 +4,11 @@
 
 #include "shared/handles.h"
 
-/* minisign-check looks up names in the current directory only. A colon is rejected wherever it is: after a drive letter it
- * would lead out of that directory, so a name of a list must not contain one.
- * minisign compares the contents of two files through this call, but not those of names with a drive letter: there, the
- * file numbers decide, which Windows keeps the same for all names of a file. */
+/*
+ * Rejects a path with a colon. minisign-check looks up the names of a list, in the current directory, and a drive
+ * letter would lead out of this directory. minisign also compares the contents of two files with this function. Paths
+ * with a drive letter are then not compared, but Windows reports the same file number for all names of a file.
+ */
 bool look_up(struct handle *handle, int directory, const char *path, bool follow_links)
 {
     handle->fd = -1;

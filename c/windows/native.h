@@ -13,31 +13,31 @@
 #endif
 #include <windows.h>
 
-/* Returns the errno for an error of Windows. */
+/* Returns the errno that corresponds to an error code of Windows. */
 int errno_of(DWORD error);
 
-/* Converts between UTF-8 and UTF-16. The result is memory of malloc. On failure, these return NULL and set errno. */
+/* Convert between UTF-8 and UTF-16. The result is allocated with malloc. On failure, they return NULL and set errno. */
 wchar_t *to_wide(const char *text);
 char *to_utf8(const wchar_t *text);
 
-/* Returns the full path of a file, in memory of malloc, in the form that has no limit of 260 characters. On failure,
- * returns NULL and sets errno. Windows would take some names for something else, so these are rejected: names with a
- * colon, which name a stream of a file; names of devices except NUL; and names that end with a dot or a space, which
+/* Returns the full path of a file, allocated with malloc, in the form that may be longer than 260 characters. On
+ * failure, returns NULL and sets errno. Rejects names that Windows does not take for the name of a file: names with a
+ * colon, which name a stream of a file; names of devices, except NUL; and names that end with a dot or a space, which
  * Windows drops. */
 wchar_t *wide_path(const char *file);
 
 /* Returns the part of a path after the last separator. */
 wchar_t *last_part_of(wchar_t *path);
 
-/* Opens a file or directory to inspect it, also if others have it open. Links are followed. */
-HANDLE inspect(const wchar_t *path, DWORD access);
+/* Opens a file or directory to inspect it, even if other processes have it open. Links are followed. */
+HANDLE open_to_inspect(const wchar_t *path, DWORD access);
 
-/* Inspects an open file. On failure, returns false and sets errno. */
+/* Gets the status of an open file. On failure, returns false and sets errno. */
 bool status_of_handle(HANDLE handle, struct stat *status);
 
-/* While a thread is between these calls, no event of the console ends the program. Must not be called before
- * `clean_at_end`. */
-void hold_ending(void);
-void allow_ending(void);
+/* While a thread is between these two calls, no console event such as Ctrl-C ends the program. `clean_at_end` must have
+ * been called before. */
+void block_termination(void);
+void allow_termination(void);
 
 #endif

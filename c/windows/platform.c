@@ -1,5 +1,5 @@
 /* SPDX-License-Identifier: MIT */
-/* Starts a program on Windows. */
+/* Implements shared/platform.h for Windows. */
 #include "shared/platform.h"
 
 #include "native.h"
@@ -13,13 +13,13 @@
 
 static bool was_closed[STDERR_FILENO + 1];
 
-/* NUL is opened for the direction that the stream is not used for, so that reading and writing fail. */
-bool fill_standard_streams(void)
+/* The placeholder is NUL, opened only for the direction in which the stream is not used, so that every use fails. */
+bool reserve_standard_streams(void)
 {
     for (int fd = STDIN_FILENO; fd <= STDERR_FILENO; fd++) {
         intptr_t handle = _get_osfhandle(fd);
 
-        /* -2 is a stream that Windows gave no handle. */
+        /* -2: Windows has given the stream no handle. */
         if (handle == -1 || handle == -2 || GetFileType((HANDLE) handle) == FILE_TYPE_UNKNOWN) {
             int placeholder;
 
@@ -48,7 +48,8 @@ static void restore_code_page(void)
     SetConsoleOutputCP(old_code_page);
 }
 
-/* Has the console display UTF-8 until the program ends. Progress needs escape sequences, which older consoles lack. */
+/* Makes the console display UTF-8 until the program ends. Hides the progress if the console does not support the escape
+ * sequences that it needs. */
 static void prepare_console(void)
 {
     HANDLE errors = (HANDLE) _get_osfhandle(STDERR_FILENO);
@@ -65,11 +66,11 @@ static void prepare_console(void)
     }
 }
 
-bool read_arguments(int *argc, char ***argv)
+bool arguments_to_utf8(int *argc, char ***argv)
 {
     int count = 0;
-    wchar_t **given = CommandLineToArgvW(GetCommandLineW(), &count);
-    char **made = given == NULL ? NULL : calloc((size_t) count + 1, sizeof *made);
+    wchar_t **wide_arguments = CommandLineToArgvW(GetCommandLineW(), &count);
+    char **arguments = wide_arguments == NULL ? NULL : calloc((size_t) count + 1, sizeof *arguments);
 
     for (int fd = STDIN_FILENO; fd <= STDERR_FILENO; fd++) {
         _setmode(fd, _O_BINARY);
@@ -77,24 +78,24 @@ bool read_arguments(int *argc, char ***argv)
     /* A buffer keeps the bytes of each character together. Every command flushes its output. */
     setvbuf(stdout, NULL, _IOFBF, BUFSIZ);
     prepare_console();
-    if (made == NULL) {
+    if (arguments == NULL) {
         return false;
     }
     for (int i = 0; i < count; i++) {
-        made[i] = to_utf8(given[i]);
-        if (made[i] == NULL) {
+        arguments[i] = to_utf8(wide_arguments[i]);
+        if (arguments[i] == NULL) {
             return false;
         }
     }
-    LocalFree(given);
+    LocalFree(wide_arguments);
     *argc = count;
-    *argv = made;
+    *argv = arguments;
     return true;
 }
 
 /* ---- Secrets and paths ---- */
 
-/* Windows Error Reporting stores no dump of a process with this mode. */
+/* In this mode, Windows Error Reporting stores no dump of the process. */
 void forbid_core_dumps(void)
 {
     SetErrorMode(SEM_FAILCRITICALERRORS | SEM_NOGPFAULTERRORBOX | SEM_NOOPENFILEERRORBOX);

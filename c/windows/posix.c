@@ -7,10 +7,10 @@
 #include "shared/handles.h"
 #include "access.h"
 
-/* The functions of the C library. */
+/* windows_strerror calls the function of the C library. */
 #undef strerror
 
-/* The most bytes that are read or written in one call. */
+/* The maximum number of bytes to read or write in one call. */
 #define MAX_TRANSFER (1 << 30)
 
 #define SHARE_ALL (FILE_SHARE_READ | FILE_SHARE_WRITE | FILE_SHARE_DELETE)
@@ -61,7 +61,7 @@ const char *windows_strerror(int error)
     }
 }
 
-/* Sets errno for the last error of Windows, and returns -1. */
+/* Sets errno to the last error of Windows, and returns -1. */
 static int fail_windows(void)
 {
     errno = errno_of(GetLastError());
@@ -133,7 +133,7 @@ static bool is_separator(wchar_t character)
     return character == L'\\' || character == L'/';
 }
 
-/* Returns true if a name, or its part before the first dot, is one of Windows' devices. */
+/* Returns true if a name, or the part before its first dot, is the name of a device of Windows. */
 static bool is_device(const wchar_t *name, size_t len)
 {
     static const wchar_t *const devices[] = { L"CON", L"PRN", L"AUX", L"NUL", L"CLOCK$", L"CONIN$", L"CONOUT$" };
@@ -151,12 +151,12 @@ static bool is_device(const wchar_t *name, size_t len)
             return true;
         }
     }
-    /* Windows takes the superscripts of 1 to 3 for digits. */
+    /* Windows treats the superscript digits 1 to 3 like digits. */
     return base == 4 && (_wcsnicmp(name, numbered[0], 3) == 0 || _wcsnicmp(name, numbered[1], 3) == 0)
            && wcschr(L"0123456789\u00b9\u00b2\u00b3", name[3]) != NULL;
 }
 
-/* Checks one name of a path. On failure, returns false and sets errno. */
+/* Checks one component of a path. If it is not allowed, returns false and sets errno. */
 static bool is_allowed_name(const wchar_t *name, size_t len)
 {
     bool is_dots = (len == 1 && name[0] == L'.') || (len == 2 && name[0] == L'.' && name[1] == L'.');
@@ -171,7 +171,7 @@ static bool is_allowed_name(const wchar_t *name, size_t len)
     return errno == 0;
 }
 
-/* Skips the front of a path that is not a name: \\?\, \\.\, UNC\ after one of these, and a drive. */
+/* Skips what is not a name at the start of a path: \\?\ or \\.\, which UNC\ may follow, and a drive with its colon. */
 static const wchar_t *skip_front(const wchar_t *path)
 {
     if (is_separator(path[0]) && is_separator(path[1]) && (path[2] == L'?' || path[2] == L'.')
@@ -200,12 +200,12 @@ static bool has_allowed_names(const wchar_t *path)
     return true;
 }
 
-/* Returns the full path with the front that has no limit of length. */
+/* Returns the full path, with the prefix that allows more than 260 characters. */
 static wchar_t *full_path(const wchar_t *path)
 {
     const wchar_t *front = L"\\\\?\\";
     DWORD size = GetFullPathNameW(path, 0, NULL, NULL);
-    wchar_t *full = size == 0 ? NULL : malloc(size * sizeof *full), *made = NULL;
+    wchar_t *full = size == 0 ? NULL : malloc(size * sizeof *full), *result = NULL;
     const wchar_t *rest = full;
 
     if (full != NULL && GetFullPathNameW(path, size, full, NULL) < size) {
@@ -215,38 +215,39 @@ static wchar_t *full_path(const wchar_t *path)
             front = L"\\\\?\\UNC\\";
             rest += 2;
         }
-        made = malloc((wcslen(front) + wcslen(rest) + 1) * sizeof *made);
+        result = malloc((wcslen(front) + wcslen(rest) + 1) * sizeof *result);
     }
-    if (made != NULL) {
-        wcscpy(made, front);
-        wcscat(made, rest);
+    if (result != NULL) {
+        wcscpy(result, front);
+        wcscat(result, rest);
     } else {
         errno = size == 0 ? errno_of(GetLastError()) : ENOMEM;
     }
     free(full);
-    return made;
+    return result;
 }
 
 wchar_t *wide_path(const char *file)
 {
-    wchar_t *given, *path = NULL;
+    wchar_t *wide, *path = NULL;
     int saved_errno;
 
     if (*file == 0) {
         errno = ENOENT;
         return NULL;
     }
-    given = to_wide(file);
-    if (given == NULL) {
+    wide = to_wide(file);
+    if (wide == NULL) {
         return NULL;
     }
-    if (_wcsicmp(given, L"NUL") == 0) {
+    if (_wcsicmp(wide, L"NUL") == 0) {
+        /* The only device that is allowed. It is what /dev/null is on Linux. */
         path = wcsdup(L"\\\\.\\NUL");
-    } else if (has_allowed_names(given)) {
-        path = full_path(given);
+    } else if (has_allowed_names(wide)) {
+        path = full_path(wide);
     }
     saved_errno = errno;
-    free(given);
+    free(wide);
     errno = saved_errno;
     return path;
 }
@@ -276,7 +277,7 @@ int windows_open(const char *file, int flags)
     handle = CreateFileW(path, GENERIC_READ, SHARE_ALL, NULL, OPEN_EXISTING, FILE_FLAG_SEQUENTIAL_SCAN, NULL);
     if (handle == INVALID_HANDLE_VALUE) {
         errno = errno_of(GetLastError());
-        /* Without FILE_FLAG_BACKUP_SEMANTICS, Windows denies access to a directory. */
+        /* The file may be a directory: Windows denies access to directories without FILE_FLAG_BACKUP_SEMANTICS. */
         attributes = errno == EACCES ? GetFileAttributesW(path) : INVALID_FILE_ATTRIBUTES;
         if (attributes != INVALID_FILE_ATTRIBUTES && (attributes & FILE_ATTRIBUTE_DIRECTORY) != 0) {
             errno = EISDIR;
@@ -291,7 +292,7 @@ int windows_open(const char *file, int flags)
     return fd;
 }
 
-HANDLE inspect(const wchar_t *path, DWORD access)
+HANDLE open_to_inspect(const wchar_t *path, DWORD access)
 {
     return CreateFileW(path, access, SHARE_ALL, NULL, OPEN_EXISTING, FILE_FLAG_BACKUP_SEMANTICS, NULL);
 }
@@ -319,6 +320,7 @@ bool status_of_handle(HANDLE handle, struct stat *status)
     status->st_ino = (uint64_t) information.nFileIndexHigh << 32 | information.nFileIndexLow;
     status->st_size = (uint64_t) information.nFileSizeHigh << 32 | information.nFileSizeLow;
     status->st_nlink = information.nNumberOfLinks;
+    /* Unlike elsewhere, times are in units of 100 ns since 1601, and st_ctime is the time of creation. */
     status->st_mtime = ticks_of(information.ftLastWriteTime);
     status->st_ctime = ticks_of(information.ftCreationTime);
     status->st_uid = owner_of(handle);
@@ -334,7 +336,7 @@ int windows_stat(const char *file, struct stat *status)
     if (path == NULL) {
         return -1;
     }
-    handle = inspect(path, READ_CONTROL | FILE_READ_ATTRIBUTES);
+    handle = open_to_inspect(path, READ_CONTROL | FILE_READ_ATTRIBUTES);
     if (handle == INVALID_HANDLE_VALUE) {
         errno = errno_of(GetLastError());
     } else {
@@ -352,7 +354,7 @@ int windows_fstat(int fd, struct stat *status)
 
 bool is_same_file(const struct stat *first, const struct stat *second)
 {
-    /* A file system without numbers of files has 0 for all. */
+    /* On a file system without file numbers, all numbers are 0. */
     return first->st_ino != 0 && first->st_dev == second->st_dev && first->st_ino == second->st_ino;
 }
 
@@ -362,6 +364,7 @@ int windows_mkdir(const char *path, int mode)
     struct own_access own;
     bool is_made = false;
 
+    /* The mode is ignored: only this user gets access. */
     (void) mode;
     if (name != NULL && begin_own_access(&own, true)) {
         is_made = CreateDirectoryW(name, &own.attributes);
@@ -374,7 +377,7 @@ int windows_mkdir(const char *path, int mode)
 
 int64_t windows_lseek(int fd, int64_t offset, int from)
 {
-    /* Windows also moves the position of a pipe, which means nothing. */
+    /* Windows lets a program seek in a pipe, but this has no effect. */
     if (GetFileType((HANDLE) _get_osfhandle(fd)) != FILE_TYPE_DISK) {
         errno = ESPIPE;
         return -1;
@@ -419,7 +422,7 @@ struct windows_directory {
     struct windows_entry entry;
 };
 
-/* SetCurrentDirectoryW does not take paths in the form of `wide_path`. */
+/* Does not use `wide_path`, because SetCurrentDirectoryW does not accept paths of that form. */
 int windows_chdir(const char *path)
 {
     wchar_t *wide = to_wide(path);
@@ -484,6 +487,7 @@ long windows_sysconf(int name)
 {
     SYSTEM_INFO information;
 
+    /* The only name that is used is _SC_NPROCESSORS_ONLN. */
     (void) name;
     GetSystemInfo(&information);
     return (long) information.dwNumberOfProcessors;

@@ -1,10 +1,11 @@
 /* SPDX-License-Identifier: MIT */
 /*
- * Maps the names of POSIX that the programs use to functions of Windows, as git's compat/mingw does. shared/system.h
+ * Maps the POSIX names that the programs use to functions for Windows, as git's compat/mingw does. shared/system.h
  * includes this file.
  *
- * Paths and variables are UTF-8 here and UTF-16 in Windows. Paths may be longer than 260 characters. Files are read and
- * written without changes: no line end is converted, and Ctrl-Z is a byte like any other.
+ * The functions take and return paths and environment variables in UTF-8, and convert them to UTF-16 for Windows. Paths
+ * may be longer than 260 characters. Files are read and written unchanged: line ends are not converted, and Ctrl-Z does
+ * not end a file.
  */
 #ifndef WINDOWS_POSIX_H
 #define WINDOWS_POSIX_H
@@ -24,19 +25,19 @@
 
 #define O_CLOEXEC _O_NOINHERIT
 
-/* A user, by a digest of the security identifier. */
+/* Identifies a user, by a digest of the security identifier. */
 typedef uint64_t uid_t;
 
-/* The part of POSIX's struct stat that the programs use. `st_dev` and `st_ino` identify the file. The programs only
- * compare times: they are in units of 100 nanoseconds since 1601, and `st_ctime` is the time of creation. */
+/* The fields of struct stat that the programs use. `st_dev` and `st_ino` identify the file. Times are only compared.
+ * They are in units of 100 nanoseconds since 1601, and `st_ctime` is the time of creation. */
 struct windows_stat {
     uint64_t st_dev, st_ino, st_size, st_nlink, st_mtime, st_ctime;
     uid_t st_uid;
     unsigned st_mode;
 };
 
-/* These set errno like the functions of POSIX. `windows_open` only opens for reading. `windows_mkdir` gives nobody but
- * the user and the system access to the directory, and ignores the mode. */
+/* These functions set errno as in POSIX. `windows_open` opens files only for reading. `windows_mkdir` ignores the mode,
+ * and gives access to the directory only to the user and the system. */
 int windows_open(const char *file, int flags);
 int windows_stat(const char *file, struct windows_stat *status);
 int windows_fstat(int fd, struct windows_stat *status);
@@ -45,7 +46,7 @@ int64_t windows_lseek(int fd, int64_t offset, int from);
 ssize_t windows_read(int fd, void *buffer, size_t size);
 ssize_t windows_write(int fd, const void *bytes, size_t len);
 
-/* A directory that is being read. Names are UTF-8, and a name that is not Unicode is an error. */
+/* A directory that is being read. Names are in UTF-8. Reading fails if a name is not Unicode. */
 struct windows_directory;
 struct windows_entry {
     char d_name[3 * 260];
@@ -58,18 +59,18 @@ int windows_chdir(const char *path);
 /* Returns the number of processors. */
 long windows_sysconf(int name);
 
-/* Returns true only for a console. The function of the C library also does so for NUL. */
+/* Returns true only for a console. The function of the C library returns true for NUL as well. */
 int windows_isatty(int fd);
 
 char *windows_getenv(const char *name);
 
-/* Returns the text of an errno, also of those below. */
+/* Returns the text of an errno, including the values below. */
 const char *windows_strerror(int error);
 
-/* Writes each text in one piece, so that a console shows UTF-8. */
+/* Writes the whole text in one piece, because a console cannot show a character whose bytes come in two pieces. */
 int windows_fprintf(FILE *to, const char *format, ...) __attribute__((format(gnu_printf, 2, 3)));
 
-/* Values of errno for files that only Windows rejects. */
+/* Values of errno for the reasons why only Windows rejects a file. */
 enum { NAME_HAS_COLON = 20000, NAME_IS_RESERVED, NAME_END_IS_DROPPED, FILE_IS_IN_USE, LINK_HAS_NO_TARGET };
 
 #define AT_FDCWD (-100)

@@ -1,8 +1,8 @@
 /* SPDX-License-Identifier: MIT */
 /*
- * Replaces files in one step, on Windows. A temporary file is opened so that no other process can open it. Until it is
- * complete, Windows deletes it when it is closed, also if the program is killed. It is renamed by its handle to the
- * name of the existing file. No file is queued.
+ * Replaces files in one step, on Windows. A temporary file, also called stage, is opened so that no other process can
+ * open it. Until it is complete, it is marked so that Windows deletes it when it is closed, even if the program is
+ * killed. Then it is renamed, through its handle, to its target. No file is queued.
  */
 #include "minisign/replacing.h"
 
@@ -21,37 +21,37 @@
 /* A key pair has two stages. */
 enum { MAX_STAGES = 2 };
 
-/* The number of tries of a call that fails because another process, such as a virus scanner, has the file open; and the
- * first pause between tries. Each pause is twice as long as the one before. Opening the existing file and renaming
- * each wait at most one second, so two seconds in total. */
+/* The maximum number of tries of a call that fails because another process, such as a virus scanner, has the file open;
+ * and the pause after the first try. Each pause is twice as long as the one before, so the pauses take about one
+ * second. Opening the existing file and renaming the new file are tried separately. */
 enum { MAX_TRIES = 11, FIRST_PAUSE_MS = 1 };
 
 struct replacement {
-    /* The file's name as it was given, for messages. NULL if this entry is free. */
+    /* The file's name as it was given, for messages. NULL if this entry of `stages` is free. */
     const char *file;
-    /* The path of the target, with all links followed; that of the temporary file; and a second name of the existing
-     * file, from which it is restored if the partner is not put in place. In memory of malloc. */
-    wchar_t *place, *temporary, *backup;
-    /* The temporary file. The handle stays open after the file was renamed. */
+    /* Three paths, allocated with malloc: of the target, with all links resolved; of the temporary file; and a second
+     * name of the existing file, with which it is restored if the partner is not put in place. */
+    wchar_t *target, *temporary_path, *backup_path;
+    /* The temporary file. The handle is still open after the file was renamed. */
     HANDLE handle;
     struct stat existing;
     bool has_existing;
     /* True if an existing file may be replaced. */
     bool may_replace;
     bool is_key;
-    /* True for a device or pipe, which is written at once. */
+    /* True for a device or a pipe: the content is written to it at once. */
     bool is_written_in_place;
     volatile bool is_placed;
-    /* The other file of a pair. If the partner is not put in place, this file is removed again. */
+    /* The other file of a key pair. If the partner is not put in place, this file is removed again. */
     struct replacement *volatile partner;
 };
 
 static struct replacement stages[MAX_STAGES];
 
-/* ---- Places ---- */
+/* ---- Targets ---- */
 
-/* Returns the path of an open file with all links followed, in memory of malloc, or NULL if the file system has
- * none. */
+/* Returns the path of an open file, with all links resolved, allocated with malloc. Returns NULL if the file system
+ * does not support this. */
 static wchar_t *path_of(HANDLE handle)
 {
     DWORD size = GetFinalPathNameByHandleW(handle, NULL, 0, FILE_NAME_NORMALIZED | VOLUME_NAME_DOS), len;
@@ -65,7 +65,7 @@ static wchar_t *path_of(HANDLE handle)
     return path;
 }
 
-/* Returns these two paths, joined by a backslash unless the first one ends with one, in memory of malloc. */
+/* Returns the path of a name in a directory, allocated with malloc. */
 static wchar_t *join_paths(const wchar_t *directory, const wchar_t *name)
 {
     size_t len = wcslen(directory);
@@ -79,22 +79,22 @@ static wchar_t *join_paths(const wchar_t *directory, const wchar_t *name)
     return path;
 }
 
-/* Finds the place of a file that exists. `path` is not freed. */
+/* Finds the target if the file exists. `found` is its handle. */
 static bool find_existing(struct replacement *stage, const wchar_t *path, HANDLE found)
 {
     stage->has_existing = status_of_handle(found, &stage->existing);
     stage->is_written_in_place = stage->has_existing && !S_ISREG(stage->existing.st_mode);
-    stage->place = stage->is_written_in_place ? wcsdup(path) : path_of(found);
-    if (stage->place == NULL && (GetFileAttributesW(path) & FILE_ATTRIBUTE_REPARSE_POINT) == 0) {
-        stage->place = wcsdup(path);
+    stage->target = stage->is_written_in_place ? wcsdup(path) : path_of(found);
+    if (stage->target == NULL && (GetFileAttributesW(path) & FILE_ATTRIBUTE_REPARSE_POINT) == 0) {
+        stage->target = wcsdup(path);
     }
-    if (stage->place == NULL) {
+    if (stage->target == NULL) {
         errno = EINVAL;
     }
-    return stage->has_existing && stage->place != NULL;
+    return stage->has_existing && stage->target != NULL;
 }
 
-/* Finds the place of a file that does not exist, in a directory that does. `path` is not freed. */
+/* Finds the target if the file does not exist, but its directory does. */
 static bool find_new(struct replacement *stage, wchar_t *path)
 {
     wchar_t *name = last_part_of(path), *copy, *directory;
@@ -109,7 +109,7 @@ static bool find_new(struct replacement *stage, wchar_t *path)
         return false;
     }
     copy[name - path] = 0;
-    found = inspect(copy, FILE_READ_ATTRIBUTES);
+    found = open_to_inspect(copy, FILE_READ_ATTRIBUTES);
     if (found == INVALID_HANDLE_VALUE) {
         errno = errno_of(GetLastError());
         free(copy);
@@ -117,14 +117,14 @@ static bool find_new(struct replacement *stage, wchar_t *path)
     }
     directory = path_of(found);
     CloseHandle(found);
-    stage->place = join_paths(directory != NULL ? directory : copy, name);
+    stage->target = join_paths(directory != NULL ? directory : copy, name);
     free(directory);
     free(copy);
-    return stage->place != NULL;
+    return stage->target != NULL;
 }
 
-/* On failure, returns false and sets errno. */
-static bool find_stage_place(struct replacement *stage)
+/* Finds the target of `stage->file`. On failure, returns false and sets errno. */
+static bool find_target(struct replacement *stage)
 {
     wchar_t *path = wide_path(stage->file);
     bool is_found = false;
@@ -133,7 +133,7 @@ static bool find_stage_place(struct replacement *stage)
     if (path == NULL) {
         return false;
     }
-    found = inspect(path, READ_CONTROL | FILE_READ_ATTRIBUTES);
+    found = open_to_inspect(path, READ_CONTROL | FILE_READ_ATTRIBUTES);
     if (found != INVALID_HANDLE_VALUE) {
         is_found = find_existing(stage, path, found);
         CloseHandle(found);
@@ -151,7 +151,7 @@ static bool find_stage_place(struct replacement *stage)
 
 /* ---- Removal ---- */
 
-/* Says whether Windows deletes a file when it is closed. */
+/* Sets whether Windows deletes a file when it is closed. */
 static bool delete_on_close(HANDLE handle, bool is_deleted)
 {
     FILE_DISPOSITION_INFO disposition = { is_deleted };
@@ -159,25 +159,25 @@ static bool delete_on_close(HANDLE handle, bool is_deleted)
     return SetFileInformationByHandle(handle, FileDispositionInfo, &disposition, sizeof disposition) != 0;
 }
 
-/* Removes a stage from its place if its partner is not in place, and puts the existing file back. */
+/* If a stage was put in place but its partner was not, removes the stage again and restores the existing file. */
 static void undo_stage(struct replacement *stage)
 {
     if (!stage->is_placed || stage->partner == NULL || stage->partner->is_placed) {
         return;
     }
-    if (stage->backup == NULL) {
+    if (stage->backup_path == NULL) {
         delete_on_close(stage->handle, true);
     }
     CloseHandle(stage->handle);
     stage->handle = INVALID_HANDLE_VALUE;
-    if (stage->backup != NULL) {
-        MoveFileExW(stage->backup, stage->place, MOVEFILE_REPLACE_EXISTING);
-        stage->backup = NULL;
+    if (stage->backup_path != NULL) {
+        MoveFileExW(stage->backup_path, stage->target, MOVEFILE_REPLACE_EXISTING);
+        stage->backup_path = NULL;
     }
     stage->is_placed = false;
 }
 
-/* Closes the temporary file, which is deleted unless it is in place, and removes the second name of the existing
+/* Closes the temporary file, which is deleted unless it was put in place, and removes the second name of the existing
  * file. */
 static void close_stage(struct replacement *stage)
 {
@@ -188,12 +188,12 @@ static void close_stage(struct replacement *stage)
         CloseHandle(stage->handle);
         stage->handle = INVALID_HANDLE_VALUE;
     }
-    if (stage->backup != NULL) {
-        DeleteFileW(stage->backup);
+    if (stage->backup_path != NULL) {
+        DeleteFileW(stage->backup_path);
     }
 }
 
-/* Runs when the program ends, also in the thread for events of the console, so it frees no memory. */
+/* Runs when the program ends. Frees no memory, because it may run in the thread that handles a console event. */
 static void remove_stages(void)
 {
     for (struct replacement *stage = stages; stage < stages + MAX_STAGES; stage++) {
@@ -206,32 +206,32 @@ static void remove_stages(void)
 
 static void release_stage(struct replacement *stage)
 {
-    hold_ending();
+    block_termination();
     close_stage(stage);
-    free(stage->backup);
-    free(stage->place);
-    free(stage->temporary);
+    free(stage->backup_path);
+    free(stage->target);
+    free(stage->temporary_path);
     *stage = (struct replacement) { .handle = INVALID_HANDLE_VALUE };
-    allow_ending();
+    allow_termination();
 }
 
 /* ---- Temporary files ---- */
 
-/* Returns the path of a name in the directory of this place, in memory of malloc. */
-static wchar_t *path_beside(wchar_t *place, const wchar_t *name)
+/* Returns the path of a name in the directory of the target, allocated with malloc. */
+static wchar_t *sibling_path(wchar_t *target, const wchar_t *name)
 {
-    size_t front = (size_t) (last_part_of(place) - place);
+    size_t front = (size_t) (last_part_of(target) - target);
     wchar_t *path = malloc((front + wcslen(name) + 1) * sizeof *path);
 
     if (path != NULL) {
-        memcpy(path, place, front * sizeof *path);
+        memcpy(path, target, front * sizeof *path);
         wcscpy(path + front, name);
     }
     return path;
 }
 
-/* Returns the path of a random temporary name in the directory of this place, in memory of malloc. */
-static wchar_t *random_path_beside(wchar_t *place)
+/* Returns a path with a random temporary name in the directory of the target, allocated with malloc. */
+static wchar_t *random_sibling_path(wchar_t *target)
 {
     uint8_t random[STAGE_RANDOM_BYTES];
     wchar_t name[STAGE_NAME_BYTES];
@@ -240,7 +240,7 @@ static wchar_t *random_path_beside(wchar_t *place)
     randombytes_buf(random, sizeof random);
     sodium_bin2hex(hex, sizeof hex, random, sizeof random);
     _snwprintf(name, STAGE_NAME_BYTES, L"%hs%hs", STAGE_PREFIX, hex);
-    return path_beside(place, name);
+    return sibling_path(target, name);
 }
 
 static bool is_stage_name(const wchar_t *name)
@@ -251,16 +251,17 @@ static bool is_stage_name(const wchar_t *name)
            && wcsspn(name + STAGE_PREFIX_CHARACTERS, L"0123456789abcdef") == digits;
 }
 
-/* Removes the temporary files that killed runs left in the directory of this place: those that no process has open. */
-static void remove_leftovers(wchar_t *place)
+/* Removes the temporary files that killed runs left in the directory of the target. A file that another process has open
+ * is in use, and is not removed. */
+static void remove_leftovers(wchar_t *target)
 {
-    wchar_t *pattern = path_beside(place, L"" STAGE_PREFIX "*");
+    wchar_t *pattern = sibling_path(target, L"" STAGE_PREFIX "*");
     WIN32_FIND_DATAW entry;
     HANDLE entries = pattern == NULL ? INVALID_HANDLE_VALUE : FindFirstFileW(pattern, &entry);
 
     for (BOOL has_entry = entries != INVALID_HANDLE_VALUE; has_entry; has_entry = FindNextFileW(entries, &entry)) {
         bool is_file = (entry.dwFileAttributes & (FILE_ATTRIBUTE_DIRECTORY | FILE_ATTRIBUTE_REPARSE_POINT)) == 0;
-        wchar_t *path = is_file && is_stage_name(entry.cFileName) ? path_beside(place, entry.cFileName) : NULL;
+        wchar_t *path = is_file && is_stage_name(entry.cFileName) ? sibling_path(target, entry.cFileName) : NULL;
         HANDLE leftover = INVALID_HANDLE_VALUE;
 
         if (path != NULL) {
@@ -287,10 +288,10 @@ static bool open_stage(struct replacement *stage, bool is_secret)
     if (is_secret && !begin_own_access(&own, false)) {
         return false;
     }
-    stage->temporary = random_path_beside(stage->place);
-    hold_ending();
-    if (stage->temporary != NULL) {
-        stage->handle = CreateFileW(stage->temporary, access, 0, is_secret ? &own.attributes : NULL, CREATE_NEW,
+    stage->temporary_path = random_sibling_path(stage->target);
+    block_termination();
+    if (stage->temporary_path != NULL) {
+        stage->handle = CreateFileW(stage->temporary_path, access, 0, is_secret ? &own.attributes : NULL, CREATE_NEW,
                                     FILE_ATTRIBUTE_NORMAL, NULL);
     }
     if (stage->handle == INVALID_HANDLE_VALUE) {
@@ -298,14 +299,15 @@ static bool open_stage(struct replacement *stage, bool is_secret)
     } else {
         delete_on_close(stage->handle, true);
     }
-    allow_ending();
+    allow_termination();
     end_own_access(&own);
     return stage->handle != INVALID_HANDLE_VALUE;
 }
 
 /* ---- Writing ---- */
 
-/* If another process has the file open, waits and returns true. Each pause is twice as long as the one before. */
+/* If a call failed because another process has the file open, waits and returns true: the caller tries again. `tries`
+ * is the number of pauses before this one. */
 static bool wait_for_others(DWORD error, int tries)
 {
     if ((error != ERROR_SHARING_VIOLATION && error != ERROR_ACCESS_DENIED) || tries + 1 >= MAX_TRIES) {
@@ -315,8 +317,8 @@ static bool wait_for_others(DWORD error, int tries)
     return true;
 }
 
-/* Opens the existing file for writing, so that a file that the user must not change is not replaced either. On failure,
- * returns INVALID_HANDLE_VALUE and sets errno. */
+/* Opens the existing file for writing, because a file that the user may not write to must not be replaced either. On
+ * failure, returns INVALID_HANDLE_VALUE and sets errno. */
 static HANDLE open_existing_file(const wchar_t *path)
 {
     HANDLE existing = INVALID_HANDLE_VALUE;
@@ -327,7 +329,7 @@ static HANDLE open_existing_file(const wchar_t *path)
         return existing;
     }
     for (int tries = 0; tries == 0 || wait_for_others(error, tries - 1); tries++) {
-        existing = inspect(path, GENERIC_WRITE | READ_CONTROL);
+        existing = open_to_inspect(path, GENERIC_WRITE | READ_CONTROL);
         if (existing != INVALID_HANDLE_VALUE) {
             return existing;
         }
@@ -340,7 +342,7 @@ static HANDLE open_existing_file(const wchar_t *path)
     return existing;
 }
 
-static bool is_secret(enum kind kind)
+static bool is_secret(enum file_kind kind)
 {
     return kind == NEW_SECRET_KEY || kind == CHANGED_SECRET_KEY || kind == UNSEALED_SECRET_KEY;
 }
@@ -360,51 +362,52 @@ static bool write_handle(HANDLE handle, const uint8_t *bytes, size_t len)
     return true;
 }
 
-/* Writes into a device or a pipe. No secret is written into a pipe, which may be another user's. */
-static void write_in_place(struct replacement *stage, enum kind kind, const uint8_t *bytes, size_t len)
+/* Writes to a device or a pipe. A secret is not written to a pipe, because the pipe may be another user's. */
+static void write_in_place(struct replacement *stage, enum file_kind kind, const uint8_t *bytes, size_t len)
 {
     errno = S_ISDIR(stage->existing.st_mode) ? EISDIR : EINVAL;
-    require(S_ISCHR(stage->existing.st_mode) || (S_ISFIFO(stage->existing.st_mode) && !is_secret(kind)), stage->file);
-    stage->handle = CreateFileW(stage->place, GENERIC_WRITE, FILE_SHARE_READ | FILE_SHARE_WRITE, NULL, OPEN_EXISTING, 0,
-                                NULL);
+    check_errno(S_ISCHR(stage->existing.st_mode) || (S_ISFIFO(stage->existing.st_mode) && !is_secret(kind)),
+                stage->file);
+    stage->handle = CreateFileW(stage->target, GENERIC_WRITE, FILE_SHARE_READ | FILE_SHARE_WRITE, NULL, OPEN_EXISTING,
+                                0, NULL);
     errno = stage->handle == INVALID_HANDLE_VALUE ? errno_of(GetLastError()) : 0;
-    require(stage->handle != INVALID_HANDLE_VALUE && write_handle(stage->handle, bytes, len), stage->file);
+    check_errno(stage->handle != INVALID_HANDLE_VALUE && write_handle(stage->handle, bytes, len), stage->file);
 }
 
-/* Gives a stage the access list of the existing file, or, if the password of a secret key was removed, a list with only
- * the user. A new secret key was created with such a list. */
-static void copy_permissions(const struct replacement *stage, enum kind kind)
+/* Gives a stage the access list of the existing file. But if the password of a secret key was removed, gives it a list
+ * with only this user and the system. A new secret key was already created with such a list. */
+static void copy_permissions(const struct replacement *stage, enum file_kind kind)
 {
-    HANDLE existing = open_existing_file(stage->place);
+    HANDLE existing = open_existing_file(stage->target);
     bool is_given;
 
-    require(existing != INVALID_HANDLE_VALUE, stage->file);
+    check_errno(existing != INVALID_HANDLE_VALUE, stage->file);
     is_given = kind == NEW_SECRET_KEY        ? true
                : kind == UNSEALED_SECRET_KEY ? give_own_access(stage->handle)
                                              : copy_access(existing, stage->handle);
     CloseHandle(existing);
-    require(is_given, stage->file);
+    check_errno(is_given, stage->file);
 }
 
 static void sync_stage(const struct replacement *stage)
 {
     errno = EIO;
-    require(FlushFileBuffers(stage->handle) != 0, stage->file);
+    check_errno(FlushFileBuffers(stage->handle) != 0, stage->file);
 }
 
-static void write_replacement(struct replacement *stage, enum kind kind, const uint8_t *bytes, size_t len)
+static void write_replacement(struct replacement *stage, enum file_kind kind, const uint8_t *bytes, size_t len)
 {
     if (stage->is_written_in_place) {
         write_in_place(stage, kind, bytes, len);
         return;
     }
     stage->is_key = kind != SIGNATURE;
-    remove_leftovers(stage->place);
-    require(open_stage(stage, is_secret(kind)), stage->file);
+    remove_leftovers(stage->target);
+    check_errno(open_stage(stage, is_secret(kind)), stage->file);
     if (stage->has_existing) {
         copy_permissions(stage, kind);
     }
-    require(write_handle(stage->handle, bytes, len), stage->file);
+    check_errno(write_handle(stage->handle, bytes, len), stage->file);
     if (stage->is_key || stage->has_existing) {
         sync_stage(stage);
     }
@@ -428,26 +431,27 @@ static struct replacement *prepare_stage(const char *file, bool may_replace)
         stage++;
     }
     if (stage == stages + MAX_STAGES) {
-        fail_error(NULL, "too many files at once", NULL);
+        fail_with_hint(NULL, "too many files at once", NULL);
     }
     stage->file = file;
     stage->may_replace = may_replace;
-    require(find_stage_place(stage), file);
+    check_errno(find_target(stage), file);
     return stage;
 }
 
-/* Fails before a password is asked for if no file can have this name. Files of other users are not rejected: they are
- * replaced and never written to, and a new secret key gets an access list of its own. */
-void reject_untrusted_file(const char *file, enum kind kind)
+/* Ends the program if no file can have this name, before the user is asked for a password. Files of other users are not
+ * rejected, because they are replaced, never written to, and a new secret key gets its own access list. */
+void reject_untrusted_file(const char *file, enum file_kind kind)
 {
     wchar_t *path = wide_path(file);
 
     (void) kind;
-    require(path != NULL, file);
+    check_errno(path != NULL, file);
     free(path);
 }
 
-struct replacement *stage_file(const char *file, enum kind kind, bool may_replace, const uint8_t *bytes, size_t len)
+struct replacement *stage_file(const char *file, enum file_kind kind, bool may_replace, const uint8_t *bytes,
+                               size_t len)
 {
     struct replacement *stage = prepare_stage(file, may_replace);
 
@@ -459,21 +463,21 @@ struct replacement *stage_file(const char *file, enum kind kind, bool may_replac
     return stage;
 }
 
-bool have_same_place(const struct replacement *first, const struct replacement *second)
+bool have_same_destination(const struct replacement *first, const struct replacement *second)
 {
     return !first->is_written_in_place && !second->is_written_in_place
            && ((first->has_existing && second->has_existing && is_same_file(&first->existing, &second->existing))
-               || CompareStringOrdinal(first->place, -1, second->place, -1, TRUE) == CSTR_EQUAL);
+               || CompareStringOrdinal(first->target, -1, second->target, -1, TRUE) == CSTR_EQUAL);
 }
 
 /* ---- Putting in place ---- */
 
-/* The result of putting a stage in place: done; a file exists that must not be replaced; or an error, in errno. */
+/* The result of putting a stage in place: success, a file exists that must not be replaced, or an error (in errno). */
 enum placement { PLACED, NAME_TAKEN, NOT_PLACED };
 
-static bool rename_handle(HANDLE handle, const wchar_t *place, bool may_replace)
+static bool rename_handle(HANDLE handle, const wchar_t *target, bool may_replace)
 {
-    size_t bytes = wcslen(place) * sizeof *place;
+    size_t bytes = wcslen(target) * sizeof *target;
     FILE_RENAME_INFO *rename = calloc(1, sizeof *rename + bytes);
     bool is_renamed;
 
@@ -483,25 +487,26 @@ static bool rename_handle(HANDLE handle, const wchar_t *place, bool may_replace)
     }
     rename->ReplaceIfExists = may_replace;
     rename->FileNameLength = (DWORD) bytes;
-    wcscpy(rename->FileName, place);
+    wcscpy(rename->FileName, target);
     is_renamed = SetFileInformationByHandle(handle, FileRenameInfo, rename, (DWORD) (sizeof *rename + bytes)) != 0;
     free(rename);
     return is_renamed;
 }
 
-/* Renames once. A file that is deleted when it is closed cannot be renamed. */
+/* Tries to rename the temporary file to the target. During that, the file is not marked for deletion, because a file
+ * with this mark cannot be renamed. */
 static DWORD try_rename(struct replacement *stage)
 {
     DWORD error = ERROR_SUCCESS;
 
-    hold_ending();
+    block_termination();
     delete_on_close(stage->handle, false);
-    stage->is_placed = rename_handle(stage->handle, stage->place, stage->may_replace);
+    stage->is_placed = rename_handle(stage->handle, stage->target, stage->may_replace);
     if (!stage->is_placed) {
         error = GetLastError();
         delete_on_close(stage->handle, true);
     }
-    allow_ending();
+    allow_termination();
     return error;
 }
 
@@ -517,23 +522,23 @@ static enum placement place_stage(struct replacement *stage)
         if (stage->is_placed) {
             return PLACED;
         }
-        if (!stage->may_replace && GetFileAttributesW(stage->place) != INVALID_FILE_ATTRIBUTES) {
+        if (!stage->may_replace && GetFileAttributesW(stage->target) != INVALID_FILE_ATTRIBUTES) {
             return NAME_TAKEN;
         }
     }
-    /* The existing file could be opened for writing, so access is denied only because it is open. */
+    /* The existing file could be opened for writing, so access is denied only because another process has it open. */
     errno = errno_of(error == ERROR_ACCESS_DENIED && stage->has_existing ? ERROR_SHARING_VIOLATION : error);
     return NOT_PLACED;
 }
 
 static bool was_placed(const struct replacement *stage, enum placement placement)
 {
-    require(placement != NOT_PLACED, stage->file);
+    check_errno(placement != NOT_PLACED, stage->file);
     return placement == PLACED;
 }
 
-/* Syncs the new name, which Windows writes with the file. */
-static void sync_name(const struct replacement *stage)
+/* Syncs the new name, which Windows writes together with the file. */
+static void sync_new_name(const struct replacement *stage)
 {
     if (!stage->is_written_in_place) {
         sync_stage(stage);
@@ -545,19 +550,19 @@ bool put_in_place(struct replacement *stage)
     bool is_in_place = was_placed(stage, place_stage(stage));
 
     if (is_in_place && stage->is_key) {
-        sync_name(stage);
+        sync_new_name(stage);
     }
     release_stage(stage);
     return is_in_place;
 }
 
-void replace_key(const char *file, enum kind kind, uid_t owner, const uint8_t *bytes, size_t len)
+void replace_key(const char *file, enum file_kind kind, uid_t owner, const uint8_t *bytes, size_t len)
 {
     struct replacement *stage = prepare_stage(file, true);
 
     if (stage->has_existing && stage->existing.st_uid != owner) {
-        fail_error(file, "another user replaced this file after the key was read",
-                   "check who can write to its directory, then try again");
+        fail_with_hint(file, "another user replaced this file after the key was read",
+                       "check who can write to its directory, then try again");
     }
     write_replacement(stage, kind, bytes, len);
     put_in_place(stage);
@@ -565,34 +570,34 @@ void replace_key(const char *file, enum kind kind, uid_t owner, const uint8_t *b
 
 /* ---- Pairs ---- */
 
-/* Gives the existing file a second name, by which it returns if the partner is not put in place. On a file system
- * without hard links it cannot return, so the first file of the pair is then not undone. */
+/* Gives the existing file a second name, with which it is restored if the partner is not put in place. Without hard
+ * links it could not be restored, so then the first file of the pair is never removed again. */
 static void back_up(struct replacement *stage, struct replacement *partner)
 {
-    hold_ending();
+    block_termination();
     stage->partner = partner;
     if (stage->has_existing && !stage->is_written_in_place) {
-        stage->backup = random_path_beside(stage->place);
-        if (stage->backup != NULL && !CreateHardLinkW(stage->backup, stage->place, NULL)) {
-            free(stage->backup);
-            stage->backup = NULL;
+        stage->backup_path = random_sibling_path(stage->target);
+        if (stage->backup_path != NULL && !CreateHardLinkW(stage->backup_path, stage->target, NULL)) {
+            free(stage->backup_path);
+            stage->backup_path = NULL;
             stage->partner = NULL;
         }
     }
-    allow_ending();
+    allow_termination();
 }
 
-static void undo_in_time(struct replacement *stage)
+static void undo_uninterrupted(struct replacement *stage)
 {
-    hold_ending();
+    block_termination();
     undo_stage(stage);
-    allow_ending();
+    allow_termination();
 }
 
-/* Returns true if the name of this place leads to the file of this stage. */
-static bool is_at(const struct replacement *stage, const struct replacement *other)
+/* Returns true if the target of `other` is the file of `stage`. */
+static bool is_stage_at(const struct replacement *stage, const struct replacement *other)
 {
-    HANDLE found = inspect(other->place, FILE_READ_ATTRIBUTES | READ_CONTROL);
+    HANDLE found = open_to_inspect(other->target, FILE_READ_ATTRIBUTES | READ_CONTROL);
     struct stat staged, named;
     bool is_same = found != INVALID_HANDLE_VALUE && status_of_handle(found, &named)
                    && status_of_handle(stage->handle, &staged) && is_same_file(&staged, &named);
@@ -611,18 +616,18 @@ const char *put_both_in_place(struct replacement *first, struct replacement *sec
     if (!was_placed(first, place_stage(first))) {
         existing = first->file;
     } else {
-        sync_name(first);
-        if (!first->is_written_in_place && !second->is_written_in_place && is_at(first, second)) {
-            undo_in_time(first);
-            fail_error(second->file, "on this file system, this name and that of the other key file are the same",
-                       "use -s FILE and -p FILE to name two different files");
+        sync_new_name(first);
+        if (!first->is_written_in_place && !second->is_written_in_place && is_stage_at(first, second)) {
+            undo_uninterrupted(first);
+            fail_with_hint(second->file, "on this file system, this name and that of the other key file are the same",
+                           "use -s FILE and -p FILE to name two different files");
         }
         if (was_placed(second, place_stage(second))) {
             first->partner = NULL;
-            sync_name(second);
+            sync_new_name(second);
         } else {
             existing = second->file;
-            undo_in_time(first);
+            undo_uninterrupted(first);
         }
     }
     release_stage(first);
@@ -632,7 +637,7 @@ const char *put_both_in_place(struct replacement *first, struct replacement *sec
 
 /* ---- Several files ---- */
 
-void queue_replacement(const char *file, enum kind kind, const uint8_t *bytes, size_t len)
+void queue_replacement(const char *file, enum file_kind kind, const uint8_t *bytes, size_t len)
 {
     put_in_place(stage_file(file, kind, true, bytes, len));
 }

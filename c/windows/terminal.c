@@ -1,5 +1,5 @@
 /* SPDX-License-Identifier: MIT */
-/* Asks for passwords at the console of Windows. */
+/* Asks the user for passwords, on the Windows console. */
 #include "minisign/terminal.h"
 
 #include "minisign/cleanup.h"
@@ -8,8 +8,9 @@
 
 /* Ctrl-Z at the start of a line ends the input. */
 #define END_OF_INPUT 0x1a
-/* How long to wait for the thread that ends the program after Ctrl-C, in milliseconds. */
-#define ENDING_MS 5000
+/* After Ctrl-C, Windows runs the handler that ends the program in another thread. This is the time to wait for that, in
+ * milliseconds. */
+#define CTRL_C_WAIT_MS 5000
 
 enum line { LINE_READ, LINE_TOO_LONG, LINE_NOT_UNICODE, NO_LINE };
 
@@ -17,10 +18,10 @@ static HANDLE console;
 static DWORD old_modes;
 static volatile LONG is_echo_disabled;
 
-/* The line as it was typed. It is cleared after each prompt. */
+/* The typed line, with its CR and LF. It is cleared after each prompt. */
 static wchar_t typed[PASSWORD_BYTES + 3];
 
-/* Also runs when the program ends. */
+/* Clears the typed line, and turns the echo on again if it is off. Also runs when the program ends. */
 static void restore_echo(void)
 {
     SecureZeroMemory(typed, sizeof typed);
@@ -29,6 +30,7 @@ static void restore_echo(void)
     }
 }
 
+/* Discards pending input and turns the echo off. */
 static void disable_echo(void)
 {
     static bool is_registered;
@@ -42,7 +44,7 @@ static void disable_echo(void)
     SetConsoleMode(console, (old_modes | ENABLE_LINE_INPUT | ENABLE_PROCESSED_INPUT) & ~(DWORD) ENABLE_ECHO_INPUT);
 }
 
-/* Converts a line of UTF-16 to a password in UTF-8. */
+/* Converts the first `len` characters of the typed line, in UTF-16, to a password in UTF-8. */
 static enum line convert_line(struct password *password, DWORD len)
 {
     int converted;
@@ -58,6 +60,7 @@ static enum line convert_line(struct password *password, DWORD len)
                                                              : LINE_NOT_UNICODE;
 }
 
+/* Reads a line from the console. */
 static enum line read_typed_line(struct password *password)
 {
     DWORD len = 0;
@@ -65,7 +68,7 @@ static enum line read_typed_line(struct password *password)
     SetLastError(ERROR_SUCCESS);
     if (!ReadConsoleW(console, typed, PASSWORD_BYTES + 2, &len, NULL) || len == 0) {
         if (GetLastError() == ERROR_OPERATION_ABORTED) {
-            Sleep(ENDING_MS);
+            Sleep(CTRL_C_WAIT_MS);
         }
         return NO_LINE;
     }
@@ -82,8 +85,8 @@ static enum line read_typed_line(struct password *password)
     return convert_line(password, len);
 }
 
-/* Reads one line that is not typed, and no input after its line feed. The password ends at the first carriage return,
- * line feed or zero byte. */
+/* Reads one line from a pipe or a file, and nothing after its line feed. The password ends at the first carriage
+ * return, line feed or zero byte. */
 static enum line read_piped_line(struct password *password)
 {
     bool ended = false, has_input = false, fits = true;
@@ -115,19 +118,19 @@ void ask_password(struct password *password, const char *prompt)
     if (is_console) {
         disable_echo();
     }
-    /* Minisign too reads no password if it cannot write the prompt. */
+    /* Like Minisign, read no password if the prompt cannot be written. */
     if (fputs(prompt, stderr) >= 0) {
         line = is_console ? read_typed_line(password) : read_piped_line(password);
     }
     restore_echo();
     if (line == NO_LINE) {
-        fail("get_password()");
+        fail_as_minisign("get_password()");
     }
     fputs(line == LINE_READ && password->len == 0 ? "(empty)\n" : "\n", stderr);
     if (line == LINE_TOO_LONG) {
-        fail_error(NULL, "the password is too long", "use at most 1023 bytes");
+        fail_with_hint(NULL, "the password is too long", "use at most 1023 bytes");
     }
     if (line == LINE_NOT_UNICODE) {
-        fail_error(NULL, "the password is not UTF-8", UTF8_HINT);
+        fail_with_hint(NULL, "the password is not UTF-8", UTF8_HINT);
     }
 }

@@ -1,0 +1,111 @@
+/* SPDX-License-Identifier: MIT */
+/* Turns the error of a run into its result, and sends messages to the caller. */
+/* With _GNU_SOURCE, glibc would declare strerror_r differently from POSIX. */
+#undef _GNU_SOURCE
+
+#include "results.h"
+
+/* The size of a buffer for the text of an errno. */
+#define SYSTEM_ERROR_BYTES 256
+
+/* The status that a run with this error returns, and the file that the message names. */
+struct error_result {
+    enum minisign_error error;
+    enum minisign_install_status status;
+    enum { THE_SIGNATURE, THE_DATA, THE_TARGET, THE_RECORD } subject;
+};
+
+static const struct error_result results[] = {
+    { MINISIGN_OUT_OF_MEMORY, MINISIGN_STATUS_FAILED, THE_TARGET },
+    { MINISIGN_READING_FAILED, MINISIGN_STATUS_FAILED, THE_TARGET },
+    { MINISIGN_WRITING_FAILED, MINISIGN_STATUS_FAILED, THE_TARGET },
+    { MINISIGN_RANDOM_SOURCE_FAILED, MINISIGN_STATUS_FAILED, THE_TARGET },
+    { MINISIGN_TARGET_IN_USE, MINISIGN_STATUS_IN_USE, THE_TARGET },
+    { MINISIGN_DIRECTORY_NOT_SYNCED, MINISIGN_STATUS_NOT_SYNCED, THE_TARGET },
+    { MINISIGN_NO_RECORD, MINISIGN_STATUS_UNRECORDED, THE_RECORD },
+    { MINISIGN_DAMAGED_RECORD, MINISIGN_STATUS_UNRECORDED, THE_RECORD },
+    { MINISIGN_KEPT_BY_VERSION, MINISIGN_STATUS_UNRECORDED, THE_RECORD },
+    { MINISIGN_KEPT_BY_TIMESTAMP, MINISIGN_STATUS_UNRECORDED, THE_RECORD },
+    { MINISIGN_SAME_NUMBER, MINISIGN_STATUS_SAME_VERSION, THE_TARGET },
+    { MINISIGN_OLDER_UPDATE, MINISIGN_STATUS_OLDER, THE_DATA },
+    { MINISIGN_SIGNATURE_REFUSED, MINISIGN_STATUS_REJECTED, THE_DATA },
+    { MINISIGN_OTHER_SIZE, MINISIGN_STATUS_REJECTED, THE_DATA },
+    { MINISIGN_EXPIRED, MINISIGN_STATUS_EXPIRED, THE_SIGNATURE },
+    /* The last row ends the table. It is for all other errors, which are about the signature file. */
+    { .error = MINISIGN_OK, .status = MINISIGN_STATUS_REJECTED, .subject = THE_SIGNATURE },
+};
+
+static const struct error_result *result_for(enum minisign_error error)
+{
+    const struct error_result *result = results;
+
+    while (result->error != error && result->error != MINISIGN_OK) {
+        result++;
+    }
+    return result;
+}
+
+const char *name_of_data(const minisign_installing_options *options)
+{
+    return options->data_name == NULL ? options->data : options->data_name;
+}
+
+/* Sends a message to the caller. `error_number` is an errno, or 0 if no system call failed. */
+static void send_with_errno(const minisign_installing_options *options, enum minisign_message_kind kind,
+                            const char *file, const char *text, int error_number)
+{
+    minisign_installing_message message = { kind, file, text, error_number };
+
+    if (options->message != NULL) {
+        options->message(options->context, &message);
+    }
+}
+
+void send_message(const minisign_installing_options *options, enum minisign_message_kind kind, const char *file,
+                  const char *text)
+{
+    send_with_errno(options, kind, file, text, 0);
+}
+
+/* Sends a message about the file that could not be used, and the hint if there is one. */
+static void send_failure(const minisign_installing_options *options, const struct failure *failure)
+{
+    char text[SYSTEM_ERROR_BYTES] = "";
+
+    if (failure->cause != NULL) {
+        send_message(options, MINISIGN_MESSAGE_CAUSE, failure->path, failure->cause);
+    } else {
+        /* The result can be ignored: for an unknown errno, the text is empty or says so. */
+        (void) strerror_r(failure->error_number, text, sizeof text);
+        send_with_errno(options, MINISIGN_MESSAGE_CAUSE, failure->path, text, failure->error_number);
+    }
+    if (failure->hint != NULL) {
+        send_message(options, MINISIGN_MESSAGE_HINT, NULL, failure->hint);
+    }
+}
+
+enum minisign_install_status report_rejection(const minisign_installing_options *options,
+                                              const struct directory *directory, enum minisign_error error,
+                                              bool is_too_large)
+{
+    const struct error_result *result = result_for(error);
+    const struct failure *failure = &directory->failure;
+    const char *const subjects[] = { options->signature_name, name_of_data(options), options->target,
+                                     directory->record.path };
+    char text[MINISIGN_ERROR_TEXT_BYTES];
+
+    /* If a check finds no newer update, that is not an error. */
+    if (result->status == MINISIGN_STATUS_OLDER && options->choices.is_check != 0) {
+        return result->status;
+    }
+    if (result->status == MINISIGN_STATUS_FAILED && failure->is_set) {
+        send_failure(options, failure);
+        return is_too_large ? MINISIGN_STATUS_TOO_LARGE : result->status;
+    }
+    minisign_error_text(error, text, sizeof text);
+    send_message(options, MINISIGN_MESSAGE_ERROR, subjects[result->subject], text);
+    if (result->status == MINISIGN_STATUS_NOT_SYNCED && failure->is_set) {
+        send_failure(options, failure);
+    }
+    return result->status;
+}

@@ -1,0 +1,71 @@
+/* SPDX-License-Identifier: MIT */
+/*
+ * Finds out in which directory, and under which name, a file is to be written. The directory is opened once. Files are
+ * created, renamed and removed relative to the open directory, so that nobody can exchange the directory in between.
+ */
+#ifndef DESTINATIONS_H
+#define DESTINATIONS_H
+
+#include "shared/handles.h"
+
+struct destination {
+    /* The file's name as it was given, for messages. */
+    const char *file;
+    /* True if a secret is to be written. */
+    bool is_secret;
+    /* The directory, opened with O_PATH if the system has it, and the name in it, allocated with malloc. They are -1
+     * and NULL if the file is written in place. */
+    int directory;
+    char *name;
+    /* The existing file, if there is one. */
+    bool has_existing;
+    struct handle existing;
+    /* The existing file, open for writing, or -1. `open_existing` opens it, unless `file` names a descriptor: then
+     * `find_destination` duplicates this descriptor. */
+    int existing_fd;
+    bool names_descriptor;
+};
+
+/*
+ * Finds the destination of a file, and inspects the existing file there. The existing file is not opened, because
+ * opening a named pipe blocks until it has a reader. Symbolic links are followed as the system follows them, even if
+ * they lead to a missing file. A file counts as missing only if the system reports ENOENT.
+ *
+ * A file is written in place, instead of being replaced, if it is not a regular file, or if it was deleted but is still
+ * open. If `file` names a descriptor of the program (/dev/stdout, /dev/stderr, /dev/fd/N, /proc/self/fd/N) that has a
+ * regular file open for writing, the file is written through this descriptor. A secret is not written through a
+ * descriptor if others can access the file.
+ *
+ * Untrusted users are all users except root and the user who runs the program. These rules protect against them, and do
+ * not depend on system settings such as fs.protected_symlinks:
+ *
+ * - In a directory that others can write to, but where only owners can remove files (such as /tmp), no symbolic link of
+ *   an untrusted user is followed, even as an inner component of the path, and no file or pipe of such a user is used.
+ *   An exception is the owner of that directory, who is trusted unless a secret is written.
+ * - In any directory, a secret is not written in place to a file of an untrusted user, unless the file is a standard
+ *   stream of the program.
+ *
+ * If these rules forbid the file, or it cannot be inspected, prints an error and ends the program.
+ */
+struct destination find_destination(const char *file, bool is_secret);
+
+/* Opens the existing file, if there is one, for writing. Ends the program if it cannot be written or replaced. */
+void open_existing(struct destination *destination);
+
+/* Returns true if the file is written in place, instead of being replaced. */
+bool is_written_in_place(const struct destination *destination);
+
+/* Returns true if both destinations have the same directory and name, or the same existing file. */
+bool is_same_destination(const struct destination *first, const struct destination *second);
+
+/* Returns true if a secret may be written to this file: it belongs to the user or root, and nobody else can access
+ * it. */
+bool may_keep_secret(const struct stat *status);
+
+/* Closes the existing file, if it is open. */
+void close_existing(struct destination *destination);
+
+/* Closes everything that is open, and frees the name. */
+void release_destination(struct destination *destination);
+
+#endif
