@@ -1,9 +1,9 @@
 #!/bin/sh
 # SPDX-License-Identifier: MIT
 #
-# Copies the files of dist/, c/library and include/ that the Go module needs into bindings/go. A Go module has only the
-# files of its own directory, and no build step before `go build`. git ignores the copies, but the commit that a release is
-# tagged on contains them (packaging/tag.sh).
+# Copies the files of dist/, c/library and include/ that the Go module needs into bindings/go, because a Go module consists
+# of the files in its own directory, and has no build step before `go build`. git ignores the copies, but the commit of a
+# release contains them (packaging/tag.sh).
 #
 #     bindings/go_copies.sh         `make -C bindings go` calls this
 #
@@ -12,23 +12,24 @@ set -eu
 cd "$(dirname "$0")/.."
 to=bindings/go
 
-# Build constraints. allocation.c is for Linux with 64-bit pointers, calls.c for systems without an archive, and for builds
-# with the tag `portable`.
+# Build constraints for C files: Linux with 64-bit pointers; and systems without an archive of proved calls, or builds with
+# the tag `portable`.
 linux_64='linux && (amd64 || arm64 || loong64 || mips64 || mips64le || ppc64 || ppc64le || riscv64 || s390x)'
 as_c='portable || !linux || (!amd64 && !arm64)'
 
-part=$to/.part-$$
-trap 'rm -f "$part"' EXIT
+temporary=$to/.part-$$
+trap 'rm -f "$temporary"' EXIT
 trap 'exit 1' HUP INT TERM
 
-# put NAME: moves $part to NAME, unless that has the same content.
+# put NAME: moves the temporary file to NAME, unless NAME has the same content. `names` has all files that were put.
 names=' '
 put() {
     names="$names$1 "
-    cmp -s "$part" "$to/$1" 2>/dev/null || mv "$part" "$to/$1"
+    cmp -s "$temporary" "$to/$1" 2>/dev/null || mv "$temporary" "$to/$1"
 }
 
-# copy FILE [NAME [CONSTRAINT [INCLUDE]]]: copies a file. A C file gets the build constraint that says where Go compiles it.
+# copy FILE [NAME [CONSTRAINT [INCLUDE]]]: copies FILE to NAME. With CONSTRAINT, the copy of a C file begins with this build
+# constraint, and with INCLUDE, it includes this header first.
 copy() {
     {
         if test -n "${3-}"; then
@@ -36,7 +37,7 @@ copy() {
             test -z "${4-}" || printf '#include "%s"\n\n' "$4"
         fi
         cat "$1"
-    } >"$part"
+    } >"$temporary"
     put "${2-${1##*/}}"
 }
 
@@ -55,8 +56,8 @@ copy c/library/portable/allocation.c memory.c "$as_c"
     cat <<'END'
 /* SPDX-License-Identifier: MIT */
 /*
- * Renames functions, because in the archives the proved calls have the public names: boundary.c calls them by these names,
- * and the functions that it defines for programs get other names. Made from c/library/names by bindings/go_copies.sh.
+ * Renames functions. In the archives, the proved calls have the public names. boundary.c calls them by these names, and the
+ * functions that it defines for programs get other names. Made from c/library/names by bindings/go_copies.sh.
  */
 #ifndef MINISIGN_PORTABLE
 #define MINISIGN_PORTABLE
@@ -66,10 +67,10 @@ END
     echo
     sed -n 's/^minisign_.*/#define & bounded_&/p' c/library/names
     printf '\n#endif\n'
-} >"$part"
+} >"$temporary"
 put archive.h
 
-# Remove the files that an older version of this script copied.
+# Remove files that only an older version of this script has copied.
 for file in "$to"/*.[ach]; do
     case $names in *" ${file##*/} "*) ;; *) rm -f "$file" ;; esac
 done

@@ -1,13 +1,15 @@
 #!/bin/sh
 # SPDX-License-Identifier: MIT
 #
-# Gives the symbols of the archives of proved calls their prefixes, such as v3_minisign_update, so that a build needs no objcopy.
+# Adds prefixes to the symbols in the archives of the proved functions (dist/calls-*.a), as in v3_minisign_update, so
+# that building the Rust crate needs no objcopy.
 #
 #     prefix_archives.sh LIBRARY
 #
-# LIBRARY has the files of the C library, as `carry` in Makefile copies them. Its dist/SHA256SUMS gets the sums of the changed
-# archives. OBJCOPY names objcopy. An archive that this objcopy cannot change is left as it is, and the crate's build script
-# changes it with the objcopy of the target; llvm-objcopy can change all of them.
+# LIBRARY is the directory with the files of the C library, as `carry` in Makefile copies them. The hashes of the changed
+# archives are written to dist/SHA256SUMS in this directory. The variable OBJCOPY names objcopy. An archive that objcopy cannot
+# change, because it is for another processor, is left unchanged; then the build script of the crate adds the prefixes.
+# llvm-objcopy can change all archives.
 set -eu
 LC_ALL=C
 export LC_ALL
@@ -19,10 +21,12 @@ for archive in dist/calls-*.a; do
     prefix=${prefix%.a}
     {
         sed "/^#/d; s/.*/& ${prefix}_&/" c/library/names
+        # All archives call the allocator of the C library, so its functions get no prefix.
         for name in alloc realloc dealloc; do
             echo "rattle_$name minisign_$name"
         done
     } > names
+    # For an archive for another processor, objcopy may fail or copy it unchanged.
     if "${OBJCOPY:-objcopy}" --redefine-syms=names "$archive" changed.a 2>/dev/null && grep -q "${prefix}_minisign_update" changed.a; then
         mv changed.a "$archive"
         sum=$(sh "$tools/sha256.sh" "$archive")

@@ -8,7 +8,7 @@ package minisign
 // #include <minisign.h>
 import "C"
 
-// The errors of minisign.h, made by tools/bindings.py. The text of each is that of minisign_error_text.
+// The errors of minisign.h, made by tools/bindings.py. Their messages are those of minisign_error_text.
 const (
 	ErrNotBegun                 = Error(C.MINISIGN_NOT_BEGUN)
 	ErrAlreadyAsked             = Error(C.MINISIGN_ALREADY_ASKED)

@@ -12,12 +12,12 @@ import (
 	"syscall"
 )
 
-// WriteNew creates a file, such as a secret key file, that only its owner can read and write: its mode is 0600, whatever
-// the umask is. It syncs the file and its directory.
+// WriteNew creates a file that only its owner can read and write, such as a secret key file. Its mode is 0600, whatever
+// the umask is. The file and its directory are synced.
 //
-// If the file exists, WriteNew returns an error that is os.ErrExist, and the file is unchanged. After any other error
-// there is no file. On Windows, which has no file modes, the file inherits the permissions of its directory, so choose a
-// directory that only its owner can read.
+// If the file exists, WriteNew returns an error for which errors.Is(err, os.ErrExist) is true, and the file is unchanged.
+// After any other error there is no file. On Windows, which has no file modes, the file inherits the permissions of its
+// directory, so choose a directory that only its owner can read.
 func WriteNew(file string, text []byte) error {
 	created, err := os.OpenFile(file, os.O_WRONLY|os.O_CREATE|os.O_EXCL, 0o600)
 	if err != nil {
@@ -47,8 +47,8 @@ func writeSecret(file *os.File, text []byte) error {
 	return err
 }
 
-// allowOwnerOnly sets the mode 0600 unless the file has it already. It may not, because a umask can also remove
-// permissions of the owner. The mode is set only if needed, because some file systems reject fchmod.
+// allowOwnerOnly sets the mode 0600 if the file has another mode, because a umask can also remove permissions of the owner.
+// A file that has the mode is left alone, because some file systems reject fchmod.
 func allowOwnerOnly(file *os.File) error {
 	info, err := file.Stat()
 	if err != nil || info.Mode()&0o677 == 0o600 {

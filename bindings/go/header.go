@@ -29,7 +29,7 @@ import "C"
 
 // The calls of minisign.h, made by tools/bindings.py. A nil password means that the key is not encrypted.
 
-// nothing is the target of the pointer for an empty slice, because the proved calls take no NULL.
+// nothing is what the pointer for an empty slice points to, because the proved calls do not accept NULL.
 var nothing [1]byte
 
 func pointer(bytes []byte) *C.uint8_t {

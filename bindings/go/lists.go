@@ -36,40 +36,41 @@ func (hash Hash) size() int {
 	return 64
 }
 
-// A LongDigest is the hash function of a digest of 128 digits on a line that does not name one.
+// A LongDigest says how to read a digest of 128 hexadecimal digits on a line that names no hash function. SHA-512 and
+// BLAKE2b digests both have this length.
 type LongDigest int
 
 const (
-	// LongSHA512 is the default. sha512sum writes such lines.
+	// LongSHA512 is the default: the digest is SHA-512, as sha512sum writes it.
 	LongSHA512 LongDigest = iota
-	// LongBLAKE2b is for the lines of b2sum.
+	// LongBLAKE2b means that the digest is BLAKE2b, as b2sum writes it.
 	LongBLAKE2b
-	// LongRejected makes such lines malformed.
+	// LongRejected means that the line is malformed.
 	LongRejected
 )
 
 // ListOptions says which lists are accepted.
 type ListOptions struct {
 	// Name is the name of the list, such as SHA256SUMS. The trusted comment must have a field "file:" with this value, so
-	// that a signed text that was never meant as a list is not taken for one. VerifyListFromFile and VerifyListFS use the
+	// that a signed text that was never meant as a list is not used as one. VerifyListFromFile and VerifyListFS use the
 	// name of the file instead.
 	Name string
-	// AnyName accepts every trusted comment.
+	// AnyName means that every trusted comment is accepted.
 	AnyName bool
-	// LongDigest is the hash function of a digest of 128 digits on a line that does not name one.
+	// LongDigest says how to read a digest of 128 hexadecimal digits on a line that names no hash function.
 	LongDigest LongDigest
 }
 
 // A LineError is an error in one line of a list. It wraps ErrMalformedLine or ErrListedTwice.
 type LineError struct {
 	Err Error
-	// Line is the number of the line, from 1 on.
+	// Line is the line number, starting at 1.
 	Line uint64
 }
 
 func (err *LineError) Error() string { return fmt.Sprintf("%v: line %d", err.Err, err.Line) }
 
-// Unwrap returns the error without the number of the line.
+// Unwrap returns the error without the line number.
 func (err *LineError) Unwrap() error { return err.Err }
 
 // A ListEntry is an entry of a verified list.
@@ -79,24 +80,24 @@ type ListEntry struct {
 	// Hash is the hash function, and Digest the digest that the file must have.
 	Hash   Hash
 	Digest []byte
-	// Line is the number of the line, from 1 on.
+	// Line is the line number, starting at 1.
 	Line uint64
-	// IsEscaped is true if the name is written with escapes. The library does not resolve them, and no name that you look up
-	// matches such an entry.
+	// IsEscaped is true if the name is written with escapes. The library does not resolve escapes, and no name that you look
+	// up matches such an entry.
 	IsEscaped bool
 }
 
-// A SignedList is a verified list, such as SHA256SUMS. One signature is enough for all of its files. Goroutines may share it.
+// A SignedList is a verified list, such as SHA256SUMS. One signature covers all of its files. It is safe for concurrent use
+// by multiple goroutines.
 type SignedList struct {
 	list    *rawList
 	comment string
 }
 
-// VerifyList verifies the signature of a list, whose whole text is in text.
+// VerifyList verifies the signature of a list. text is the whole list. Its lines are checked when you use it.
 //
-// The errors are those of NewVerifier, where ErrLegacyNotAccepted is returned for every legacy signature;
-// ErrSignatureRefused; ErrCommentSignatureRefused; and ErrOtherList, if the trusted comment does not name the list. The
-// lines of the list are checked when you use it.
+// VerifyList returns the errors of NewVerifier, ErrSignatureRefused, ErrCommentSignatureRefused, or ErrOtherList if the
+// trusted comment does not name the list. Legacy signatures are always rejected with ErrLegacyNotAccepted.
 func (publicKey *PublicKey) VerifyList(text []byte, signature Signature, options ListOptions) (*SignedList, error) {
 	if publicKey == nil {
 		return nil, errors.New("minisign: publicKey is nil")
@@ -112,13 +113,13 @@ func (publicKey *PublicKey) VerifyList(text []byte, signature Signature, options
 	if err != nil {
 		return nil, err
 	}
-	// If a comment has a line feed or white space at its end, parsing gives other fields than the caller passed.
+	// The fields differ if a comment contains a line feed or ends with white space.
 	if parsed.signature() != signature {
 		return nil, ErrBadComment
 	}
-	first := accepts(publicKey.PublicKey, asked.digest(), asked.dataSignature())
-	second := accepts(publicKey.PublicKey, asked.commentMessage, asked.commentSignature())
-	if err = callListVerdict(asked.list.raw, first, second); err != nil {
+	isListValid := accepts(publicKey.PublicKey, asked.digest(), asked.dataSignature())
+	isCommentValid := accepts(publicKey.PublicKey, asked.commentMessage, asked.commentSignature())
+	if err = callListVerdict(asked.list.raw, isListValid, isCommentValid); err != nil {
 		return nil, err
 	}
 	return &SignedList{asked.list, asked.comment()}, nil
@@ -160,12 +161,12 @@ func (publicKey *PublicKey) VerifyListFS(fsys fs.FS, file string, options ListOp
 	return publicKey.VerifyList(text, signature, options)
 }
 
-// TrustedComment returns the trusted comment, without "trusted comment: ". The key has signed it together with the list.
-// Compare its version or timestamp with what you expect: an old list stays valid.
+// TrustedComment returns the trusted comment, without "trusted comment: ". It is signed with the list. Compare its version
+// or timestamp with what you expect, because an old list stays valid.
 func (list *SignedList) TrustedComment() string { return list.comment }
 
-// Entries returns all entries, in the order of their lines. A name that is listed twice has two entries; Find rejects it.
-// The errors are ErrNotUtf8, and a LineError with ErrMalformedLine.
+// Entries returns all entries, in the order of their lines. A name that is listed twice has two entries, and Find returns
+// an error for it. The errors are ErrNotUtf8, and a LineError with ErrMalformedLine.
 func (list *SignedList) Entries() ([]ListEntry, error) {
 	entries, err := list.list.entries()
 	if err != nil {
@@ -174,10 +175,10 @@ func (list *SignedList) Entries() ([]ListEntry, error) {
 	return entries, nil
 }
 
-// Find returns the only entry of a name.
+// Find returns the entry for a name, which must be listed exactly once.
 //
-// The errors are ErrNotUtf8, for the list or the name; ErrBadName, if no list can contain the name; a LineError with
-// ErrMalformedLine; ErrNotListed; and a LineError with ErrListedTwice. Compare them with errors.Is.
+// The errors are ErrNotUtf8 if the list or the name is not UTF-8; ErrBadName if no list can contain the name; a LineError
+// with ErrMalformedLine; ErrNotListed; and a LineError with ErrListedTwice. Compare them with errors.Is.
 func (list *SignedList) Find(name string) (ListEntry, error) {
 	raw, err := list.list.find([]byte(name))
 	if err != nil {
@@ -186,14 +187,14 @@ func (list *SignedList) Find(name string) (ListEntry, error) {
 	return list.list.entry(raw), nil
 }
 
-// VerifyListed returns the entry of a name if the data is what the list has for this name. The errors are those of Find, and
-// ErrDigestMismatch if the data has another digest.
+// VerifyListed checks that data has the digest that is listed for a name, and returns the entry. The errors are those of
+// Find, and ErrDigestMismatch if the data has another digest.
 func (list *SignedList) VerifyListed(bin []byte, name string) (ListEntry, error) {
 	return list.VerifyListedReader(bytes.NewReader(bin), name)
 }
 
-// VerifyListedReader verifies the data of a reader, up to its end, as VerifyListed verifies data. After an error use none
-// of the data.
+// VerifyListedReader verifies the data of a reader, up to its end, as VerifyListed does. After an error use none of the
+// data.
 func (list *SignedList) VerifyListedReader(reader io.Reader, name string) (ListEntry, error) {
 	if reader == nil {
 		return ListEntry{}, errors.New("minisign: reader is nil")
@@ -215,8 +216,9 @@ func (list *SignedList) VerifyListedReader(reader io.Reader, name string) (ListE
 	return list.list.entry(raw), nil
 }
 
-// VerifyListedFromFile verifies a file as VerifyListed verifies data. The name that is looked up is the last part of file.
-// If it is listed with directories, or was renamed, open it and call VerifyListedReader with its name in the list.
+// VerifyListedFromFile verifies a file as VerifyListed verifies data. The name in the list must be the last part of the
+// path. If the file is listed with directories, or was renamed, open it and call VerifyListedReader with its name in the
+// list.
 func (list *SignedList) VerifyListedFromFile(file string) (ListEntry, error) {
 	reader, err := os.Open(file)
 	if err != nil {
@@ -227,7 +229,7 @@ func (list *SignedList) VerifyListedFromFile(file string) (ListEntry, error) {
 }
 
 // VerifyListedFS opens the file with this name in a file system, and verifies it as VerifyListed verifies data. The name is
-// looked up first, so nothing is opened that is not listed.
+// looked up first, so a file that is not listed is not opened.
 func (list *SignedList) VerifyListedFS(fsys fs.FS, name string) (ListEntry, error) {
 	if fsys == nil {
 		return ListEntry{}, errors.New("minisign: fsys is nil")
@@ -245,8 +247,9 @@ func (list *SignedList) VerifyListedFS(fsys fs.FS, name string) (ListEntry, erro
 }
 
 // VerifyListedTrustingCrypto verifies the data of a reader as VerifyListedReader does, but hashes it with crypto/sha256 or
-// crypto/sha512, which can use the SHA instructions of the processor. Nothing is proved about these, so the result is only
-// as good as they are. BLAKE2b, which the standard library does not have, is hashed by the proved functions.
+// crypto/sha512, which can use the SHA instructions of the processor. Nothing is proved about these packages, so the result
+// is only as good as they are. For entries with BLAKE2b, which the standard library does not have, the proved functions hash
+// the data.
 func (list *SignedList) VerifyListedTrustingCrypto(reader io.Reader, name string) (ListEntry, error) {
 	if reader == nil {
 		return ListEntry{}, errors.New("minisign: reader is nil")

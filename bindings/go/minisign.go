@@ -20,7 +20,7 @@ import (
 
 // A PublicKey verifies signatures. Verifying uses the current values of its fields.
 type PublicKey struct {
-	// "Ed" in every key that was read, whatever the key file says here. With any other value, verifying returns
+	// "Ed" in every key that was read, whatever algorithm the key file has. With any other value, verifying returns
 	// ErrUnsupportedAlgorithm.
 	SignatureAlgorithm [2]byte
 	KeyId              [8]byte
@@ -43,9 +43,9 @@ type Signature struct {
 	SignatureAlgorithm [2]byte
 	KeyId              [8]byte
 	Signature          [64]byte
-	// The third line, including "trusted comment: ". What follows these words is signed.
+	// The third line, including "trusted comment: ". The text after these words is signed.
 	TrustedComment string
-	// The comment signature. It is zeros if the file has fewer than 64 bytes of it; Verify rejects zeros with
+	// The comment signature. If the file has fewer than 64 bytes for it, all bytes are zero, and Verify returns
 	// ErrWeakEd25519.
 	GlobalSignature [64]byte
 }
@@ -115,8 +115,8 @@ func (publicKey *PublicKey) Verify(bin []byte, signature Signature) (bool, error
 	return err == nil, err
 }
 
-// VerifyFromFile verifies a file as Verify verifies data. It reads the file in pieces, but for a legacy signature keeps
-// the whole file in memory.
+// VerifyFromFile verifies a file as Verify verifies data. It reads the file in pieces, but keeps the whole file in memory
+// if the signature is a legacy one.
 func (publicKey *PublicKey) VerifyFromFile(file string, signature Signature) (bool, error) {
 	reader, err := os.Open(file)
 	if err != nil {
@@ -138,7 +138,7 @@ func (publicKey *PublicKey) VerifyFromFile(file string, signature Signature) (bo
 	return err == nil, err
 }
 
-// VerifyReader verifies the data of a reader, up to its end, as Verify verifies data. It rejects legacy signatures with
+// VerifyReader verifies the data of a reader, up to its end, as Verify does, but rejects legacy signatures with
 // ErrLegacyNotAccepted.
 func (publicKey *PublicKey) VerifyReader(reader io.Reader, signature Signature) (bool, error) {
 	if reader == nil {
@@ -164,15 +164,15 @@ type Verifier struct {
 
 // NewVerifier begins a verification, and checks everything that does not depend on the data.
 //
-// It returns an error if publicKey is nil; ErrUnsupportedAlgorithm if its algorithm is not "Ed"; the errors of
+// It returns an error if publicKey is nil; ErrUnsupportedAlgorithm if the algorithm of the key is not "Ed"; the errors of
 // DecodeSignature if a field of the signature is malformed; ErrDifferentKeyIds if the signature has another key ID;
-// ErrLegacyNotAccepted for a legacy signature; ErrWeakEd25519; and ErrBadComment if a comment could not be in a signature
-// file as it is, for example because it has a line feed.
+// ErrLegacyNotAccepted for a legacy signature; ErrWeakEd25519 for a weak key or signature; and ErrBadComment if a comment
+// cannot be written to a signature file and read back, for example because it contains a line feed.
 func NewVerifier(publicKey *PublicKey, signature Signature) (*Verifier, error) {
 	return begin(publicKey, signature, false)
 }
 
-// begin is NewVerifier, but accepts legacy signatures if allowLegacy is true.
+// begin does the same as NewVerifier, but accepts legacy signatures if allowLegacy is true.
 func begin(publicKey *PublicKey, signature Signature, allowLegacy bool) (*Verifier, error) {
 	if publicKey == nil {
 		return nil, errors.New("minisign: publicKey is nil")
@@ -189,7 +189,7 @@ func begin(publicKey *PublicKey, signature Signature, allowLegacy bool) (*Verifi
 	if err != nil {
 		return nil, err
 	}
-	// If a comment has a line feed or white space at its end, parsing gives other fields than the caller passed.
+	// The fields differ if a comment contains a line feed or ends with white space.
 	if parsed.signature() != signature {
 		return nil, ErrBadComment
 	}
@@ -207,9 +207,8 @@ func (verifier *Verifier) Write(piece []byte) (int, error) {
 	return len(piece), nil
 }
 
-// VerifyTrustedComment returns true if the key has signed the trusted comment, and otherwise false and
-// ErrCommentSignatureRefused. You can call it before you have the data. It says nothing about the data. After Verify it
-// returns ErrNotBegun.
+// VerifyTrustedComment returns true if the comment signature is valid, and otherwise false and ErrCommentSignatureRefused.
+// You can call it before you have the data. The result says nothing about the data. After Verify it returns ErrNotBegun.
 func (verifier *Verifier) VerifyTrustedComment() (bool, error) {
 	if verifier.state == nil {
 		return false, ErrNotBegun
@@ -222,8 +221,8 @@ func (verifier *Verifier) acceptsComment() bool {
 	return accepts(verifier.publicKey, verifier.questions.commentMessage, verifier.questions.commentSignature())
 }
 
-// accepts returns true if the Ed25519 of the standard library accepts a signature. It accepts some signatures that
-// libsodium rejects, but ask has rejected those before (ErrWeakEd25519).
+// accepts returns true if the Ed25519 of the standard library accepts a signature. The standard library accepts some
+// signatures that libsodium rejects, but ask has already rejected these (ErrWeakEd25519).
 func accepts(publicKey [32]byte, message []byte, signature [64]byte) bool {
 	return ed25519.Verify(publicKey[:], message, signature[:])
 }
@@ -236,7 +235,8 @@ func (verifier *Verifier) Verify() (bool, error) {
 	return err == nil, err
 }
 
-// end returns the verdict. For a legacy signature, bin is the data.
+// end ends the verification and returns nil if the signature is valid. For a legacy signature, bin must be all of the data.
+// For other signatures it is not used.
 func (verifier *Verifier) end(bin []byte) error {
 	if verifier.state == nil {
 		return ErrNotBegun

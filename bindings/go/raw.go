@@ -23,7 +23,7 @@ import (
 	"unsafe"
 )
 
-// An Error is an error code of minisign.h. Its text is that of minisign_error_text.
+// An Error is an error code of minisign.h. Its message is that of minisign_error_text.
 type Error uint32
 
 // Name returns the name of the error in minisign.h, without MINISIGN_. It returns "" for a number that is not an error.
@@ -49,7 +49,8 @@ func parseSignature(text string) (*parsedSignature, error) {
 	return &parsedSignature{text, raw}, err
 }
 
-// signature returns the fields. The first line comes from the text, because the library does not return it.
+// signature returns the fields of the signature. The untrusted comment comes from the text, because the library does not
+// return it.
 func (parsed *parsedSignature) signature() Signature {
 	untrusted, _, _ := strings.Cut(parsed.text, "\n")
 	raw := parsed.raw
@@ -63,18 +64,19 @@ func (parsed *parsedSignature) signature() Signature {
 	}
 }
 
-// Questions are the two signatures that Ed25519 has to check, and the message of the comment signature.
+// questions are the two signatures that Ed25519 has to check, and the message that the comment signature signs.
 type questions struct {
 	raw            *C.minisign_questions
 	commentMessage []byte
 }
 
-// raw encodes the key and lets the library parse it, because the library takes only keys that it has parsed itself.
+// raw encodes the key and lets the library parse it, because the library accepts only keys that it has parsed itself.
 func (publicKey *PublicKey) raw() (*C.minisign_public_key, error) {
 	record := append(append([]byte("Ed"), publicKey.KeyId[:]...), publicKey.PublicKey[:]...)
 	return callReadBarePublicKey([]byte(base64.StdEncoding.EncodeToString(record)))
 }
 
+// ask makes all checks of a key and a signature that need neither the data nor Ed25519.
 func ask(state *state, publicKey *PublicKey, signature *parsedSignature, allowLegacy bool) (*questions, error) {
 	key, err := publicKey.raw()
 	if err != nil {
@@ -112,7 +114,7 @@ func publicKeyOf(key *C.minisign_public_key) PublicKey {
 	return PublicKey{[2]byte{'E', 'd'}, keyId, bytes}
 }
 
-// An openedKey is the library's struct of a decrypted secret key. A finalizer clears it after the last reference is gone.
+// An openedKey is the library's struct of a decrypted secret key. A finalizer clears it when it is no longer referenced.
 type openedKey C.minisign_secret_key
 
 func withFinalizer(key *C.minisign_secret_key) *openedKey {
@@ -129,7 +131,7 @@ func newKey(keyId [8]byte, secret []byte) *openedKey {
 	return withFinalizer(callTakeSecretKey(&key))
 }
 
-// raw returns the library's struct. For the zero value of SecretKey this is a struct of zeros, which the library rejects
+// raw returns the library's struct. For the zero value of SecretKey it returns a struct of zeros, which the library rejects
 // with ErrKeyNotOpened.
 func (key *openedKey) raw() *C.minisign_secret_key {
 	if key == nil {
@@ -152,16 +154,16 @@ func (work Work) keepEvery() C.uint64_t {
 	return C.MINISIGN_KEEP_EVERY_ROW
 }
 
-// orDefault returns a number of Work, or the default if it is 0.
-func orDefault(number, defaultNumber C.uint64_t) C.uint64_t {
-	if number == 0 {
-		return defaultNumber
+// orDefault returns a field of Work, or the default value if the field is 0.
+func orDefault(value, defaultValue C.uint64_t) C.uint64_t {
+	if value == 0 {
+		return defaultValue
 	}
-	return number
+	return value
 }
 
-// openSecretKey decrypts the content of a secret key file. It also returns true if the file was encrypted with weak
-// limits.
+// openSecretKey decrypts the content of a secret key file. The second result is true if the file was encrypted with limits
+// below the minimum.
 func openSecretKey(text, password []byte, work Work) (*openedKey, bool, error) {
 	unopened, err := callReadSecretKey(text)
 	if err != nil {
@@ -177,7 +179,8 @@ func openSecretKey(text, password []byte, work Work) (*openedKey, bool, error) {
 	return withFinalizer(key), unopened.log2_rows < C.MINISIGN_LEAST_LOG2_ROWS, err
 }
 
-// text returns the content of a secret key file, encrypted unless password is nil. It rejects weak limits.
+// text returns the content of a secret key file. It is encrypted unless password is nil. Limits below the minimum are
+// rejected with ErrWeakLimits.
 func (key *openedKey) text(password []byte, salt [32]byte, work Work) ([]byte, error) {
 	sealing := C.minisign_sealing{
 		operations_limit: orDefault(C.uint64_t(work.OperationsLimit), C.MINISIGN_OPERATIONS_LIMIT),
@@ -207,32 +210,32 @@ func (key *openedKey) signatureText(dataSignature, commentSignature *[64]byte, t
 	return callSignedText(public, dataSignature, commentSignature, trusted, untrusted)
 }
 
-// A rawList is the library's struct of a verified list, with the list itself.
+// A rawList is the library's struct of a list, together with the text of the list.
 type rawList struct {
 	raw        *C.minisign_list
 	text       []byte
 	longDigest C.enum_minisign_hash
 }
 
-// A listQuestions is a list whose two signatures Ed25519 has to check.
+// listQuestions are the two signatures of a list that Ed25519 has to check.
 type listQuestions struct {
 	list *rawList
 	questions
 }
 
-// askList begins to verify a list. The trusted comment must name the list, unless anyName is true.
+// askList makes all checks of a list that need no Ed25519. The trusted comment must name the list, unless anyName is true.
 func askList(publicKey *PublicKey, signature *parsedSignature, text, name []byte, anyName bool, longDigest LongDigest) (*listQuestions, error) {
 	key, err := publicKey.raw()
 	if err != nil {
 		return nil, err
 	}
-	kind, ok := map[LongDigest]C.enum_minisign_hash{
+	hash, ok := map[LongDigest]C.enum_minisign_hash{
 		LongSHA512: C.MINISIGN_HASH_SHA512, LongBLAKE2b: C.MINISIGN_HASH_BLAKE2B, LongRejected: C.MINISIGN_HASH_NONE,
 	}[longDigest]
 	if !ok {
 		return nil, ErrBadHash
 	}
-	list := &rawList{text: append([]byte(nil), text...), longDigest: kind}
+	list := &rawList{text: append([]byte(nil), text...), longDigest: hash}
 	asked := &listQuestions{list: list}
 	if anyName {
 		list.raw, asked.raw, asked.commentMessage, err = callListAskAny(key, signature.raw, []byte(signature.text), list.text)
@@ -246,12 +249,12 @@ func (questions *questions) digest() []byte {
 	return (*[64]byte)(unsafe.Pointer(&questions.raw.digest))[:]
 }
 
-// comment returns the trusted comment, from the message that the comment signature signs.
+// comment returns the trusted comment, which is a part of the message that the comment signature signs.
 func (questions *questions) comment() string {
 	return string(questions.commentMessage[questions.raw.comment_offset:][:questions.raw.comment_len])
 }
 
-// lineError returns nil if a call succeeded, and otherwise its error, with the number of the line at fault if there is one.
+// lineError returns nil if a call succeeded, and otherwise its error, which is a LineError if a line is at fault.
 func lineError(err C.enum_minisign_error, line C.uint64_t) error {
 	if line != 0 {
 		return &LineError{Error(err), uint64(line)}
@@ -266,7 +269,8 @@ func (list *rawList) find(name []byte) (*C.minisign_list_entry, error) {
 }
 
 func (list *rawList) entries() ([]ListEntry, error) {
-	// One more than there can be, because the library takes no pointer to an empty slice.
+	// An entry has at least 67 bytes and a line feed, which may be missing after the last one. There is one element more,
+	// because &raw[0] needs one.
 	raw := make([]C.minisign_list_entry, (len(list.text)+1)/68+1)
 	count, line := C.size_t(0), C.uint64_t(0)
 	err := C.minisign_list_entries(list.raw, pointer(list.text), C.size_t(len(list.text)), list.longDigest, &raw[0], C.size_t(len(raw)), &count, &line)
@@ -277,10 +281,10 @@ func (list *rawList) entries() ([]ListEntry, error) {
 	return entries, lineError(err, line)
 }
 
-// hashes are the hash functions by their numbers in the library.
+// hashes has the hash functions by their numbers in the library.
 var hashes = map[C.uint32_t]Hash{C.MINISIGN_HASH_SHA256: SHA256, C.MINISIGN_HASH_SHA512: SHA512, C.MINISIGN_HASH_BLAKE2B: BLAKE2b}
 
-// entry returns the Go form of an entry, whose name is in the list.
+// entry converts an entry of the library, and copies its name from the list.
 func (list *rawList) entry(raw *C.minisign_list_entry) ListEntry {
 	hash := hashes[raw.hash]
 	return ListEntry{
@@ -292,7 +296,7 @@ func (list *rawList) entry(raw *C.minisign_list_entry) ListEntry {
 	}
 }
 
-// A rawFile is the library's state of checking data against an entry. It is an io.Writer.
+// A rawFile is the library's state for comparing data with an entry. It is an io.Writer.
 type rawFile C.minisign_list_file
 
 func beginFile(entry *C.minisign_list_entry) (*rawFile, error) {
@@ -309,7 +313,7 @@ func (file *rawFile) Write(piece []byte) (int, error) {
 
 func (file *rawFile) finish() error { return callListFinish((*C.minisign_list_file)(file)) }
 
-// compareTrustingHash compares the digest of an entry with one that the library did not compute.
+// compareTrustingHash compares the digest of an entry with a digest that the library did not compute.
 func compareTrustingHash(entry *C.minisign_list_entry, digest []byte) error {
 	return callListCompareTrustingYourHash(entry, C.enum_minisign_hash(entry.hash), digest)
 }

@@ -14,23 +14,24 @@ import (
 	"os"
 )
 
-// ErrWeakLimits is returned by Encode for limits below the lowest that the program minisign encrypts a key with.
+// ErrWeakLimits is returned by Encode for limits below the minimum of the program minisign.
 var ErrWeakLimits = errors.New("minisign: the key limits are below 524288 operations or 16 MiB")
 
-// Work sets the memory and time of scrypt, which derives a key from a password. For a number that is 0, the default is
-// used, which is that of minisign -G.
+// Work has the limits for scrypt, which derives a key from a password: its memory and time. A field that is 0 means the
+// limit of minisign -G.
 type Work struct {
-	// LowMemory makes scrypt take at most 65 MiB instead of 1 GiB, and some three times as long.
+	// LowMemory makes scrypt use at most 65 MiB instead of 1 GiB, but take about three times as long.
 	LowMemory bool
-	// MostRows limits the work of decrypting a key file: the rows of scrypt in all, which are N times p. A key file
-	// that takes more is rejected with ErrWorkTooHigh.
+	// MostRows limits the work for decrypting a key file: the number of rows that scrypt computes, which is N times p. A key
+	// file that needs more is rejected with ErrWorkTooHigh.
 	MostRows uint64
-	// OperationsLimit and MemoryLimit, in bytes, are the limits that a key is encrypted with, as libsodium counts them.
+	// OperationsLimit and MemoryLimit are the limits with which a key is encrypted, as libsodium counts them. The memory is
+	// in bytes.
 	OperationsLimit, MemoryLimit uint64
 }
 
-// A SecretKey is a decrypted or new secret key. It prints as its key ID only. Clear clears its bytes; otherwise a
-// finalizer clears them after the last reference is gone.
+// A SecretKey is a decrypted or new secret key. Printing it shows only its key ID. Clear clears its bytes. If Clear is not
+// called, a finalizer clears them when the key is no longer referenced.
 type SecretKey struct {
 	opened *openedKey
 	isWeak bool
@@ -91,17 +92,17 @@ func (key *SecretKey) Encode(password []byte, work Work) ([]byte, error) {
 	return key.opened.text(password, salt, work)
 }
 
-// EncodeUnsealed returns the content of a secret key file that is not encrypted: anybody who can read it can sign. Write
-// it with WriteNew, so that only its owner can read it.
+// EncodeUnsealed returns the content of a secret key file that is not encrypted, so anybody who can read it can sign. Write
+// it to a file with WriteNew, so that only its owner can read it.
 func (key *SecretKey) EncodeUnsealed() ([]byte, error) {
 	return key.opened.text(nil, [32]byte{}, Work{})
 }
 
-// IsWeak returns true if the file that the key was decrypted from was encrypted with limits that Encode rejects.
-// Passwords of such a file can be tried fast, so encrypt the key again.
+// IsWeak returns true if the file from which the key was read was encrypted with limits below the minimum of Encode. The
+// password of such a file can be guessed quickly, so encrypt the key again.
 func (key *SecretKey) IsWeak() bool { return key.isWeak }
 
-// KeyId returns the key ID, which is also that of the public key.
+// KeyId returns the key ID, which is also the key ID of the public key.
 func (key *SecretKey) KeyId() [8]byte { return key.opened.keyId() }
 
 // KeyIdText returns the key ID as the program minisign prints it: in upper-case hexadecimal digits without leading zeros.
@@ -121,13 +122,13 @@ func (key *SecretKey) Clear() { key.opened.clear() }
 // Format prints only the key ID, whatever the verb is.
 func (key SecretKey) Format(to fmt.State, _ rune) { fmt.Fprintf(to, "SecretKey(%s)", key.KeyIdText()) }
 
-// SignBytes signs data. The comments have one line each. trusted is signed with the data, and untrusted is not signed.
-// The errors are those of Signer.Sign.
+// SignBytes signs data. trusted is the trusted comment, which is signed with the data, and untrusted is the untrusted
+// comment, which is not signed. Each is one line. The errors are those of Signer.Sign.
 func (key *SecretKey) SignBytes(bin []byte, trusted, untrusted string) (Signature, error) {
 	return key.Sign(bytes.NewReader(bin), trusted, untrusted)
 }
 
-// SignFile signs a file, as SignBytes signs data.
+// SignFile signs a file as SignBytes signs data.
 func (key *SecretKey) SignFile(file, trusted, untrusted string) (Signature, error) {
 	reader, err := os.Open(file)
 	if err != nil {
@@ -137,7 +138,7 @@ func (key *SecretKey) SignFile(file, trusted, untrusted string) (Signature, erro
 	return key.Sign(reader, trusted, untrusted)
 }
 
-// Sign signs the data of a reader, up to its end, as SignBytes signs data.
+// Sign signs the data of a reader, up to its end, as SignBytes does.
 func (key *SecretKey) Sign(reader io.Reader, trusted, untrusted string) (Signature, error) {
 	if reader == nil {
 		return Signature{}, errors.New("minisign: reader is nil")
@@ -178,11 +179,11 @@ func (signer *Signer) Write(piece []byte) (int, error) {
 	return len(piece), nil
 }
 
-// Sign returns the signature of all data that was written, after verifying it. Call it once.
+// Sign signs all data that was written, verifies the signature, and returns it. Call it once.
 //
-// It returns ErrAlreadyAsked if called a second time; ErrKeyNotOpened after Clear; ErrSignatureRefused if the seed and the
-// public key in the secret key do not belong together, as in a damaged key; and ErrNotUtf8, ErrBadComment or
-// ErrUnreadableComment for a comment that Minisign could not read back.
+// It returns ErrAlreadyAsked if it is called a second time; ErrKeyNotOpened after Clear; ErrSignatureRefused if the key is
+// damaged, so that its seed and its public key do not match; and ErrNotUtf8, ErrBadComment or ErrUnreadableComment for a
+// comment that Minisign could not read back.
 func (signer *Signer) Sign(trusted, untrusted string) (Signature, error) {
 	if signer.state == nil {
 		return Signature{}, ErrNotBegun
@@ -210,8 +211,8 @@ func (signer *Signer) Sign(trusted, untrusted string) (Signature, error) {
 	return DecodeSignature(string(text))
 }
 
-// signMessage signs a message, and verifies the signature before returning it: if the seed and the public key of a damaged
-// key do not belong together, its signatures reveal the secret.
+// signMessage signs a message, and verifies the signature before returning it, because a signature made with a damaged key,
+// whose seed and public key do not match, reveals the secret.
 func (signer *Signer) signMessage(message []byte) (*[64]byte, error) {
 	key, err := signer.key.PublicKey()
 	if err != nil {

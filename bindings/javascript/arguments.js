@@ -9,7 +9,8 @@ export function argumentError(message) {
   return Object.assign(new TypeError(message), { code: "INVALID_ARGUMENT" });
 }
 
-// Throws a TypeError that names the argument and its type, unless `isValid`.
+// Throws a TypeError if isValid is false. The message names the argument, what
+// is expected, and the type of the value.
 export function mustBe(isValid, name, expected, value) {
   if (!isValid) {
     const kind = value === null ? "null" : typeof value;
@@ -17,14 +18,15 @@ export function mustBe(isValid, name, expected, value) {
   }
 }
 
-// Returns the length of an ArrayBuffer of any realm, and throws for all other
-// objects.
+// When called on an ArrayBuffer of any realm, returns its length. Throws for
+// anything else.
 const { get: lengthOfBuffer } = Object.getOwnPropertyDescriptor(
   ArrayBuffer.prototype,
   "byteLength",
 );
 
-// Returns a view of the bytes of a buffer or a view, or null for anything else.
+// Returns the bytes of an ArrayBuffer or of a view of one, without copying
+// them, or null for anything else.
 export function bytesOf(value) {
   if (ArrayBuffer.isView(value)) {
     return new Uint8Array(value.buffer, value.byteOffset, value.byteLength);
@@ -36,8 +38,10 @@ export function bytesOf(value) {
   }
 }
 
-// Returns the bytes of a text: the UTF-8 of a string, or a view of bytes.
-export function textOf(value, name) {
+// Returns the bytes of a text: a string in UTF-8, or bytes, which are not
+// copied. Throws a TypeError for anything else, and for a text that is too
+// long.
+export function bytesOfText(value, name) {
   const isText = typeof value === "string";
   const bytes = isText ? new TextEncoder().encode(value) : bytesOf(value);
   mustBe(bytes !== null, name, "a string or bytes", value);
@@ -47,17 +51,19 @@ export function textOf(value, name) {
   return bytes;
 }
 
-// Clears the bytes that `textOf` made from a string. If the caller passed
-// bytes, they are the caller's, and are not cleared.
+// Clears the bytes that `bytesOfText` has returned for a text, if this was a
+// string. Bytes that the caller passed are not cleared.
 export function clearCopy(bytes, text) {
   if (typeof text === "string") {
     bytes.fill(0);
   }
 }
 
-// The types of the options, by name. An option that is not here is a text,
-// which `textOf` checks when it is used. The table has no prototype, because a
-// property of Object.prototype would be an entry.
+// The types of the options, by name: the words of the error message, and a
+// function that returns true for a valid value. Options that are not in the
+// table are texts. Here they must only not be null, and `bytesOfText` checks
+// them when they are used. The table has no prototype, so that it contains no
+// names such as `constructor`.
 const TEXT = ["a string or bytes", (value) => value !== null];
 const BOOLEAN = ["true or false", (value) => typeof value === "boolean"];
 const isFunction = (value) => typeof value === "function";
@@ -79,8 +85,8 @@ const NOT_PLAIN =
   "that inherits from another one";
 
 // Returns true if an object inherits from nothing, or only from the
-// Object.prototype of any realm. That is the only object which has no prototype
-// and an `isPrototypeOf` of its own.
+// Object.prototype of any realm. An Object.prototype is recognized by having no
+// prototype, and a property `isPrototypeOf`.
 function isPlain(object) {
   const prototype = Object.getPrototypeOf(object);
   return (
@@ -90,10 +96,10 @@ function isPlain(object) {
   );
 }
 
-// Copies the options out of a plain object. Throws a TypeError for an object of
+// Copies the options from a plain object. Throws a TypeError for an object of
 // any other kind, for a property that is not one of the known options, and for
-// a value of the wrong type. The copy has no prototype: an option that was not
-// passed stays undefined, even if Object.prototype has a property of its name.
+// a value of the wrong type. The copy has no prototype, so an option that was
+// not passed is undefined even if Object.prototype has a property of this name.
 export function optionsOf(options, ...known) {
   const isObject = typeof options === "object" && options !== null;
   mustBe(isObject, "options", "a plain object", options);

@@ -1,18 +1,22 @@
 // SPDX-License-Identifier: MIT
 // Calls the WebAssembly module of the proved library, which is built from the
-// crate minisign_page. No other file calls the module. It is proved and built
-// for 64-bit WebAssembly. wasm-opt turns it into a module with a memory of 32
-// bits, whose functions still take each address and length as a number of 64
-// bits. This file can load either module. include/minisign.h says under
-// "Requirements" what a caller has to do. Each method copies its arguments into
-// the memory of the module and copies the results out. The caller holds the
-// state of a verification, so nothing stays in the module between two calls,
-// except for a piece of data that `place` has put there.
+// crate minisign_page. No other file calls the module.
+//
+// The module is proved and built for 64-bit WebAssembly. wasm-opt turns it into
+// a module with a memory of 32 bits, whose functions still take each address
+// and length as a number of 64 bits. This file can load either module.
+//
+// Each method copies its arguments into the memory of the module, and copies
+// the results out. The caller holds the state of a verification, so the module
+// keeps nothing between two calls, except for the piece of data that `place`
+// has put there. In results, `number` is 0 or an error number of
+// include/minisign.h. The section "Requirements" of that header also holds for
+// callers of this file.
 
 // Key files and signature files must be shorter than this.
 export const TEXT_BYTES = 65536;
-// The maximum size of a piece of data. It is smaller if the memory of the
-// module is.
+// The maximum size of a piece of data. If the memory of the module is small,
+// pieces are smaller.
 const MAX_PIECE_BYTES = 4 * 1048576;
 // The maximum size of a signed list.
 export const MAX_LIST_BYTES = 1048576;
@@ -56,20 +60,22 @@ const QUESTIONS = {
 
 // ---- End of the generated part ----
 
-// The hash functions of lists, by their numbers, with the sizes of digests.
+// The hash functions of lists, by their numbers in the header. `bytes` is the
+// size of a digest.
 export const HASHES = new Map([
   [HASH_SHA256, { name: "sha256", bytes: 32 }],
   [HASH_SHA512, { name: "sha512", bytes: 64 }],
   [HASH_BLAKE2B, { name: "blake2b", bytes: 64 }],
 ]);
-// The hash functions of 128 digits on a line that does not name a function.
+// The values of the option `longDigest`: the hash function of 128 digits on a
+// line that names no hash function.
 export const LONG_DIGESTS = new Map([
   ["sha512", HASH_SHA512],
   ["blake2b", HASH_BLAKE2B],
   ["none", HASH_NONE],
 ]);
-// The sizes of the hash states of minisign_sha2, which the header does not
-// declare.
+// The sizes of the states of SHA-256 and SHA-512 in the crate minisign_sha2,
+// which the header does not declare.
 const SHA_BYTES = { sha256: 104, sha512: 208 };
 
 // Formats the eight bytes of a key ID as the program minisign prints it: one
@@ -81,17 +87,19 @@ export function keyIdText(bytes) {
 }
 
 export class Library {
+  // `calls` are the exports of the module.
   constructor(calls) {
     this.calls = calls;
     this.memory = new Uint8Array(calls.memory.buffer);
-    // The addresses of buffers, which begin where the module's own data ends.
+    // Reserves buffers behind the module's own data. The properties are the
+    // addresses of the buffers.
     let end = Math.ceil(Number(calls.__heap_base.value) / 16) * 16;
     const bufferOf = (length) => (end += length) - length;
     this.state = bufferOf(STATE_BYTES);
     this.questions = bufferOf(QUESTIONS_BYTES);
     this.signature = bufferOf(208);
     this.key = bufferOf(48);
-    this.words = bufferOf(128);
+    this.scratch = bufferOf(128);
     this.list = bufferOf(LIST_BYTES);
     this.entry = bufferOf(LIST_ENTRY_BYTES);
     this.name = bufferOf(TEXT_BYTES);
@@ -111,8 +119,8 @@ export class Library {
     return new Library(instance.exports);
   }
 
-  // Copies bytes into the buffer at an address, which has this size. Returns
-  // the address and the length, as the functions of the module take them.
+  // Copies bytes into the buffer of this size at this address. Returns the
+  // address and the number of bytes, as the functions of the module take them.
   put(address, size, bytes) {
     if (bytes.length > size) {
       const why = new Error("the WebAssembly module's buffer is too small");
@@ -127,21 +135,21 @@ export class Library {
     return this.memory.slice(address, address + length);
   }
 
-  // Passes a state to a function of the module, and updates it. Returns the
-  // error number, or 0.
+  // Copies a state into the module, passes its address to `call`, and copies
+  // the state back. Returns the error number that `call` returns, or 0.
   onState(state, call) {
     return this.onStruct(this.state, state, call);
   }
 
-  // Returns the text of an error number.
+  // Returns the message for an error number.
   errorText(number) {
-    const address = BigInt(this.words);
+    const address = BigInt(this.scratch);
     const length = Number(this.calls.page_error_text(number, address, 128n));
-    return new TextDecoder().decode(this.bytesAt(this.words, length));
+    return new TextDecoder().decode(this.bytesAt(this.scratch, length));
   }
 
-  // Reads a public key file, or only the base64 of a key. Returns its key ID
-  // and the struct of the key, or the error number.
+  // Parses a public key file, or only the base64 of a key if isBare is true.
+  // Returns the error number, the key ID, and the struct of the key.
   readKey(text, isBare) {
     const call = `page_read_${isBare ? "bare_" : ""}public_key`;
     const passed = this.put(this.text, TEXT_BYTES, text);
@@ -151,15 +159,16 @@ export class Library {
     return { number, keyId, key };
   }
 
-  // Returns a new state, to which no data was fed.
+  // Returns a new state of a verification, to which no data was fed.
   begin() {
     const state = new Uint8Array(STATE_BYTES);
     this.onState(state, (address) => this.calls.page_init(address));
     return state;
   }
 
-  // Reads a signature file. Returns the text and the struct that `ask` takes,
-  // the key ID, and whether it is a legacy signature; or the error number.
+  // Parses a signature file. Returns the error number, a copy of the text, the
+  // struct of the signature (`value`), the key ID, and true if the signature is
+  // a legacy one. `ask` takes this result.
   readSignature(text) {
     this.memory.fill(0, this.signature, this.signature + SIGNATURE_BYTES);
     const passed = this.put(this.text, TEXT_BYTES, text);
@@ -176,9 +185,11 @@ export class Library {
     };
   }
 
-  // Takes a key and a signature that were read. Returns the number 0 and the
-  // two signatures that Ed25519 has to check, with their messages, except for
-  // the digest of the data; or an error number.
+  // Makes all checks of a key and a signature that need no data and no Ed25519.
+  // `key` is the struct that readKey returns, `signature` the result of
+  // readSignature. Returns the error number, and what Ed25519 has to check: the
+  // signature of the data and the comment signature, with their messages. The
+  // digest, the message of the first one, is set by the method `digest` later.
   ask(state, key, signature, allowsLegacy) {
     this.memory.fill(0, this.questions, this.questions + QUESTIONS_BYTES);
     const number = this.onState(state, (address) =>
@@ -194,19 +205,22 @@ export class Library {
     return this.questionsAfter(number);
   }
 
-  // Returns the arguments of a call that asks: where the questions and the
-  // message of the comment signature are written.
+  // Returns the last arguments of a call that writes such questions: the
+  // addresses of the struct and of the buffer for the message of the comment
+  // signature, and the size of this buffer.
   questionArguments() {
     return [this.questions, this.message, TEXT_BYTES].map(BigInt);
   }
 
-  // Returns the number in some bytes of the module's memory.
+  // Returns the little-endian number of `length` bytes at an address in the
+  // memory of the module.
   numberAt(address, length) {
     const bytes = this.bytesAt(address, length);
     return bytes.reduceRight((value, byte) => 256 * value + byte, 0);
   }
 
-  // Returns what `ask` returns, from the memory of the module.
+  // Returns the result of `ask`, from this error number and the questions in
+  // the memory of the module.
   questionsAfter(number) {
     const part = (name, length) =>
       this.bytesAt(this.questions + QUESTIONS[name], length);
@@ -225,29 +239,29 @@ export class Library {
     };
   }
 
-  // Copies a piece of the data, of at most pieceBytes, into the module, for
-  // `feedPlaced`.
+  // Copies a piece of the data, of at most pieceBytes bytes, into the module.
+  // feedPlaced and feedHash use this piece.
   place(bytes) {
     this.placed = this.put(this.piece, this.pieceBytes, bytes);
   }
 
-  // Feeds the piece that was placed last. Returns 0, or the number of an error
-  // of misuse.
+  // Feeds the piece that was placed last. Returns 0, or the error number if the
+  // library is misused.
   feedPlaced(state) {
     return this.onState(state, (address) =>
       this.calls.page_update(address, ...this.placed),
     );
   }
 
-  // Feeds the next bytes of the data, of any length. Returns 0, or the number
-  // of an error of misuse.
+  // Feeds the next bytes of the data, of any length. Returns 0, or the error
+  // number if the library is misused.
   feed(state, bytes) {
-    return this.feedBy(bytes, () => this.feedPlaced(state));
+    return this.feedInPieces(bytes, () => this.feedPlaced(state));
   }
 
-  // Sets the digest of the questions to that of all data that was fed. After
-  // that no more data can be fed. Returns 0, or the number of an error of
-  // misuse.
+  // Sets the digest of `questions`, a result of `ask`, to the digest of all
+  // data that was fed. After that no more data can be fed. Returns 0, or the
+  // error number if the library is misused.
   digest(state, questions) {
     const digest = this.questions + QUESTIONS.digest;
     const number = this.onState(state, (address) =>
@@ -257,9 +271,10 @@ export class Library {
     return number;
   }
 
-  // Takes whether Ed25519 accepts the signature of the data and the comment
-  // signature. Returns 0 exactly if the signature is valid for all data that
-  // was fed, or otherwise the error number of the first check that fails.
+  // Ends a verification. isDataValid is true if Ed25519 accepts the signature
+  // of the data, and isCommentValid is true if it accepts the comment
+  // signature. Returns 0 if and only if the signature is valid for all data
+  // that was fed, otherwise the error number of the first check that fails.
   verdict(state, isDataValid, isCommentValid) {
     const answerOf = (isValid) => (isValid ? ANSWER_YES : ANSWER_NO);
     const answers = [isDataValid, isCommentValid].map(answerOf);
@@ -267,10 +282,12 @@ export class Library {
       this.calls.page_verdict(address, ...answers),
     );
   }
+
   // ---- Signed lists ----
 
-  // Takes a key and a signature that were read, the name of a list or null, and
-  // the list. Returns the questions as `ask` does, with the struct of the list.
+  // Makes all checks of a list that need no Ed25519, as `ask` does for data.
+  // `name` is the name that the trusted comment must contain, or null if it may
+  // contain any name. Returns the result of `ask`, and the struct of the list.
   askList(key, signature, name, text) {
     this.memory.fill(0, this.questions, this.questions + QUESTIONS_BYTES);
     const call = this.calls[`page_list_ask${name === null ? "_any" : ""}`];
@@ -287,22 +304,24 @@ export class Library {
     return { ...this.questionsAfter(number >>> 0), list };
   }
 
-  // Copies a list into the module, to the buffer for pieces of data.
+  // Copies a list into the buffer for pieces of data.
   putList(text) {
     const size = Math.min(MAX_LIST_BYTES, this.pieceBytes);
     return this.put(this.piece, size, text);
   }
 
-  // Passes a struct to a function of the module, and updates the struct.
-  // Returns the error number, or 0.
+  // Copies a struct to an address in the module, passes this address to `call`,
+  // and copies the struct back. Returns the error number that `call` returns,
+  // or 0.
   onStruct(address, struct, call) {
     const number = call(this.put(address, struct.length, struct)[0]) >>> 0;
     struct.set(this.bytesAt(address, struct.length));
     return number;
   }
 
-  // Takes whether Ed25519 accepts the two signatures. Returns 0 exactly if the
-  // list is verified, or otherwise the error number of the first check that
+  // Ends the verification of a list, as `verdict` does for data: isListValid is
+  // true if Ed25519 accepts the signature of the list. Returns 0 if and only if
+  // the list is verified, otherwise the error number of the first check that
   // fails.
   listVerdict(list, isListValid, isCommentValid) {
     const answerOf = (isValid) => (isValid ? ANSWER_YES : ANSWER_NO);
@@ -312,10 +331,11 @@ export class Library {
     );
   }
 
-  // Finds the only entry of a name in a verified list. Returns the number 0 and
-  // the struct of the entry, or the error number and the line at fault or 0.
+  // Finds the entry for a name that must be listed exactly once. The list must
+  // be verified. Returns the error number, the line at fault or 0, and the
+  // struct of the entry.
   findEntry(list, text, longDigest, name) {
-    const line = this.words;
+    const line = this.scratch;
     const number = this.calls.page_list_find(
       this.put(this.list, LIST_BYTES, list)[0],
       ...this.putList(text),
@@ -328,12 +348,14 @@ export class Library {
     return { number: number >>> 0, line: this.numberAt(line, 8), entry };
   }
 
-  // Returns the number 0 and the structs of all entries, in the order of their
-  // lines, or the error number and the line at fault or 0.
+  // Returns the error number, the line at fault or 0, and the structs of all
+  // entries of a verified list, in the order of their lines.
   listEntries(list, text, longDigest) {
-    const [line, count] = [this.words, this.words + 8];
+    const line = this.scratch;
+    const count = this.scratch + 8;
     const passed = this.putList(text);
-    // The structs are behind the list, whose address is a multiple of 16.
+    // The module writes the structs behind the list. Their address has to be a
+    // multiple of 16, as this.piece is.
     const entries = this.piece + Math.ceil((text.length + 1) / 16) * 16;
     const end = this.piece + this.pieceBytes;
     const number = this.calls.page_list_entries(
@@ -355,8 +377,8 @@ export class Library {
     };
   }
 
-  // Returns the fields of the struct of an entry. The library has checked that
-  // the list is UTF-8.
+  // Returns the fields of an entry, from its struct and the list. The library
+  // has checked that the list is UTF-8.
   fieldsOfEntry(struct, text) {
     this.put(this.entry, LIST_ENTRY_BYTES, struct);
     const numberAt = (name, length) =>
@@ -374,9 +396,10 @@ export class Library {
     };
   }
 
-  // Places bytes of any length in pieces, and calls `feed` after each one,
-  // until it returns an error number. Returns the last number.
-  feedBy(bytes, feed) {
+  // Places bytes of any length, piece by piece, and calls `feed` after each
+  // piece. Stops if `feed` returns an error number. Returns what `feed`
+  // returned last, or 0.
+  feedInPieces(bytes, feed) {
     let number = 0;
     for (let at = 0; at < bytes.length && number === 0; at += this.pieceBytes) {
       this.place(bytes.subarray(at, at + this.pieceBytes));
@@ -385,19 +408,20 @@ export class Library {
     return number;
   }
 
-  // Compares the digest of an entry with another one of its hash function.
-  // Returns 0 exactly if they are equal. Says nothing about any data.
+  // Returns 0 if and only if a digest is the one in the struct of an entry,
+  // otherwise an error number. The caller has to compute the digest with the
+  // hash function of the entry.
   compareDigest(entry, digest) {
     const passed = this.put(this.entry, LIST_ENTRY_BYTES, entry)[0];
     const hash = this.numberAt(this.entry + LIST_ENTRY.hash, 4);
-    const digestPassed = this.put(this.words, 64, digest);
+    const digestPassed = this.put(this.scratch, 64, digest);
     const { page_list_compare_trusting_your_hash: compare } = this.calls;
     return compare(passed, hash, ...digestPassed) >>> 0;
   }
 
   // ---- Digests ----
 
-  // Returns a new state of a hash function that HASHES names.
+  // Returns a new state of a hash function, which has a name of HASHES.
   beginHash(hash) {
     if (hash === "blake2b") {
       return this.begin();
@@ -408,7 +432,8 @@ export class Library {
     return state;
   }
 
-  // Feeds the piece of data that was placed last.
+  // Feeds the piece of data that was placed last. Returns 0, or the error
+  // number if the library is misused.
   feedHash(hash, state) {
     if (hash === "blake2b") {
       return this.feedPlaced(state);
@@ -420,8 +445,9 @@ export class Library {
     return 0;
   }
 
-  // Feeds the piece of data that was placed last to states of hash functions,
-  // by their names. Returns 0, or the number of an error of misuse.
+  // Feeds the piece of data that was placed last to several states, which are
+  // properties named after their hash functions. Returns 0, or the error number
+  // if the library is misused.
   feedHashes(states) {
     for (const [hash, state] of Object.entries(states)) {
       const number = this.feedHash(hash, state);
@@ -432,7 +458,8 @@ export class Library {
     return 0;
   }
 
-  // Returns the digest of all data that was fed to a copy of the state.
+  // Returns the digest of all data that was fed. The state is unchanged, so
+  // more data can be fed.
   hashDigest(hash, state) {
     if (hash === "blake2b") {
       const questions = {};
@@ -440,7 +467,7 @@ export class Library {
       return questions.digest;
     }
     const address = this.put(this.state, STATE_BYTES, state)[0];
-    this.calls[`page_${hash}_digest`](address, BigInt(this.words));
-    return this.bytesAt(this.words, hash === "sha256" ? 32 : 64);
+    this.calls[`page_${hash}_digest`](address, BigInt(this.scratch));
+    return this.bytesAt(this.scratch, hash === "sha256" ? 32 : 64);
   }
 }

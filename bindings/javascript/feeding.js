@@ -1,24 +1,25 @@
 // SPDX-License-Identifier: MIT
-// Reads data of any kind in pieces, and feeds it to a verifier or signer.
-// Cancels a stream that is not read to its end.
+// Reads data of any kind in pieces, and feeds it to a verifier or signer. If a
+// stream is not read to its end, it is cancelled.
 
 import { argumentError, bytesOf, mustBe, optionsOf } from "./arguments.js";
 import { ERRORS } from "./errors.js";
 import { checked, platformError } from "./loaded.js";
 
-// Data is fed in slices of at most this size, which takes a few milliseconds of
-// hashing. Other tasks run between two slices.
+// The maximum size of a slice of data that is fed at once. Hashing a slice
+// takes a few milliseconds. Other tasks run between two slices.
 const SLICE_BYTES = 1048576;
 
-// Makes the object that createVerifier and createSigner return: it takes data
-// in pieces, and `end` resolves to the result of the parameter `end`. After
-// `end`, all calls fail with NOT_BEGUN. `more` returns further properties. It
-// takes a function that throws after the end.
-export function takingPieces(library, feed, end, more = () => ({})) {
+// Makes the object that createVerifier and createSigner return. It passes each
+// piece of data to `feed`, and its method `end` resolves to the result of the
+// parameter `end`. After that, all calls fail with NOT_BEGUN. `more` returns
+// further properties of the object. It gets a function that throws NOT_BEGUN
+// after the end.
+export function pieceConsumer(library, feed, end, more = () => ({})) {
   let bytesFed = 0;
   let isEnded = false;
   let writable;
-  // The result for the data of `writable`, once it is closed or aborted.
+  // A promise of the result, after `writable` was closed or aborted.
   let streamed;
   const checkNotEnded = () =>
     checked(library, { number: isEnded ? ERRORS.NOT_BEGUN : 0 });
@@ -37,13 +38,13 @@ export function takingPieces(library, feed, end, more = () => ({})) {
   const fail = (why) => {
     isEnded = true;
     streamed = Promise.reject(why);
-    // It is not an unhandled rejection, because the stream reports the error.
+    // The stream reports the error, so this must not be an unhandled rejection.
     streamed.catch(() => {});
   };
   const sink = {
     async write(piece) {
       try {
-        for await (const slice of piecesOf([piece])) {
+        for await (const slice of slicesOfData([piece])) {
           update(slice);
         }
       } catch (why) {
@@ -83,7 +84,7 @@ function webStreams() {
 }
 
 // Feeds all data to a verifier or signer, and resolves to the result of its
-// `end`. `begin` makes the verifier or signer, and takes the options except for
+// `end`. `begin` makes the verifier or signer. It gets the options without
 // `progress` and `signal`. `known` has the names of all options.
 export async function feedAll(data, options, known, begin) {
   const bytes = bytesOf(data);
@@ -92,29 +93,31 @@ export async function feedAll(data, options, known, begin) {
   const total = isBlob ? data.size : bytes?.length;
   const readOptions = () => optionsOf(options, ...known);
   const stream = bytes === null ? source : null;
-  return closing(stream, readOptions, async ({ progress, signal, ...rest }) => {
+  const run = async ({ progress, signal, ...rest }) => {
     // Like the result of `readOptions`, this object has no prototype.
     const consumer = await begin({ __proto__: null, ...rest });
-    for await (const piece of piecesOf(source, signal)) {
+    for await (const piece of slicesOfData(source, signal)) {
       await consumer.update(piece);
       progress?.(consumer.bytes, total);
     }
     return consumer.end();
-  });
+  };
+  return releasingOnError(stream, readOptions, run);
 }
 
-// Yields the data in slices of at most SLICE_BYTES, until the signal aborts.
-// After each SLICE_BYTES of data, lets other tasks run.
-async function* piecesOf(source, signal) {
+// Yields the data in slices of at most SLICE_BYTES bytes, and lets other tasks
+// run each time that it has yielded SLICE_BYTES bytes. Throws the reason of the
+// signal if the signal aborts.
+async function* slicesOfData(source, signal) {
   let unpaused = 0;
-  for await (const piece of piecesGivenBy(source, signal)) {
-    for (const slice of slicesOf(piece)) {
+  for await (const piece of piecesOfData(source, signal)) {
+    for (const slice of slicesOfPiece(piece)) {
       if (signal?.aborted) {
         throw signal.reason;
       }
       yield slice;
-      // Pause before the next slice is cut, because other tasks can change the
-      // buffer.
+      // The pause is before the next slice is cut, so that slicesOfPiece sees
+      // if another task has changed the buffer.
       unpaused += slice?.byteLength ?? 0;
       if (unpaused >= SLICE_BYTES) {
         await nextTask();
@@ -124,9 +127,9 @@ async function* piecesOf(source, signal) {
   }
 }
 
-// Cuts bytes into slices. Yields anything else unchanged, because `update`
-// throws a TypeError for it.
-function* slicesOf(piece) {
+// Yields the slices of a piece of bytes. Yields anything else unchanged, and
+// `update` then throws a TypeError for it.
+function* slicesOfPiece(piece) {
   const bytes = bytesOf(piece);
   if (bytes === null || bytes.length <= SLICE_BYTES) {
     yield piece;
@@ -135,8 +138,8 @@ function* slicesOf(piece) {
   const { length } = bytes;
   for (let begin = 0; begin < length; begin += SLICE_BYTES) {
     const slice = bytes.subarray(begin, begin + SLICE_BYTES);
-    // Other tasks can detach or shrink the buffer. The rest of the data must be
-    // neither verified nor signed.
+    // If another task has detached or shrunk the buffer, the rest of the data
+    // must be neither verified nor signed.
     if (slice.length !== Math.min(SLICE_BYTES, length - begin)) {
       const message = "the data was detached or shortened while it was read";
       throw argumentError(message);
@@ -145,10 +148,10 @@ function* slicesOf(piece) {
   }
 }
 
-// Resolves in a later task, so that timers and events are handled before. A
-// message takes less time than a timer, which browsers delay by 4 ms, or by a
-// second if the tab is in the background. On a platform without both, resolves
-// at once.
+// Resolves in a later task, so that timers and events are handled before. Uses
+// a message if possible, because browsers delay timers by 4 ms, or by a second
+// if the tab is in the background. On a platform that has neither messages nor
+// timers, resolves at once.
 function nextTask() {
   const { MessageChannel, setTimeout } = globalThis;
   return new Promise((resolve) => {
@@ -165,12 +168,12 @@ function nextTask() {
 }
 
 // Returns an iterable of the pieces of data of any kind.
-function piecesGivenBy(source, signal) {
+function piecesOfData(source, signal) {
   if (bytesOf(source) !== null) {
     return [source];
   }
   if (typeof source?.getReader === "function") {
-    return piecesReadBy(source.getReader(), signal);
+    return piecesOfReader(source.getReader(), signal);
   }
   const isList = typeof source === "object" && source?.[Symbol.iterator];
   const isIterable = source?.[Symbol.asyncIterator] || isList;
@@ -179,9 +182,8 @@ function piecesGivenBy(source, signal) {
   return source;
 }
 
-// Yields the pieces of a web stream, and cancels the stream if the signal
-// aborts.
-async function* piecesReadBy(reader, signal) {
+// Yields the pieces of a web stream. Cancels the stream if the signal aborts.
+async function* piecesOfReader(reader, signal) {
   const stop = () => reader.cancel(signal.reason).catch(() => {});
   signal?.addEventListener("abort", stop);
   try {
@@ -196,12 +198,12 @@ async function* piecesReadBy(reader, signal) {
   }
 }
 
-// Calls `run` with the result of `readOptions`. Rejects at once if a stream of
-// Node fails meanwhile, or the signal aborts. If it rejects for any reason, it
-// gives up the stream. The listener for errors of the stream is not removed,
-// because a stream that is given up can still fail, and an error without a
-// listener would end the program.
-async function closing(stream, readOptions, run) {
+// Calls `run` with the result of `readOptions`, and resolves to its result.
+// Rejects at once if a stream of Node fails meanwhile, or the signal aborts.
+// If it rejects for any reason, it releases the stream. The listener for errors
+// of the stream is not removed, because a stream can still fail after its
+// release, and an error without a listener would end the program.
+async function releasingOnError(stream, readOptions, run) {
   let reject;
   const stopped = new Promise((_, stop) => (reject = stop));
   stopped.catch(() => {});
@@ -217,18 +219,18 @@ async function closing(stream, readOptions, run) {
     }
     return await Promise.race([stopped, run(options)]);
   } catch (why) {
-    // An error of `giveUp` is ignored: the promise rejects for the first
-    // reason.
-    giveUp(stream, why).catch(() => {});
+    // An error of `release` is ignored, because the promise rejects with the
+    // first error.
+    release(stream, why).catch(() => {});
     throw why;
   } finally {
     signal?.removeEventListener("abort", abort);
   }
 }
 
-// Releases what a stream of Node, a web stream or an iterator holds, if it is
-// not read to its end.
-async function giveUp(source, why) {
+// Destroys a stream of Node, cancels a web stream, or ends an iterator, so that
+// it releases its resources although it was not read to its end.
+async function release(source, why) {
   if (source?.destroy) {
     return source.destroy();
   }

@@ -3,7 +3,7 @@
 // fields of structs, and the calls of include/minisign.h. Made by
 // tools/bindings.py.
 
-import { checked, decoded, loaded } from "./loaded.js";
+import { bytesOfBase64, checked, loadLibrary } from "./loaded.js";
 
 export const VERSION_MAJOR = 0;
 export const VERSION_MINOR = 3;
@@ -65,10 +65,10 @@ export const STRUCTS = {
   },
 };
 
-// An instance of the module with more memory than this is not kept.
+// An instance of the module with more memory than this is not used again.
 const KEPT_BYTES = 8 * 1048576;
 
-// No bytes: passed if there is no password.
+// Passed instead of a password if there is none.
 const NOTHING = new Uint8Array(0);
 
 // Returns a view of the bytes of a field of a struct.
@@ -77,7 +77,8 @@ export function fieldOf(struct, field, bytes) {
   return bytes.subarray(begin, begin + length);
 }
 
-// Makes a struct from the values of its fields: bytes, or numbers of 64 bits.
+// Makes a struct from the values of its fields, which are bytes or numbers. A
+// number becomes a field of 64 bits.
 export function structOf(struct, fields) {
   const bytes = new Uint8Array(STRUCTS[struct].size);
   const view = new DataView(bytes.buffer);
@@ -92,8 +93,9 @@ export function structOf(struct, fields) {
   return bytes;
 }
 
-// Decodes the text that a call has written, with the length that it has
-// written, and clears the bytes, which may be those of a secret key.
+// Decodes the text that a call has written. `length` are the bytes of the
+// length that it has written. Clears the bytes of the text, which may be those
+// of a secret key.
 function cut(text, length) {
   const count = new DataView(length.buffer).getUint32(0, true);
   const string = new TextDecoder().decode(text.subarray(0, count));
@@ -102,37 +104,39 @@ function cut(text, length) {
 }
 
 // Calls the functions of the module that tools/signing_module.py makes. No
-// other file calls it. Each method resolves to what the function writes, or
-// rejects with a MinisignError.
+// other file calls this module. Each method resolves to what the function
+// writes, or rejects with a MinisignError.
 export class SigningCalls {
+  // A promise of the compiled module, after it was needed for the first time.
   static #compiling;
-  // The instance of the module that no call uses, and its memory before the
-  // first call. Calls do not overlap, so there is at most one.
+  // An instance of the module that no call uses, with a copy of its memory
+  // before the first call. Calls do not overlap, so one instance is enough.
   static #unused;
 
   static async load() {
-    const library = await loaded();
+    const library = await loadLibrary();
     this.#compiling ??= import("./signing_module.js").then(
-      ({ SIGNING_MODULE }) => WebAssembly.compile(decoded(SIGNING_MODULE)),
+      ({ SIGNING_MODULE: base64 }) =>
+        WebAssembly.compile(bytesOfBase64(base64)),
     );
     const module = await this.#compiling;
     return Object.assign(new this(), { library, module });
   }
 
-  // Takes the unused instance, or makes one. An instance reserves gigabytes of
-  // addresses, so there must not be one for each signature.
+  // Returns the unused instance, or makes one. Instances are used again,
+  // because each of them reserves gigabytes of addresses.
   static #take(module) {
-    const taken = this.#unused;
+    const unused = this.#unused;
     this.#unused = undefined;
-    if (taken) {
-      return taken;
+    if (unused) {
+      return unused;
     }
     const { exports } = new WebAssembly.Instance(module, {});
     return { exports, begin: new Uint8Array(exports.memory.buffer).slice() };
   }
 
-  // Clears the memory of an instance, which may contain secrets, and keeps the
-  // instance for the next call, unless it has memory for scrypt.
+  // Clears the memory of an instance, which may contain secrets. Keeps the
+  // instance for the next call, unless its memory has grown for scrypt.
   static #giveBack(instance) {
     const memory = new Uint8Array(instance.exports.memory.buffer);
     memory.fill(0);
@@ -142,9 +146,9 @@ export class SigningCalls {
     }
   }
 
-  // Makes a call in an instance of the module, whose memory is cleared at the
-  // end. Arguments that are bytes are copied in, and copied out again after the
-  // call.
+  // Makes a call in an instance of the module. Arguments that are bytes are
+  // copied into its memory before the call, and copied out after it. Then the
+  // memory is cleared.
   async make(name, ...passed) {
     const instance = SigningCalls.#take(this.module);
     const { exports } = instance;

@@ -1,11 +1,11 @@
 // SPDX-License-Identifier: MIT
 // Declares the public functions and types of the package. It uses only types of
-// the language: neither the DOM library nor those of Node.
+// the language, and no types of the DOM or of Node.
 
 import type { ErrorCode } from "./errors.js";
 
-// Makes types different that have the same properties, so that a secret key is
-// not accepted as a public one.
+// Distinguishes types that have the same properties, so that a secret key is
+// not accepted where a public key is expected.
 declare const kind: unique symbol;
 
 export type { ErrorCode };
@@ -40,7 +40,7 @@ export type Data =
   | AsyncIterable<Bytes>
   | Iterable<Bytes>;
 
-/** A text, as a string or its bytes in UTF-8: fewer than 65,536 bytes. */
+/** A text of fewer than 65,536 bytes in UTF-8: a string, or these bytes. */
 export type Text = string | Bytes;
 
 /** An `AbortSignal`. */
@@ -59,32 +59,32 @@ export interface Signal {
 export interface VerifierOptions {
   /**
    * If true, also accepts legacy signatures, which sign the data itself instead
-   * of its digest. The data of a legacy signature is kept in memory as a whole.
-   * The default is false.
+   * of its digest. All data of a legacy signature is kept in memory. The
+   * default is false.
    */
   allowLegacy?: boolean;
 }
 
 export interface Options extends VerifierOptions {
   /**
-   * Is called after each piece of at most 1 MiB with the number of bytes read
-   * so far. `total` is the size of the data, if the data is bytes or a Blob.
+   * Called after each piece of at most 1 MiB, with the number of bytes read so
+   * far. `total` is the size of the data, if the data is bytes or a Blob.
    */
   progress?: (bytes: number, total?: number) => void;
   /**
-   * If the signal aborts, rejects the promise with the signal's reason, and
-   * closes the stream. Other tasks run after each MiB of data, so that a timer
-   * can abort.
+   * If the signal aborts, the promise rejects with the signal's reason, and the
+   * stream is closed. Other tasks run after each MiB of data, so that a timer
+   * can abort the signal.
    */
   signal?: Signal;
 }
 
-/** A parsed signature file. Nothing is verified yet. */
+/** A parsed signature file. Parsing verifies nothing. */
 export interface Signature {
   readonly [kind]: "signature";
-  /** The key ID of the signer's key, in the form of `PublicKey.keyId`. */
+  /** The key ID of the signer's key, written as in `PublicKey.keyId`. */
   readonly keyId: string;
-  /** True for a legacy signature, which signs the data, not its digest. */
+  /** True for a legacy signature, which signs the data and not its digest. */
   readonly isLegacy: boolean;
 }
 
@@ -100,9 +100,10 @@ export interface PublicKey {
 }
 
 /**
- * The fields of a trusted comment, which tabs separate. A field that is missing
- * or occurs more than once is undefined, and so is a number with anything but
- * decimal digits or above 2^53 - 1.
+ * The fields of a trusted comment, which are separated by tabs. A field is
+ * undefined if it is missing or occurs more than once. A field that is a number
+ * is also undefined if it does not consist of decimal digits or is greater than
+ * 2^53 - 1.
  */
 export interface CommentFields {
   /** The field `timestamp:`, in seconds since 1970. */
@@ -120,8 +121,8 @@ export interface CommentFields {
 }
 
 /**
- * Parses a trusted comment. Anybody can write a comment, so parse only one that
- * was verified, such as that of `Verifier.trustedComment`.
+ * Parses a trusted comment. Anybody can write a comment, so parse only a
+ * comment that was verified, such as the result of `Verifier.trustedComment`.
  */
 export function parseTrustedComment(comment: string): CommentFields;
 
@@ -165,29 +166,29 @@ export interface Verifier {
   readonly bytes: number;
   /**
    * Verifies the comment signature, and resolves to the trusted comment. You
-   * can call it before you have the data. It says nothing about the data.
-   * Rejects with NOT_BEGUN after `end`, and with COMMENT_SIGNATURE_REFUSED if
-   * the comment signature is not valid.
+   * can call it before you have the data. The result says nothing about the
+   * data. Rejects with COMMENT_SIGNATURE_REFUSED if the comment signature is
+   * not valid, and with NOT_BEGUN if the verifier has ended.
    */
   trustedComment(): Promise<string>;
   /**
-   * Adds the next piece of the data, of any length. Throws NOT_BEGUN after
-   * `end`, and a TypeError if the piece is not bytes.
+   * Adds the next piece of the data, of any length. Throws a TypeError if the
+   * piece is not bytes, and NOT_BEGUN if the verifier has ended.
    */
   update(piece: Bytes): void;
   /**
-   * A WritableStream that adds what is written to it, for `pipeTo`. Closing it
-   * verifies the data, so `pipeTo` rejects if the signature is not valid. After
-   * that, `end` returns the result. If the stream is aborted, `end` rejects
-   * with the reason. Throws an Error with the code UNSUPPORTED_PLATFORM if the
-   * platform has no WritableStream.
+   * A WritableStream for `pipeTo`, which adds the data that is written to it.
+   * Closing it verifies the data, so `pipeTo` rejects if the signature is not
+   * valid. After that, `end` returns the result. If the stream is aborted,
+   * `end` rejects with the reason. Throws an Error with the code
+   * UNSUPPORTED_PLATFORM if the platform has no WritableStream.
    */
   readonly writable: ByteSink;
   /**
-   * Resolves if the signature is valid for all of the data, and otherwise
-   * rejects with a MinisignError: SIGNATURE_REFUSED or
-   * COMMENT_SIGNATURE_REFUSED. Then use none of the data. Call it once: a
-   * second call rejects with NOT_BEGUN, unless `writable` was closed.
+   * Resolves if the signature is valid for all of the data. Otherwise rejects
+   * with a MinisignError: SIGNATURE_REFUSED or COMMENT_SIGNATURE_REFUSED. Then
+   * use none of the data. Call it once. A second call rejects with NOT_BEGUN,
+   * unless `writable` was closed.
    */
   end(): Promise<Verified>;
 }
@@ -195,20 +196,27 @@ export interface Verifier {
 /**
  * Verifies data. Resolves if the signature is valid for all of the data.
  *
- * `signature` is the content of the signature file, or an object of
- * `readSignature`. `key` is the content of the public key file; or a string of
- * one line with the 56 base64 characters of the key, after which white space is
- * ignored; or an object of `readPublicKey`.
+ * `signature` is the content of the signature file, or the result of
+ * `readSignature`. `key` is one of these:
  *
- * Rejects with a TypeError, which names the argument and has the code
- * INVALID_ARGUMENT, for an argument or option of a wrong type; with an Error
- * with the code UNSUPPORTED_PLATFORM if WebCrypto has no Ed25519, as in a page
- * that was loaded over http; with a MinisignError if the key, the signature or
- * the data is rejected, and before any data is read if this does not depend on
- * the data; with the error of the stream if it fails; and with the signal's
- * reason.
- * If it rejects, a stream of Node is destroyed, a web stream is cancelled, and
- * `return` of an iterator is called.
+ * - the content of the public key file;
+ * - a string of one line with the 56 base64 characters of the key, after which
+ *   white space is ignored;
+ * - the result of `readPublicKey`.
+ *
+ * Rejects:
+ *
+ * - with a TypeError with the code INVALID_ARGUMENT, which names the argument,
+ *   if an argument or an option has a wrong type;
+ * - with an Error with the code UNSUPPORTED_PLATFORM if WebCrypto has no
+ *   Ed25519, as in a page that was loaded over http;
+ * - with a MinisignError if the key, the signature or the data is rejected;
+ * - with the error of the stream if the stream fails;
+ * - with the reason of the signal if the signal aborts.
+ *
+ * Errors that do not depend on the data come before any data is read. If the
+ * promise rejects, a stream of Node is destroyed, a web stream is cancelled,
+ * and the method `return` of an iterator is called.
  */
 export function verify(
   data: Data,
@@ -218,8 +226,8 @@ export function verify(
 ): Promise<Verified>;
 
 /**
- * Begins to verify data that arrives in pieces. Rejects as `verify` does for
- * everything that does not depend on the data.
+ * Begins to verify data that arrives in pieces. Rejects with the errors of
+ * `verify` that do not depend on the data.
  */
 export function createVerifier(
   signature: Text | Signature,
@@ -229,12 +237,12 @@ export function createVerifier(
 
 /**
  * Parses the content of a signature file, so that you can choose a key before
- * you have the data. It verifies nothing. Rejects with a MinisignError if the
- * content is malformed, and otherwise as `verify` does.
+ * you have the data. Parsing verifies nothing. Rejects with a MinisignError if
+ * the content is malformed, and otherwise as `verify` does.
  */
 export function readSignature(signature: Text): Promise<Signature>;
 
-/** Parses a public key, in each form that `verify` takes. */
+/** Parses a public key: the content of its file, or a string of one line. */
 export function readPublicKey(key: Text): Promise<PublicKey>;
 
 /** The hash functions of lists. */
@@ -248,20 +256,20 @@ export interface ListEntry {
   readonly hash: HashName;
   /** The digest that the file must have. */
   readonly digest: Uint8Array;
-  /** The number of the line, from 1 on. */
+  /** The line number, starting at 1. */
   readonly line: number;
   /**
    * True if the name is written with escapes. The library does not resolve
-   * them, and no name that you look up matches such an entry.
+   * escapes, and no name that you look up matches such an entry.
    */
   readonly isEscaped: boolean;
 }
 
 export interface ListOptions {
   /**
-   * The meaning of 128 digits on a line that does not name its hash function:
-   * "sha512", which is the default; "blake2b", as b2sum writes them; or "none",
-   * so that such a line is malformed.
+   * How to read a digest of 128 digits on a line that names no hash function:
+   * as SHA-512 with "sha512", which is the default; as BLAKE2b, as b2sum writes
+   * it, with "blake2b"; or as a malformed line with "none".
    */
   longDigest?: "sha512" | "blake2b" | "none";
 }
@@ -273,7 +281,7 @@ export interface ListedOptions {
   signal?: Signal;
 }
 
-/** A verified list, such as SHA256SUMS. One signature is for all its files. */
+/** A verified list, such as SHA256SUMS. One signature covers all its files. */
 export interface SignedList {
   /** The key ID of the public key. */
   readonly keyId: string;
@@ -286,21 +294,22 @@ export interface SignedList {
   readonly fields: CommentFields;
   /**
    * Returns all entries, in the order of their lines. A name that is listed
-   * twice has two entries; `find` rejects it. Throws a MinisignError: NOT_UTF8
-   * or MALFORMED_LINE.
+   * twice has two entries, and `find` throws LISTED_TWICE for it. Throws a
+   * MinisignError: NOT_UTF8 or MALFORMED_LINE.
    */
   entries(): ListEntry[];
   /**
-   * Returns the only entry of a name. Throws a MinisignError: NOT_UTF8, for the
-   * list or the name; BAD_NAME, if no list can contain the name;
-   * MALFORMED_LINE; NOT_LISTED; or LISTED_TWICE.
+   * Returns the entry for a name that is listed exactly once. Throws a
+   * MinisignError: NOT_UTF8 if the list or the name is not UTF-8; BAD_NAME if
+   * no list can contain the name; MALFORMED_LINE; NOT_LISTED; or LISTED_TWICE.
    */
   find(name: Text): ListEntry;
   /**
-   * Verifies data. Resolves to the entry of the name if the data is what the
-   * list has for this name. Rejects with the errors of `find`, before any data
-   * is read; with DIGEST_MISMATCH if the data has another digest; and otherwise
-   * as `verify` does. After an error use none of the data.
+   * Verifies data. Resolves to the entry for the name if the data has the
+   * digest that is listed for this name. Rejects with the errors of `find`
+   * before any data is read, with DIGEST_MISMATCH if the data has another
+   * digest, and otherwise as `verify` does. After an error use none of the
+   * data.
    */
   verifyListed(
     data: Data,
@@ -309,10 +318,10 @@ export interface SignedList {
   ): Promise<ListEntry>;
   /**
    * Verifies bytes or a Blob as `verifyListed` does, but hashes them with
-   * WebCrypto, which can use the SHA instructions of the processor, and needs
-   * all of the data in memory. Nothing is proved about this hash, so the result
-   * is only as good as WebCrypto. BLAKE2b, which WebCrypto does not have, is
-   * hashed by the library.
+   * WebCrypto. WebCrypto can use the SHA instructions of the processor, but
+   * needs all of the data in memory. Nothing is proved about its hash
+   * functions, so the result is only as good as WebCrypto. For entries with
+   * BLAKE2b, which WebCrypto does not have, the library hashes the data.
    */
   verifyListedTrustingWebCrypto(
     data: Bytes | { arrayBuffer(): Promise<ArrayBuffer> },
@@ -324,14 +333,13 @@ export interface SignedList {
  * Verifies the signature of a list, such as SHA256SUMS. `text` is the whole
  * list, of at most 1 MiB. `name` is the name of the list: the trusted comment
  * must have a field `file:` with this value, so that a signed text that was
- * never meant as a list is not taken for one. If it is null, every trusted
- * comment is accepted. `signature` and `key` are those of `verify`.
+ * never meant as a list is not used as one. If `name` is null, every trusted
+ * comment is accepted. `signature` and `key` are as in `verify`.
  *
- * Rejects as `verify` does for arguments, the key and the signature. A legacy
- * signature is always rejected (LEGACY_NOT_ACCEPTED). Rejects also with
- * SIGNATURE_REFUSED; COMMENT_SIGNATURE_REFUSED; or OTHER_LIST, if the trusted
- * comment does not name the list. The lines of the list are checked when you
- * use it.
+ * Rejects as `verify` does for arguments, the key and the signature; with
+ * SIGNATURE_REFUSED; with COMMENT_SIGNATURE_REFUSED; or with OTHER_LIST if the
+ * trusted comment does not name the list. Legacy signatures are always rejected
+ * with LEGACY_NOT_ACCEPTED. The lines of the list are checked when you use it.
  */
 export function verifyList(
   text: Text,
@@ -347,12 +355,13 @@ export function verifyList(
  */
 export interface SecretKey {
   readonly [kind]: "secret key";
-  /** The key ID, which is also that of the public key. */
+  /** The key ID, which is also the key ID of the public key. */
   readonly keyId: string;
   /**
-   * True if the file that the key was read from was encrypted with fewer than
-   * 2^14 rows of scrypt, the minimum of the program minisign. Passwords of such
-   * a file can be tried fast, so write the key again.
+   * True if the file from which the key was read was encrypted with fewer than
+   * 2^14 rows of scrypt, the minimum of the program minisign. The password of
+   * such a file can be guessed quickly, so encrypt the key again with
+   * `writeSecretKey`.
    */
   readonly isWeak: boolean;
 }
@@ -360,7 +369,7 @@ export interface SecretKey {
 export interface MemoryOptions {
   /**
    * If true, deriving a key from a password takes at most 65 MiB of memory
-   * instead of 1 GiB, and some three times as long.
+   * instead of 1 GiB, but about three times as long.
    */
   lowMemory?: boolean;
 }
@@ -369,7 +378,7 @@ export interface OpeningOptions extends MemoryOptions {
   /** The password of an encrypted key. Omit it for a key without a password. */
   password?: Text;
   /**
-   * The maximum number of rows of scrypt in all, which is N times p. The
+   * The maximum number of rows that scrypt computes, which is N times p. The
    * default is 2^20, which is enough for the keys of `minisign -G`.
    */
   mostRows?: number;
@@ -377,14 +386,17 @@ export interface OpeningOptions extends MemoryOptions {
 
 export interface SignerOptions {
   /**
-   * The trusted comment, one line, which is signed with the data. The default
-   * is that of Minisign: the fields `timestamp:`, `file:` and `hashed`,
-   * separated by tabs. `file:` has the last part of the name of a File, or of
-   * the path that a stream of Node reads. Data without a name has no `file:`. A
-   * name with a line break, or one that is not UTF-8, is a TypeError.
+   * The trusted comment: one line, which is signed with the data. The default
+   * is Minisign's: the fields `timestamp:`, `file:` and `hashed`, separated by
+   * tabs. `file:` has the last part of the name of a File, or of the path from
+   * which a stream of Node reads. For data without a name, there is no `file:`.
+   * A name that contains a line break or is not UTF-8 is a TypeError.
    */
   trustedComment?: Text;
-  /** The text after `untrusted comment: ` in the first line, not signed. */
+  /**
+   * The text after `untrusted comment: ` in the first line, which is not
+   * signed.
+   */
   untrustedComment?: Text;
 }
 
@@ -401,16 +413,19 @@ export interface Signer {
   readonly writable: ByteSink;
   /** The number of bytes that were passed to `update` so far. */
   readonly bytes: number;
-  /** Adds the next piece of the data, of any length. Throws as a Verifier's. */
+  /**
+   * Adds the next piece of the data, of any length. Throws the errors of
+   * `Verifier.update`.
+   */
   update(piece: Bytes): void;
   /**
-   * Verifies the new signature, and resolves to the content of the signature
-   * file: four lines. Call it once.
+   * Signs the data, verifies the new signature, and resolves to the content of
+   * the signature file, which has four lines. Call it once.
    *
-   * Rejects with NOT_BEGUN if called a second time; with KEY_NOT_OPENED if the
-   * key was cleared; with SIGNATURE_REFUSED if the key is damaged; and with
-   * NOT_UTF8, BAD_COMMENT or UNREADABLE_COMMENT if Minisign could not read back
-   * a comment.
+   * Rejects with NOT_BEGUN if it is called a second time; with KEY_NOT_OPENED
+   * if the key was cleared; with SIGNATURE_REFUSED if the key is damaged; and
+   * with NOT_UTF8, BAD_COMMENT or UNREADABLE_COMMENT for a comment that
+   * Minisign could not read back.
    */
   end(): Promise<string>;
 }
@@ -419,21 +434,25 @@ export interface Signer {
 export function generateSecretKey(): Promise<SecretKey>;
 
 /**
- * Decrypts the content of a secret key file, such as minisign.key: both lines.
+ * Reads the content of a secret key file, such as minisign.key: both lines.
  * Deriving a key from a password blocks the thread for seconds, so do it in a
  * worker.
  *
- * Rejects:
+ * If the content is malformed, rejects with NOT_UTF8,
+ * MISSING_SECRET_KEY_COMMENT, MISSING_SECRET_KEY, SECRET_KEY_NOT_BASE64 or
+ * RECORD_TOO_SHORT. Without a password, rejects with:
  *
- * - if the content is malformed: with NOT_UTF8, MISSING_SECRET_KEY_COMMENT,
- *   MISSING_SECRET_KEY, SECRET_KEY_NOT_BASE64 or RECORD_TOO_SHORT;
- * - without a password: with KEY_SEALED if the key is encrypted, and with
- *   KEY_CORRUPTED if its checksum does not match;
- * - with a password: with NOT_UTF8 if the password is not UTF-8; with
- *   KEY_NOT_SEALED if the key is not encrypted; with
- *   UNSUPPORTED_KEY_DERIVATION, PARAMETERS_TOO_HIGH or INVALID_PARAMETERS if
- *   the key derivation or its limits are not supported; with WORK_TOO_HIGH if
- *   it takes more than `mostRows`; with WRONG_PASSWORD or OUT_OF_MEMORY.
+ * - KEY_SEALED if the key is encrypted;
+ * - KEY_CORRUPTED if the checksum of the key does not match.
+ *
+ * With a password, rejects with:
+ *
+ * - NOT_UTF8 if the password is not UTF-8;
+ * - KEY_NOT_SEALED if the key is not encrypted;
+ * - UNSUPPORTED_KEY_DERIVATION, PARAMETERS_TOO_HIGH or INVALID_PARAMETERS if
+ *   the key derivation or its limits are not supported;
+ * - WORK_TOO_HIGH if scrypt would compute more rows than `mostRows`;
+ * - WRONG_PASSWORD, or OUT_OF_MEMORY.
  */
 export function readSecretKey(
   text: Text,
@@ -442,8 +461,9 @@ export function readSecretKey(
 
 /**
  * Resolves to the content of a secret key file for this key: both lines. The
- * key is encrypted with the password and the limits of `minisign -G`, or not
- * encrypted if the password is null. An empty password is a TypeError.
+ * key is encrypted with the password and the scrypt limits of `minisign -G`. If
+ * the password is null, the key is not encrypted. An empty password is a
+ * TypeError.
  */
 export function writeSecretKey(
   secretKey: SecretKey,
@@ -474,7 +494,7 @@ export function createSigner(
   options?: SignerOptions,
 ): Promise<Signer>;
 
-/** The errors of the library: their names and numbers in include/minisign.h. */
+/** The errors of the library, with their numbers in include/minisign.h. */
 export declare const ERRORS: Readonly<Record<ErrorCode, number>>;
 
 /** An error of the library. Its `message` is a sentence. */

@@ -1,11 +1,12 @@
 // SPDX-License-Identifier: MIT
-// Verifies and makes Minisign signatures, as index.d.ts says.
+// The entry point of the package: verifies Minisign signatures and signed
+// lists, and exports the functions that sign. index.d.ts documents all of them.
 
-import { optionsOf, textOf } from "./arguments.js";
+import { optionsOf, bytesOfText } from "./arguments.js";
 import { parseTrustedComment } from "./comments.js";
-import { feedAll, takingPieces } from "./feeding.js";
+import { feedAll, pieceConsumer } from "./feeding.js";
 import { listName, listText, longDigestOf, signedList } from "./lists.js";
-import { checked, loaded } from "./loaded.js";
+import { checked, loadLibrary } from "./loaded.js";
 import { Verification } from "./verification.js";
 
 export { parseTrustedComment };
@@ -13,34 +14,34 @@ export * from "./errors.js";
 export * from "./signing.js";
 
 // The results of the library for the objects that readSignature and
-// readPublicKey returned. They are not properties, so a caller cannot change
-// them.
+// readPublicKey have returned. They are not properties of these objects, so
+// that a caller cannot change them.
 const parsedSignatures = new WeakMap();
 const parsedKeys = new WeakMap();
 
-// Checks the argument `signature`, which is a text or an object of
+// Checks the argument `signature`, which is a text or a result of
 // readSignature. Returns a function that parses it with the library.
 function signatureReader(signature) {
   const parsed = parsedSignatures.get(signature);
-  const text = parsed ? null : textOf(signature, "signature");
+  const text = parsed ? null : bytesOfText(signature, "signature");
   return (library) => parsed ?? checked(library, library.readSignature(text));
 }
 
-// Checks the argument `key`, which is a text or an object of readPublicKey.
+// Checks the argument `key`, which is a text or a result of readPublicKey.
 // Returns a function that parses it with the library. A string of one line is
 // the base64 of a key.
 function keyReader(key) {
   const parsed = parsedKeys.get(key);
   const isBare = typeof key === "string" && !key.trimEnd().includes("\n");
-  const text = parsed ? null : textOf(isBare ? key.trimEnd() : key, "key");
+  const text = parsed ? null : bytesOfText(isBare ? key.trimEnd() : key, "key");
   return (library) => parsed ?? checked(library, library.readKey(text, isBare));
 }
 
 // ---- Reading ----
 
 export async function readSignature(signature) {
-  const reader = signatureReader(textOf(signature, "signature"));
-  const parsed = reader(await loaded());
+  const reader = signatureReader(bytesOfText(signature, "signature"));
+  const parsed = reader(await loadLibrary());
   const { keyId, isLegacy } = parsed;
   const fields = Object.freeze({ keyId, isLegacy });
   parsedSignatures.set(fields, parsed);
@@ -48,8 +49,9 @@ export async function readSignature(signature) {
 }
 
 export async function readPublicKey(key) {
-  const reader = keyReader(typeof key === "string" ? key : textOf(key, "key"));
-  const parsed = reader(await loaded());
+  const text = typeof key === "string" ? key : bytesOfText(key, "key");
+  const reader = keyReader(text);
+  const parsed = reader(await loadLibrary());
   const fields = Object.freeze({ keyId: parsed.keyId });
   parsedKeys.set(fields, parsed);
   return fields;
@@ -61,7 +63,7 @@ export async function createVerifier(signature, key, options = {}) {
   const { allowLegacy = false } = optionsOf(options, "allowLegacy");
   const readSignatureWith = signatureReader(signature);
   const readKeyWith = keyReader(key);
-  const library = await loaded();
+  const library = await loadLibrary();
   const { key: bytes, keyId } = readKeyWith(library);
   const parsed = readSignatureWith(library);
   const { isLegacy } = parsed;
@@ -74,7 +76,7 @@ export async function createVerifier(signature, key, options = {}) {
     const fields = parseTrustedComment(trustedComment);
     return { trustedComment, fields, keyId, isLegacy };
   };
-  return takingPieces(library, feed, end, (checkNotEnded) => ({
+  return pieceConsumer(library, feed, end, (checkNotEnded) => ({
     keyId,
     isLegacy,
     async trustedComment() {
@@ -94,12 +96,14 @@ export async function verify(data, signature, key, options = {}) {
 // ---- Signed lists ----
 
 export async function verifyList(text, signature, key, name, options = {}) {
-  const [bytes, nameBytes] = [listText(text), listName(name)];
-  const long = longDigestOf(options);
+  const bytes = listText(text);
+  const nameBytes = listName(name);
+  const longDigest = longDigestOf(options);
   const readSignatureWith = signatureReader(signature);
   const readKeyWith = keyReader(key);
-  const library = await loaded();
-  const parsed = readKeyWith(library);
-  const read = readSignatureWith(library);
-  return signedList(library, parsed, read, nameBytes, bytes, long);
+  const library = await loadLibrary();
+  const parsedKey = readKeyWith(library);
+  const parsed = readSignatureWith(library);
+  const list = [nameBytes, bytes, longDigest];
+  return signedList(library, parsedKey, parsed, ...list);
 }

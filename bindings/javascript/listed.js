@@ -1,5 +1,5 @@
 // SPDX-License-Identifier: MIT
-// Verifies files in Node with signed lists, as node.d.ts says.
+// Verifies files with signed lists in Node. node.d.ts documents the functions.
 
 import { createReadStream } from "node:fs";
 import { open } from "node:fs/promises";
@@ -10,8 +10,8 @@ import { MAX_LIST_BYTES, TEXT_BYTES } from "./calls.js";
 import { verifyList } from "./index.js";
 import { pathOf } from "./paths.js";
 
-// Reads a file of at most `size` bytes.
-async function textOfFile(path, size) {
+// Returns the content of a file, or throws if it has more than `size` bytes.
+async function bytesOfFile(path, size) {
   const file = await open(path);
   try {
     const buffer = Buffer.alloc(size + 1);
@@ -33,8 +33,8 @@ async function textOfFile(path, size) {
 
 export async function verifyListFile(path, key, options = {}) {
   const name = pathOf(path);
-  const text = await textOfFile(name, MAX_LIST_BYTES);
-  const signature = await textOfFile(`${name}.minisig`, TEXT_BYTES - 1);
+  const text = await bytesOfFile(name, MAX_LIST_BYTES);
+  const signature = await bytesOfFile(`${name}.minisig`, TEXT_BYTES - 1);
   return verifyList(text, signature, key, basename(name), options);
 }
 

@@ -1,19 +1,19 @@
 // SPDX-License-Identifier: MIT
-// Verifies files with signed lists, as index.d.ts says.
+// Implements verifyList of index.js, which verifies files with signed lists.
 
-import { argumentError, bytesOf, mustBe, textOf } from "./arguments.js";
+import { argumentError, bytesOf, bytesOfText, mustBe } from "./arguments.js";
 import { optionsOf } from "./arguments.js";
 import { LONG_DIGESTS, MAX_LIST_BYTES } from "./calls.js";
 import { parseTrustedComment } from "./comments.js";
 import { accepts, platformCrypto } from "./ed25519.js";
-import { feedAll, takingPieces } from "./feeding.js";
+import { feedAll, pieceConsumer } from "./feeding.js";
 import { checked } from "./loaded.js";
 
-// The names of hash functions in WebCrypto, which has no BLAKE2b.
-const IN_WEBCRYPTO = { sha256: "SHA-256", sha512: "SHA-512" };
+// The names that hash functions have in WebCrypto, which lacks BLAKE2b.
+const WEBCRYPTO_NAMES = { sha256: "SHA-256", sha512: "SHA-512" };
 
-// Checks the argument `text`, and copies the list, so that later changes of a
-// buffer have no effect.
+// Checks the argument `text`, and returns a copy of the list, so that later
+// changes of the caller's buffer have no effect.
 export function listText(text) {
   const isText = typeof text === "string";
   const bytes = isText ? new TextEncoder().encode(text) : bytesOf(text);
@@ -24,22 +24,30 @@ export function listText(text) {
   return bytes.slice();
 }
 
-// Checks the argument `name` of a list, which is null if every trusted comment
-// is accepted.
+// Checks the argument `name`, and returns a copy of the name of the list, or
+// null if the trusted comment may contain any name.
 export function listName(name) {
-  return name === null ? null : textOf(name, "name").slice();
+  return name === null ? null : bytesOfText(name, "name").slice();
 }
 
-// Checks the options of verifyList, and returns the meaning of 128 digits.
+// Checks the options of verifyList, and returns the hash function of 128 digits
+// on a line that names no hash function.
 export function longDigestOf(options) {
   const { longDigest = "sha512" } = optionsOf(options, "longDigest");
   return LONG_DIGESTS.get(longDigest);
 }
 
-// Verifies the signature of a list with a key and a signature that the library
-// has read. Resolves to the object that verifyList returns.
-export async function signedList(library, key, signature, name, text, long) {
-  const asked = library.askList(key.key, signature, name, text);
+// Verifies the signature of a list. `key` and `signature` are results of the
+// library. Resolves to the object that verifyList returns.
+export async function signedList(
+  library,
+  key,
+  signature,
+  listName,
+  text,
+  longDigest,
+) {
+  const asked = library.askList(key.key, signature, listName, text);
   checked(library, asked);
   const { publicKey, list, digest, message } = asked;
   const first = await accepts(publicKey, asked.signature, digest);
@@ -48,45 +56,46 @@ export async function signedList(library, key, signature, name, text, long) {
   const decoder = new TextDecoder("utf-8", { fatal: true, ignoreBOM: true });
   const trustedComment = decoder.decode(asked.comment);
   const fieldsOf = (entry) => Object.freeze(library.fieldsOfEntry(entry, text));
-  const find = (listed) => {
-    const found = library.findEntry(list, text, long, textOf(listed, "name"));
-    return checked(library, found).entry;
+  const findEntry = (name) => {
+    const bytes = bytesOfText(name, "name");
+    const result = library.findEntry(list, text, longDigest, bytes);
+    return checked(library, result).entry;
   };
-  // Compares a digest with that of an entry, and returns the entry's fields.
+  // Returns the fields of an entry if it has this digest, and throws otherwise.
   const compare = (entry, found) => {
     checked(library, { number: library.compareDigest(entry, found) });
     return fieldsOf(entry);
   };
-  // Begins to verify data, whose digest the library computes.
-  const begin = (listed) => {
-    const entry = find(listed);
+  // Begins to verify data. The library computes its digest.
+  const begin = (name) => {
+    const entry = findEntry(name);
     const { hash } = fieldsOf(entry);
     const state = library.beginHash(hash);
     const feed = (piece) =>
-      library.feedBy(piece, () => library.feedHash(hash, state));
+      library.feedInPieces(piece, () => library.feedHash(hash, state));
     const end = async () => compare(entry, library.hashDigest(hash, state));
-    return takingPieces(library, feed, end);
+    return pieceConsumer(library, feed, end);
   };
-  const verifyListed = async (data, listed, options = {}) =>
-    feedAll(data, options, ["progress", "signal"], () => begin(listed));
+  const verifyListed = async (data, name, options = {}) =>
+    feedAll(data, options, ["progress", "signal"], () => begin(name));
   return Object.freeze({
     keyId: key.keyId,
     trustedComment,
     fields: parseTrustedComment(trustedComment),
     entries() {
-      const found = library.listEntries(list, text, long);
-      return checked(library, found).entries.map(fieldsOf);
+      const result = library.listEntries(list, text, longDigest);
+      return checked(library, result).entries.map(fieldsOf);
     },
-    find: (listed) => fieldsOf(find(listed)),
+    find: (name) => fieldsOf(findEntry(name)),
     verifyListed,
-    async verifyListedTrustingWebCrypto(data, listed) {
-      const entry = find(listed);
-      const hash = IN_WEBCRYPTO[fieldsOf(entry).hash];
+    async verifyListedTrustingWebCrypto(data, name) {
+      const entry = findEntry(name);
+      const hash = WEBCRYPTO_NAMES[fieldsOf(entry).hash];
       const isBlob = typeof data?.arrayBuffer === "function";
       const bytes = isBlob ? await data.arrayBuffer() : bytesOf(data);
       mustBe(bytes !== null, "data", "bytes or a Blob", data);
       if (hash === undefined) {
-        return verifyListed(bytes, listed);
+        return verifyListed(bytes, name);
       }
       const { subtle } = await platformCrypto();
       return compare(entry, new Uint8Array(await subtle.digest(hash, bytes)));

@@ -10,12 +10,12 @@ let loading;
 
 // Decodes base64. This function is not in header.js, because a program that
 // only verifies must not import that file.
-export function decoded(base64) {
+export function bytesOfBase64(base64) {
   return Uint8Array.from(atob(base64), (letter) => letter.charCodeAt(0));
 }
 
-// Returns an error for a platform that lacks something. Its code is
-// UNSUPPORTED_PLATFORM.
+// Returns an error with the code UNSUPPORTED_PLATFORM, for a platform that
+// lacks a feature.
 export function platformError(message) {
   return Object.assign(new Error(message), { code: "UNSUPPORTED_PLATFORM" });
 }
@@ -24,11 +24,12 @@ async function load() {
   if (!(await hasEd25519())) {
     throw platformError("WebCrypto does not support Ed25519 here");
   }
-  return Library.load(decoded(MODULE));
+  return Library.load(bytesOfBase64(MODULE));
 }
 
-// Resolves to the library. After an error, the next call tries again.
-export function loaded() {
+// Resolves to the library, which is loaded once. If loading fails, the next
+// call tries again.
+export function loadLibrary() {
   loading ??= load().catch((why) => {
     loading = undefined;
     throw why;
@@ -36,8 +37,9 @@ export function loaded() {
   return loading;
 }
 
-// Returns the result of a call of the library, or throws a MinisignError if its
-// error number is not 0. `line` is the line of a list that is at fault, or 0.
+// Returns a result of the library if its `number` is 0, and throws a
+// MinisignError for any other number. `line` is the line of a list that is at
+// fault, or 0.
 export function checked(library, result) {
   const { number, line = 0 } = result;
   if (number !== 0) {

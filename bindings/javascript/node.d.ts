@@ -1,6 +1,6 @@
 // SPDX-License-Identifier: MIT
 // Declares the functions that need Node. Like index.d.ts, this file uses only
-// types of the language.
+// types of the language, and no types of Node.
 
 import type {
   Data,
@@ -41,16 +41,16 @@ export interface SavingOptions extends Options {
 
 /**
  * Verifies data, and saves it as a file. The data is first written to a
- * temporary file in the same directory, which only its owner can read. Only if
- * the signature is valid for all of it, the temporary file is synced and
- * renamed, which replaces an existing file in one step. Resolves when the
- * directory is synced too.
+ * temporary file in the same directory, which only its owner can read. If the
+ * signature is valid for all of the data, the temporary file is synced and
+ * renamed to the path, which replaces an existing file in one step. Resolves
+ * when the directory is synced too.
  *
  * Rejects as `verify` does; with a TypeError with the code INVALID_ARGUMENT if
  * the path exists and is not a regular file; and with an error of Node if a
  * file cannot be written. After an error the path is unchanged, and there is no
- * temporary file, unless only syncing the directory failed: then the new file
- * is in place. A process that is killed may leave a file with a name like
+ * temporary file. Only if syncing the directory is what failed, the new file is
+ * in place. A process that is killed may leave a file with a name like
  * `.minisign-0123456789abcdef.tmp`.
  */
 export function saveVerified(
@@ -62,10 +62,10 @@ export function saveVerified(
 ): Promise<Verified>;
 
 /**
- * Reads and verifies a list, such as SHA256SUMS, with its signature in the file
- * of this path with `.minisig` after it. The name of the list is the last part
- * of the path. Rejects as `verifyList` does, and with an error of Node if a
- * file cannot be read.
+ * Reads and verifies a list, such as SHA256SUMS. Its signature is in the file
+ * whose path is this path with `.minisig` appended. The name of the list is the
+ * last part of the path. Rejects as `verifyList` does, and with an error of
+ * Node if a file cannot be read.
  */
 export function verifyListFile(
   path: Path,

@@ -6,8 +6,8 @@ import { fileURLToPath } from "node:url";
 
 import { mustBe } from "./arguments.js";
 
-// The errors of syncing a directory on systems that do not support it.
-const NOT_SYNCED = ["EINVAL", "EPERM"];
+// The errors for syncing a directory on systems that do not support this.
+const SYNC_UNSUPPORTED = ["EINVAL", "EPERM"];
 
 // Returns the path that the caller passed as a string, or as a `URL`.
 export function pathOf(path) {
@@ -23,7 +23,7 @@ export async function syncDirectory(name) {
   try {
     await directory?.sync();
   } catch (why) {
-    if (!NOT_SYNCED.includes(why.code)) {
+    if (!SYNC_UNSUPPORTED.includes(why.code)) {
       throw why;
     }
   } finally {

@@ -1,6 +1,6 @@
 // SPDX-License-Identifier: MIT
-// Implements `saveVerified` for Node, which replaces a file after its new
-// content was verified. node.d.ts has its documentation.
+// Implements `saveVerified` for Node, which replaces a file only if its new
+// content is verified. node.d.ts documents it.
 
 import { randomBytes } from "node:crypto";
 import { lstat, open, rename, unlink } from "node:fs/promises";
@@ -13,7 +13,8 @@ import { pathOf, syncDirectory } from "./paths.js";
 
 const OPTIONS = ["allowLegacy", "mode", "progress", "signal"];
 const OWNER_ONLY = 0o600;
-const USUAL_MODE = 0o644;
+// The mode of a new file, if the caller passes none.
+const DEFAULT_MODE = 0o644;
 
 // A temporary file in the directory of `path`. `commit` renames it to `path`.
 class Replacement {
@@ -23,10 +24,11 @@ class Replacement {
     this.temporary = join(dirname(path), name);
   }
 
-  // Creates the temporary file. Until `commit`, only its owner can read it.
+  // Creates the temporary file. Until `commit`, only its owner can read it. The
+  // promise is kept, because `discard` waits for it.
   begin() {
-    this.begun = this.create();
-    return this.begun;
+    this.creation = this.create();
+    return this.creation;
   }
 
   async create() {
@@ -45,9 +47,9 @@ class Replacement {
     this.file = await open(this.temporary, "wx", OWNER_ONLY);
   }
 
-  // Renames the temporary file to `path`. After a crash, `path` has either its
-  // old content or all of the new content.
-  async commit(mode = (this.existing?.mode ?? USUAL_MODE) & 0o777) {
+  // Syncs the temporary file, and renames it to `path`. After a crash, `path`
+  // has either its old content or all of the new content.
+  async commit(mode = (this.existing?.mode ?? DEFAULT_MODE) & 0o777) {
     await this.file.chmod(mode);
     await this.file.sync();
     await this.file.close();
@@ -55,10 +57,10 @@ class Replacement {
     await syncDirectory(dirname(this.path));
   }
 
-  // Removes the temporary file. If it is still being created, waits until then.
+  // Removes the temporary file. If it is being created, waits for this first.
   async discard() {
     this.isDiscarded = true;
-    await this.begun?.catch(() => {});
+    await this.creation?.catch(() => {});
     if (this.file) {
       await this.file.close().catch(() => {});
       await unlink(this.temporary).catch(() => {});

@@ -1,33 +1,33 @@
 // SPDX-License-Identifier: MIT
-// Makes secret keys and signatures, as index.d.ts says. The functions for
-// secret keys are in a separate WebAssembly module, which is loaded on first
-// use.
+// Makes secret keys and signatures. index.d.ts documents the functions. Secret
+// keys are handled by a separate WebAssembly module, which is loaded when it is
+// first used.
 
 import {
   argumentError,
   bytesOf,
+  bytesOfText,
   clearCopy,
   mustBe,
   optionsOf,
-  textOf,
 } from "./arguments.js";
 import { keyIdText } from "./calls.js";
 import { ED25519, accepts, platformCrypto } from "./ed25519.js";
 import { ERRORS } from "./errors.js";
-import { feedAll, takingPieces } from "./feeding.js";
+import { feedAll, pieceConsumer } from "./feeding.js";
 import * as h from "./header.js";
 import { checked } from "./loaded.js";
 
-const OPENING = ["password", "lowMemory", "mostRows"];
-const COMMENTS = ["trustedComment", "untrustedComment"];
-const UNTRUSTED = "signature from minisign secret key";
-// The first 16 bytes of an Ed25519 key in PKCS#8 (RFC 8410), before its seed.
-const BEFORE_SEED = [48, 46, 2, 1, 0, 48, 5, 6, 3, 43, 101, 112, 4, 34, 4, 32];
+const READ_OPTIONS = ["password", "lowMemory", "mostRows"];
+const COMMENT_OPTIONS = ["trustedComment", "untrustedComment"];
+const DEFAULT_UNTRUSTED_COMMENT = "signature from minisign secret key";
+// An Ed25519 key in PKCS#8 (RFC 8410) consists of these 16 bytes and its seed.
+const PKCS8_PREFIX = [48, 46, 2, 1, 0, 48, 5, 6, 3, 43, 101, 112, 4, 34, 4, 32];
 const NOT_IN_COMMENT =
   "cannot be in the default trusted comment; pass a trustedComment";
 
-// The bytes of each secret key, by the object that the caller has, which does
-// not show them.
+// The bytes of the secret keys, by the objects that the caller has. These
+// objects do not show the bytes.
 const secretKeys = new WeakMap();
 
 function bytesOfKey(secretKey) {
@@ -36,23 +36,24 @@ function bytesOfKey(secretKey) {
   return bytes;
 }
 
-// Concatenates secret bytes in a separate ArrayBuffer, which the caller clears.
-// Engines keep a short typed array that is made in any other way, such as by
-// Uint8Array.of, on their own heap. There the garbage collector moves it, and
-// leaves copies that nobody can clear.
-function joinedApart(first, second) {
+// Concatenates secret bytes. The caller has to clear the result. It has an
+// ArrayBuffer of its own, because JavaScript engines keep a short typed array
+// that is made in another way, such as by Uint8Array.of, on the heap of the
+// garbage collector, which moves it and leaves copies that nobody can clear.
+function joinedSecret(first, second) {
   const both = new Uint8Array(new ArrayBuffer(first.length + second.length));
   both.set(first);
   both.set(second, first.length);
   return both;
 }
 
-// Returns the parameter keep_every of the C library.
+// Returns the parameter keep_every of the library, which limits the memory of
+// scrypt.
 function keepEveryOf(lowMemory) {
   return lowMemory ? h.KEEP_FEW_ROWS : h.KEEP_EVERY_ROW;
 }
 
-// Makes the object for a secret key that the caller gets.
+// Returns the object for a secret key that the caller gets.
 function secretKeyOf(bytes, isWeak) {
   const keyId = keyIdText(h.fieldOf("secret_key", "key_id", bytes));
   const secretKey = Object.freeze({ keyId, isWeak });
@@ -68,9 +69,9 @@ export async function generateSecretKey() {
   const { subtle } = crypto;
   const pair = await subtle.generateKey(ED25519, true, ["sign", "verify"]);
   const exported = await subtle.exportKey("pkcs8", pair.privateKey);
-  const seed = new Uint8Array(exported, BEFORE_SEED.length, 32);
+  const seed = new Uint8Array(exported, PKCS8_PREFIX.length, 32);
   const rawKey = await subtle.exportKey("raw", pair.publicKey);
-  const secret = joinedApart(seed, new Uint8Array(rawKey));
+  const secret = joinedSecret(seed, new Uint8Array(rawKey));
   const keyId = crypto.getRandomValues(new Uint8Array(8));
   const newKey = h.structOf("new_key", { key_id: keyId, secret });
   const bytes = await calls.takeSecretKey(newKey);
@@ -79,10 +80,10 @@ export async function generateSecretKey() {
 }
 
 export async function readSecretKey(text, options = {}) {
-  const { password, lowMemory, mostRows } = optionsOf(options, ...OPENING);
-  const bytes = textOf(text, "text");
+  const { password, lowMemory, mostRows } = optionsOf(options, ...READ_OPTIONS);
+  const bytes = bytesOfText(text, "text");
   const passwordBytes =
-    password === undefined ? null : textOf(password, "password");
+    password === undefined ? null : bytesOfText(password, "password");
   const calls = await h.SigningCalls.load();
   let unopened;
   try {
@@ -104,7 +105,8 @@ export async function readSecretKey(text, options = {}) {
 export async function writeSecretKey(secretKey, password, options = {}) {
   const { lowMemory } = optionsOf(options, "lowMemory");
   const bytes = bytesOfKey(secretKey);
-  const passwordBytes = password === null ? null : textOf(password, "password");
+  const passwordBytes =
+    password === null ? null : bytesOfText(password, "password");
   if (passwordBytes?.length === 0) {
     throw argumentError("password must not be empty; use null for no password");
   }
@@ -114,7 +116,7 @@ export async function writeSecretKey(secretKey, password, options = {}) {
     operations_limit: h.OPERATIONS_LIMIT,
     memory_limit: h.MEMORY_LIMIT,
   });
-  const comment = textOf(h.SECRET_KEY_COMMENT);
+  const comment = bytesOfText(h.SECRET_KEY_COMMENT);
   const work = [sealing, keepEveryOf(lowMemory)];
   try {
     return await calls.secretKeyText(bytes, passwordBytes, ...work, comment);
@@ -125,7 +127,7 @@ export async function writeSecretKey(secretKey, password, options = {}) {
 
 export async function writePublicKey(secretKey) {
   const bytes = bytesOfKey(secretKey);
-  const comment = textOf(h.PUBLIC_KEY_COMMENT + secretKey.keyId);
+  const comment = bytesOfText(h.PUBLIC_KEY_COMMENT + secretKey.keyId);
   const calls = await h.SigningCalls.load();
   return calls.publicKeyText(bytes, comment);
 }
@@ -136,9 +138,9 @@ export function clearSecretKey(secretKey) {
 
 // ---- Signing ----
 
-// Signs a message, and verifies the signature before returning it: if the seed
-// and the public key of a damaged key do not belong together, its signatures
-// reveal the secret.
+// Signs a message, and verifies the signature before returning it, because a
+// signature made with a damaged key, whose seed and public key do not match,
+// reveals the secret.
 async function signMessage(library, secretKey, publicKey, message) {
   const key = await importedKey(secretKey);
   const { subtle } = await platformCrypto();
@@ -152,7 +154,7 @@ async function signMessage(library, secretKey, publicKey, message) {
 async function importedKey(secretKey) {
   const { subtle } = await platformCrypto();
   const seed = h.fieldOf("secret_key", "secret", secretKey).subarray(0, 32);
-  const der = joinedApart(BEFORE_SEED, seed);
+  const der = joinedSecret(PKCS8_PREFIX, seed);
   try {
     return await subtle.importKey("pkcs8", der, ED25519, false, ["sign"]);
   } finally {
@@ -160,8 +162,8 @@ async function importedKey(secretKey) {
   }
 }
 
-// Returns the last part of the name of a File, or of the path of a stream of
-// Node that reads a file. Other data has no name: an empty string.
+// Returns the last part of the name of a File, or of the path of a Node stream
+// that reads a file. Returns an empty string for other data, which has no name.
 function nameOf(data) {
   if (bytesOf(data) !== null) {
     return "";
@@ -174,8 +176,8 @@ function nameOf(data) {
   return isStream ? lastPart(data.path, isWindows ? /[/\\]/ : "/") : "";
 }
 
-// Returns the part of a name after the last separator. The name is a string, or
-// bytes in UTF-8. For any other value, returns an empty string.
+// Returns the part of a name after the last separator. The name is a string or
+// bytes in UTF-8. For any other value, an empty string is returned.
 function lastPart(name, separator) {
   const bytes = bytesOf(name);
   const isName = typeof name === "string" || bytes !== null;
@@ -202,14 +204,17 @@ function defaultComment(name) {
 }
 
 export async function createSigner(secretKey, options = {}) {
-  return begin(secretKey, optionsOf(options, ...COMMENTS), () => "");
+  return begin(secretKey, optionsOf(options, ...COMMENT_OPTIONS), () => "");
 }
 
 // Makes a signer. `name` returns the file name for the default trusted comment.
 async function begin(secretKey, { trustedComment, untrustedComment }, name) {
   const comment = trustedComment ?? defaultComment(name());
-  const trusted = textOf(comment, "trustedComment");
-  const untrusted = textOf(untrustedComment ?? UNTRUSTED, "untrustedComment");
+  const trusted = bytesOfText(comment, "trustedComment");
+  const untrusted = bytesOfText(
+    untrustedComment ?? DEFAULT_UNTRUSTED_COMMENT,
+    "untrustedComment",
+  );
   const bytes = bytesOfKey(secretKey);
   const calls = await h.SigningCalls.load();
   const { library } = calls;
@@ -226,11 +231,11 @@ async function begin(secretKey, { trustedComment, untrustedComment }, name) {
     const signatures = [dataSignature, commentSignature];
     return calls.signedText(publicKey, ...signatures, trusted, untrusted);
   };
-  return takingPieces(library, feed, end);
+  return pieceConsumer(library, feed, end);
 }
 
 export async function sign(data, secretKey, options = {}) {
-  const known = [...COMMENTS, "progress", "signal"];
+  const known = [...COMMENT_OPTIONS, "progress", "signal"];
   const beginWith = (rest) => begin(secretKey, rest, () => nameOf(data));
   return feedAll(data, options, known, beginWith);
 }

@@ -1,14 +1,15 @@
 // SPDX-License-Identifier: MIT
-// Runs a verification: makes the calls of the library in their order, and the
-// two Ed25519 checks. Several verifications can share one library.
+// Verifies one signature: makes the calls of the library in the right order,
+// and the two Ed25519 checks. Several verifications can share one library.
 
 import { accepts } from "./ed25519.js";
 
 export class Verification {
-  // Begins to verify a signature with a key, both of which the library has
-  // read. `number` is 0, or the error number if the signature is rejected
-  // without looking at data. The data of a legacy signature, if allowed, is
-  // kept in memory, because the signature is of the data itself.
+  // Begins to verify a signature, a result of Library.readSignature, with a
+  // key, the struct that Library.readKey returns. Sets `number` to 0, or to the
+  // error number if the signature is rejected whatever the data is. For an
+  // allowed legacy signature, all data is kept in memory, because Ed25519 needs
+  // the data itself and not its digest.
   constructor(library, key, signature, allowsLegacy) {
     this.library = library;
     this.askArguments = [key, signature, allowsLegacy];
@@ -26,10 +27,10 @@ export class Verification {
     }
   }
 
-  // Takes a copy of a state of `library.begin` to which all data was fed, so
-  // that data which is read once can be verified with many signatures.
-  // `legacyData` is the data itself, in pieces, if the signature is a legacy
-  // one.
+  // Uses data that was already fed to another state, so that data which is read
+  // once can be verified with many signatures. `state` is a state of
+  // Library.begin to which all data was fed. It is copied. If the signature is
+  // a legacy one, `legacyData` has the pieces of the data.
   takeFed(state, legacyData) {
     this.state = state.slice();
     this.questions = this.library.ask(this.state, ...this.askArguments);
@@ -43,9 +44,10 @@ export class Verification {
     return accepts(publicKey, commentSignature, message);
   }
 
-  // Resolves to 0 if the key has signed the trusted comment, and otherwise to
-  // the error number. It needs no data: it gets the verdict for no data, and
-  // says that the signature of the data is valid.
+  // Resolves to 0 if the comment signature is valid, and otherwise to the error
+  // number. The result does not depend on the data: this method ends another
+  // verification, of empty data, and passes `true` as the result of Ed25519 for
+  // the signature of the data.
   async commentVerdict() {
     const { library } = this;
     const state = library.begin();
@@ -53,22 +55,23 @@ export class Verification {
     return library.verdict(state, true, await this.acceptsComment());
   }
 
-  // Takes the verdict for all data that was fed. Resolves to the number 0
-  // exactly if the signature is valid, or otherwise to the error number; and to
-  // `first`, which is true if Ed25519 accepts the signature of the data.
+  // Ends the verification. Resolves to `number`, which is 0 if and only if the
+  // signature is valid for all data that was fed, otherwise the error number;
+  // and to `isDataValid`, which is true if Ed25519 accepts the signature of the
+  // data.
   async end() {
     const { library, state, questions } = this;
     checkUse(library.digest(state, questions));
     const { isLegacy, publicKey, signature } = questions;
     const message = isLegacy ? joined(this.legacyData) : questions.digest;
-    const first = await accepts(publicKey, signature, message);
+    const isDataValid = await accepts(publicKey, signature, message);
     const isCommentValid = await this.acceptsComment();
-    this.number = library.verdict(state, first, isCommentValid);
-    return { number: this.number, first };
+    this.number = library.verdict(state, isDataValid, isCommentValid);
+    return { number: this.number, isDataValid };
   }
 
-  // Returns the trusted comment, from the message that the comment signature
-  // signs. The library has checked that it is UTF-8.
+  // Returns the trusted comment, which is the end of the message that the
+  // comment signature signs. The library has checked that it is UTF-8.
   comment() {
     const decoder = new TextDecoder("utf-8", { fatal: true, ignoreBOM: true });
     return decoder.decode(this.questions.comment);
@@ -87,7 +90,8 @@ function joined(pieces) {
   return bytes;
 }
 
-// Throws if a call returns an error: none can if they are made in their order.
+// Throws if a call returned an error number. No call does if the calls are made
+// in the right order.
 function checkUse(number) {
   if (number !== 0) {
     const why = new Error(`the library was misused: error ${number}`);

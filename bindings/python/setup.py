@@ -1,12 +1,13 @@
 # SPDX-License-Identifier: MIT
-"""Builds the shared library libminisign.so and the wheel that contains it. The wheel
-works with any Python 3 on one kind of machine.
+"""Builds the shared library libminisign.so and a wheel that contains it. The wheel
+works with any Python 3 on the kind of machine for which it was built.
 
-The C files are in the directory `library` of a packed archive, or in the repository.
-The C compiler is the one that CC names, or the one that Python was built with. On Linux
-on x86-64 and AArch64 the library is linked with the archives of proved functions in
-dist/. Elsewhere, or with MINISIGN_PORTABLE=1, it is compiled from the same functions
-translated to C. On Linux it also contains the installer in C."""
+The C files are in the directory `library` of a packed archive, or else in the
+repository. The environment variable CC names the C compiler; the default is the
+compiler with which Python was built. On Linux on x86-64 and AArch64 the library is
+linked with the archives of proved functions in dist/. Elsewhere, or with
+MINISIGN_PORTABLE=1, it is compiled from the same functions translated to C. On Linux it
+also contains the installer in C."""
 
 import os
 import re
@@ -22,14 +23,16 @@ from wheel.bdist_wheel import bdist_wheel
 TOP = "library" if os.path.isdir("library") else os.path.join("..", "..")
 CALLS = ["c/library/boundary.c", "c/library/clearing.c"]
 PORTABLE = ["c/library/portable/pointers.c", "c/library/portable/allocation.c"]
-SHARED = "handles permissions stages streams"
 INSTALLER = [
     "c/install/installing.c",
-    "c/install/endings.c",
+    "c/install/results.c",
     "c/install/directory.c",
-    *(f"c/shared/{name}.c" for name in SHARED.split()),
+    "c/shared/handles.c",
+    "c/shared/permissions.c",
+    "c/shared/stages.c",
+    "c/shared/streams.c",
 ]
-INCLUDED = ["include", "c", "c/library", "c/library/portable"]
+INCLUDE_DIRECTORIES = ["include", "c", "c/library", "c/library/portable"]
 # The kinds of machines, with the macros that a C compiler for them defines.
 MACHINES = {
     "linux_x86_64": {"__linux__", "__LP64__", "__x86_64__"},
@@ -74,6 +77,8 @@ def find_in(path, pattern):
 
 
 class BuildWithLibrary(build_py):
+    """Builds the package with the shared library."""
+
     def run(self):
         super().run()
         words, macros = compiler()
@@ -81,12 +86,13 @@ class BuildWithLibrary(build_py):
         self.spawn([*words, "-shared", *self.parts(words, macros), "-o", output])
 
     def parts(self, words, macros):
-        """Returns the arguments of the compiler: flags, sources and archives."""
+        """Returns the arguments for the compiler: flags, sources and archives."""
         names = find_in("c/library/names", r"^minisign_\w+") + ["minisign_version"]
         objects = os.path.join(self.build_lib, "..", "minisign-objects")
         os.makedirs(objects, exist_ok=True)
         archives = self.archives(words, macros, names, objects)
-        sources, flags = [*CALLS], [f"-I{path_of(name)}" for name in INCLUDED]
+        sources = [*CALLS]
+        flags = [f"-I{path_of(name)}" for name in INCLUDE_DIRECTORIES]
         if {"__linux__", "__LP64__"} <= macros:
             sources.append("c/library/allocation.c")
         else:
@@ -109,35 +115,37 @@ class BuildWithLibrary(build_py):
         return [*flags, *map(path_of, sources), *archives]
 
     def archives(self, words, macros, names, objects):
-        """Copies the archives that the library is linked with, and returns the paths.
-        Their functions get a prefix, because c/library/boundary.c defines functions of
-        the same names."""
+        """Copies the archives with which the library is linked, and returns the paths
+        of the copies. The functions in them get a prefix, because
+        c/library/boundary.c defines functions of the same names. Returns an empty list
+        if there are no archives for the machine, or no objcopy."""
         objcopy = output_of(*words, "-print-prog-name=objcopy")
         is_portable = os.environ.get("MINISIGN_PORTABLE") == "1"
-        kinds = []
+        archives = []
         if MACHINES["linux_x86_64"] <= macros:
-            kinds = ["calls-x86-64-v2", "calls-x86-64-v3"]
+            archives = ["calls-x86-64-v2", "calls-x86-64-v3"]
         elif MACHINES["linux_aarch64"] <= macros:
-            kinds = ["calls-aarch64"]
+            archives = ["calls-aarch64"]
         if is_portable or not output_of(objcopy or "objcopy", "--version"):
             return []
-        for kind in kinds:
-            prefix = kind.rpartition("-")[2]
+        for archive in archives:
+            prefix = archive.rpartition("-")[2]
             renamed = [f"--redefine-sym={name}={prefix}_{name}" for name in names]
-            copy = os.path.join(objects, f"{kind}.a")
-            self.spawn(
-                [objcopy or "objcopy", *renamed, path_of(f"dist/{kind}.a"), copy]
-            )
-        return [os.path.join(objects, f"{kind}.a") for kind in kinds]
+            source = path_of(f"dist/{archive}.a")
+            copy = os.path.join(objects, f"{archive}.a")
+            self.spawn([objcopy or "objcopy", *renamed, source, copy])
+        return [os.path.join(objects, f"{archive}.a") for archive in archives]
 
 
 class WheelForMachine(bdist_wheel):
+    """Builds a wheel for one kind of machine and for any Python 3."""
+
     def get_tag(self):
         macros = compiler()[1]
         machines = [name for name, defined in MACHINES.items() if defined <= macros]
         return ("py3", "none", machines[0] if machines else super().get_tag()[2])
 
 
-# Without this, setuptools builds a wheel for all kinds of machines.
+# Otherwise setuptools would build a wheel for all kinds of machines.
 Distribution.has_ext_modules = lambda self: True
 setup(cmdclass={"build_py": BuildWithLibrary, "bdist_wheel": WheelForMachine})

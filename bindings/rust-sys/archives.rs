@@ -1,15 +1,16 @@
 // SPDX-License-Identifier: MIT
-//! Reads the archives of `dist/`, and renames their symbols. The archives of a packed crate have
-//! the names that a program links. Those of the repository do not, and objcopy is not on every
-//! system.
+//! Reads the archives of `dist/`, and renames the symbols in them to the names that programs link.
+//! The build script uses this module instead of objcopy, which many systems do not have. In a
+//! packed crate, the archives already have these names.
 
-/// Returns the objects in an archive, in which `new_name` has renamed symbols. Returns `None` if
-/// this is not an archive of objects in ELF for a 64-bit little-endian processor.
+/// Returns the objects in an archive, with renamed symbols. `new_name` returns the new name of a
+/// symbol, or `None` if the symbol keeps its name. Returns `None` if this is not an archive of ELF
+/// objects for a 64-bit little-endian processor.
 pub fn objects(archive: &[u8], new_name: impl Fn(&str) -> Option<String>) -> Option<Vec<Vec<u8>>> {
     let mut rest = archive.strip_prefix(b"!<arch>\n")?;
     let mut objects = vec![];
     while !rest.is_empty() {
-        // The head of a member has its name in 16 bytes, and its size in 10 bytes from position 48.
+        // The header of a member has 60 bytes: the name at offset 0, and the size at offset 48.
         let (head, tail) = (rest.get(..60)?, &rest[60..]);
         let size = std::str::from_utf8(&head[48..58])
             .ok()?
@@ -17,7 +18,7 @@ pub fn objects(archive: &[u8], new_name: impl Fn(&str) -> Option<String>) -> Opt
             .parse()
             .ok()?;
         let member = tail.get(..size)?;
-        // The index and the table of long names begin with a slash.
+        // The names of the index and of the table of long names begin with a slash.
         if head[0] != b'/' {
             objects.push(renamed(member, &new_name)?);
         }
@@ -26,17 +27,19 @@ pub fn objects(archive: &[u8], new_name: impl Fn(&str) -> Option<String>) -> Opt
     Some(objects)
 }
 
-/// A section header has 64 bytes and a symbol 24. These are the positions of their fields.
+// The size of a section header, and the offsets of its fields.
 const SECTION_BYTES: usize = 64;
 const SECTION_TYPE: usize = 4;
 const SECTION_OFFSET: usize = 24;
 const SECTION_SIZE: usize = 32;
 const SECTION_LINK: usize = 40;
+/// The type of a section that is a symbol table.
 const SYMBOL_TABLE: usize = 2;
+/// The size of a symbol. Its name is at offset 0.
 const SYMBOL_BYTES: usize = 24;
 
-/// Returns an object with renamed symbols. It ends with a copy of its table of names, to which the
-/// new names are added.
+/// Returns an object with renamed symbols. The new names are appended to a copy of the table of
+/// names, and the copy is appended to the object.
 fn renamed(object: &[u8], new_name: impl Fn(&str) -> Option<String>) -> Option<Vec<u8>> {
     const ELF_64_LITTLE_ENDIAN: &[u8] = b"\x7fELF\x02\x01";
     let mut object = object
@@ -56,13 +59,13 @@ fn renamed(object: &[u8], new_name: impl Fn(&str) -> Option<String>) -> Option<V
             .split(|&byte| byte == 0)
             .next()?;
         if let Some(new) = std::str::from_utf8(name).ok().and_then(&new_name) {
-            set(&mut object, symbol, 4, table.len())?;
+            set_number(&mut object, symbol, 4, table.len())?;
             table.extend(new.bytes().chain([0]));
         }
     }
     let end = object.len();
-    set(&mut object, names + SECTION_OFFSET, 8, end)?;
-    set(&mut object, names + SECTION_SIZE, 8, table.len())?;
+    set_number(&mut object, names + SECTION_OFFSET, 8, end)?;
+    set_number(&mut object, names + SECTION_SIZE, 8, table.len())?;
     object.append(&mut table);
     Some(object)
 }
@@ -81,7 +84,7 @@ fn number(object: &[u8], at: usize, len: usize) -> Option<usize> {
 }
 
 /// Writes a little-endian number of `len` bytes.
-fn set(object: &mut [u8], at: usize, len: usize, value: usize) -> Option<()> {
+fn set_number(object: &mut [u8], at: usize, len: usize, value: usize) -> Option<()> {
     let bytes = (value as u64).to_le_bytes();
     object.get_mut(at..at + len)?.copy_from_slice(&bytes[..len]);
     Some(())

@@ -21,27 +21,27 @@ fn main() {
     } else {
         format!("{CRATE}/../..")
     };
-    let from = user_variable("MINISIGN_SOURCES").unwrap_or(default);
-    watch(&from);
-    // docs.rs builds documentation only, without libsodium.
+    let root = user_variable("MINISIGN_SOURCES").unwrap_or(default);
+    watch(&root);
+    // docs.rs only builds documentation, and has no libsodium.
     if env::var_os("DOCS_RS").is_some() {
         return;
     }
-    check_dist(&from);
-    if Path::new(&format!("{from}/crates")).exists() {
-        check_sources(&from);
+    check_dist(&root);
+    if Path::new(&format!("{root}/crates")).exists() {
+        check_sources(&root);
     }
-    build(&from);
+    build(&root);
     link_sodium();
 }
 
-/// Tells cargo which files make it run this script again when they change. Only paths that exist:
-/// cargo would run the script every time for a missing path, and a packed crate does not have the
+/// Tells cargo to run this script again if one of these files has changed. Paths that do not exist
+/// are left out, because cargo would then run the script in every build. A packed crate lacks the
 /// sources of the proved calls.
-fn watch(from: &str) {
+fn watch(root: &str) {
     for name in ["c", "crates", "crates.txt", "dist", "include", "tools"] {
-        if Path::new(&format!("{from}/{name}")).exists() {
-            println!("cargo:rerun-if-changed={from}/{name}");
+        if Path::new(&format!("{root}/{name}")).exists() {
+            println!("cargo:rerun-if-changed={root}/{name}");
         }
     }
 }
@@ -51,12 +51,12 @@ fn cargo_variable(name: &str) -> String {
     env::var(name).unwrap_or_default()
 }
 
-/// Returns a property of cargo's target, such as its OS.
-fn target(part: &str) -> String {
-    cargo_variable(&format!("CARGO_CFG_TARGET_{part}"))
+/// Returns a property of cargo's target, such as `OS`.
+fn target(property: &str) -> String {
+    cargo_variable(&format!("CARGO_CFG_TARGET_{property}"))
 }
 
-/// Returns an environment variable that the user sets, for this target only or for all targets.
+/// Returns an environment variable that the user has set for this target, or else for all targets.
 fn user_variable(name: &str) -> Option<String> {
     let for_target = format!("{name}_{}", cargo_variable("TARGET").replace('-', "_"));
     [for_target, name.to_string()].into_iter().find_map(|name| {
@@ -73,9 +73,10 @@ fn fail(why: String) -> ! {
 
 /// Returns the output of a command, or an empty string if it fails.
 fn output_of(command: &mut Command) -> String {
-    let output = command.output().ok().filter(|it| it.status.success());
-    output.map_or(String::new(), |it| {
-        String::from_utf8_lossy(&it.stdout).trim().to_string()
+    let output = command.output().ok();
+    let output = output.filter(|output| output.status.success());
+    output.map_or(String::new(), |output| {
+        String::from_utf8_lossy(&output.stdout).trim().to_string()
     })
 }
 
@@ -86,7 +87,7 @@ const CALLS: [&str; 4] = [
     "calls-aarch64.a",
     "calls.c",
 ];
-/// The commands that print the SHA-256 sum of a file: from coreutils, Perl, the BSDs and Windows.
+/// The commands that print the SHA-256 hash of a file: from coreutils, Perl, the BSDs and Windows.
 const SHA256: [&str; 4] = [
     "sha256sum FILE",
     "shasum -a 256 FILE",
@@ -94,87 +95,88 @@ const SHA256: [&str; 4] = [
     "certutil -hashfile FILE SHA256",
 ];
 
-/// The published sum of "abc".
-const SUM_OF_ABC: &str = "ba7816bf8f01cfea414140de5dae2223b00361a396177a9cb410ff61f20015ad";
+/// The published hash of "abc".
+const HASH_OF_ABC: &str = "ba7816bf8f01cfea414140de5dae2223b00361a396177a9cb410ff61f20015ad";
 
-/// Compares the proved calls with their sums in `dist/SHA256SUMS`.
-fn check_dist(from: &str) {
-    let list = format!("{from}/dist/SHA256SUMS");
-    let sums = fs::read_to_string(&list).unwrap_or_else(|why| fail(format!("{list}: {why}")));
+/// Compares the hashes of the proved calls with `dist/SHA256SUMS`.
+fn check_dist(root: &str) {
+    let list = format!("{root}/dist/SHA256SUMS");
+    let lines = fs::read_to_string(&list).unwrap_or_else(|why| fail(format!("{list}: {why}")));
     let command = sha256_command();
     for name in CALLS {
-        let path = format!("{from}/dist/{name}");
+        let path = format!("{root}/dist/{name}");
         if !Path::new(&path).is_file() {
             fail(format!("{path} is missing"));
         }
-        let line = format!("{}  {name}", sum_by(command, &path));
-        if !sums.lines().any(|each| each == line) {
+        let line = format!("{}  {name}", hash_by(command, &path));
+        if !lines.lines().any(|each| each == line) {
             fail(format!("{path} is damaged: {list} has another sum"));
         }
     }
 }
 
-/// Returns the first command for SHA-256 sums that works on this system.
+/// Returns the first command for SHA-256 hashes that works on this system.
 fn sha256_command() -> &'static str {
     let path = format!("{}/abc", cargo_variable("OUT_DIR"));
     fs::write(&path, "abc").unwrap_or_else(|why| fail(format!("{path}: {why}")));
     let mut commands = SHA256.into_iter();
     commands
-        .find(|command| sum_by(command, &path) == SUM_OF_ABC)
+        .find(|command| hash_by(command, &path) == HASH_OF_ABC)
         .unwrap_or_else(|| {
             let why = "no SHA-256 program works here: install sha256sum, shasum or sha256";
             fail(why.to_string())
         })
 }
 
-/// Returns the sum of a file that a command prints, or an empty string if it prints none.
-fn sum_by(command: &str, path: &str) -> String {
+/// Returns the hash of a file that a command prints, or an empty string if it prints none.
+fn hash_by(command: &str, path: &str) -> String {
     let mut words = command.split(' ');
     let mut command = Command::new(words.next().unwrap_or_default());
     let words = words.map(|word| if word == "FILE" { path } else { word });
     let output = output_of(command.args(words));
-    // sha256sum puts a backslash before the sum if the path has one.
-    let mut parts = output.split(|letter: char| letter.is_whitespace() || letter == '\\');
-    let is_sum =
+    // sha256sum prints a backslash before the hash if the path contains one.
+    let mut parts = output.split(|character: char| character.is_whitespace() || character == '\\');
+    let is_hash =
         |part: &&str| part.len() == 64 && part.bytes().all(|byte| byte.is_ascii_hexdigit());
-    parts.find(is_sum).unwrap_or_default().to_string()
+    parts.find(is_hash).unwrap_or_default().to_string()
 }
 
 /// Checks that `dist/` was built from the sources of the proved calls in this repository.
-fn check_sources(from: &str) {
-    let proved = fs::read_to_string(format!("{from}/dist/PROVED")).unwrap_or_default();
-    let script = format!("{from}/tools/sources.sh");
+fn check_sources(root: &str) {
+    let proved = fs::read_to_string(format!("{root}/dist/PROVED")).unwrap_or_default();
+    let script = format!("{root}/tools/sources.sh");
     let mut command = Command::new("sh");
-    let sum = output_of(command.args([&*script, "calls"]).stderr(Stdio::inherit()));
-    if sum.is_empty() {
+    let hash = output_of(command.args([&*script, "calls"]).stderr(Stdio::inherit()));
+    if hash.is_empty() {
         fail(format!(
             "the sources of the proved calls cannot be checked: `sh {script} calls` failed"
         ));
     }
-    let line = format!("sources of the calls: {sum}");
+    let line = format!("sources of the calls: {hash}");
     if !proved.lines().any(|each| each == line) {
         fail(format!(
-            "{from}/dist is not built from the sources of the proved calls there"
+            "{root}/dist is not built from the sources of the proved calls there"
         ));
     }
 }
 
-/// Builds the libraries to link, as `c/Makefile` does. If there are archives for the target, links
-/// them together with the C that older processors need. Otherwise compiles everything from C.
-fn build(from: &str) {
-    let names = fs::read_to_string(format!("{from}/c/library/names")).unwrap_or_else(|why| {
+/// Builds the libraries to link, as `c/Makefile` does. If there are archives for the target, the
+/// libraries contain their objects and the C code for older processors. Otherwise everything is
+/// compiled from C.
+fn build(root: &str) {
+    let names = fs::read_to_string(format!("{root}/c/library/names")).unwrap_or_else(|why| {
         fail(format!(
-            "{from} does not contain the sources of the library: {why}"
+            "{root} does not contain the sources of the library: {why}"
         ))
     });
-    let mut compiling = cc::Build::new();
-    compiling.opt_level(2).warnings(false);
-    let tool = compiling.get_compiler();
+    let mut settings = cc::Build::new();
+    settings.opt_level(2).warnings(false);
+    let tool = settings.get_compiler();
     if tool.is_like_msvc() {
         let (triple, path) = (cargo_variable("TARGET"), tool.path().display());
-        let of_target = triple.replace('-', "_");
+        let suffix = triple.replace('-', "_");
         fail(format!(
-            "{path} does not have GNU options: name gcc or clang for {triple} in CC_{of_target}"
+            "{path} does not have GNU options: name gcc or clang for {triple} in CC_{suffix}"
         ));
     }
     let has_pages = target("OS") == "linux" && target("POINTER_WIDTH") == "64";
@@ -185,25 +187,24 @@ fn build(from: &str) {
         "aarch64" => &["calls-aarch64"],
         _ => &[],
     };
-    compiling.flag_if_supported("-std=c11");
-    // On Windows these would need DLLs of the compiler.
+    settings.flag_if_supported("-std=c11");
+    // On Windows, programs with these options would need DLLs of the compiler.
     if target("OS") != "windows" {
-        compiling.flag_if_supported("-pthread");
-        compiling.flag_if_supported("-fstack-protector-strong");
-        compiling.define("_FORTIFY_SOURCE", "2");
+        settings.flag_if_supported("-pthread");
+        settings.flag_if_supported("-fstack-protector-strong");
+        settings.define("_FORTIFY_SOURCE", "2");
     }
-    // Renamed, because another library of the Rattle kit has memory functions of the same names.
-    for (name, other) in MEMORY {
-        compiling.define(name, other);
+    for (name, new_name) in MEMORY_FUNCTIONS {
+        settings.define(name, new_name);
     }
     for directory in ["include", "c/library", "c/library/portable"] {
-        compiling.include(format!("{from}/{directory}"));
+        settings.include(format!("{root}/{directory}"));
     }
     let (mut sources, mut portable) = (vec!["boundary", "clearing"], vec![]);
     if has_pages {
         sources.push("allocation");
     } else {
-        compiling.define("MINISIGN_MALLOC_ALONE", None);
+        settings.define("MINISIGN_MALLOC_ALONE", None);
     }
     if archives != ["calls-aarch64"] {
         portable.extend([
@@ -213,18 +214,18 @@ fn build(from: &str) {
         ]);
     }
     if archives.is_empty() {
-        compiling.define("MINISIGN_PORTABLE", None);
+        settings.define("MINISIGN_PORTABLE", None);
     }
-    // Two libraries, because cc names objects after the file names of their sources, and two of
-    // these are the same.
-    let path = |source: &&str| format!("{from}/c/library/{source}.c");
+    // Two libraries, because cc names objects after the file names of their sources, and there are
+    // two files `allocation.c`.
+    let path = |source: &&str| format!("{root}/c/library/{source}.c");
     for (name, sources) in [("minisign", sources), ("minisign_portable", portable)] {
         if !sources.is_empty() {
-            let mut library = compiling.clone();
+            let mut library = settings.clone();
             library.files(sources.iter().map(path));
             if name == "minisign" {
                 for archive in archives {
-                    add_objects(&mut library, from, archive, &names);
+                    add_objects(&mut library, root, archive, &names);
                 }
             }
             library.compile(name);
@@ -232,21 +233,22 @@ fn build(from: &str) {
     }
 }
 
-/// The memory functions that the proved functions call, and the names that they get here.
-const MEMORY: [(&str, &str); 3] = [
+/// The memory functions that the proved functions call, and the names that they get here, because
+/// other libraries of the Rattle kit have memory functions of the same names.
+const MEMORY_FUNCTIONS: [(&str, &str); 3] = [
     ("rattle_alloc", "minisign_alloc"),
     ("rattle_realloc", "minisign_realloc"),
     ("rattle_dealloc", "minisign_dealloc"),
 ];
 
-/// Adds the objects of an archive to the library. Each function gets the prefix of the archive,
-/// such as `v3_`, because two archives have functions of the same names. Those of a packed crate
-/// have the prefix already.
-fn add_objects(library: &mut cc::Build, from: &str, archive: &str, names: &str) {
-    let path = format!("{from}/dist/{archive}.a");
+/// Adds the objects of an archive to the library. `names` lists the functions to rename: each gets
+/// the prefix of the archive, such as `v3_`, because two archives have functions of the same names.
+/// In a packed crate, they have the prefix already.
+fn add_objects(library: &mut cc::Build, root: &str, archive: &str, names: &str) {
+    let path = format!("{root}/dist/{archive}.a");
     let prefix = archive.rsplit('-').next().unwrap_or_default();
     let data = fs::read(&path).unwrap_or_else(|why| fail(format!("{path}: {why}")));
-    let new_name = |name: &str| match MEMORY.iter().find(|(old, _)| *old == name) {
+    let new_name = |name: &str| match MEMORY_FUNCTIONS.iter().find(|(old, _)| *old == name) {
         Some((_, new)) => Some(new.to_string()),
         None if names.lines().any(|line| line == name) => Some(format!("{prefix}_{name}")),
         None => None,
@@ -260,7 +262,7 @@ fn add_objects(library: &mut cc::Build, from: &str, archive: &str, names: &str) 
     }
 }
 
-/// Links libsodium: from `SODIUM_LIB_DIR`, or as pkg-config says.
+/// Links libsodium from the directory `SODIUM_LIB_DIR`, or if this is not set, as pkg-config says.
 #[cfg(feature = "sodium")]
 fn link_sodium() {
     if let Some(directory) = user_variable("SODIUM_LIB_DIR") {

@@ -1,7 +1,8 @@
 /*
- * Allocates memory in the WebAssembly module for signing of the package for JavaScript. tools/signing_module.py compiles
- * this file with dist/calls.c. After each call, the caller makes the memory as it was before the first call, except for its
- * size, or drops the instance. So malloc takes one block after the other, and free does nothing.
+ * Allocates memory in the WebAssembly module for signing, which is part of the package for JavaScript.
+ * tools/signing_module.py compiles this file together with dist/calls.c. After each call, the caller resets the content of
+ * the memory to what it was before the first call, or discards the instance. So malloc can return one block after the
+ * other, and free does nothing.
  *
  * SPDX-License-Identifier: MIT
  */
@@ -10,13 +11,13 @@
 
 #define PAGE_BYTES 65536
 #define ALIGNMENT 16
-/* The memory with which the module begins: --initial-memory of tools/signing_module.py. Blocks are behind it. */
+/* The initial size of the memory, which tools/signing_module.py sets by --initial-memory. Blocks begin at this address. */
 #define INITIAL_BYTES 1048576
 
 /* The address of the next block. */
 static uintptr_t next = INITIAL_BYTES;
 
-/* Adds this many pages to the memory. Returns 0 if the engine refuses. */
+/* Adds this many pages to the memory. Returns 0 if the engine does not allow it. */
 static int grow(size_t pages)
 {
     return __builtin_wasm_memory_grow(0, pages) != SIZE_MAX;
@@ -24,7 +25,7 @@ static int grow(size_t pages)
 
 void *malloc(size_t len)
 {
-    /* Memory that an earlier call has added is used again. */
+    /* The memory may have grown in an earlier call. */
     const uintptr_t end = __builtin_wasm_memory_size(0) * PAGE_BYTES;
     void *block;
 

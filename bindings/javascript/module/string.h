@@ -1,5 +1,5 @@
 /* SPDX-License-Identifier: MIT */
-/* Declares the functions of <string.h> that dist/calls.c uses. The compiler makes instructions of WebAssembly of them. */
+/* Declares the functions of <string.h> that dist/calls.c uses. The compiler replaces them by WebAssembly instructions. */
 #ifndef STRING_H
 #define STRING_H
 

@@ -1,6 +1,6 @@
 // SPDX-License-Identifier: MIT
-//! A program like rsign2, over the interface of the crate `minisign`: it generates and recreates
-//! keys, signs and verifies.
+//! A program like rsign2 that uses the interface of the crate `minisign`. It generates keys, signs,
+//! verifies, and recreates a public key from its secret key.
 //!
 //!     rsign generate [-p PUBLIC_KEY] [-s SECRET_KEY] [-c COMMENT] [-W]
 //!     rsign sign [-s SECRET_KEY] [-p PUBLIC_KEY] [-x SIGNATURE] [-t TRUSTED] [-c UNTRUSTED] [-W]
@@ -8,8 +8,9 @@
 //!     rsign verify [-p PUBLIC_KEY | -P BASE64] [-x SIGNATURE] [-q] [-o] [-l] FILE
 //!     rsign recreate [-p PUBLIC_KEY] [-s SECRET_KEY] [-W]
 //!
-//! -W: the secret key is not encrypted. -q: prints nothing. -o: prints the file after verifying it.
-//! -l: accepts legacy signatures. The exit status is 0, or 1 after an error.
+//! -W: the secret key is not encrypted. -q: print nothing. -o: print the file after verifying it.
+//! -l: accept legacy signatures. With -p, `sign` also checks that the signature is valid under this
+//! public key. The exit status is 0, or 1 after an error.
 
 use minisign::{
     sign, verify, ErrorKind, KeyPair, PError, PublicKey, Result, SecretKey, SecretKeyBox,
@@ -19,10 +20,10 @@ use std::collections::HashMap;
 use std::fs::{self, File, OpenOptions};
 use std::io::{BufReader, Write};
 
-const WITH_VALUE: [&str; 6] = ["-p", "-s", "-c", "-x", "-t", "-P"];
+const OPTIONS_WITH_VALUE: [&str; 6] = ["-p", "-s", "-c", "-x", "-t", "-P"];
 const FLAGS: [&str; 4] = ["-W", "-q", "-o", "-l"];
 
-fn usage<T>(why: String) -> Result<T> {
+fn usage_error<T>(why: String) -> Result<T> {
     Err(PError::new(ErrorKind::Misc, why))
 }
 
@@ -39,12 +40,12 @@ impl Options {
         while let Some(word) = words.next() {
             let value = match &*word {
                 name if FLAGS.contains(&name) => String::new(),
-                name if WITH_VALUE.contains(&name) => match words.next() {
+                name if OPTIONS_WITH_VALUE.contains(&name) => match words.next() {
                     Some(value) => value,
-                    None => return usage(format!("{name} needs a value")),
+                    None => return usage_error(format!("{name} needs a value")),
                 },
                 name if name.starts_with('-') || options.file.is_some() => {
-                    return usage(format!("unexpected argument: {name}"))
+                    return usage_error(format!("unexpected argument: {name}"))
                 }
                 _ => {
                     options.file = Some(word);
@@ -75,7 +76,7 @@ impl Options {
     fn file(&self) -> Result<&str> {
         match &self.file {
             Some(file) => Ok(file),
-            None => usage("no file is named".into()),
+            None => usage_error("no file is named".into()),
         }
     }
 
@@ -101,7 +102,7 @@ impl Options {
     }
 }
 
-/// Creates a secret key file, which only its owner can read.
+/// Creates a secret key file that only its owner can read. Fails if the file exists.
 fn create_secret(path: &str) -> Result<File> {
     let mut options = OpenOptions::new();
     options.write(true).create_new(true);
@@ -163,7 +164,7 @@ fn run() -> Result<()> {
         "sign" => sign_file(&options),
         "verify" => verify_file(&options),
         "recreate" => recreate(&options),
-        _ => usage("the first argument is generate, sign, verify or recreate".into()),
+        _ => usage_error("the first argument is generate, sign, verify or recreate".into()),
     }
 }
 

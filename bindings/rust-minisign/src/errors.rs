@@ -26,7 +26,7 @@ pub enum ErrorKind {
     KDF,
     /// Generating random bytes.
     RNG,
-    /// A secret key file that is not base64, or bytes that std rejects because they are not UTF-8.
+    /// A secret key file that is not base64, or a `FromUtf8Error`.
     Encoding,
     /// An encrypted secret key that would have to be decrypted first.
     EncryptedKey,
@@ -125,7 +125,7 @@ impl From<std::string::FromUtf8Error> for PError {
     }
 }
 
-/// The kind and the text are those of the library's error code.
+/// Converts an error of `minisign-proved`. The kind and the text are those of its error code.
 impl From<Error> for PError {
     fn from(error: Error) -> PError {
         let reason = match (error.reason().copied(), error) {
@@ -143,7 +143,7 @@ impl From<Error> for PError {
             Kind::Rng => ErrorKind::RNG,
             Kind::Encoding => ErrorKind::Encoding,
             Kind::EncryptedKey => ErrorKind::EncryptedKey,
-            // Callers can misuse the library only by a comment that could not be read back.
+            // The only API misuse that is possible is a comment that could not be read back.
             Kind::Misuse => ErrorKind::Sign,
             _ => ErrorKind::Misc,
         };

@@ -44,9 +44,9 @@ impl KeyPair {
     ///
     /// # Errors
     ///
-    /// `RNG` if libsodium cannot be initialized; `Io` if the terminal cannot be used; `Misc` if the
-    /// password that was typed has more than 1,024 bytes, or there is too little memory; `Generate`
-    /// if the second one that was typed is different.
+    /// `RNG` if libsodium cannot be initialized; `Io` if the terminal cannot be used; `Misc` if a
+    /// typed password has more than 1,024 bytes, or there is too little memory; `Generate` if the
+    /// two typed passwords differ.
     ///
     /// # Examples
     ///
@@ -78,8 +78,8 @@ impl KeyPair {
     ///
     /// # Errors
     ///
-    /// Those of `generate_encrypted_keypair`; `Io` if writing fails; `Sign` for a comment that
-    /// could not be read back.
+    /// Those of `generate_encrypted_keypair`; `Sign` for a comment that could not be read back,
+    /// because it contains a line break or is too long; `Io` if writing fails.
     ///
     /// # Examples
     ///
@@ -142,6 +142,7 @@ impl KeyPair {
     }
 }
 
+/// Asks for a new password and asks for it again. Then announces the key derivation.
 fn ask_twice() -> Result<Zeroizing<String>> {
     print("Please enter a password to protect the secret key.\n")?;
     let (password, again) = (ask("Password: ")?, ask("Password (one more time): ")?);

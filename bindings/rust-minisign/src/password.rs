@@ -7,7 +7,7 @@ use zeroize::Zeroizing;
 
 const MAX_BYTES: usize = 1024;
 
-/// Prints a text to standard output at once.
+/// Prints a text to standard output and flushes it.
 pub fn print(text: &str) -> Result<()> {
     stdout().write_all(text.as_bytes())?;
     Ok(stdout().flush()?)
@@ -24,7 +24,7 @@ fn prompt_password(_: &str) -> Result<Zeroizing<String>> {
     Err(PError::new(ErrorKind::Misc, why))
 }
 
-/// Asks for a password, without an echo.
+/// Asks for a password on the terminal, without echo.
 pub fn ask(prompt: &str) -> Result<Zeroizing<String>> {
     let password = prompt_password(prompt)?;
     if password.is_empty() {

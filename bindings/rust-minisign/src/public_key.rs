@@ -1,12 +1,12 @@
 // SPDX-License-Identifier: MIT
-//! Public keys.
+//! Public keys. As in the crate `minisign` 0.10, a malformed key is an `Io` error.
 
 use crate::{key_id_text, Result, SecretKey};
 use minisign_proved as proved;
 use std::{fmt, fs, path::Path};
 
-/// The content of a public key file, such as `minisign.pub`: both lines. It is not checked before
-/// it is converted to a `PublicKey`.
+/// The content of a public key file, such as `minisign.pub`: both lines. It is checked only when it
+/// is converted to a `PublicKey`.
 ///
 /// # Examples
 ///
@@ -23,7 +23,7 @@ use std::{fmt, fs, path::Path};
 pub struct PublicKeyBox(String);
 
 impl PublicKeyBox {
-    /// Takes the content of a public key file.
+    /// Stores the content of a public key file, without checking it.
     ///
     /// # Errors
     ///
@@ -79,8 +79,8 @@ impl From<PublicKeyBox> for PublicKey {
     }
 }
 
-/// A public key, which verifies signatures. Keys are equal if their keys are equal, whatever their
-/// key IDs are.
+/// A public key, which verifies signatures. As in the crate `minisign` 0.10, `==` compares only the
+/// 32 bytes of the Ed25519 key, not the key ID.
 ///
 /// # Examples
 ///
@@ -105,7 +105,7 @@ impl PublicKey {
         self.key.key_id()
     }
 
-    /// Reads a key from its first 42 bytes, which `to_bytes` returns.
+    /// Reads a key from the first 42 bytes of a buffer, as `to_bytes` returns them.
     ///
     /// # Errors
     ///
@@ -114,8 +114,8 @@ impl PublicKey {
         Ok(proved::PublicKey::from_record(buf)?.into())
     }
 
-    /// Returns the public key of a secret key that was decrypted or never encrypted. That of an
-    /// encrypted key has no meaning.
+    /// Returns the public key of a secret key that was decrypted or never encrypted. For an
+    /// encrypted key, the result has no meaning.
     ///
     /// # Errors
     ///
@@ -163,7 +163,7 @@ impl PublicKey {
     ///
     /// # Errors
     ///
-    /// `Io` if these are not 56 characters of base64.
+    /// `Io` if the string is not 56 characters of base64.
     pub fn from_base64(pk_string: &str) -> Result<PublicKey> {
         Ok(proved::PublicKey::from_base64(pk_string)?.into())
     }

@@ -7,7 +7,7 @@ use minisign_proved::{self as proved, Error, Reason, Sodium, UnopenedKey, Work};
 use std::{fmt, fs, ops::Range, path::Path};
 use zeroize::{ZeroizeOnDrop, Zeroizing};
 
-/// The limits that new keys are encrypted with.
+/// The limits with which new keys are encrypted, and which other keys must not exceed.
 const WORK: Work = Work::new(1 << 20, 1 << 25);
 
 const DEFAULT_COMMENT: &str = "rsign encrypted secret key";
@@ -95,8 +95,9 @@ impl fmt::Debug for SecretKeyBox {
     }
 }
 
-/// A secret key, decrypted or still encrypted, as the record of a key file. A decrypted key makes
-/// signatures. The key is cleared when it is dropped. Keys are equal if their secrets are equal.
+/// A secret key, which is encrypted or decrypted. It has the 158 bytes of the second line of its
+/// file. Only a decrypted key can sign. The key is cleared when it is dropped. `==` compares only
+/// the secrets.
 ///
 /// # Examples
 ///
@@ -114,11 +115,11 @@ pub struct SecretKey {
     record: Zeroizing<[u8; UnopenedKey::RECORD_BYTES]>,
 }
 
-// The parts of a record.
+// The fields of a record.
 const ALGORITHM: Range<usize> = 0..2;
 const KEY_DERIVATION: Range<usize> = 2..4;
-// The key derivation, the checksum algorithm, the salt and the limits, which say how a key is
-// encrypted.
+// The fields that say how a key is encrypted: the key derivation, the checksum algorithm, the salt
+// and the limits.
 const ENCRYPTION: Range<usize> = 2..54;
 const KEY_ID: Range<usize> = 54..62;
 const SECRET: Range<usize> = 62..126;
@@ -141,8 +142,8 @@ impl SecretKey {
         Ok(SecretKey { record })
     }
 
-    /// Returns the key to sign with, if its checksum is right. The key derivation is set to zero
-    /// first, because the record of a decrypted key still has it.
+    /// Returns the key for signing, if its checksum is right. The field for the key derivation is
+    /// set to zero first, because it is still set in the record of a decrypted key.
     pub(crate) fn open(&self) -> Result<proved::SecretKey> {
         let mut record = self.record.clone();
         record[KEY_DERIVATION].fill(0);
@@ -150,14 +151,14 @@ impl SecretKey {
         Ok(key.open(None, &WORK)?)
     }
 
-    /// Returns the record of the public key, which is a part of the record of a decrypted key.
+    /// Returns the record of the public key, from the fields of the record of a decrypted key.
     pub(crate) fn public_record(&self) -> Vec<u8> {
         let parts = [ALGORITHM, KEY_ID, PUBLIC];
         parts.map(|part| &self.record[part]).concat()
     }
 
-    /// Returns the 8 bytes of the key ID. In the record of an encrypted key the key ID is encrypted
-    /// too, so these bytes are not the key ID.
+    /// Returns the 8 bytes of the key ID. If the key is encrypted, its key ID is encrypted too, and
+    /// the result has no meaning.
     #[must_use]
     pub fn keynum(&self) -> &[u8] {
         &self.record[KEY_ID]
@@ -166,14 +167,15 @@ impl SecretKey {
     /// Returns true if the key is encrypted, so that it cannot sign before it is decrypted.
     #[must_use]
     pub fn is_encrypted(&self) -> bool {
-        // A decrypted key still has the key derivation, so `open` has to fail too.
+        // The field for the key derivation is also set in a decrypted key, but such a key can be
+        // opened.
         let key = UnopenedKey::from_record(&*self.record);
         let opened = key.and_then(|key| key.open(None, &WORK));
         let has_derivation = |error: Error| matches!(error, Error::Rejected(Reason::KEY_SEALED));
         opened.map_or_else(has_derivation, |_| false) && self.open().is_err()
     }
 
-    /// Reads a key from its first 158 bytes, which `to_bytes` returns.
+    /// Reads a key from the first 158 bytes of a buffer, as `to_bytes` returns them.
     ///
     /// # Errors
     ///
@@ -183,8 +185,8 @@ impl SecretKey {
         Ok(SecretKey { record })
     }
 
-    /// Returns the 158 bytes of the key. They contain the secret if the key was decrypted, and the
-    /// caller has to clear them.
+    /// Returns the 158 bytes of the key. If the key is not encrypted, they contain the secret, and
+    /// the caller has to clear them.
     #[must_use]
     pub fn to_bytes(&self) -> Vec<u8> {
         self.record.to_vec()
@@ -197,8 +199,8 @@ impl SecretKey {
     ///
     /// `Io` if a line is missing, the key is not encrypted, or the terminal cannot be used;
     /// `Encoding` if the second line is not base64; `KDF` if the limits of the key are invalid or
-    /// above those of `minisign -G`; `Misc` if the password that was typed has more than 1,024
-    /// bytes, or there is too little memory; `Verify` if the password is wrong.
+    /// above those of `minisign -G`; `Misc` if a typed password has more than 1,024 bytes, or there
+    /// is too little memory; `Verify` if the password is wrong.
     pub fn from_box(sk_box: SecretKeyBox, password: Option<String>) -> Result<SecretKey> {
         let password = password.map(Zeroizing::new);
         let key = UnopenedKey::decode(&sk_box.0)?;
@@ -210,8 +212,8 @@ impl SecretKey {
             print("done\n")?;
         }
         let mut decrypted = Self::decrypted(&opened?)?;
-        // Restores these fields from the file, as the crate minisign does. The algorithm is not
-        // restored, because the checksum that the library computed covers it.
+        // Like the crate minisign, copy these fields from the file. The algorithm is not copied,
+        // because it is covered by the checksum that the library has computed.
         decrypted.record[ENCRYPTION].copy_from_slice(&key.to_record()[ENCRYPTION]);
         Ok(decrypted)
     }
@@ -220,8 +222,8 @@ impl SecretKey {
     ///
     /// # Errors
     ///
-    /// `Io` if a line is missing or the key may be encrypted; `Encoding` if the second line is not
-    /// base64; `Verify` if the checksum is wrong.
+    /// `Io` if a line is missing or the key has a key derivation, so that it may be encrypted;
+    /// `Encoding` if the second line is not base64; `Verify` if the checksum is wrong.
     pub fn from_unencrypted_box(sk_box: SecretKeyBox) -> Result<SecretKey> {
         let key = UnopenedKey::decode(&sk_box.0)?;
         key.open(None, &WORK)?;
@@ -229,8 +231,8 @@ impl SecretKey {
         Ok(SecretKey { record })
     }
 
-    /// Returns the content of a secret key file. It contains the secret if the key was decrypted.
-    /// The default comment is `rsign encrypted secret key`.
+    /// Returns the content of a secret key file. If the key is not encrypted, it contains the
+    /// secret. The default comment is `rsign encrypted secret key`.
     ///
     /// # Errors
     ///
@@ -261,6 +263,7 @@ impl SecretKey {
     }
 }
 
+/// Asks for a password, and announces the key derivation.
 fn ask_password() -> Result<Zeroizing<String>> {
     let password = ask("Password: ")?;
     print("Deriving a key from the password and decrypting the secret key... ")?;

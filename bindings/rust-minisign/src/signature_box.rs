@@ -7,8 +7,8 @@ use std::{fs, path::Path};
 
 const UNTRUSTED_PREFIX: &str = "untrusted comment: ";
 
-/// A parsed signature: either a signature file with its comments, or a bare signature, without
-/// comments. Parsing verifies nothing.
+/// A parsed signature: either a signature file, or a bare signature, which has no comments. Parsing
+/// verifies nothing.
 ///
 /// # Examples
 ///
@@ -26,10 +26,10 @@ const UNTRUSTED_PREFIX: &str = "untrusted comment: ";
 /// # Ok::<(), minisign::PError>(())
 /// ```
 #[derive(Clone)]
-pub struct SignatureBox(Form);
+pub struct SignatureBox(Inner);
 
 #[derive(Clone)]
-enum Form {
+enum Inner {
     File(Signature),
     Bare(BareSignature),
 }
@@ -37,7 +37,7 @@ enum Form {
 impl SignatureBox {
     /// Returns true if this is a bare signature.
     pub(crate) fn is_bare(&self) -> bool {
-        matches!(self.0, Form::Bare(_))
+        matches!(self.0, Inner::Bare(_))
     }
 
     /// Verifies data with a legacy signature.
@@ -47,8 +47,8 @@ impl SignatureBox {
         data: &[u8],
     ) -> std::result::Result<(), Error> {
         match &self.0 {
-            Form::File(signature) => pk.key.verify(data, signature, true),
-            Form::Bare(signature) => pk.key.verify_bare_with(&Sodium, data, signature, true),
+            Inner::File(signature) => pk.key.verify(data, signature, true),
+            Inner::Bare(signature) => pk.key.verify_bare_with(&Sodium, data, signature, true),
         }
     }
 
@@ -58,8 +58,8 @@ impl SignatureBox {
         pk: &PublicKey,
     ) -> std::result::Result<StreamVerifier<'_>, Error> {
         match &self.0 {
-            Form::File(signature) => pk.key.verify_stream(signature),
-            Form::Bare(signature) => pk.key.verify_bare_stream_with(&Sodium, signature),
+            Inner::File(signature) => pk.key.verify_stream(signature),
+            Inner::Bare(signature) => pk.key.verify_bare_stream_with(&Sodium, signature),
         }
     }
 
@@ -67,8 +67,8 @@ impl SignatureBox {
     #[must_use]
     pub fn is_prehashed(&self) -> bool {
         match &self.0 {
-            Form::File(signature) => !signature.is_legacy(),
-            Form::Bare(signature) => !signature.is_legacy(),
+            Inner::File(signature) => !signature.is_legacy(),
+            Inner::Bare(signature) => !signature.is_legacy(),
         }
     }
 
@@ -79,8 +79,10 @@ impl SignatureBox {
     /// Never fails.
     pub fn untrusted_comment(&self) -> Result<String> {
         Ok(match &self.0 {
-            Form::File(signature) => signature.untrusted_comment()[UNTRUSTED_PREFIX.len()..].into(),
-            Form::Bare(_) => String::new(),
+            Inner::File(signature) => {
+                signature.untrusted_comment()[UNTRUSTED_PREFIX.len()..].into()
+            }
+            Inner::Bare(_) => String::new(),
         })
     }
 
@@ -92,8 +94,8 @@ impl SignatureBox {
     /// `Misc` for a bare signature.
     pub fn trusted_comment(&self) -> Result<String> {
         match &self.0 {
-            Form::File(signature) => Ok(signature.trusted_comment().into()),
-            Form::Bare(_) => Err(PError::new(
+            Inner::File(signature) => Ok(signature.trusted_comment().into()),
+            Inner::Bare(_) => Err(PError::new(
                 ErrorKind::Misc,
                 "trusted comment is not present",
             )),
@@ -104,8 +106,8 @@ impl SignatureBox {
     #[must_use]
     pub fn keynum(&self) -> &[u8] {
         match &self.0 {
-            Form::File(signature) => signature.key_id(),
-            Form::Bare(signature) => signature.key_id(),
+            Inner::File(signature) => signature.key_id(),
+            Inner::Bare(signature) => signature.key_id(),
         }
     }
 
@@ -128,8 +130,8 @@ impl SignatureBox {
     #[must_use]
     pub fn to_string(&self) -> String {
         match &self.0 {
-            Form::File(signature) => signature.encode(),
-            Form::Bare(_) => panic!("Incomplete SignatureBox: trusted comment is missing"),
+            Inner::File(signature) => signature.encode(),
+            Inner::Bare(_) => panic!("Incomplete SignatureBox: trusted comment is missing"),
         }
     }
 
@@ -177,7 +179,7 @@ impl SignatureBox {
 
 impl From<Signature> for SignatureBox {
     fn from(signature: Signature) -> SignatureBox {
-        SignatureBox(Form::File(signature))
+        SignatureBox(Inner::File(signature))
     }
 }
 
@@ -224,7 +226,7 @@ impl SignatureBones {
         !self.0.is_legacy()
     }
 
-    /// Reads a signature from its first 74 bytes, which `to_bytes` returns.
+    /// Reads a signature from the first 74 bytes of a buffer, as `to_bytes` returns them.
     ///
     /// # Errors
     ///
@@ -242,15 +244,15 @@ impl SignatureBones {
 
 impl From<SignatureBones> for SignatureBox {
     fn from(bones: SignatureBones) -> SignatureBox {
-        SignatureBox(Form::Bare(bones.0))
+        SignatureBox(Inner::Bare(bones.0))
     }
 }
 
 impl From<SignatureBox> for SignatureBones {
     fn from(sig_box: SignatureBox) -> SignatureBones {
         SignatureBones(match sig_box.0 {
-            Form::File(signature) => signature.to_bare(),
-            Form::Bare(signature) => signature,
+            Inner::File(signature) => signature.to_bare(),
+            Inner::Bare(signature) => signature,
         })
     }
 }

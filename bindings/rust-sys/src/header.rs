@@ -616,7 +616,7 @@ extern "C" {
     ) -> u32;
 }
 
-/// Writes zeros, by volatile writes, which the compiler does not remove.
+/// Writes zeros with volatile writes, which the compiler does not remove.
 pub fn clear(bytes: &mut [u8]) {
     bytes
         .iter_mut()

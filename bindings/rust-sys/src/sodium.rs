@@ -2,7 +2,7 @@
 //! Declares the functions of libsodium that Ed25519 needs.
 
 extern "C" {
-    /// Initializes libsodium, which has an effect only once. Returns a negative number if it fails.
+    /// Initializes libsodium. Returns a negative number on failure. Later calls have no effect.
     pub fn sodium_init() -> i32;
     /// Returns 0 if the signature is valid.
     pub fn crypto_sign_verify_detached(
@@ -19,12 +19,12 @@ extern "C" {
         len: u64,
         secret_key: &[u8; 64],
     ) -> i32;
-    /// Writes the public key and the secret key that belong to a seed.
+    /// Writes the public key and the secret key that are derived from a seed.
     pub fn crypto_sign_seed_keypair(
         public_key: &mut [u8; 32],
         secret_key: &mut [u8; 64],
         seed: &[u8; 32],
     ) -> i32;
-    /// Writes random bytes.
+    /// Fills a buffer with random bytes.
     pub fn randombytes_buf(bytes: *mut u8, len: usize);
 }

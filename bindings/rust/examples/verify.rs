@@ -1,10 +1,10 @@
 // SPDX-License-Identifier: MIT
-//! Shows how an updater in Rust verifies a file:
+//! Verifies a file, as an updater in Rust does:
 //! `cargo run --example verify -- PUBLIC_KEY DATA SIGNATURE`.
 //!
-//! If the signature is valid, it prints the trusted comment and exits with status 0. Otherwise the
-//! exit status is 1, or 2 if a file cannot be read. Legacy signatures, which sign the data itself
-//! instead of its digest, are rejected.
+//! If the signature is valid, the program prints the trusted comment and exits with status 0.
+//! Otherwise it exits with status 1, or with status 2 if a file cannot be read. Legacy signatures,
+//! which sign the data itself instead of its digest, are rejected.
 
 use minisign_proved::{Error, PublicKey, Signature};
 use std::{env, fs::File, process::ExitCode};
@@ -19,8 +19,8 @@ fn verify(key: &str, data: &str, signature: &str) -> Result<String, Error> {
 }
 
 fn main() -> ExitCode {
-    let words: Vec<String> = env::args().skip(1).collect();
-    let verdict = match &words[..] {
+    let arguments: Vec<String> = env::args().skip(1).collect();
+    let verdict = match &arguments[..] {
         [key, data, signature] => verify(key, data, signature),
         _ => {
             eprintln!("usage: verify PUBLIC_KEY DATA SIGNATURE");

@@ -1,8 +1,8 @@
 // SPDX-License-Identifier: MIT
-//! Encodes the records of signatures in base64. The library encodes those of keys, so no secret
-//! comes here.
+//! Encodes the records of signatures in base64. Keys are encoded by the C library, so this module
+//! never gets a secret.
 
-const LETTERS: &[u8; 64] = b"ABCDEFGHIJKLMNOPQRSTUVWXYZabcdefghijklmnopqrstuvwxyz0123456789+/";
+const ALPHABET: &[u8; 64] = b"ABCDEFGHIJKLMNOPQRSTUVWXYZabcdefghijklmnopqrstuvwxyz0123456789+/";
 
 /// Encodes bytes (RFC 4648, section 4).
 pub fn encode(bytes: &[u8]) -> String {
@@ -13,8 +13,8 @@ pub fn encode(bytes: &[u8]) -> String {
         });
         for at in 0..4 {
             let is_padding = at > part.len();
-            let letter = LETTERS[word >> (18 - 6 * at) & 63];
-            text.push(char::from(if is_padding { b'=' } else { letter }));
+            let character = ALPHABET[word >> (18 - 6 * at) & 63];
+            text.push(char::from(if is_padding { b'=' } else { character }));
         }
     }
     text

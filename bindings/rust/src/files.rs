@@ -1,18 +1,18 @@
 // SPDX-License-Identifier: MIT
-//! Writes the files of new keys.
+//! Writes key files.
 
 use std::io::{self, Write};
 use std::{fs, path::Path};
 
-/// Creates a file, such as a secret key file, that only its owner can read and write: its mode is
-/// 0600, whatever the umask is. Syncs the file and its directory.
+/// Creates a file that only its owner can read and write, such as a secret key file. Its mode is
+/// 0600, whatever the umask is. The file and its directory are synced.
 ///
 /// On Windows, which has no file modes, the file inherits the permissions of its directory. Choose
-/// a directory that only its owner can read, such as one in the user's profile.
+/// a directory that only its owner can read, for example in the user's profile.
 ///
 /// # Errors
 ///
-/// `io::ErrorKind::AlreadyExists` if the file exists, which is then unchanged. After any other
+/// `io::ErrorKind::AlreadyExists` if the file exists. The file is then unchanged. After any other
 /// error there is no file.
 ///
 /// # Examples
@@ -31,7 +31,7 @@ pub fn write_new<P: AsRef<Path>>(path: P, text: &str) -> io::Result<()> {
     let written = allow_owner_only(&file)
         .and_then(|()| file.write_all(text.as_bytes()))
         .and_then(|()| file.sync_all());
-    // Close the file, because Windows cannot remove an open file.
+    // Windows cannot remove an open file.
     drop(file);
     let result = written.and_then(|()| sync_directory(path));
     if result.is_err() {
@@ -49,9 +49,8 @@ fn options() -> fs::OpenOptions {
     options
 }
 
-/// Sets the mode 0600 unless the file has it already. It may not, because a umask can also remove
-/// permissions of the owner. The mode is set only if needed, because some file systems reject
-/// fchmod.
+/// Sets the mode 0600 if the file has another mode, because a umask can also remove permissions of
+/// the owner. A file that has the mode is left alone, because some file systems reject fchmod.
 #[cfg(unix)]
 fn allow_owner_only(file: &fs::File) -> io::Result<()> {
     use std::os::unix::fs::PermissionsExt;

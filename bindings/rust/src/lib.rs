@@ -18,13 +18,13 @@ use std::borrow::Cow;
 use std::hash::{Hash, Hasher};
 use std::{cmp, fmt, fs, io, path::Path};
 
-/// An error code of `minisign.h`. `Display` prints its text, a sentence, and `Debug` its name in
-/// the header, without `MINISIGN_`.
+/// An error code of `minisign.h`. `Display` prints its message, which is a sentence. `Debug` prints
+/// its name in the header without `MINISIGN_`.
 #[derive(Clone, Copy, Eq, PartialEq, Hash)]
 pub struct Reason(u32);
 
 impl Reason {
-    /// Returns the reason with a number of `minisign.h`.
+    /// Returns the reason with this error number of `minisign.h`.
     ///
     /// # Examples
     ///
@@ -39,7 +39,7 @@ impl Reason {
         Reason(code)
     }
 
-    /// Returns the number in `minisign.h`.
+    /// Returns the error number in `minisign.h`.
     #[must_use]
     pub const fn code(self) -> u32 {
         self.0
@@ -63,15 +63,16 @@ impl fmt::Display for Reason {
 
 impl std::error::Error for Reason {}
 
-/// An error of this crate: the variants of `minisign-verify`, and three more. `Display` prints a
-/// sentence.
+/// An error of this crate. It has the variants of the error of `minisign-verify`, and three more.
+/// `Display` prints a sentence.
 #[derive(Debug)]
 #[non_exhaustive]
 pub enum Error {
     /// A public key or a signature file is malformed, for this reason.
     InvalidEncoding(Reason),
-    /// The signature of the data or the comment signature is not valid, or the public key or one of
-    /// them is weak (`Reason::WEAK_ED25519`). The reason says which.
+    /// The signature of the data is not valid (`Reason::SIGNATURE_REFUSED`), the comment signature
+    /// is not valid (`COMMENT_SIGNATURE_REFUSED`), or the public key or a signature is weak
+    /// (`WEAK_ED25519`).
     InvalidSignature(Reason),
     /// A file could not be read, or is not UTF-8.
     IoError(io::Error),
@@ -79,7 +80,7 @@ pub enum Error {
     UnexpectedAlgorithm,
     /// The signature was made with a key that has another key ID.
     UnexpectedKeyId,
-    /// The algorithm of the signature is not one of Minisign's.
+    /// The signature has an algorithm that Minisign does not have.
     UnsupportedAlgorithm,
     /// The signature is a legacy one, which cannot be verified in pieces.
     UnsupportedLegacyMode,
@@ -106,14 +107,16 @@ impl Error {
     #[must_use]
     pub fn reason(&self) -> Option<&Reason> {
         match self {
-            Error::InvalidEncoding(it) | Error::InvalidSignature(it) | Error::Rejected(it) => {
-                Some(it)
-            }
+            Error::InvalidEncoding(reason)
+            | Error::InvalidSignature(reason)
+            | Error::Rejected(reason) => Some(reason),
             Error::IoError(error) => error.get_ref()?.downcast_ref(),
             Error::WeakLimits | Error::Scheme(_) => None,
             Error::UnexpectedKeyId => Some(&Reason::DIFFERENT_KEY_IDS),
             Error::UnsupportedAlgorithm => Some(&Reason::UNSUPPORTED_ALGORITHM),
-            _ => Some(&Reason::LEGACY_NOT_ACCEPTED),
+            Error::UnexpectedAlgorithm | Error::UnsupportedLegacyMode => {
+                Some(&Reason::LEGACY_NOT_ACCEPTED)
+            }
         }
     }
 }
@@ -127,7 +130,8 @@ impl From<Reason> for Error {
             Reason::SIGNATURE_REFUSED
             | Reason::COMMENT_SIGNATURE_REFUSED
             | Reason::WEAK_ED25519 => Error::InvalidSignature(reason),
-            // The errors of malformed public keys and signatures, as files or in base64.
+            // The errors of malformed public keys and signatures: MISSING_PUBLIC_KEY_COMMENT to
+            // TRUSTED_COMMENT_PREFIX for files, and BARE_PUBLIC_KEY_.. for base64.
             Reason(16..=27 | 44..=45) => Error::InvalidEncoding(reason),
             _ => Error::Rejected(reason),
         }
@@ -199,8 +203,8 @@ impl fmt::Display for SchemeError {
 
 impl std::error::Error for SchemeError {}
 
-/// An implementation of Ed25519 that verifies signatures. The crate trusts its results. It rejects
-/// public keys and signatures of small order or with a non-canonical encoding itself
+/// An implementation of Ed25519 that verifies signatures. This crate trusts its results. The crate
+/// itself rejects public keys and signatures of small order or with a non-canonical encoding
 /// (`Reason::WEAK_ED25519`), so `verify` need not reject them.
 ///
 /// # Examples
@@ -236,8 +240,8 @@ pub trait Verify: Sync {
     ) -> Result<(), SchemeError>;
 }
 
-/// An implementation of Ed25519 that also signs and makes keys. Each new signature is verified, so
-/// it verifies too.
+/// An implementation of Ed25519 that also signs and makes keys. It has to implement `Verify` too,
+/// because each new signature is verified.
 ///
 /// # Examples
 ///
@@ -269,23 +273,23 @@ pub trait Verify: Sync {
 /// # Ok::<(), minisign_proved::Error>(())
 /// ```
 pub trait Sign: Verify {
-    /// Signs a message with a secret key: the 32 bytes of the seed, then the 32 bytes of the public
-    /// key.
+    /// Signs a message. The secret key consists of the 32 bytes of the seed and the 32 bytes of the
+    /// public key.
     ///
     /// # Errors
     ///
-    /// If signing fails, which the crate reports as `Error::Scheme`.
+    /// Any error. The crate returns it as `Error::Scheme`.
     fn sign(&self, message: &[u8], secret_key: &[u8; 64]) -> Result<[u8; 64], SchemeError>;
 
-    /// Writes the secret key that belongs to a seed.
+    /// Writes the secret key that is derived from a seed, in the form that `sign` takes.
     ///
     /// # Errors
     ///
-    /// If that fails, which the crate reports as `Error::Scheme`.
+    /// Any error. The crate returns it as `Error::Scheme`.
     fn expand(&self, seed: &[u8; 32], secret_key: &mut [u8; 64]) -> Result<(), SchemeError>;
 }
 
-/// A source of random bytes that nobody can guess, for keys and salts.
+/// A source of unpredictable random bytes, for keys and salts.
 ///
 /// # Examples
 ///
@@ -313,7 +317,8 @@ pub trait Random {
     ///
     /// # Errors
     ///
-    /// If there are none, which the crate reports as `Reason::RANDOM_SOURCE_FAILED`.
+    /// Any error means that there are no random bytes. The crate returns
+    /// `Reason::RANDOM_SOURCE_FAILED`.
     fn fill(&self, bytes: &mut [u8]) -> Result<(), SchemeError>;
 }
 
@@ -334,8 +339,8 @@ impl fmt::Debug for dyn Sign + '_ {
 #[derive(Clone, Copy, Debug, Default)]
 pub struct Sodium;
 
-/// Overwrites bytes with zeros, such as a password that is no longer needed. The compiler does not
-/// remove this, as it may remove other code that writes to memory which is not read again.
+/// Overwrites bytes with zeros, for example a password that is no longer needed. Unlike an ordinary
+/// assignment, this is never optimized away.
 ///
 /// # Examples
 ///
@@ -351,7 +356,7 @@ pub fn clear(bytes: &mut [u8]) {
     raw::clear(bytes);
 }
 
-/// Reads a file, which must be UTF-8.
+/// Returns the content of a file, or an error if it is not UTF-8.
 fn text_of_file(path: &Path) -> io::Result<String> {
     let not_utf8 = |_| io::Error::new(io::ErrorKind::InvalidData, Reason::NOT_UTF8);
     String::from_utf8(fs::read(path)?).map_err(not_utf8)
@@ -362,8 +367,7 @@ fn key_id_text(key_id: &[u8; 8]) -> String {
     format!("{:X}", u64::from_le_bytes(*key_id))
 }
 
-/// Reads to the end of a reader, and passes each piece to a function, with the number of bytes read
-/// so far.
+/// Reads to the end of a reader. Passes each piece to `take`, with the number of bytes read so far.
 fn read_pieces(mut from: impl io::Read, mut take: impl FnMut(&[u8], u64)) -> io::Result<()> {
     let (mut piece, mut bytes_read) = (vec![0; 1 << 16], 0);
     loop {
@@ -379,8 +383,8 @@ fn read_pieces(mut from: impl io::Read, mut take: impl FnMut(&[u8], u64)) -> io:
     }
 }
 
-/// A public key, which verifies signatures. Keys are equal if their keys and key IDs are equal,
-/// whatever the comments are.
+/// A public key, which verifies signatures. Two public keys are equal if their Ed25519 keys and
+/// their key IDs are, whatever their comments.
 #[derive(Clone, Debug)]
 pub struct PublicKey {
     untrusted_comment: Option<String>,
@@ -615,7 +619,7 @@ impl PublicKey {
         ed25519: &'a dyn Verify,
         signature: &'a BareSignature,
     ) -> Result<StreamVerifier<'a>, Error> {
-        StreamVerifier::bare(&self.key, ed25519, signature, false).map_err(without_legacy)
+        StreamVerifier::bare(&self.key, ed25519, signature, false).map_err(stream_error)
     }
 
     /// Begins to verify data that arrives in pieces, and checks everything that does not depend on
@@ -665,12 +669,12 @@ impl PublicKey {
         ed25519: &'a dyn Verify,
         signature: &'a Signature,
     ) -> Result<StreamVerifier<'a>, Error> {
-        StreamVerifier::begin(&self.key, ed25519, signature, false).map_err(without_legacy)
+        StreamVerifier::begin(&self.key, ed25519, signature, false).map_err(stream_error)
     }
 }
 
-/// The error for data in pieces, which cannot have a legacy signature.
-fn without_legacy(reason: Reason) -> Error {
+/// Converts an error for data in pieces, which cannot be verified with a legacy signature.
+fn stream_error(reason: Reason) -> Error {
     match reason {
         Reason::LEGACY_NOT_ACCEPTED => Error::UnsupportedLegacyMode,
         _ => reason.into(),
@@ -796,24 +800,25 @@ impl fmt::Display for Signature {
 #[must_use = "nothing is verified before `finalize` returns Ok"]
 pub struct StreamVerifier<'a> {
     ed25519: &'a dyn Verify,
-    // None for a signature without comments.
+    // None if the signature has no comments.
     signature: Option<&'a Signature>,
     state: raw::State,
+    // The signatures that Ed25519 has to check.
     questions: raw::Questions,
+    // The message that the comment signature signs.
     comment_message: Vec<u8>,
 }
 
 impl<'a> StreamVerifier<'a> {
-    /// Begins a verification: gets the two signatures that Ed25519 has to check, and the message of
-    /// the comment signature.
+    /// Begins a verification, and makes all checks that need neither the data nor Ed25519.
     fn begin(
         key: &raw::PublicKey,
         ed25519: &'a dyn Verify,
         signature: &'a Signature,
         allow_legacy: bool,
     ) -> Result<Self, Reason> {
-        let (text, legacy, mut state) =
-            (signature.text.as_bytes(), allow_legacy.into(), raw::init());
+        let mut state = raw::init();
+        let (text, legacy) = (signature.text.as_bytes(), allow_legacy.into());
         let (questions, comment_message) =
             raw::ask(&mut state, key, &signature.parsed, text, legacy)?;
         Ok(StreamVerifier {
@@ -825,7 +830,7 @@ impl<'a> StreamVerifier<'a> {
         })
     }
 
-    /// Begins to verify with a signature that has no comments.
+    /// Begins a verification as `begin` does, with a signature that has no comments.
     fn bare(
         key: &raw::PublicKey,
         ed25519: &'a dyn Verify,
@@ -882,12 +887,12 @@ impl<'a> StreamVerifier<'a> {
     }
 
     /// Verifies the comment signature, and returns the trusted comment. You can call this before
-    /// you have the data. It says nothing about the data.
+    /// you have the data. The result says nothing about the data.
     ///
     /// # Errors
     ///
-    /// `InvalidSignature` with `COMMENT_SIGNATURE_REFUSED` if the comment signature is not valid,
-    /// and for a signature without comments; `Rejected` after `finalize`.
+    /// `InvalidSignature` with `COMMENT_SIGNATURE_REFUSED` if the comment signature is not valid or
+    /// the signature has no comments; `Rejected` after `finalize`.
     pub fn trusted_comment(&self) -> Result<&'a str, Error> {
         let signature = self.signature.ok_or(Reason::COMMENT_SIGNATURE_REFUSED)?;
         raw::comment_verdict(&self.state, self.accepts_comment())?;
@@ -898,7 +903,7 @@ impl<'a> StreamVerifier<'a> {
     ///
     /// # Errors
     ///
-    /// `InvalidSignature` if the signature is not valid: use none of the data. A second call
+    /// `InvalidSignature` if the signature is not valid. Then use none of the data. A second call
     /// returns an error.
     pub fn finalize(&mut self) -> Result<(), Error> {
         self.end(&[])
@@ -914,7 +919,8 @@ impl<'a> StreamVerifier<'a> {
         self.accepts(signature, &self.comment_message, key)
     }
 
-    /// Returns the verdict. For a legacy signature, `data` is all of the data.
+    /// Ends the verification and returns the verdict. For a legacy signature, `data` must be all of
+    /// the data. For other signatures it is not used.
     fn end(&mut self, data: &[u8]) -> Result<(), Error> {
         let (digest, questions) = (raw::digest(&mut self.state)?, &self.questions);
         let message = if questions.legacy == 1 { data } else { &digest };
@@ -929,7 +935,7 @@ impl<'a> StreamVerifier<'a> {
     }
 }
 
-/// Adds data, as `update` does. After `finalize` writing fails.
+/// Adds data, as `update` does. Writing fails after `finalize`.
 impl io::Write for StreamVerifier<'_> {
     fn write(&mut self, piece: &[u8]) -> io::Result<usize> {
         raw::update(&mut self.state, piece)

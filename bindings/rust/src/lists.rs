@@ -39,16 +39,17 @@ impl ListHash {
     }
 }
 
-/// The hash function of a digest of 128 digits on a line that does not name one.
+/// How to read a digest of 128 hexadecimal digits on a line that names no hash function. SHA-512
+/// and BLAKE2b digests both have this length.
 #[derive(Clone, Copy, Debug, Default, Eq, PartialEq, Hash)]
 #[non_exhaustive]
 pub enum LongDigest {
-    /// SHA-512, as `sha512sum` writes them.
+    /// As SHA-512, which `sha512sum` writes.
     #[default]
     Sha512,
-    /// BLAKE2b, as `b2sum` writes them.
+    /// As BLAKE2b, which `b2sum` writes.
     Blake2b,
-    /// Nothing: such a line is malformed.
+    /// Not at all: such a line is malformed.
     Rejected,
 }
 
@@ -62,7 +63,7 @@ impl LongDigest {
     }
 }
 
-/// An error of verifying with a list, and the line of the list at fault, if there is one.
+/// An error of verifying with a list, and the number of the line at fault if a line is at fault.
 #[derive(Debug)]
 pub struct ListError {
     error: Error,
@@ -70,15 +71,15 @@ pub struct ListError {
 }
 
 impl ListError {
-    /// Returns the error without the number of the line. `reason` of it is for example
-    /// `Reason::NOT_LISTED` or `Reason::DIGEST_MISMATCH`.
+    /// Returns the error without the line number. Its `reason` is for example `Reason::NOT_LISTED`
+    /// or `Reason::DIGEST_MISMATCH`.
     #[must_use]
     pub fn error(&self) -> &Error {
         &self.error
     }
 
-    /// Returns the number of the line at fault, from 1 on, for `Reason::MALFORMED_LINE` and
-    /// `Reason::LISTED_TWICE`.
+    /// Returns the number of the line at fault, starting at 1, for `Reason::MALFORMED_LINE` and
+    /// `Reason::LISTED_TWICE`. Returns `None` for other errors.
     #[must_use]
     pub fn line(&self) -> Option<u64> {
         (self.line != 0).then_some(self.line)
@@ -126,15 +127,15 @@ pub struct ListEntry {
     pub hash: ListHash,
     /// The digest that the file must have.
     pub digest: Vec<u8>,
-    /// The number of the line, from 1 on.
+    /// The line number, starting at 1.
     pub line: u64,
-    /// True if the name is written with escapes. The library does not resolve them, and no name
+    /// True if the name is written with escapes. The library does not resolve escapes, and no name
     /// that you look up matches such an entry.
     pub is_escaped: bool,
 }
 
-/// A verified list, such as `SHA256SUMS`. One signature is enough for all of its files. Threads may
-/// share it.
+/// A verified list, such as `SHA256SUMS`. One signature covers all of its files. Threads may share
+/// the list.
 pub struct SignedList {
     list: raw::List,
     text: Vec<u8>,
@@ -152,15 +153,16 @@ impl fmt::Debug for SignedList {
 
 /// Verifying a list.
 impl PublicKey {
-    /// Verifies the signature of a list, whose whole text is `text`. The trusted comment must have
-    /// a field `file:` with the name of the list, so that a signed text that was never meant as a
-    /// list is not taken for one. If `name` is `None`, every trusted comment is accepted. The lines
+    /// Verifies the signature of a list. `text` is the whole list. The trusted comment must have a
+    /// field `file:` with the name of the list, so that a signed text that was never meant as a
+    /// list is not used as one. If `name` is `None`, every trusted comment is accepted. The lines
     /// of the list are checked when you use it.
     ///
     /// # Errors
     ///
-    /// `UnexpectedKeyId`; `UnexpectedAlgorithm` for every legacy signature; `InvalidSignature`; and
-    /// `Rejected` with `Reason::OTHER_LIST`, if the trusted comment does not name the list.
+    /// `UnexpectedKeyId` if the signature has another key ID; `UnexpectedAlgorithm` for every
+    /// legacy signature; `InvalidSignature`; and `Rejected` with `Reason::OTHER_LIST` if the
+    /// trusted comment does not name the list.
     #[cfg(feature = "sodium")]
     pub fn verify_list(
         &self,
@@ -191,9 +193,9 @@ impl PublicKey {
             None => raw::list_ask_any(key, parsed, sig_text, text)?,
         };
         let public_key = &questions.public_key;
-        let first = ed25519.verify(&questions.signature, &questions.digest, public_key);
-        let second = ed25519.verify(&questions.comment_signature, &message, public_key);
-        raw::list_verdict(&mut list, first.is_ok(), second.is_ok())?;
+        let of_list = ed25519.verify(&questions.signature, &questions.digest, public_key);
+        let of_comment = ed25519.verify(&questions.comment_signature, &message, public_key);
+        raw::list_verdict(&mut list, of_list.is_ok(), of_comment.is_ok())?;
         Ok(SignedList {
             list,
             text: text.to_vec(),
@@ -202,12 +204,12 @@ impl PublicKey {
         })
     }
 
-    /// Reads a list and its signature, the file with `.minisig` after the name, and verifies it.
-    /// The name of the list is the last part of the path.
+    /// Reads and verifies a list. Its signature is in the file whose path is this path with
+    /// `.minisig` appended. The name of the list is the last part of the path.
     ///
     /// # Errors
     ///
-    /// `IoError` if a file cannot be read, and those of `verify_list`.
+    /// `IoError` if a file cannot be read, and the errors of `Signature::decode` and `verify_list`.
     #[cfg(feature = "sodium")]
     pub fn verify_list_file<P: AsRef<Path>>(
         &self,
@@ -224,15 +226,15 @@ impl PublicKey {
 }
 
 impl SignedList {
-    /// Returns the trusted comment, which the key has signed together with the list. Compare its
-    /// version or timestamp with what you expect: an old list stays valid.
+    /// Returns the trusted comment, which is signed with the list. Compare its version or timestamp
+    /// with what you expect, because an old list stays valid.
     #[must_use]
     pub fn trusted_comment(&self) -> &str {
         &self.trusted_comment
     }
 
     /// Returns all entries, in the order of their lines. A name that is listed twice has two
-    /// entries; `find` rejects it.
+    /// entries, and `find` returns an error for it.
     ///
     /// # Errors
     ///
@@ -243,17 +245,17 @@ impl SignedList {
         Ok(entries.iter().map(|entry| self.entry(entry)).collect())
     }
 
-    /// Returns the only entry of a name.
+    /// Returns the entry for a name, which must be listed exactly once.
     ///
     /// # Errors
     ///
-    /// `Reason::NOT_UTF8`, for the list; `BAD_NAME`, if no list can contain the name;
+    /// `Reason::NOT_UTF8` if the list is not UTF-8; `BAD_NAME` if no list can contain the name;
     /// `MALFORMED_LINE` with its line; `NOT_LISTED`; or `LISTED_TWICE` with its line.
     pub fn find(&self, name: &str) -> Result<ListEntry, ListError> {
         Ok(self.entry(&self.find_raw(name)?))
     }
 
-    /// Returns the entry of a name if the data is what the list has for this name.
+    /// Checks that data has the digest that is listed for a name, and returns the entry.
     ///
     /// # Errors
     ///
@@ -262,8 +264,8 @@ impl SignedList {
         self.verify_listed_reader(data, name)
     }
 
-    /// Verifies the data of a reader, up to its end, as `verify_listed` verifies data. After an
-    /// error use none of the data.
+    /// Verifies the data of a reader, up to its end, as `verify_listed` does. After an error use
+    /// none of the data.
     ///
     /// # Errors
     ///
@@ -286,14 +288,14 @@ impl SignedList {
         Ok(self.entry(&entry))
     }
 
-    /// Compares the digest of an entry with one that you computed yourself, for example with a
-    /// crate that uses the SHA instructions of the processor. The library trusts your hash
-    /// function: nothing is proved about the data, and the result is only as good as your hash.
-    /// `find` says which hash function the entry has.
+    /// Compares the digest of an entry with a digest that you have computed, for example with a
+    /// crate that uses the SHA instructions of the processor. Nothing is proved about the data, and
+    /// the result is only as good as your hash function. `find` returns the hash function of the
+    /// entry.
     ///
     /// # Errors
     ///
-    /// Those of `find`; `Reason::BAD_HASH`, if the entry has another hash function, or the digest
+    /// Those of `find`; `Reason::BAD_HASH` if the entry has another hash function or the digest has
     /// another length; and `Reason::DIGEST_MISMATCH`.
     pub fn verify_listed_trusting_your_hash(
         &self,
@@ -311,8 +313,8 @@ impl SignedList {
         raw::list_find(&self.list, &self.text, long_digest, name.as_bytes()).map_err(at_line)
     }
 
-    /// Returns the entry of a struct, whose name is in the list. The library has checked that the
-    /// list is UTF-8.
+    /// Converts an entry of the C library, and copies its name from the list. The library has
+    /// checked that the list is UTF-8.
     fn entry(&self, entry: &raw::ListEntry) -> ListEntry {
         let hash = match entry.hash {
             raw::HASH_SHA256 => ListHash::Sha256,

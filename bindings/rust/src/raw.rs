@@ -27,8 +27,8 @@ pub fn secret_key_record(key: &SecretKey) -> Result<Zeroizing<[u8; 158]>, crate:
     Ok(record)
 }
 
-/// Encodes a secret key file as `secret_key_text` does, but also accepts an empty password, which
-/// is allowed if the caller has set `Work::allow_empty_password`.
+/// Encodes a secret key file as `secret_key_text` does, but also accepts an empty password. For
+/// callers that have set `Work::allow_empty_password`.
 pub fn secret_key_text_with_any_password(
     key: &SecretKey,
     password: Option<&[u8]>,

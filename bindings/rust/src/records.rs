@@ -1,14 +1,14 @@
 // SPDX-License-Identifier: MIT
-//! Records, which are the decoded base64 lines of key files and signature files, and secret keys
-//! that are not decrypted yet.
+//! Converts keys and signatures to and from records, which are the decoded base64 lines of their
+//! files. Also has secret keys that are not decrypted yet, and kinds of errors.
 
 use crate::{base64, key_id_text, raw, text_of_file};
 use crate::{Error, PublicKey, Reason, SecretKey, Signature, Work};
 use std::{fmt, path::Path};
 use zeroize::Zeroizing;
 
-/// The kind of an error: a coarse class, for programs that treat many errors alike. The kinds are
-/// those of the crate `minisign`, where malformed files have the kind `Io`, and also `None`,
+/// The kind of an error, for programs that handle many errors in the same way. There are the kinds
+/// of the crate `minisign`, in which malformed files have the kind `Io`, and three more: `None`,
 /// `Misuse` and `OutOfMemory`.
 #[derive(Clone, Copy, Debug, Eq, PartialEq, Hash)]
 #[non_exhaustive]
@@ -76,8 +76,8 @@ impl PublicKey {
     /// The size of a record, in bytes.
     pub const RECORD_BYTES: usize = 42;
 
-    /// Reads a public key from its record, which is in the first 42 bytes: the algorithm, which is
-    /// not checked, the key ID (8 bytes) and the key (32).
+    /// Reads a public key from its record, which is the first 42 bytes: the algorithm (2 bytes,
+    /// which are not checked), the key ID (8) and the key (32).
     ///
     /// # Errors
     ///
@@ -171,8 +171,8 @@ impl BareSignature {
     /// The size of a record, in bytes.
     pub const RECORD_BYTES: usize = 74;
 
-    /// Reads a bare signature from its record, which is in the first 74 bytes: the algorithm, the
-    /// key ID (8 bytes) and the signature (64).
+    /// Reads a bare signature from its record, which is the first 74 bytes: the algorithm (2
+    /// bytes), the key ID (8) and the signature (64).
     ///
     /// # Errors
     ///
@@ -202,15 +202,15 @@ impl BareSignature {
 }
 
 impl Signature {
-    /// Returns the record of the data signature: the second line of the file, decoded. It contains
-    /// neither the comments nor the comment signature.
+    /// Returns the record of the data signature, which is the decoded second line of the file. It
+    /// contains neither the comments nor the comment signature.
     #[must_use]
     pub fn to_record(&self) -> [u8; BareSignature::RECORD_BYTES] {
         raw::signature_record(&self.parsed).expect("a parsed signature has a record")
     }
 
-    /// Returns a signature file of four lines with the same comments and signatures. It omits what
-    /// Minisign ignores, such as white space at the ends of lines and further lines.
+    /// Returns a signature file of four lines with the same comments and signatures. It leaves out
+    /// what Minisign ignores, such as white space at the ends of lines, and further lines.
     ///
     /// # Examples
     ///
@@ -299,10 +299,10 @@ impl UnopenedKey {
         Self::decode(&Zeroizing::new(text_of_file(path.as_ref())?))
     }
 
-    /// Reads a secret key from its record, which is in the first 158 bytes: the algorithm (2), the
-    /// key derivation (2), the checksum algorithm (2), the salt (32), the operations limit and the
-    /// memory limit (8 each), the key ID (8), the secret (64) and the checksum (32). The last three
-    /// are encrypted in the record of an encrypted key.
+    /// Reads a secret key from its record, which is the first 158 bytes: the algorithm (2 bytes),
+    /// the key derivation (2), the checksum algorithm (2), the salt (32), the operations limit (8),
+    /// the memory limit (8), the key ID (8), the secret (64) and the checksum (32). If the key is
+    /// encrypted, the last three parts are encrypted.
     ///
     /// # Errors
     ///
@@ -360,8 +360,8 @@ impl UnopenedKey {
         self.key.is_sealed == 1
     }
 
-    /// Checks everything about an encrypted key that needs no password. Call it before you ask for
-    /// the password, so that nobody types one for a key that cannot be decrypted.
+    /// Makes all checks of an encrypted key that need no password. Call it before you ask for the
+    /// password, so that nobody types a password for a key that cannot be decrypted.
     ///
     /// # Errors
     ///
@@ -375,8 +375,8 @@ impl UnopenedKey {
     ///
     /// # Errors
     ///
-    /// `Rejected`: without a password, with `KEY_SEALED` or `KEY_CORRUPTED`; with a password, as
-    /// `check`, then with `WRONG_PASSWORD` or `OUT_OF_MEMORY`.
+    /// Without a password, `Rejected` with `KEY_SEALED` or `KEY_CORRUPTED`. With a password, the
+    /// errors of `check`, and then `Rejected` with `WRONG_PASSWORD` or `OUT_OF_MEMORY`.
     pub fn open(&self, password: Option<&str>, work: &Work) -> Result<SecretKey, Error> {
         SecretKey::open(&self.key, password, work)
     }
@@ -390,7 +390,7 @@ impl fmt::Debug for UnopenedKey {
 }
 
 impl SecretKey {
-    /// Returns the record of the key, which is not encrypted and contains the secret.
+    /// Returns the record of the key, without encryption. It contains the secret.
     ///
     /// # Errors
     ///

@@ -6,7 +6,7 @@ use crate::{Error, PublicKey, Random, Reason, Sign, Signature, UnopenedKey};
 use std::{fmt, fs, io, path::Path};
 use zeroize::{ZeroizeOnDrop, Zeroizing};
 
-/// The memory and time of scrypt, which derives a key from a password.
+/// The limits for scrypt, which derives a key from a password: its memory and time.
 ///
 /// # Examples
 ///
@@ -38,8 +38,8 @@ impl Work {
         allow_empty_password: false,
     };
 
-    /// Returns limits that a key is encrypted with: the work as libsodium counts it, at least
-    /// 524,288, and the memory in bytes, from 2^24 to 2^30. `encode` checks them.
+    /// Returns limits for encrypting a key: the number of operations as libsodium counts them, at
+    /// least 524,288, and the memory in bytes, from 2^24 to 2^30. `encode` checks the limits.
     pub const fn new(operations_limit: u64, memory_limit: u64) -> Work {
         Work {
             operations_limit,
@@ -48,21 +48,21 @@ impl Work {
         }
     }
 
-    /// Keeps only every n-th row of scrypt in memory, and computes the others again when they are
-    /// needed. 1 keeps all rows and is the fastest, and the default. 16 takes at most 65 MiB, and
-    /// some three times as long.
+    /// Keeps only every n-th row of scrypt in memory, and computes the other rows again when they
+    /// are needed. The default is 1, which keeps all rows and is the fastest. 16 takes at most
+    /// 65 MiB, but about three times as long.
     pub const fn keep_every(self, keep_every: u64) -> Work {
         Work { keep_every, ..self }
     }
 
-    /// Sets the maximum work of decrypting a key file: the rows of scrypt in all, which are N times
-    /// p. The default is 2^20.
+    /// Sets the maximum work for decrypting a key file: the number of rows that scrypt computes,
+    /// which is N times p. The default is 2^20.
     pub const fn most_rows(self, most_rows: u64) -> Work {
         Work { most_rows, ..self }
     }
 
-    /// Sets whether `encode` may encrypt a key with an empty password, which protects nothing. The
-    /// default is false.
+    /// Allows `encode` to encrypt a key with an empty password, which protects nothing. The default
+    /// is false.
     pub const fn allow_empty_password(self, allow_empty_password: bool) -> Work {
         Work {
             allow_empty_password,
@@ -85,7 +85,7 @@ impl Default for Work {
 /// use minisign_proved::{SecretKey, Sodium, Work};
 ///
 /// let key = SecretKey::generate(&Sodium)?;
-/// // The least limits that are accepted. `Work::USUAL` has those of `minisign -G`.
+/// // The minimum limits. `Work::USUAL` has the limits of `minisign -G`.
 /// let work = Work::new(524_288, 1 << 24);
 /// let text = key.encode(&Sodium, Some("pass word"), &work)?;
 /// let same = SecretKey::decode(&text, Some("pass word"), &Work::USUAL)?;
@@ -95,7 +95,7 @@ impl Default for Work {
 /// # Ok::<(), minisign_proved::Error>(())
 /// ```
 pub struct SecretKey {
-    // On the heap, because moving the key would leave a copy. It clears itself.
+    // On the heap, because moving the key would leave a copy. raw::SecretKey clears itself.
     pub(crate) key: Box<raw::SecretKey>,
     is_weak: bool,
 }
@@ -156,8 +156,9 @@ impl SecretKey {
         Ok(SecretKey { key, is_weak })
     }
 
-    /// Returns true if the file that the key was read from was encrypted with limits that `encode`
-    /// rejects. Passwords of such a file can be tried fast, so encrypt the key again.
+    /// Returns true if the file from which the key was read was encrypted with limits below the
+    /// minimum of `encode`. The password of such a file can be guessed quickly, so encrypt the key
+    /// again.
     #[must_use]
     pub fn is_weak(&self) -> bool {
         self.is_weak
@@ -188,8 +189,8 @@ impl SecretKey {
     /// Returns the content of a secret key file for this key: both lines. Write it with
     /// `write_new`. The text is cleared when it is dropped.
     ///
-    /// The key is encrypted with the password and a new salt, or not encrypted if the password is
-    /// `None`.
+    /// The key is encrypted with the password and a new salt. If the password is `None`, the key is
+    /// not encrypted.
     ///
     /// # Errors
     ///
@@ -291,8 +292,8 @@ impl SecretKey {
         Ok(PublicKey::new(None, raw::public_key_of(&self.key)?))
     }
 
-    /// Signs data in memory. The comments have one line each. `trusted` is signed with the data,
-    /// and `untrusted` is not signed.
+    /// Signs data in memory. `trusted` is the trusted comment, which is signed with the data, and
+    /// `untrusted` is the untrusted comment, which is not signed. Each is one line.
     ///
     /// # Errors
     ///
@@ -320,7 +321,7 @@ impl SecretKey {
         signer.finalize(trusted, untrusted)
     }
 
-    /// Signs a file, as `sign` signs data.
+    /// Signs a file as `sign` signs data.
     ///
     /// # Errors
     ///
@@ -392,7 +393,7 @@ pub struct Signer<'a> {
 impl Signer<'_> {
     /// Adds the next piece of the data, of any length.
     pub fn update(&mut self, piece: &[u8]) {
-        // This cannot fail before the digest is computed, which only `finalize` does.
+        // This fails only after the digest was computed, and `finalize` consumes the signer.
         let _ = raw::update(&mut self.state, piece);
     }
 
@@ -405,14 +406,13 @@ impl Signer<'_> {
         read_pieces(from, |piece, _| self.update(piece))
     }
 
-    /// Returns the signature of all data, after verifying it.
+    /// Signs all data, verifies the signature, and returns it.
     ///
     /// # Errors
     ///
-    /// `Scheme` if Ed25519 fails to sign;
-    /// `InvalidSignature` if the seed and the public key in the secret key do not belong together,
-    /// as in a damaged key; `Rejected` with `BAD_COMMENT` or `UNREADABLE_COMMENT` for a comment
-    /// that Minisign could not read back.
+    /// `Scheme` if Ed25519 fails to sign; `InvalidSignature` if the key is damaged, so that its
+    /// seed and its public key do not match; `Rejected` with `BAD_COMMENT` or `UNREADABLE_COMMENT`
+    /// for a comment that Minisign could not read back.
     pub fn finalize(mut self, trusted: &str, untrusted: &str) -> Result<Signature, Error> {
         let (trusted, untrusted) = (trusted.as_bytes(), untrusted.as_bytes());
         let digest = raw::digest(&mut self.state)?;
@@ -430,8 +430,8 @@ impl Signer<'_> {
         Signature::decode(&text)
     }
 
-    /// Signs a message, and verifies the signature before returning it: if the seed and the public
-    /// key of a damaged key do not belong together, its signatures reveal the secret.
+    /// Signs a message, and verifies the signature before returning it, because a signature made
+    /// with a damaged key, whose seed and public key do not match, reveals the secret.
     fn sign_message(&self, message: &[u8]) -> Result<[u8; 64], Error> {
         let (key, ed25519) = (self.key.public_key()?.key.key, self.ed25519);
         let signature = ed25519.sign(message, &self.key.key.secret)?;

@@ -1,6 +1,6 @@
 # SPDX-License-Identifier: MIT
-"""Checks the arguments of the public functions before anything is done with them. A
-TypeError or ValueError names the argument that has a wrong type or value."""
+"""Checks the arguments of the public functions before they are used. The TypeError or
+ValueError for an argument with a wrong type or value names the argument."""
 
 import os
 from typing import Any, Callable, Dict, TypeVar, Union, cast
@@ -19,8 +19,9 @@ def wrong_type(name: str, expected: str, value: object) -> TypeError:
 
 
 def octets(name: str, value: object, expected: str = "bytes") -> bytes:
-    """Copies the bytes of a bytes-like object, so that later changes of the object have
-    no effect. (`bytes(value)` would accept an int, and return that many zero bytes.)"""
+    """Returns the bytes of a bytes-like object. They are a copy, so that later changes
+    of the object have no effect. (`bytes(value)` would also accept an int, and return
+    as many zero bytes.)"""
     if type(value) is bytes:
         return value
     try:
@@ -31,8 +32,8 @@ def octets(name: str, value: object, expected: str = "bytes") -> bytes:
 
 
 def text_octets(name: str, value: object) -> bytes:
-    """Returns the UTF-8 bytes of a text. Raises NotUtf8 for a `str` that UTF-8 cannot
-    encode. The message names the argument, but shows no part of the text, which may be
+    """Returns the bytes of a text, in UTF-8 if it is a `str`. Raises NotUtf8 for a
+    `str` that UTF-8 cannot encode. The message does not show the text, which may be
     secret."""
     if not isinstance(value, str):
         return octets(name, value, "str or bytes")
@@ -45,7 +46,7 @@ def text_octets(name: str, value: object) -> bytes:
 
 
 def path_text(name: str, value: object) -> str:
-    """Returns a path as `str`. Rejects an int, which `open` would take for a file
+    """Returns a path as `str`. Rejects an int, which `open` would use as a file
     descriptor."""
     try:
         text = os.fsdecode(cast(Path, value))
@@ -57,7 +58,7 @@ def path_text(name: str, value: object) -> str:
 
 
 def choice(name: str, value: object, choices: Dict[str, Kind]) -> Kind:
-    """Returns the value that a name has in `choices`."""
+    """Returns the element of `choices` whose key is the value of an argument."""
     check_kind(name, value, str)
     if value not in choices:
         expected = " or ".join(map(repr, choices))
@@ -66,21 +67,25 @@ def choice(name: str, value: object, choices: Dict[str, Kind]) -> Kind:
 
 
 def check_kind(name: str, value: object, kind: type) -> None:
-    """Checks that an argument is an instance of a class. A bool does not pass for an
-    int. No other type passes for a bool, because the string "no" would be true."""
+    """Checks that an argument is an instance of a class. A bool is not accepted as an
+    int. Only True and False are accepted as a bool, because "no" would be true."""
     if not isinstance(value, kind) or (kind is int and isinstance(value, bool)):
         raise wrong_type(name, kind.__name__, value)
 
 
 def check_number(
-    name: str, value: object, least: int, most: int, form: Callable[[int], str] = str
+    name: str,
+    value: object,
+    minimum: int,
+    maximum: int,
+    shown: Callable[[int], str] = str,
 ) -> None:
-    """Checks that an argument is an int from `least` to `most`. `form` formats the
-    numbers in the message."""
+    """Checks that an argument is an int from `minimum` to `maximum`. `shown` formats
+    the numbers for the message."""
     check_kind(name, value, int)
-    if not least <= cast(int, value) <= most:
-        expected = f"from {form(least)} to {form(most)}"
-        raise ValueError(f"{name} must be {expected}, not {form(cast(int, value))}")
+    if not minimum <= cast(int, value) <= maximum:
+        expected = f"from {shown(minimum)} to {shown(maximum)}"
+        raise ValueError(f"{name} must be {expected}, not {shown(cast(int, value))}")
 
 
 def check_function(name: str, value: object) -> None:

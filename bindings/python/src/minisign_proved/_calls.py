@@ -1,7 +1,7 @@
 # SPDX-License-Identifier: MIT
 """Loads the shared library, whose calls `_header.py` declares, and an implementation of
-Ed25519: libsodium or the package `cryptography`. If a call returns an error code, the
-exception for this code is raised."""
+Ed25519: libsodium or the package `cryptography`. If a call returns an error code, it
+raises the exception for this code."""
 
 import ctypes.util
 import os
@@ -59,9 +59,9 @@ class Sodium:
 
 
 class Cryptography:
-    """Ed25519 of the package `cryptography`. It accepts some signatures of small order
-    or with non-canonical encodings, which libsodium rejects. `minisign_ask` rejects
-    them before Ed25519 is called, and so does `minisign_install_file`."""
+    """Ed25519 of the package `cryptography`. Unlike libsodium, it accepts some
+    signatures of small order or with non-canonical encodings. `minisign_ask` and
+    `minisign_install_file` reject all of these before they call Ed25519."""
 
     def __init__(self) -> None:
         from cryptography.hazmat.primitives.asymmetric import ed25519
@@ -96,7 +96,7 @@ IMPLEMENTATIONS: Dict[str, Type[Ed25519]] = {
     "libsodium": Sodium,
     "cryptography": Cryptography,
 }
-# The implementation in use, if one was chosen or used already.
+# Contains the implementation in use, after one was chosen or used.
 _current: List[Ed25519] = []
 
 

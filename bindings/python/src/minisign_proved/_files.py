@@ -12,9 +12,9 @@ from ._arguments import Path, octets, path_text
 
 
 def _allow_owner_only(descriptor: int) -> None:
-    """Sets the mode 0600 unless the file has it already. It may not, because a umask
-    can also remove permissions of the owner. It is set only if needed, because some
-    file systems reject fchmod."""
+    """Sets the mode 0600 if the file has another mode, because a umask can also remove
+    permissions of the owner. A file that has the mode is left alone, because some file
+    systems reject fchmod."""
     if hasattr(os, "fchmod") and os.fstat(descriptor).st_mode & 0o677 != 0o600:
         os.fchmod(descriptor, 0o600)
 
@@ -37,7 +37,7 @@ def _sync_directory(name: str) -> None:
 
 @contextlib.contextmanager
 def _removed_after_error(name: str) -> Iterator[None]:
-    """Removes a file if the block raises any exception, also KeyboardInterrupt."""
+    """Removes a file if the block raises any exception, even KeyboardInterrupt."""
     try:
         yield
     except BaseException:
@@ -60,10 +60,10 @@ def _create(name: str, text: bytes, is_secret: bool) -> None:
 
 
 def write_new(path: Path, text: bytes) -> None:
-    """Creates a file, such as a secret key file, that only its owner can read and
-    write, whatever the umask is. Syncs the file and its directory.
+    """Creates a file that only its owner can read and write, such as a secret key file.
+    Its mode is 0600, whatever the umask is. The file and its directory are synced.
 
-    Raises FileExistsError if the file exists, which is then unchanged. After any other
+    Raises FileExistsError if the file exists, and leaves it unchanged. After any other
     error, such as OSError on a full disk, there is no file. On Windows the file
     inherits the permissions of its directory.
     """
@@ -89,7 +89,7 @@ def replace_file(path: str, text: bytes, is_secret: bool) -> None:
         if os.path.exists(name) and not is_secret:
             shutil.copymode(name, new)
         os.replace(new, name)
-    # An error is ignored: the file is already replaced, although the old one may be
-    # back after a crash.
+    # An error is ignored, because the file is already replaced. After a crash the old
+    # file may be back.
     with contextlib.suppress(OSError):
         _sync_directory(name)

@@ -21,14 +21,17 @@ from .errors import ReadingFailed
 __all__ = ["Data", "Password", "Progress", "PublicKey", "SecretKey", "Signature"]
 __all__ += ["TooLong", "Verifier", "change_password", "sign", "verify", "write_new"]
 
-# Is called with the number of bytes read so far, and the size of the file, or 0 if the
-# size is not known.
+# A function that is called with the number of bytes read so far, and the size of the
+# file, or 0 if the size is not known.
 Progress = Callable[[int, int], None]
 # Bytes, a binary file, or pieces of bytes.
 Data = Union[bytes, IO[bytes], Iterable[bytes]]
 
-TEXT_BYTES, PIECE_BYTES = 1 << 20, 1 << 18
-# None for a key that is not encrypted.
+# The maximum size of a key file or signature file.
+TEXT_BYTES = 1 << 20
+# The size of the pieces in which files are read.
+PIECE_BYTES = 1 << 18
+# A password, or None for a key that is not encrypted.
 Password = Optional[Text]
 UNTRUSTED_COMMENT = "signature from minisign secret key"
 # The parameter keep_every of the C library, by the value of low_memory.
@@ -59,7 +62,8 @@ def is_file(data: object) -> bool:
 
 
 def pieces(data: Data) -> Iterator[bytes]:
-    """Yields the data in pieces, each a copy that nobody else can change."""
+    """Yields the data in pieces. Each piece is a copy, which the caller of the package
+    cannot change."""
     if is_file(data):
         file = cast("IO[bytes]", data)
         name = "the result of data.read"
@@ -76,7 +80,7 @@ def pieces(data: Data) -> Iterator[bytes]:
 def pieces_of(
     data: Union[str, IO[bytes]], progress: Optional[Progress]
 ) -> Iterable[bytes]:
-    """Yields the pieces of a path or an open file. Closes only a file that it opened.
+    """Yields the pieces of the file at a path, or of an open file, which is not closed.
     Calls `progress` after each piece."""
     with ExitStack() as stack:
         if is_file(data):
@@ -102,11 +106,11 @@ class Signature:
     UTF-8 bytes. Nothing is verified until you pass it to `verify` or a `Verifier`.
 
     Creating a Signature raises NotUtf8 for a `str` that UTF-8 cannot encode, but does
-    not parse the content. `key_id`, `is_legacy` and verifying do. If the content is
-    malformed, they raise NotUtf8, MissingUntrustedComment, MissingSignature,
+    not parse the content. The content is parsed by `key_id`, `is_legacy` and verifying.
+    If it is malformed, they raise NotUtf8, MissingUntrustedComment, MissingSignature,
     MissingTrustedComment, MissingCommentSignature, UntrustedCommentPrefix,
-    SignatureNotBase64 or RecordTooShort (of the second line), TrustedCommentPrefix,
-    UnsupportedAlgorithm, or SignatureNotBase64 (of the fourth line).
+    SignatureNotBase64 or RecordTooShort (for the second line), TrustedCommentPrefix,
+    UnsupportedAlgorithm, or SignatureNotBase64 (for the fourth line).
     """
 
     def __init__(self, text: Text) -> None:
@@ -120,7 +124,7 @@ class Signature:
 
     @property
     def _parsed(self) -> h.Signature:
-        """The struct that the library parses the content into, on first use."""
+        """The struct of the parsed content, which is parsed on first use."""
         if self._struct is None:
             self._struct = calls.read_signature(self._text)
         return self._struct
@@ -189,7 +193,7 @@ class PublicKey:
         its file and the argument of minisign -P.
 
         Raises NotUtf8, BarePublicKeyLength, BarePublicKeyNotBase64 or RecordTooShort if
-        they are malformed.
+        the key is malformed.
         """
         parsed = calls.read_bare_public_key(text_octets("letters", letters))
         return cls(b"", _parsed=parsed)
@@ -224,9 +228,10 @@ class Verifier:
     at the end.
 
     Creating a Verifier checks everything that does not depend on the data. It raises
-    the errors that `Signature` lists for malformed content; DifferentKeyIds, if the
-    signature has another key ID than the key; LegacyNotAccepted, for a legacy signature
-    unless `allow_legacy` is true; and WeakEd25519.
+    the errors that `Signature` lists for malformed content; DifferentKeyIds if the
+    signature has a different key ID from the key; LegacyNotAccepted for a legacy
+    signature, unless `allow_legacy` is true; and WeakEd25519 if the key or a signature
+    is weak.
 
     The data of a legacy signature is kept in memory until `finish`. Several threads may
     use one Verifier, because it has a lock.
@@ -265,19 +270,20 @@ class Verifier:
 
     @property
     def _comment(self) -> str:
-        """The trusted comment, from the message that the comment signature signs."""
+        """The trusted comment, which is the end of the message that the comment
+        signature signs."""
         questions = self._questions
         end = questions.comment_offset + questions.comment_len
         return self._comment_message[questions.comment_offset : end].decode()
 
     def _accepts_comment(self) -> bool:
-        """Returns whether Ed25519 accepts the comment signature."""
+        """Returns True if Ed25519 accepts the comment signature."""
         signature, key = self._questions.comment_signature, self._questions.public_key
         return ed25519().accepts(bytes(signature), self._comment_message, bytes(key))
 
     def trusted_comment(self) -> str:
-        """Returns the trusted comment, after verifying the comment signature. You can
-        call it before you have the data. It says nothing about the data.
+        """Verifies the comment signature, and returns the trusted comment. You can call
+        this before you have the data. The result says nothing about the data.
 
         Raises NotBegun after `finish`, and CommentSignatureRefused if the comment
         signature is not valid.
@@ -289,9 +295,9 @@ class Verifier:
     def finish(self) -> str:
         """Returns the trusted comment if the signature is valid for all of the data.
 
-        Raises NotBegun if called a second time. Raises SignatureRefused if the
+        Raises NotBegun if it is called a second time. Raises SignatureRefused if the
         signature of the data is not valid, or CommentSignatureRefused if the comment
-        signature is not. Then use none of the data.
+        signature is not valid. Then use none of the data.
         """
         questions = self._questions
         with self._lock:
@@ -312,10 +318,10 @@ def verify(
 ) -> str:
     """Verifies a file, and returns the trusted comment if the signature is valid.
 
-    Without `signature`, reads it from the file `path`.minisig. `progress` is called
-    after each piece with the number of bytes read so far, and the size of the file, or
-    0 if the size is not known. Returning means that the bytes which were read are
-    signed; if others can write to the file, they can change it afterwards.
+    If `signature` is None, it is read from the file `path`.minisig. `progress` is
+    called after each piece with the number of bytes read so far, and the size of the
+    file, or 0 if the size is not known. The result is about the bytes that were read;
+    if others can write to the file, they can change it afterwards.
 
     Raises OSError if a file cannot be read, TooLong if the signature file has more than
     1 MiB, and the errors of `Verifier` and of `Verifier.finish`.
@@ -347,10 +353,10 @@ class SecretKey(AbstractContextManager["SecretKey"]):
     """Holds a decrypted secret key, which signs. Make one with `generate`, `from_bytes`
     or `from_file`.
 
-    `clear`, which the end of a `with` block calls too, sets the secret bytes to zeros.
-    Copies that Python made of a password or of the content of a key file stay in
-    memory. Deriving a key from a password takes 1 GiB of memory with the limits of
-    minisign -G. With `low_memory` it takes 65 MiB, and some three times as long.
+    `clear`, which is also called at the end of a `with` block, sets the secret bytes to
+    zeros. Copies that Python has made of a password or of the content of a key file
+    stay in memory. Deriving a key from a password takes 1 GiB of memory with the limits
+    of minisign -G. With `low_memory` it takes 65 MiB, but about three times as long.
     """
 
     def __init__(self, opened: h.SecretKey, *, _weak: bool = False) -> None:
@@ -365,9 +371,9 @@ class SecretKey(AbstractContextManager["SecretKey"]):
 
     @property
     def is_weak(self) -> bool:
-        """True if the file that the key was read from was encrypted with limits below
-        the minimum of Minisign, which `to_bytes` rejects. Passwords of such a file can
-        be tried fast, so encrypt the key again."""
+        """True if the file from which the key was read was encrypted with limits below
+        the minimum of Minisign, which `to_bytes` rejects. The password of such a file
+        can be guessed quickly, so encrypt the key again."""
         return self._weak
 
     def __repr__(self) -> str:
@@ -398,18 +404,24 @@ class SecretKey(AbstractContextManager["SecretKey"]):
     ) -> "SecretKey":
         """Decrypts the content of a secret key file, such as minisign.key: both lines,
         as `str` or UTF-8 bytes. Pass None as the password of a key that is not
-        encrypted. `most_rows` limits the work of scrypt: N times p.
+        encrypted. `most_rows` is the maximum number of rows that scrypt computes, which
+        is N times p.
 
-        Raises:
+        If the content is malformed, raises NotUtf8, MissingSecretKeyComment,
+        MissingSecretKey, SecretKeyNotBase64 or RecordTooShort. Without a password,
+        raises:
 
-        - NotUtf8, MissingSecretKeyComment, MissingSecretKey, SecretKeyNotBase64 or
-          RecordTooShort, if the content is malformed;
-        - without a password: KeySealed, if the key is encrypted; KeyCorrupted, if its
-          checksum does not match;
-        - with a password: NotUtf8, for a password that is not UTF-8; KeyNotSealed, if
-          the key is not encrypted; UnsupportedKeyDerivation, ParametersTooHigh or
-          InvalidParameters, if its key derivation or its limits are not supported;
-          WorkTooHigh, if it takes more than `most_rows` rows of scrypt; WrongPassword.
+        - KeySealed if the key is encrypted;
+        - KeyCorrupted if the checksum of the key does not match.
+
+        With a password, raises:
+
+        - NotUtf8 if the password is not UTF-8;
+        - KeyNotSealed if the key is not encrypted;
+        - UnsupportedKeyDerivation, ParametersTooHigh or InvalidParameters if its key
+          derivation or its limits are not supported;
+        - WorkTooHigh if scrypt would compute more than `most_rows` rows;
+        - WrongPassword.
         """
         password_bytes = old_password("password", password)
         check_kind("low_memory", low_memory, bool)
@@ -453,15 +465,15 @@ class SecretKey(AbstractContextManager["SecretKey"]):
         """Returns the content of a secret key file for this key. Write it with
         `write_new`.
 
-        The key is encrypted with the password and a new salt, or not encrypted if
-        `password` is None. The limits of scrypt are those of minisign -G unless you
-        pass others: `operations_limit` is the work, and `memory_limit` the memory in
-        bytes, as libsodium counts them. `comment` is the untrusted comment in the first
-        line.
+        The key is encrypted with the password and a new salt. If `password` is None,
+        the key is not encrypted. The default limits for scrypt are those of
+        minisign -G: `operations_limit` is the number of operations, and `memory_limit`
+        the memory in bytes, as libsodium counts them. `comment` is the untrusted
+        comment in the first line.
 
-        Raises ValueError for an empty password, and for limits below the lowest that
-        minisign -G encrypts with. Raises KeyNotOpened after `clear`; NotUtf8,
-        BadComment or UnreadableComment for a comment that Minisign could not read back;
+        Raises ValueError for an empty password, and for limits below the minimum of
+        minisign -G. Raises KeyNotOpened after `clear`; NotUtf8, BadComment or
+        UnreadableComment for a comment that Minisign could not read back;
         ParametersTooHigh or InvalidParameters for limits that scrypt rejects.
         """
         password_bytes = new_password("password", password)
@@ -503,8 +515,8 @@ class SecretKey(AbstractContextManager["SecretKey"]):
 
         Raises NotUtf8 for a comment that is not UTF-8; OSError if the file cannot be
         read; KeyNotOpened after `clear`; BadComment or UnreadableComment for a comment
-        that Minisign could not read back; and SignatureRefused if the seed and the
-        public key in the secret key do not belong together, as in a damaged key.
+        that Minisign could not read back; and SignatureRefused if the key is damaged,
+        so that its seed and its public key do not match.
         """
         name = path_text("path", path)
         check_function("progress", progress)
@@ -545,8 +557,8 @@ class SecretKey(AbstractContextManager["SecretKey"]):
                 key, data_signature, comment_signature, trusted, untrusted
             )
         )
-        # Never return a signature that does not verify: if the seed and the public key
-        # of a damaged key do not belong together, its signatures reveal the secret.
+        # Return no signature without verifying it, because a signature made with a
+        # damaged key, whose seed and public key do not match, reveals the secret.
         public_key = PublicKey(b"", _parsed=key)
         Verifier(public_key, signature, _state=state_before_digest).finish()
         return signature
@@ -590,11 +602,11 @@ def sign(
 def change_password(
     path: Path, old: Password, new: Password, *, low_memory: bool = False
 ) -> None:
-    """Encrypts the key of a secret key file with another password. Pass None for a key
-    that is not encrypted, as `old`, or is not to be encrypted, as `new`.
+    """Encrypts the key in a secret key file with another password. Pass None as `old`
+    if the key is not encrypted, and None as `new` to write it without encryption.
 
-    The file is replaced in one step by one that only its owner can read. If `path` is a
-    symbolic link, the file that it leads to is replaced.
+    The file is replaced in one step by a file that only its owner can read. If `path`
+    is a symbolic link, the file that it leads to is replaced.
 
     Raises ValueError if `new` is empty, the errors of `SecretKey.from_file`, and
     OSError if the file cannot be written. After an error the file is unchanged, and no

@@ -1,7 +1,7 @@
 # SPDX-License-Identifier: MIT
-"""Installs updates and checks for them, by the call of include/minisign_installing.h.
-This module fills in its options, reads open files, calls Ed25519, and raises the
-errors."""
+"""Installs updates and checks for them, with the call of
+include/minisign_installing.h. This module fills in the options of the call, reads open
+files, calls Ed25519, and raises errors."""
 
 import ctypes
 import errno
@@ -28,10 +28,10 @@ NUMBERINGS = {"timestamp": h.NUMBERING_TIMESTAMP, "version": h.NUMBERING_VERSION
 class Offer(IntEnum):
     """Says what `install` would do with an update.
 
-    - NEWER: install it. It is newer than the recorded version, or a run that installed
-      it was interrupted.
-    - THERE: nothing, because it is already installed.
-    - OLDER: reject it, because its version number is below the recorded one.
+    - NEWER: install the update. It is newer than the recorded version, or a run that
+      was installing it was interrupted.
+    - THERE: nothing, because the update is already installed.
+    - OLDER: reject the update, because its version number is below the recorded one.
     """
 
     NEWER = 1
@@ -41,8 +41,8 @@ class Offer(IntEnum):
 
 @dataclass(frozen=True, eq=False)
 class Checked:
-    """Holds the result of `check`. It is equal to its `status`, so that you can write
-    `check(..) == Offer.NEWER`.
+    """Holds the result of `check`. A Checked is equal to its `status`, so that you can
+    write `check(..) == Offer.NEWER`.
 
     - `status`: the `Offer`.
     - `number`: the version number of the update.
@@ -61,13 +61,13 @@ class Checked:
         return hash(self.status)
 
 
-AT = ctypes.c_void_p
-SizeAt = ctypes.POINTER(ctypes.c_size_t)
-NumberAt = ctypes.POINTER(ctypes.c_uint)
+Pointer = ctypes.c_void_p
+SizePointer = ctypes.POINTER(ctypes.c_size_t)
+UintPointer = ctypes.POINTER(ctypes.c_uint)
 
 
 class Phase(ctypes.Structure):
-    """`minisign_installing_progress` of include/minisign_installing.h."""
+    """The struct `minisign_installing_progress` of include/minisign_installing.h."""
 
     _fields_ = [
         ("phase", ctypes.c_uint),
@@ -78,7 +78,7 @@ class Phase(ctypes.Structure):
 
 
 class Message(ctypes.Structure):
-    """`minisign_installing_message` of include/minisign_installing.h."""
+    """The struct `minisign_installing_message` of include/minisign_installing.h."""
 
     _fields_ = [
         ("kind", ctypes.c_uint),
@@ -88,18 +88,22 @@ class Message(ctypes.Structure):
     ]
 
 
-# The types of the functions that the library calls. What a function returns is lost if
-# it raises before it can catch the exception, for example KeyboardInterrupt. So results
-# are written to pointers, and the run fails if there is none.
-Read = ctypes.CFUNCTYPE(None, AT, AT, ctypes.c_size_t, SizeAt)
-Answer = ctypes.CFUNCTYPE(None, AT, AT, AT, ctypes.c_size_t, AT, NumberAt)
-Comment = ctypes.CFUNCTYPE(None, AT, ctypes.c_uint64, AT, ctypes.c_size_t)
-Show = ctypes.CFUNCTYPE(None, AT, ctypes.POINTER(Phase))
-Say = ctypes.CFUNCTYPE(None, AT, ctypes.POINTER(Message))
+# The types of the functions that the library calls. They write their results to
+# pointers, because a returned value is lost if a function raises an exception, such as
+# KeyboardInterrupt, before it can catch it. If no result was written, the run fails.
+ReadFunction = ctypes.CFUNCTYPE(None, Pointer, Pointer, ctypes.c_size_t, SizePointer)
+AnswerFunction = ctypes.CFUNCTYPE(
+    None, Pointer, Pointer, Pointer, ctypes.c_size_t, Pointer, UintPointer
+)
+CommentFunction = ctypes.CFUNCTYPE(
+    None, Pointer, ctypes.c_uint64, Pointer, ctypes.c_size_t
+)
+ProgressFunction = ctypes.CFUNCTYPE(None, Pointer, ctypes.POINTER(Phase))
+MessageFunction = ctypes.CFUNCTYPE(None, Pointer, ctypes.POINTER(Message))
 
 
 class InstallingOptions(ctypes.Structure):
-    """`minisign_installing_options` of include/minisign_installing.h."""
+    """The struct `minisign_installing_options` of include/minisign_installing.h."""
 
     _fields_ = [
         ("target", ctypes.c_char_p),
@@ -111,7 +115,7 @@ class InstallingOptions(ctypes.Structure):
         ("choices", h.InstallOptions),
         ("data", ctypes.c_char_p),
         ("data_fd", ctypes.c_int),
-        ("read", Read),
+        ("read", ReadFunction),
         ("data_name", ctypes.c_char_p),
         ("max_size", ctypes.c_uint64),
         ("has_max_size", ctypes.c_uint32),
@@ -119,17 +123,18 @@ class InstallingOptions(ctypes.Structure):
         ("has_mode", ctypes.c_uint32),
         ("wait", ctypes.c_uint32),
         ("name", ctypes.c_char_p),
-        ("verify", AT),
-        ("answer", Answer),
-        ("now", AT),
-        ("signed_comment", Comment),
-        ("progress", Show),
-        ("message", Say),
-        ("context", AT),
+        ("verify", Pointer),
+        ("answer", AnswerFunction),
+        ("now", Pointer),
+        ("signed_comment", CommentFunction),
+        ("progress", ProgressFunction),
+        ("message", MessageFunction),
+        ("context", Pointer),
     ]
 
 
-# Results, phases and a kind of message of include/minisign_installing.h.
+# The statuses, phases and the kind of message of include/minisign_installing.h that are
+# used here.
 STATUS_INSTALLED = 0
 STATUS_ALREADY_INSTALLED = 10
 STATUS_TOO_LARGE = 11
@@ -142,24 +147,24 @@ MESSAGE_CAUSE = 2
 # The library contains the installer on Linux only.
 HAS_INSTALLER = hasattr(library, "minisign_install_file")
 
-# The signals that ask a process to end. If Python has a handler for one, it runs once
-# the library has returned, or calls a function of this module. Without a handler, the
-# signal ends the process at once.
+# The signals that ask a process to end. If Python has a handler for a signal, the
+# handler runs when the library returns or calls a function of this module. Without a
+# handler, the signal ends the process at once.
 END_SIGNALS = ("SIGHUP", "SIGINT", "SIGQUIT", "SIGTERM")
 
 
 class _Signals:
-    """Delays the signals that have no handler, from `defer` to `release`.
+    """Delays END_SIGNALS that have no handler, from `defer` to `release`.
 
-    No signal must end the process between the renaming of the record and that of the
-    target. The library blocks signals only in the calling thread, so a signal that is
-    sent to the process goes to another thread. Therefore signals without a handler get
-    one here, which notes the signal, and they are raised again at the end. Python
+    No signal must end the process after the record was renamed and before the target
+    is. The library blocks signals only in the calling thread, so another thread can
+    still get a signal that is sent to the process. Therefore `defer` installs a handler
+    that only notes the signal, and `release` raises the noted signals again. Python
     allows this only in the main thread.
     """
 
     def __init__(self) -> None:
-        self.numbers: list[int] = []
+        self.deferred: list[int] = []
         self.noted: list[int] = []
 
     def defer(self) -> None:
@@ -167,15 +172,15 @@ class _Signals:
             numbers = [getattr(signal, name) for name in END_SIGNALS]
             for number in numbers:
                 if signal.getsignal(number) == signal.SIG_DFL:
-                    self.numbers.append(number)
+                    self.deferred.append(number)
                     signal.signal(number, lambda number, _: self.noted.append(number))
 
     def release(self) -> None:
-        # Another thread may have received a signal: give it the time to note it.
-        threading.Event().wait(0.01 * len(self.numbers))
+        # Give another thread that has received a signal the time to note it.
+        threading.Event().wait(0.01 * len(self.deferred))
         # Python loses a signal that arrives while its handler is replaced.
-        mask = signal.pthread_sigmask(signal.SIG_BLOCK, self.numbers)
-        for number in self.numbers:
+        mask = signal.pthread_sigmask(signal.SIG_BLOCK, self.deferred)
+        for number in self.deferred:
             signal.signal(number, signal.SIG_DFL)
         signal.pthread_sigmask(signal.SIG_SETMASK, mask)
         for number in dict.fromkeys(self.noted):
@@ -183,8 +188,8 @@ class _Signals:
 
 
 class _Run:
-    """A run: the functions that the library calls, and what they got. The first
-    exception that one of them raises ends the run."""
+    """A run of the installer: the functions that the library calls, and the results
+    that they have got. The first exception that one of them raises ends the run."""
 
     def __init__(
         self, data: Optional[IO[bytes]] = None, progress: Optional[Progress] = None
@@ -247,18 +252,17 @@ class _Run:
             self.cause = OSError(found.system_error or errno.EINVAL, reason, path)
 
     def make(self, options: InstallingOptions) -> int:
-        """Makes the run, and returns its result. Raises what a function has raised,
-        and the error for which the update was rejected, if there is one. The
-        `__cause__` of an error is an OSError with the file that could not be used, if
-        there is one."""
+        """Makes the run, and returns its status. Raises the exception that a function
+        has raised, or the error for which the update was rejected. If a file could not
+        be used, the `__cause__` of the error is an OSError that names the file."""
         if not HAS_INSTALLER:
             raise NotImplementedError("installing is supported only on Linux")
         if self.data is not None:
-            options.read = Read(self._catching(self._read))
-        options.answer = Answer(self._catching(self._answer))
-        options.signed_comment = Comment(self._catching(self._keep_comment))
-        options.progress = Show(self._catching(self._show_phase))
-        options.message = Say(self._catching(self._keep_message))
+            options.read = ReadFunction(self._catching(self._read))
+        options.answer = AnswerFunction(self._catching(self._answer))
+        options.signed_comment = CommentFunction(self._catching(self._keep_comment))
+        options.progress = ProgressFunction(self._catching(self._show_phase))
+        options.message = MessageFunction(self._catching(self._keep_message))
         why = ctypes.c_uint()
         try:
             status = library.minisign_install_file(
@@ -269,7 +273,7 @@ class _Run:
         if self.exception is not None:
             raise self.exception
         if status == STATUS_STOPPED:
-            # An exception that came before a function could catch it.
+            # A function was interrupted before it could catch the exception.
             raise KeyboardInterrupt
         if status == STATUS_TOO_LARGE:
             raise TooLong("the data is larger than the limit") from self.cause
@@ -290,8 +294,8 @@ def _options_struct(
     numbering: str,
     name: Optional[Path],
 ) -> InstallingOptions:
-    """Checks the parameters that `install` and `check` share, and returns the options
-    that have them."""
+    """Checks the parameters that `install` and `check` have in common, and returns the
+    options for them."""
     keys: list[PublicKey] = list(key) if isinstance(key, Sequence) else [key]
     for public_key in keys:
         check_kind("key", public_key, PublicKey)
@@ -356,14 +360,16 @@ def install(
     run for the same update was interrupted, `install` finishes it.
 
     - `key`: a public key, or two during a change of keys. The signature must have the
-      key ID of one of them. If both have this key ID, either may have signed.
-    - `data`: a path or a binary file. If it is not the path of a regular file, but a
-      pipe or an open file, `install` first makes a check. Only if the update is to be
-      installed, it reads the data, no further than the trusted comment and `most`
-      allow, into a temporary file without a name in the directory of the target.
+      key ID of one of them. If both have this key ID, the signature may be valid under
+      either key.
+    - `data`: a path or a binary file. A regular file is verified and installed from its
+      path. The data of a pipe or of an open file is read only if the signature, the
+      record and the installed file allow the update. It is read into a temporary file
+      without a name in the directory of the target, and no further than the trusted
+      comment and `most` allow.
     - `first`: install even if no version number is recorded, or if the record is
-      damaged, has the number of the other field, or was made with another key. Use it
-      for the first installation only.
+      damaged, has the version number of the other field, or was made with another key.
+      Use it for the first installation only.
     - `again`: replace other data that was installed with the same version number.
     - `must_expire`: reject an update whose trusted comment has no expiry date.
     - `new_key`: ignore a record that was made with another key. Use it only if the key
@@ -375,36 +381,38 @@ def install(
       "timestamp" or "version".
     - `name`: the file name that the trusted comment must contain. The default is the
       last part of `target`.
-    - `mode`: the permissions of the new file, from 0 to 0o777. The default is those of
-      the installed file, or 0o600 if there is none. If the update is already installed,
-      its permissions are unchanged.
+    - `mode`: the permissions of the new file, from 0 to 0o777. The default is the
+      permissions of the installed file, or 0o600 if there is none. If the update is
+      already installed, its permissions are unchanged.
     - `most`: the maximum size of the data, in bytes.
-    - `wait`: for how many seconds, at most a day, to wait for the lock if another
+    - `wait`: the number of seconds, at most 86400, to wait for the lock if another
       installation holds it.
-    - `progress`: is called as by `verify`, while the data is read.
+    - `progress`: called while the data is read, as by `verify`.
 
-    Raises TypeError or ValueError, which name the argument, for an argument that is not
-    valid, and ValueError if `target` does not end with a file name, or if `first` is
-    combined with `new_key` or `roll_back`. Raises OSError if
-    the directory or the data cannot be opened, or data that is not a regular file
-    cannot be read. Raises the errors of verifying; OtherFile, NoNumber, NoExpiry,
-    BadExpiry, Expired, BadSize, OtherSize, OlderUpdate; TargetInUse; NoRecord,
-    DamagedRecord, KeptByTimestamp, KeptByVersion; SameNumber; TooLong; ReadingFailed,
-    WritingFailed, RandomSourceFailed, OutOfMemory. After each of these errors, and
-    after an exception that `progress` raises, the target is unchanged.
+    Raises TypeError or ValueError for an argument that is not valid; the message names
+    the argument. Raises ValueError if `target` does not end with a file name, or if
+    `first` is combined with `new_key` or `roll_back`. Raises OSError if the directory
+    or the data cannot be opened, or if data that is not a regular file cannot be read.
+
+    Raises the errors of verifying; OtherFile, NoNumber, NoExpiry, BadExpiry, Expired,
+    BadSize, OtherSize, OlderUpdate; TargetInUse; NoRecord, DamagedRecord,
+    KeptByTimestamp, KeptByVersion; SameNumber; TooLong; ReadingFailed, WritingFailed,
+    RandomSourceFailed, OutOfMemory. After each of these errors, and after an exception
+    that `progress` raises, the target is unchanged. If a system call has failed, the
+    `__cause__` of the error says which one.
 
     After DirectoryNotSynced the update is installed but not yet on disk: after a crash
-    the old file may be back. If a system call failed, `__cause__` says which one.
+    the old file may be back.
 
-    After KeyboardInterrupt the update may be installed or not. The interruption comes
-    either before the record is renamed or after the target is. If `install` runs in the
-    main thread, SIGHUP, SIGINT, SIGQUIT and SIGTERM do not end the process between
-    these two either: they are delayed if they have the default action or a Python
-    handler. In another thread, a signal is delayed only if it has a Python handler, as
-    SIGINT has, or if it is sent to that thread only; any other of these signals ends
-    the process at once, and so does SIGKILL in any thread. Then the next run for the
-    same update finishes the installation. A signal can be lost: if another thread
-    receives it, and does not note it within the next 30 ms, the process goes on.
+    Signals: KeyboardInterrupt is raised either before the record is renamed, or after
+    the target is renamed, so the update may be installed or not. If `install` runs in
+    the main thread, SIGHUP, SIGINT, SIGQUIT and SIGTERM do not end the process between
+    the two renames: they are delayed if they have the default action or a Python
+    handler. If it runs in another thread, one of these signals is delayed only if it
+    has a Python handler, as SIGINT has, or if it is sent to this thread only; otherwise
+    it ends the process at once. SIGKILL always ends the process at once. Then the next
+    run for the same update finishes the installation. A signal can be lost if another
+    thread receives it and does not note it within 30 ms.
     """
     check_number("mode", 0 if mode is None else mode, 0, 0o777, oct)
     check_number("most", 0 if most is None else most, 0, 2**64 - 1)
@@ -434,8 +442,8 @@ def install(
     if not isinstance(source, str):
         return _Run(source, progress).make(options) == STATUS_INSTALLED
     with open(source, "rb", buffering=0) as file:
-        # Python reads what is not a regular file, because while C code waits for data,
-        # Python handles no signal.
+        # Anything that is not a regular file is read by Python and not by the library,
+        # because Python handles no signals while C code waits for data.
         is_regular = stat.S_ISREG(os.fstat(file.fileno()).st_mode)
         options.data_fd = file.fileno()
         run = _Run(None if is_regular else file, progress)
@@ -455,20 +463,21 @@ def check(
     numbering: str = "timestamp",
     name: Optional[Path] = None,
 ) -> Checked:
-    """Returns what `install` would do with an update, without its data: from the
-    signature, the record and the installed file. So an updater can find out whether
-    there is an update before it downloads the data. `check` writes nothing, and takes
-    no lock. Its parameters are those of `install`.
+    """Returns what `install` would do with an update. `check` needs only the signature,
+    the record and the installed file, so an updater can find out if there is an update
+    before it downloads the data. `check` writes nothing, and takes no lock. Its
+    parameters are those of `install`.
 
     The result is equal to an `Offer`, and has the version number and the trusted
-    comment of the update. If the update is older than the recorded version, this is a
-    result, `Offer.OLDER`, and not an error.
+    comment of the update. If the update is older than the recorded version, the result
+    is `Offer.OLDER`; no error is raised.
 
-    Raises the errors of `install` for the same arguments: those of a malformed
-    signature file and of a comment signature that is not valid; OtherFile, NoNumber,
+    Raises the errors of `install` that do not depend on the data: those for a malformed
+    signature file and for a comment signature that is not valid; OtherFile, NoNumber,
     NoExpiry, BadExpiry, Expired, BadSize; NoRecord, DamagedRecord, KeptByTimestamp,
-    KeptByVersion; SameNumber; ReadingFailed, WritingFailed and OutOfMemory, whose
-    `__cause__` says which call failed, or why no file could be put at the target.
+    KeptByVersion; SameNumber; ReadingFailed, WritingFailed and OutOfMemory. The
+    `__cause__` of the last three says which system call failed, or why the target
+    cannot be replaced.
     """
     options = _options_struct(
         key,

@@ -1,6 +1,6 @@
 # SPDX-License-Identifier: MIT
 """Verifies files against a signed list, such as SHA256SUMS with the signature
-SHA256SUMS.minisig. One signature is enough for all files of the list."""
+SHA256SUMS.minisig. One signature covers all files of the list."""
 
 import ctypes
 import hashlib
@@ -17,10 +17,11 @@ from .errors import MinisignError
 
 # The maximum size of a list in a file.
 LIST_BYTES = 1 << 20
-# The hash functions of digests in a list, by the numbers of the library.
+# The hash functions of lists, by their numbers in the library.
 HASHES = {h.HASH_SHA256: "sha256", h.HASH_SHA512: "sha512", h.HASH_BLAKE2B: "blake2b"}
 DIGEST_BYTES = {"sha256": 32, "sha512": 64, "blake2b": 64}
-# The hash functions of a digest of 128 digits on a line that does not name one.
+# The values of the parameter `long_digest`: the hash function of a digest of 128 digits
+# on a line that names no hash function.
 LONG_DIGESTS = {
     "sha512": h.HASH_SHA512,
     "blake2b": h.HASH_BLAKE2B,
@@ -35,9 +36,9 @@ class ListEntry:
     - `name`: the name of the file, without a leading "./".
     - `hash`: the hash function: "sha256", "sha512" or "blake2b".
     - `digest`: the digest that the file must have.
-    - `line`: the number of the line, from 1 on.
+    - `line`: the line number, starting at 1.
     - `is_escaped`: True if the name is written with escapes. The library does not
-      resolve them, and no name that you look up matches such an entry.
+      resolve escapes, and no name that you look up matches such an entry.
     """
 
     name: str
@@ -48,8 +49,8 @@ class ListEntry:
 
 
 def _at_line(call: Callable[[ctypes.c_uint64], object]) -> None:
-    """Makes a call that returns the number of the line at fault. If it raises an error,
-    the error gets this number as its `line`."""
+    """Makes a call that writes the number of the line at fault to its argument. If the
+    call raises a MinisignError, sets the `line` of the error to this number."""
     line = ctypes.c_uint64()
     try:
         call(line)
@@ -76,16 +77,16 @@ class SignedList:
 
         `text` is the whole list. `name` is the name of the list, such as SHA256SUMS:
         the trusted comment must have a field "file:" with this value, so that a signed
-        text that was never meant as a list is not taken for one. If you pass None,
-        every trusted comment is accepted.
+        text that was never meant as a list is not used as one. If `name` is None, every
+        trusted comment is accepted.
 
-        `long_digest` is the hash function of a digest of 128 digits on a line that does
-        not name one: "sha512"; "blake2b", as b2sum writes them; or "none", so that such
-        a line is malformed.
+        `long_digest` says how to read a digest of 128 digits on a line that names no
+        hash function: "sha512"; "blake2b", for lists that b2sum has written; or "none",
+        which makes the line malformed.
 
         Raises the errors that `Signature` lists for malformed content; DifferentKeyIds;
-        LegacyNotAccepted, for every legacy signature; WeakEd25519; SignatureRefused;
-        CommentSignatureRefused; and OtherList, if the trusted comment does not name the
+        LegacyNotAccepted for every legacy signature; WeakEd25519; SignatureRefused;
+        CommentSignatureRefused; and OtherList if the trusted comment does not name the
         list. The lines of the list are checked when you use it.
         """
         self._text = text_octets("text", text)
@@ -102,9 +103,11 @@ class SignedList:
                 key._parsed, struct, sig_text, text_octets("name", name), self._text
             )
         accepts, public = ed25519().accepts, bytes(questions.public_key)
-        first = accepts(bytes(questions.signature), bytes(questions.digest), public)
-        second = accepts(bytes(questions.comment_signature), message, public)
-        calls.list_verdict(self._list, first, second)
+        digest = bytes(questions.digest)
+        is_list_valid = accepts(bytes(questions.signature), digest, public)
+        comment_signature = bytes(questions.comment_signature)
+        is_comment_valid = accepts(comment_signature, message, public)
+        calls.list_verdict(self._list, is_list_valid, is_comment_valid)
         end = questions.comment_offset + questions.comment_len
         self._comment = message[questions.comment_offset : end].decode()
 
@@ -117,8 +120,8 @@ class SignedList:
         *,
         long_digest: str = "sha512",
     ) -> "SignedList":
-        """Reads and verifies a list. Its name is the last part of `path`. Without
-        `signature`, reads it from the file `path`.minisig.
+        """Reads and verifies a list. Its name is the last part of `path`. If
+        `signature` is None, it is read from the file `path`.minisig.
 
         Raises OSError if a file cannot be read, TooLong if the list or its signature
         has more than 1 MiB, and the errors of `SignedList`.
@@ -140,16 +143,18 @@ class SignedList:
 
     @property
     def trusted_comment(self) -> str:
-        """The trusted comment, which the key has signed together with the list. Compare
-        its version or timestamp with what you expect: an old list stays valid."""
+        """The trusted comment, which is signed with the list. Compare its version or
+        timestamp with what you expect, because an old list stays valid."""
         return self._comment
 
     def entries(self) -> List[ListEntry]:
         """Returns all entries, in the order of their lines. A name that is listed twice
-        has two entries; `find` rejects it.
+        has two entries, and `find` raises ListedTwice for it.
 
-        Raises NotUtf8, or MalformedLine, whose `line` is the number of the line.
+        Raises NotUtf8, or MalformedLine, whose `line` is the line number.
         """
+        # An entry has at least 67 bytes and a line feed, which may be missing after the
+        # last one.
         structs = (h.ListEntry * ((len(self._text) + 1) // 68))()
         count = ctypes.c_size_t()
         _at_line(
@@ -167,17 +172,17 @@ class SignedList:
         return [self._entry(struct) for struct in structs[: count.value]]
 
     def find(self, name: Text) -> ListEntry:
-        """Returns the only entry of a name.
+        """Returns the entry for a name, which must be listed exactly once.
 
-        Raises NotUtf8, for the list or the name; BadName, if no list can contain the
-        name; MalformedLine; NotListed; or ListedTwice. MalformedLine and ListedTwice
-        have the number of the line as `line`.
+        Raises NotUtf8 if the list or the name is not UTF-8; BadName if no list can
+        contain the name; MalformedLine; NotListed; or ListedTwice. The `line` of
+        MalformedLine and ListedTwice is the line number.
         """
         return self._entry(self._find(name))
 
     def verify_listed(self, data: Data, name: Text) -> ListEntry:
-        """Verifies data, and returns its entry if the data is what the list has for
-        this name. `data` is bytes, a binary file, or an iterable of pieces of bytes.
+        """Checks that data has the digest that is listed for a name, and returns the
+        entry. `data` is bytes, a binary file, or an iterable of pieces of bytes.
 
         Raises the errors of `find`, and DigestMismatch if the data has another digest.
         Then use none of the data.
@@ -192,8 +197,8 @@ class SignedList:
         progress: Optional[Progress] = None,
     ) -> ListEntry:
         """Verifies a file, and returns its entry. The default for `name` is the last
-        part of `path`. Pass the name if it is listed with directories, or if the file
-        was renamed.
+        part of `path`. Pass the name in the list if it contains directories, or if the
+        file was renamed.
 
         `progress` is called as for `verify`. Raises OSError if the file cannot be read,
         and the errors of `verify_listed`.
@@ -206,7 +211,7 @@ class SignedList:
     def verify_listed_trusting_hashlib(self, data: Data, name: Text) -> ListEntry:
         """Verifies data as `verify_listed` does, but hashes it with Python's hashlib,
         which can use the SHA instructions of the processor. Nothing is proved about
-        this hash, so the result is only as good as hashlib. Raises the errors of
+        hashlib, so the result is only as good as hashlib. Raises the errors of
         `verify_listed`."""
         struct = self._find(name)
         entry = self._entry(struct)
@@ -242,13 +247,13 @@ class SignedList:
         return self._entry(struct)
 
     def _entry(self, struct: h.ListEntry) -> ListEntry:
-        """Returns an entry, whose name is in the list. The library has checked that the
-        list is UTF-8."""
-        kind, begin = HASHES[struct.hash], struct.name_offset
+        """Converts an entry of the library, and copies its name from the list. The
+        library has checked that the list is UTF-8."""
+        hash_name, begin = HASHES[struct.hash], struct.name_offset
         return ListEntry(
             name=self._text[begin : begin + struct.name_len].decode(),
-            hash=kind,
-            digest=bytes(struct.digest)[: DIGEST_BYTES[kind]],
+            hash=hash_name,
+            digest=bytes(struct.digest)[: DIGEST_BYTES[hash_name]],
             line=struct.line,
             is_escaped=struct.is_escaped == 1,
         )

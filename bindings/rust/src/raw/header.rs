@@ -1,8 +1,8 @@
 // SPDX-License-Identifier: MIT
 //! Wraps the functions of `minisign.h`. Made by `tools/bindings.py`.
 //!
-//! Each safe function here makes one call. Its arguments are borrowed until the call returns, and
-//! the lengths that are passed are those of the slices.
+//! Each safe function in this module makes one call. This is sound because its arguments are
+//! borrowed until the call returns, and each length that it passes is the length of a slice.
 #![allow(dead_code, clippy::too_many_arguments)]
 
 use crate::Reason;

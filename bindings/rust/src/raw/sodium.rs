@@ -5,7 +5,7 @@ use crate::{Random, SchemeError, Sign, Sodium, Verify};
 use minisign_proved_sys::sodium;
 use std::ptr::null_mut;
 
-/// Initializes libsodium, which has an effect only once.
+/// Initializes libsodium. Later calls have no effect.
 fn init() -> Result<(), SchemeError> {
     check(unsafe { sodium::sodium_init() }.min(0), "sodium_init")
 }
