@@ -1,34 +1,35 @@
 // SPDX-License-Identifier: MIT
-// Starts the page: shows what the browser lacks, or loads the library and accepts files. The same script runs in the worker
+// Starts the page: loads the library and accepts files, or shows which features the browser lacks. The same script runs in the worker
 // threads, which have no document.
 
-// The shortest module with a 32-bit memory and a function that takes a 64-bit number.
-const SHORTEST = Uint8Array.of(0, 97, 115, 109, 1, 0, 0, 0, 1, 5, 1, 96, 1, 126, 0, 5, 3, 1, 0, 1);
+// A WebAssembly module with a 32-bit memory and a function that takes a 64-bit number. A browser that accepts it can run the library.
+const SMALLEST_MODULE = Uint8Array.of(0, 97, 115, 109, 1, 0, 0, 0, 1, 5, 1, 96, 1, 126, 0, 5, 3, 1, 0, 1);
 
 const FROM_DISK = "Save the page and open it from disk";
 
-// Returns what the browser lacks, in words.
-async function lackingParts() {
-  const hasWebAssembly = typeof WebAssembly === "object" && WebAssembly.validate(SHORTEST);
-  const parts = hasWebAssembly ? [] : ["WebAssembly"];
+// Returns the names of the features that the page needs and the browser lacks.
+async function missingFeatures() {
+  const hasWebAssembly = typeof WebAssembly === "object" && WebAssembly.validate(SMALLEST_MODULE);
+  const features = hasWebAssembly ? [] : ["WebAssembly"];
   if (!await hasEd25519()) {
-    parts.push(isSecureContext ? "Ed25519 in WebCrypto"
+    features.push(isSecureContext ? "Ed25519 in WebCrypto"
       : "Ed25519 for pages that are not opened from disk or by https");
   }
-  return parts;
+  return features;
 }
 
 // Shows why the page cannot verify anything.
 function showUnusable(words) {
-  byId("lacking").textContent = words;
+  byId("unusable").textContent = words;
   document.documentElement.dataset.ready = "no";
 }
 
+// Starts the page. Takes the text of its script, which it passes to the worker threads and to keepSource.
 async function begin(script) {
   keepSource(script);
-  const parts = await lackingParts();
-  if (parts.length > 0) {
-    showUnusable(`This browser lacks ${parts.join(", and ")}, so this page cannot verify anything in it. ` +
+  const features = await missingFeatures();
+  if (features.length > 0) {
+    showUnusable(`This browser lacks ${features.join(", and ")}, so this page cannot verify anything in it. ` +
       (isSecureContext ? "Use a newer browser, or the program minisign." : `${FROM_DISK}, or open it by https.`));
     return;
   }
@@ -37,25 +38,28 @@ async function begin(script) {
     module = await moduleBytes();
     library = await Library.load(module);
   } catch (why) {
-    const isPolicy = why instanceof WebAssembly.CompileError && WebAssembly.validate(module);
-    showUnusable(isPolicy ? `The server of this page forbids WebAssembly, so the page cannot verify anything. ${FROM_DISK}.`
+    // A valid module fails to compile only if the content security policy of the server forbids it.
+    const isForbidden = why instanceof WebAssembly.CompileError && WebAssembly.validate(module);
+    showUnusable(isForbidden ? `The server of this page forbids WebAssembly, so the page cannot verify anything. ${FROM_DISK}.`
       : "This browser cannot run the proved library, so this page cannot verify anything. Use a newer browser, or the program minisign.");
     return;
   }
-  engineBegun = beginEngine(script);
-  takePresets();
-  await takeBuiltInList();
+  enginePromise = startEngine(script);
+  loadPresets();
+  await loadBuiltInList();
   listRelease();
-  hideAnswered();
-  listen();
-  byId("lacking").hidden = true;
+  hideUnneeded();
+  addListeners();
+  byId("unusable").hidden = true;
   byId("controls").hidden = false;
   document.documentElement.dataset.ready = "yes";
 }
 
-// Hides the fields and texts for what the page already has: a built-in key, and signatures. If it only needs the download, there
-// are no numbered steps, and the key is shown below.
-function hideAnswered() {
+// Hides the elements that ask for what the page already has. The attribute data-unless says which elements these are:
+//   key        there is a built-in key
+//   signature  there are signatures or a list in the page, or signatures in the link
+//   steps      the visitor does not have to follow numbered steps; then the key is shown at the end
+function hideUnneeded() {
   const has = {key: BUILT_IN_KEY !== "", signature: presetSignatures.length > 0 || BUILT_IN_LIST.length > 0};
   has.steps = has.key || key !== null && has.signature;
   for (const part of document.querySelectorAll("[data-unless]")) {
@@ -66,35 +70,35 @@ function hideAnswered() {
   }
 }
 
-function listen() {
-  for (const [name, take] of [["key-text", typed => inTurnOfKey(() => takeKeyText(typed))], ["signature-text", inTurnOfSignature]]) {
-    byId(name).value = "";
-    byId(name).addEventListener("input", () => take(byId(name).value));
+function addListeners() {
+  for (const [id, onText] of [["key-text", typed => queueKeyAction(() => takeKeyText(typed))], ["signature-text", queueSignatureText]]) {
+    byId(id).value = "";
+    byId(id).addEventListener("input", () => onText(byId(id).value));
   }
-  // The input is emptied after a choice, so that the same file can be chosen again.
-  for (const [name, take] of [["key-file", inTurnOfKeyFile], ["files", inTurnOfFiles]]) {
-    byId(name).addEventListener("change", () => {
-      const files = [...byId(name).files];
-      byId(name).value = "";
-      take(files);
+  for (const [id, onFiles] of [["key-file", queueKeyFile], ["files", queueFiles]]) {
+    byId(id).addEventListener("change", () => {
+      const files = [...byId(id).files];
+      // Otherwise the browser would not report that the same file is chosen again.
+      byId(id).value = "";
+      onFiles(files);
     });
   }
-  byId("own-title").value = document.title;
-  byId("own-save").addEventListener("click", saveOwnPage);
-  byId("key-remove").addEventListener("click", () => inTurnOfKey(removeKey));
-  byId("clear").addEventListener("click", () => inTurn(clearList));
+  byId("project-title").value = document.title;
+  byId("project-save").addEventListener("click", saveProjectPage);
+  byId("key-remove").addEventListener("click", () => queueKeyAction(removeKey));
+  byId("clear").addEventListener("click", () => queueAction(clearList));
   // A site that opened this page can change the part of the address after #. Then the page starts again.
   addEventListener("hashchange", () => location.reload());
-  for (const name of ["dragenter", "dragover", "dragleave", "drop"]) {
-    addEventListener(name, event => {
+  for (const type of ["dragenter", "dragover", "dragleave", "drop"]) {
+    addEventListener(type, event => {
       event.preventDefault();
-      document.body.classList.toggle("dropping", ["dragenter", "dragover"].includes(name));
+      document.body.classList.toggle("dropping", ["dragenter", "dragover"].includes(type));
     });
   }
   addEventListener("drop", event => {
     const {files, hasDirectories} = droppedFiles(event.dataTransfer);
-    if (byId("own").contains(event.target)) {
-      byId("own-signatures").files = event.dataTransfer.files;
+    if (byId("project").contains(event.target)) {
+      byId("project-signatures").files = event.dataTransfer.files;
       return;
     }
     const section = [...document.querySelectorAll("section")].find(each => each.contains(event.target));
@@ -104,14 +108,14 @@ function listen() {
     }
     const isKey = files.length === 1 && !hasDirectories && !BUILT_IN_KEY && section === byId("key");
     if (isKey) {
-      inTurnOfKeyFile(files);
+      queueKeyFile(files);
     } else {
-      inTurnOfFiles(files, hasDirectories);
+      queueFiles(files, hasDirectories);
     }
   });
 }
 
-// Puts a text that was dropped on a section into the field of this section.
+// Puts a text that was dropped on a section into the text field of this section, if the field is visible.
 function takeDroppedText(field, text) {
   if (text !== "" && field?.checkVisibility()) {
     field.value = text;
@@ -119,7 +123,7 @@ function takeDroppedText(field, text) {
   }
 }
 
-// Returns the files that were dropped, and true if there were directories among them.
+// Returns the files that were dropped, and hasDirectories, which is true if directories were dropped too.
 function droppedFiles(transfer) {
   const items = [...transfer.items].filter(item => item.kind === "file");
   const isDirectory = item => item.webkitGetAsEntry()?.isDirectory === true;

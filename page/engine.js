@@ -1,31 +1,31 @@
 // SPDX-License-Identifier: MIT
 // Hashes a file in three worker threads, which take turns.
 //
-// While one thread hashes a slice of the file, the others read the next slices into the memory of their module, because
-// reading takes a browser up to twice as long as hashing. The states are passed from one thread to the next. The threads run
-// the script of the page. If the browser or the server does not allow worker threads, the page hashes in its own thread.
+// While one thread hashes a slice of the file, the others read the next slices into the memory of their modules, because reading takes
+// a browser up to twice as long as hashing. The page passes the hash states from one thread to the next. The threads run the same script
+// as the page. If the browser or the server does not allow worker threads, the page hashes in its own thread.
 
-// The maximum time in milliseconds for starting a thread, and for reading a key or signature file.
-const MAX_MILLISECONDS = 10000;
+// The maximum time in milliseconds for starting the threads, and for reading a key or signature file.
+const TIMEOUT_MS = 10000;
 const THREADS = 3;
-// The number of bytes that a thread reads and hashes at a time. For a moment each thread has two copies of a slice, and the page
+// The number of bytes that a thread reads and hashes at a time. Each thread has two copies of a slice for a short time, and the page
 // should take at most 32 MiB more than an empty page.
 const SLICE_BYTES = 3 * 1048576;
-// A file of at most this size is hashed in the page's own thread, which is faster than waiting for another one.
-const MAX_NEAR_BYTES = 1048576;
-// Before it gets a file, each thread hashes this number of bytes this many times, so that the browser optimizes the module.
-const WARMING_BYTES = 262144;
-const WARMING_TIMES = 8;
+// The maximum size of a file that is hashed in the page's own thread, which is faster than waiting for a worker thread.
+const MAX_PAGE_THREAD_BYTES = 1048576;
+// Before it gets a file, each thread hashes WARMUP_BYTES bytes WARMUP_TIMES times, so that the browser optimizes the module.
+const WARMUP_BYTES = 262144;
+const WARMUP_TIMES = 8;
 
-// True in Firefox, which is the only browser with this error class. Firefox frees the memory of a buffer that is transferred to
-// size 0 at once; Chromium does not.
+// True in Firefox, the only browser that has this error class. Firefox frees the memory of a buffer at once if the buffer is transferred
+// to size 0. Chromium does not.
 const IS_FIREFOX = typeof InternalError === "function";
 
-// ---- In the thread ----
+// ---- In a worker thread ----
 
-// Frees the memory of a buffer at once, by posting it to a closed port. Otherwise it would stay until the next garbage
-// collection, and could grow to hundreds of megabytes.
-function giveBack(bytes) {
+// Frees the memory of an array at once, by posting its buffer to a closed port. Otherwise the memory would be in use until the next
+// garbage collection, and could grow to hundreds of megabytes.
+function freeBuffer(bytes) {
   if (IS_FIREFOX && bytes.buffer.transfer) {
     bytes.buffer.transfer(0);
     return;
@@ -36,33 +36,35 @@ function giveBack(bytes) {
   port1.close();
 }
 
-// Reads a slice of a file into the memory of the library. Returns true if all of it was read.
-function placeSlice(threadLibrary, file, begin, end) {
+// Reads a slice of a file into the memory of the library. Returns true if all of the slice was read.
+function readSlice(threadLibrary, file, begin, end) {
   try {
     const bytes = new Uint8Array(new FileReaderSync().readAsArrayBuffer(file.slice(begin, end)));
     const isWhole = bytes.length === Math.min(end, file.size) - begin;
     if (isWhole) {
       threadLibrary.place(bytes);
     }
-    giveBack(bytes);
+    freeBuffer(bytes);
     return isWhole;
   } catch {
     return false;
   }
 }
 
-// Handles the messages of the page. For a file and an offset, the thread reads the slice at this offset. For states, it feeds
-// the slice to the states and posts them back, or null if the slice could not be read; then it reads its next slice.
+// Handles the messages of the page. When it gets {file, begin}, the thread reads the slice that begins there. When it gets {states}, it
+// feeds the slice to these hash states and posts them back, or posts null if the slice could not be read; then it reads its next slice.
 async function serve() {
   const threadLibrary = await Library.load(await moduleBytes());
   const slice = Math.min(threadLibrary.pieceBytes, SLICE_BYTES);
-  for (let times = 0; times < WARMING_TIMES; times += 1) {
-    threadLibrary.feed(threadLibrary.begin(), new Uint8Array(WARMING_BYTES));
+  for (let times = 0; times < WARMUP_TIMES; times += 1) {
+    threadLibrary.feed(threadLibrary.begin(), new Uint8Array(WARMUP_BYTES));
   }
-  let file = null, begin = 0, isPlaced = false;
-  const place = at => {
-    begin = at;
-    isPlaced = begin < file.size && placeSlice(threadLibrary, file, begin, begin + slice);
+  let file = null;
+  let begin = 0;
+  let isPlaced = false;
+  const place = offset => {
+    begin = offset;
+    isPlaced = begin < file.size && readSlice(threadLibrary, file, begin, begin + slice);
   };
   onmessage = ({data}) => {
     if (data.file) {
@@ -74,13 +76,14 @@ async function serve() {
     postMessage(isFed ? data.states : null);
     place(begin + THREADS * slice);
   };
+  // Tells the page that the thread is ready, and the size of slices.
   postMessage(slice);
 }
 
 // ---- In the page ----
 
-function bytesOfBase64(letters) {
-  return Uint8Array.from(atob(letters), letter => letter.charCodeAt(0));
+function bytesOfBase64(base64) {
+  return Uint8Array.from(atob(base64), character => character.charCodeAt(0));
 }
 
 // Returns the module, which is compressed in the page.
@@ -89,7 +92,7 @@ async function moduleBytes() {
   return new Uint8Array(await new Response(bytes).arrayBuffer());
 }
 
-// Returns the bytes of a part of a file, or null if it cannot be read.
+// Returns the bytes of a part of a file, or null if the part cannot be read.
 async function bytesOfFile(file, begin, end) {
   try {
     const bytes = new Uint8Array(await (begin === 0 && end >= file.size ? file : file.slice(begin, end)).arrayBuffer());
@@ -100,9 +103,9 @@ async function bytesOfFile(file, begin, end) {
 }
 
 // Hashes in the page's own thread.
-class NearEngine {
-  // Feeds a file to a Reading, and calls reportProgress with the number of bytes before each slice. Returns true if all of the file
-  // was fed, and false if it could not be read or reportProgress returned false.
+class PageEngine {
+  // Feeds a file to a Reading. Calls reportProgress with the number of bytes that were fed, before each slice. Returns true if all of the
+  // file was fed, and false if it could not be read or reportProgress returned false.
   async feedFile(file, reading, reportProgress) {
     const slice = reading.library.pieceBytes;
     let next = bytesOfFile(file, 0, slice);
@@ -119,15 +122,16 @@ class NearEngine {
 }
 
 // Hashes in worker threads.
-class FarEngine {
+class WorkerEngine {
   constructor(threads) {
     this.threads = threads;
   }
 
+  // Does the same as PageEngine.feedFile.
   async feedFile(file, reading, reportProgress) {
     this.threads.forEach((thread, index) => thread.postMessage({file, begin: index * this.slice}));
     for (let begin = 0, turn = 0; begin < file.size; begin += this.slice, turn = (turn + 1) % THREADS) {
-      const states = await answerOf(this.threads[turn], {states: reading.states});
+      const states = await replyOf(this.threads[turn], {states: reading.states});
       if (states === null || !reportProgress(begin)) {
         return false;
       }
@@ -140,11 +144,12 @@ class FarEngine {
     this.threads.forEach(thread => thread.terminate());
   }
 
-  static async begin(address) {
-    const engine = new FarEngine(Array.from({length: THREADS}, () => new Worker(address)));
+  // Starts the threads, and waits until all of them are ready.
+  static async begin(url) {
+    const engine = new WorkerEngine(Array.from({length: THREADS}, () => new Worker(url)));
     try {
-      const late = new Promise((_, reject) => setTimeout(reject, MAX_MILLISECONDS));
-      [engine.slice] = await Promise.race([Promise.all(engine.threads.map(thread => answerOf(thread))), late]);
+      const timeout = new Promise((_, reject) => setTimeout(reject, TIMEOUT_MS));
+      [engine.slice] = await Promise.race([Promise.all(engine.threads.map(thread => replyOf(thread))), timeout]);
       return engine;
     } catch (why) {
       engine.end();
@@ -153,8 +158,8 @@ class FarEngine {
   }
 }
 
-// Posts a message to a thread, if there is one, and returns the next message from it.
-function answerOf(thread, message) {
+// Posts a message, if there is one, to a thread, and returns the next message from the thread.
+function replyOf(thread, message) {
   return new Promise((resolve, reject) => {
     thread.onmessage = ({data}) => resolve(data);
     thread.onerror = thread.onmessageerror = () => reject(new Error("the thread failed"));
@@ -165,19 +170,19 @@ function answerOf(thread, message) {
 }
 
 // The URL of the script for the threads. It is created once, because its Trusted Types policy can be created only once.
-let threadAddress;
+let workerUrl;
 
-function addressOf(script) {
-  const address = URL.createObjectURL(new Blob([script], {type: "text/javascript"}));
-  const trusted = globalThis.trustedTypes?.createPolicy("minisign-thread", {createScriptURL: () => address});
-  return trusted ? trusted.createScriptURL("") : address;
+function urlOf(script) {
+  const url = URL.createObjectURL(new Blob([script], {type: "text/javascript"}));
+  const policy = globalThis.trustedTypes?.createPolicy("minisign-thread", {createScriptURL: () => url});
+  return policy ? policy.createScriptURL("") : url;
 }
 
-async function beginEngine(script) {
+async function startEngine(script) {
   try {
-    threadAddress ??= addressOf(script);
-    return await FarEngine.begin(threadAddress);
+    workerUrl ??= urlOf(script);
+    return await WorkerEngine.begin(workerUrl);
   } catch {
-    return new NearEngine();
+    return new PageEngine();
   }
 }

@@ -4,130 +4,141 @@
 
 const SIGNATURE_ENDING = ".minisig";
 const KEY_ENDING = ".pub";
-// The name of a signature that was pasted.
-const PASTED = "pasted.minisig";
-// The maximum size of a file with a legacy signature, because all of it has to be in memory.
+// The file name that a pasted signature gets.
+const PASTED_NAME = "pasted.minisig";
+// The maximum size of a file with a legacy signature. All of the file has to be in memory.
 const MAX_LEGACY_BYTES = 64 * 1048576;
-// The minimum time in milliseconds between two updates of the progress, because drawing takes long.
-const SHOWN_MILLISECONDS = 100;
+// The minimum time in milliseconds between two updates of the progress bar, because drawing takes long.
+const PROGRESS_MS = 100;
 
 const byId = id => document.getElementById(id);
 
-// The library in the page's own thread reads texts and returns the verdicts. engineBegun is a promise of the engine that hashes data.
+// The library in the page's own thread. It parses keys and signatures, and gives the verdicts.
 let library;
-let engineBegun;
-// The public key, or null if there is none: its struct, its key ID, its 56 letters, and its source, which is a key of SOURCES and the
-// name of a file.
+// A promise of the engine that hashes data (see engine.js).
+let enginePromise;
+// The public key, or null if there is none:
+//   bytes, keyId  its struct and its key ID, as the library returns them
+//   base64        its 56 characters
+//   source        where it came from: kind, a key of KEY_SOURCES, and the name of its file, if any
 let key = null;
-// The signatures that are built into the page (isBuiltIn) or in its link, as files, each with the names that its download may have.
+// The signatures that are built into the page (isBuiltIn is true) or part of its link. Each has:
+//   file          the signature, as a File
+//   names         the names that its download may have
+//   releaseName   the name under which the page lists its download
 const presetSignatures = [];
-// The downloads by the names of their files, in the order in which they came: file, signature and row.
+// The downloads by their names, in the order in which they were added. takeDownload says what each has.
 const downloads = new Map();
-// The downloads that have to be verified again.
-const changed = new Set();
+// The downloads that have to be verified.
+const unverified = new Set();
 let isWorking = false;
-// The signature that was last pasted, as a file, and the number of signatures that were pasted.
-let pasted = null, pastedCount = 0;
-// The actions of the visitor are handled in their order. An action may have to read a file first, to recognize its kind.
-let lastTurn = Promise.resolve();
+// The signature that was pasted last, as a File, and how many were pasted.
+let pastedSignature = null;
+let pastedCount = 0;
+// Resolves when all actions of the visitor so far are done. They run one after another, because an action may have to read a file
+// first to recognize its kind.
+let actionsDone = Promise.resolve();
 // For each unfinished action, a function that returns true for the downloads that the action may change.
-const unfinished = new Set();
-// The last action of the visitor. isAnswered is true once a verdict that it caused was shown, and hasBad once a bad one was.
-let lastAct = {isAnswered: false, hasBad: false};
+const unfinishedActions = new Set();
+// The last action of the visitor. hasVerdict is true once a verdict that it caused was shown, hasBad once a bad one was.
+let latestAction = {hasVerdict: false, hasBad: false};
 
-// Runs an action after all earlier ones. The downloads that it may change become unverified at once, and stay so until it has ended,
-// because reading a key, a file or a signature from a slow disk takes seconds.
-function inTurn(act, mayChange = () => false) {
+// Runs an action of the visitor after all earlier ones. The downloads that it may change become unverified at once, and stay unverified
+// until it is done, because reading a key, a file or a signature from a slow disk takes seconds.
+function queueAction(act, mayChange = () => false) {
+  // A function of its own for each action, because the set must not merge equal ones.
   const isChanging = download => mayChange(download);
   const begin = () => {
-    lastAct = {isAnswered: false, hasBad: false};
+    latestAction = {hasVerdict: false, hasBad: false};
     return act();
   };
   const showPending = () => {
-    document.documentElement.dataset.pending = unfinished.size;
+    document.documentElement.dataset.pending = unfinishedActions.size;
   };
-  unfinished.add(isChanging);
+  unfinishedActions.add(isChanging);
   showPending();
   [...downloads.values()].filter(isChanging).forEach(renew);
   showBand();
-  lastTurn = lastTurn.then(begin).catch(() => sayOfFiles(WENT_WRONG)).finally(() => {
-    unfinished.delete(isChanging);
+  actionsDone = actionsDone.then(begin).catch(() => addFilesMessage(WENT_WRONG)).finally(() => {
+    unfinishedActions.delete(isChanging);
     showPending();
     reviewAll();
   });
 }
 
 // Returns true if an unfinished action may change this download.
-function isHeld(download) {
-  return [...unfinished].some(isChanging => isChanging(download));
+function isBlocked(download) {
+  return [...unfinishedActions].some(isChanging => isChanging(download));
 }
 
 // ---- The public key ----
 
-function setKey(text, isBare, source) {
+// Reads a public key and shows it, or shows why there is no key. The bytes are those of a key file, or of its 56 characters if isBare is
+// true.
+function setKey(fileBytes, isBare, source) {
   dropKey();
-  if (text.length >= TEXT_BYTES) {
-    sayOfKey(TOO_LONG_A_KEY, ...nameInParentheses(source));
+  if (fileBytes.length >= TEXT_BYTES) {
+    showKeyMessage(TOO_LONG_A_KEY, ...nameInParentheses(source));
     return;
   }
-  const {number: numberRead, keyId, key: bytes} = library.readKey(text, isBare);
-  const words = new TextDecoder().decode(text);
-  const letters = numberRead === 0 ? lettersOf(bytes) : "";
+  const {number: libraryNumber, keyId, key: bytes} = library.readKey(fileBytes, isBare);
+  const text = new TextDecoder().decode(fileBytes);
+  const base64 = libraryNumber === 0 ? base64OfKey(bytes) : "";
   // The library accepts a key with any algorithm, as the Rust crate does. The page accepts only "Ed", as Minisign writes it.
-  const isOther = numberRead === 0 && !(isBare ? words : words.split("\n")[1]).includes(letters);
-  const number = isOther ? UNKNOWN_ALGORITHM : numberRead;
+  const isOther = libraryNumber === 0 && !(isBare ? text : text.split("\n")[1]).includes(base64);
+  const number = isOther ? UNKNOWN_ALGORITHM : libraryNumber;
   if (number === 0) {
-    key = {bytes, keyId, letters, source};
-    sayOfKey("Key ", lettersBox(keyId), ", ", ...sourceOf(source), ".");
-    byId("key-whole").replaceChildren("In full: ", lettersBox(key.letters));
-    byId("key-whole").hidden = false;
+    key = {bytes, keyId, base64, source};
+    showKeyMessage("Key ", codeBox(keyId), ", ", ...sourceNodes(source), ".");
+    byId("key-full").replaceChildren("In full: ", codeBox(base64));
+    byId("key-full").hidden = false;
     byId("key-remove").hidden = source.kind === "page";
   } else {
-    // 8: the key is not UTF-8.
-    const hint = number === 8 ? "" : hintOf(words);
-    const isShown = HINTS_WITH_KEY.includes(hint) && SOURCES.get(source.kind).isGiven;
-    sayOfKey(`No public key: ${HINTS.get(hint) ?? WHY_NO_KEY.get(number) ?? WENT_WRONG}`, ...(isShown ? [" ", lettersBox(keyIn(words))] : []),
-      ...nameInParentheses(source));
+    const hint = number === NOT_UTF8 ? "" : hintOf(text);
+    const isKeyShown = HINTS_WITH_KEY.includes(hint) && KEY_SOURCES.get(source.kind).isTrusted;
+    showKeyMessage(`No public key: ${HINTS.get(hint) ?? KEY_REASONS.get(number) ?? WENT_WRONG}`,
+      ...(isKeyShown ? [" ", codeBox(keyIn(text))] : []), ...nameInParentheses(source));
   }
-  byId("key-said").dataset.number = number;
+  byId("key-message").dataset.number = number;
 }
 
-// Returns the name of a file in parentheses, if the key came in a file.
+// Returns the name of the file from which a key came, in parentheses, or nothing if the key came from no file.
 function nameInParentheses({name}) {
-  return name === undefined ? [] : [" (", nameOf(name), ")"];
+  return name === undefined ? [] : [" (", nameBox(name), ")"];
 }
 
+// Removes the key, all verdicts, and the message about the key.
 function clearKey() {
   dropKey();
-  sayOfKey();
+  showKeyMessage();
 }
 
 // Removes the key and all verdicts.
 function dropKey() {
   key = null;
   clearLog();
-  delete byId("key-said").dataset.number;
-  byId("key-whole").hidden = byId("key-remove").hidden = true;
+  delete byId("key-message").dataset.number;
+  byId("key-full").hidden = byId("key-remove").hidden = true;
   for (const download of downloads.values()) {
     renew(download);
   }
 }
 
-function sayOfKey(...words) {
-  byId("key-said").replaceChildren(...words);
+function showKeyMessage(...nodes) {
+  byId("key-message").replaceChildren(...nodes);
 }
 
-// Runs an action that sets or removes the key. The old key is removed at once.
-function inTurnOfKey(act) {
+// Queues an action that sets or removes the key. The old key is removed at once.
+function queueKeyAction(act) {
   clearKey();
-  inTurn(act, () => true);
+  queueAction(act, () => true);
 }
 
-function inTurnOfKeyFile([file]) {
-  inTurnOfKey(() => takeKeyFile(file, "chosen"));
+function queueKeyFile([file]) {
+  queueKeyAction(() => takeKeyFile(file, "chosen"));
 }
 
-// Takes a key that was typed or pasted: the two lines of its file, or only the second one.
+// Reads a key that was typed or pasted: the two lines of a key file, or only the second one.
 function takeKeyText(typed) {
   const text = typed.trim();
   if (text === "") {
@@ -137,13 +148,13 @@ function takeKeyText(typed) {
   }
 }
 
-// Takes a key file that was chosen as the key (kind "chosen"), or came with the downloads ("files").
+// Reads a key file that was chosen as the key (kind "chosen"), or came with the downloads ("files").
 async function takeKeyFile(file, kind) {
   clearKey();
   byId("key-text").value = "";
-  const bytes = await textOfFile(file);
+  const bytes = await bytesOfTextFile(file);
   if (bytes === null) {
-    sayOfKey(TOO_LONG_A_KEY, ...nameInParentheses(file));
+    showKeyMessage(TOO_LONG_A_KEY, ...nameInParentheses(file));
   } else {
     setKey(bytes, false, {kind, name: file.name});
   }
@@ -155,33 +166,35 @@ function removeKey() {
   byId("key-text").focus();
 }
 
-// Takes the key and the signatures that are built into the page or in its link. A built-in key takes precedence over one in the link.
-function takePresets() {
-  const {keys, letters, signatures} = partsOfLink(location.hash.slice(1));
-  const take = (name, text, isBuiltIn) => {
+// Loads the key and the signatures that are built into the page or part of its link. A built-in key takes precedence over one in the
+// link.
+function loadPresets() {
+  const {keys, validKey, signatures} = partsOfLink(location.hash.slice(1));
+  const add = (name, text, isBuiltIn) => {
     if (kindOfText(text) === "signature") {
-      const names = [nameOfSigned(name), ...namesIn(text)];
+      const names = [downloadName(name), ...namesIn(text)];
       presetSignatures.push({file: new File([text], name), names, isBuiltIn, releaseName: nameInRelease(name, text)});
     } else {
-      sayOfFiles(NO_SIGNATURE_IN_ADDRESS);
+      addFilesMessage(NO_SIGNATURE_IN_ADDRESS);
     }
   };
-  BUILT_IN_SIGNATURES.forEach(([name, text]) => take(name, text, true));
-  signatures.forEach(text => take((namesIn(text)[0] ?? "link") + SIGNATURE_ENDING, text, false));
-  if (BUILT_IN_KEY || letters) {
-    setKey(new TextEncoder().encode(BUILT_IN_KEY || letters), true, {kind: BUILT_IN_KEY ? "page" : "link"});
+  BUILT_IN_SIGNATURES.forEach(([name, text]) => add(name, text, true));
+  signatures.forEach(text => add((namesIn(text)[0] ?? "link") + SIGNATURE_ENDING, text, false));
+  if (BUILT_IN_KEY || validKey) {
+    setKey(new TextEncoder().encode(BUILT_IN_KEY || validKey), true, {kind: BUILT_IN_KEY ? "page" : "link"});
   } else if (keys.length > 0) {
-    sayOfKey(NO_KEY_IN_ADDRESS);
+    showKeyMessage(NO_KEY_IN_ADDRESS);
   }
   if (BUILT_IN_KEY && keys.some(key => key !== BUILT_IN_KEY)) {
-    byId("key-said").append(" ", OTHER_KEY_IN_ADDRESS);
+    byId("key-message").append(" ", OTHER_KEY_IN_ADDRESS);
   }
 }
 
-// Returns the signatures with which a download is verified, in the order in which they are tried. The built-in ones come first, so that
-// an older file with its older signature does not pass for the file of this release. Then comes the signature that was given with the
-// file, or else those of the link. Of the built-in ones, and of those of the link, only the ones for the name of the file are tried
-// (isNamed), or all of them if none is for this name.
+// Returns the signatures with which a download is verified, in the order in which they are tried:
+//   1. the built-in signatures, so that an older file with its older signature does not pass for the file of this release;
+//   2. the signature that the visitor added for the file, or the signatures in the link if there is none.
+// Of the built-in signatures, only those for the name of the file are returned (isNamed is true), or all of them if none is for this
+// name. The same holds for the signatures in the link.
 function signaturesOf({name, signature}) {
   const presetsFor = isBuiltIn => {
     const all = presetSignatures.filter(each => each.isBuiltIn === isBuiltIn);
@@ -194,15 +207,15 @@ function signaturesOf({name, signature}) {
 
 // ---- The files ----
 
-// Returns the bytes of a key or signature file, or null if it is too long, cannot be read, or takes more than MAX_MILLISECONDS.
-async function textOfFile(file) {
-  const late = new Promise(resolve => setTimeout(resolve, MAX_MILLISECONDS, null));
-  return file.size < TEXT_BYTES ? await Promise.race([bytesOfFile(file, 0, file.size), late]) : null;
+// Returns the bytes of a key or signature file, or null if it is too long, cannot be read, or cannot be read within TIMEOUT_MS.
+async function bytesOfTextFile(file) {
+  const timeout = new Promise(resolve => setTimeout(resolve, TIMEOUT_MS, null));
+  return file.size < TEXT_BYTES ? await Promise.race([bytesOfFile(file, 0, file.size), timeout]) : null;
 }
 
-// Returns the kind of a file: by its text, or else by its name.
+// Returns the kind of a file: a result of kindOfText other than "", or "data". If the text does not show the kind, the name decides.
 async function kindOfFile(file) {
-  const bytes = await textOfFile(file);
+  const bytes = await bytesOfTextFile(file);
   const kind = bytes === null ? "" : kindOfText(new TextDecoder().decode(bytes));
   if (kind) {
     return kind;
@@ -214,86 +227,90 @@ async function kindOfFile(file) {
   return file.name.endsWith(SIGNATURE_ENDING) ? "signature" : isKey ? "key" : "data";
 }
 
-// Returns the name of the download to which a signature file with this name belongs.
-function nameOfSigned(name) {
-  const end = name.lastIndexOf(SIGNATURE_ENDING);
-  return end > 0 ? name.slice(0, end) : name.replace(/([^])\.[^.]*$/, "$1");
+// Returns the name of the download to which a signature file with this name belongs: the name without .minisig, or else without its
+// last extension.
+function downloadName(signatureName) {
+  const end = signatureName.lastIndexOf(SIGNATURE_ENDING);
+  return end > 0 ? signatureName.slice(0, end) : signatureName.replace(/([^])\.[^.]*$/, "$1");
 }
 
-// Runs the action of adding files, which may change the downloads with the same or similar names.
-function inTurnOfFiles(files, hasDirectories = false) {
-  const names = new Set(files.flatMap(({name}) => [name, nameOfSigned(name)]).map(bareName));
-  inTurn(() => takeFiles(files, hasDirectories), ({name}) => names.has(bareName(name)));
+// Queues the action of adding files, which may change the downloads with the same or similar names.
+function queueFiles(files, hasDirectories = false) {
+  const names = new Set(files.flatMap(({name}) => [name, downloadName(name)]).map(bareName));
+  queueAction(() => takeFiles(files, hasDirectories), ({name}) => names.has(bareName(name)));
 }
 
-// Takes files that were chosen or dropped together. Each is a public key, a signature or a download. If there are only one download
+// Adds files that were chosen or dropped together. Each is a public key, a signature or a download. If there is exactly one download
 // and one signature, they belong together, whatever their names are.
 async function takeFiles(files, hasDirectories = false) {
   clearMessages();
   if (hasDirectories) {
-    sayOfFiles(HAS_DIRECTORIES);
+    addFilesMessage(HAS_DIRECTORIES);
   }
   const names = new Set(files.map(file => file.name));
   // A file is a download, whatever its content, if it was one before or comes with its signature.
   const isDownload = ({name}) => !name.endsWith(SIGNATURE_ENDING) &&
     (names.has(name + SIGNATURE_ENDING) || downloads.has(name) || presetSignatures.some(each => each.names.includes(name)));
   const kindOf = async file => isDownload(file) ? "data" : await kindOfFile(file);
-  const given = await Promise.all(files.map(async file => ({file, kind: await kindOf(file)})));
-  const filesOf = kind => given.filter(each => each.kind === kind).map(each => each.file);
+  const filesWithKinds = await Promise.all(files.map(async file => ({file, kind: await kindOf(file)})));
+  const filesOf = kind => filesWithKinds.filter(each => each.kind === kind).map(each => each.file);
   const [data, signatures] = [filesOf("data"), filesOf("signature")];
   const isPair = data.length === 1 && signatures.length === 1;
-  for (const {file, kind} of given) {
+  for (const {file, kind} of filesWithKinds) {
     if (kind === "data") {
       takeDownload(file, file.name, "data");
     } else if (kind === "signature") {
-      takeDownload(file, isPair ? data[0].name : nameOfSigned(file.name), "signature");
+      takeDownload(file, isPair ? data[0].name : downloadName(file.name), "signature");
     }
   }
   for (const kind of ["secret key", "PGP"]) {
     for (const file of filesOf(kind)) {
-      sayOfFiles(nameOf(file.name), ` ${HINTS.get(kind)}`);
+      addFilesMessage(nameBox(file.name), ` ${HINTS.get(kind)}`);
     }
   }
-  joinLone();
+  pairLoneParts();
   await takeKeysAmongFiles(filesOf("key"));
 }
 
-// Runs the action of changing the field for the signature. The signature that was pasted before is no longer used.
-function inTurnOfSignature(typed) {
-  inTurn(() => takeSignatureText(typed), isOfPasted);
+// Queues the action of changing the text in the field for the signature. The signature that was pasted before is no longer used.
+function queueSignatureText(typed) {
+  queueAction(() => takeSignatureText(typed), hasPastedSignature);
 }
 
-function isOfPasted({signature}) {
-  return signature !== null && signature === pasted;
+// Returns true if the signature of a download is the one that was pasted last.
+function hasPastedSignature({signature}) {
+  return signature !== null && signature === pastedSignature;
 }
 
-// Takes a pasted text as a signature. It replaces the one that was pasted before, even if that was for another file.
+// Reads a pasted text as a signature. It replaces the signature that was pasted before, even if that one was for another file.
 function takeSignatureText(typed) {
   clearMessages();
   const text = typed.trim().replace(/\n\s+/g, "\n");
   const kind = kindOfText(text);
-  const file = kind === "signature" ? fileOfPasted(text) : undefined;
-  [...downloads.values()].filter(download => isOfPasted(download) && download !== file).forEach(withdrawSignature);
+  const target = kind === "signature" ? downloadOfPasted(text) : undefined;
+  [...downloads.values()].filter(download => hasPastedSignature(download) && download !== target).forEach(removeSignature);
   if (kind === "signature") {
-    pasted = new File([text], PASTED);
-    takeDownload(pasted, file?.name ?? "pasted", "signature");
+    pastedSignature = new File([text], PASTED_NAME);
+    takeDownload(pastedSignature, target?.name ?? "pasted", "signature");
   } else if (text !== "") {
-    sayOfFiles(HINTS.get(kind) ?? NO_SIGNATURE);
+    addFilesMessage(HINTS.get(kind) ?? NO_SIGNATURE);
   }
 }
 
-// Returns the download for a pasted signature, if any. Among the downloads without another signature, it is the only one with the
-// signed name, or else the only one for which no signature was pasted, or else the last one for which one was pasted.
-function fileOfPasted(text) {
-  const names = namesIn(text), free = [...downloads.values()].filter(download => !download.signature || isOfPasted(download));
+// Returns the download to which a pasted signature belongs, if any. Only downloads without a signature, or with the signature that was
+// pasted before, are considered: the only one with a signed name; or else the only one for which no signature was ever pasted; or else
+// the one for which a signature was pasted last.
+function downloadOfPasted(text) {
+  const names = namesIn(text);
+  const free = [...downloads.values()].filter(download => !download.signature || hasPastedSignature(download));
   const named = free.filter(({name}) => names.some(other => isAlikeName(name, other)));
-  const [fresh, other] = free.filter(({pastedAt}) => pastedAt === 0);
-  const [last] = free.filter(({pastedAt}) => pastedAt > 0).sort((one, another) => another.pastedAt - one.pastedAt);
-  return named.length === 1 ? named[0] : fresh && !other ? fresh : last;
+  const [fresh, otherFresh] = free.filter(({pastedAt}) => pastedAt === 0);
+  const [last] = free.filter(({pastedAt}) => pastedAt > 0).sort((one, other) => other.pastedAt - one.pastedAt);
+  return named.length === 1 ? named[0] : fresh && !otherFresh ? fresh : last;
 }
 
-// Takes the signature away from a download, and removes the download if nothing is left of it.
-function withdrawSignature(download) {
+// Removes the signature of a download, and the download itself if it has no data.
+function removeSignature(download) {
   download.signature = null;
   if (download.data) {
     renew(download);
@@ -302,72 +319,83 @@ function withdrawSignature(download) {
   }
 }
 
-// Joins a file without a signature and a signature without a file if their names are alike, or if there is only one of each. If the
-// page or the link has signatures, the names must be alike.
-function joinLone() {
-  const files = downloadsWithout("signature"), signatures = downloadsWithout("data");
+// Pairs files that have no signature with signatures that have no file, if their names are alike. If there is only one of each, they are
+// paired whatever their names are, unless the page or its link has signatures.
+function pairLoneParts() {
+  const files = downloadsWithout("signature");
+  const signatures = downloadsWithout("data");
   const isPair = files.length === 1 && signatures.length === 1 && presetSignatures.length === 0;
-  for (const signature of signatures) {
-    const file = files.find(other => !other.signature && (isPair || isAlikeName(other.name, signature.name)));
+  for (const lone of signatures) {
+    const file = files.find(other => !other.signature && (isPair || isAlikeName(other.name, lone.name)));
     if (file) {
-      takeDownload(signature.signature, file.name, "signature");
-      remove(signature);
+      takeDownload(lone.signature, file.name, "signature");
+      remove(lone);
     }
   }
 }
 
+// Returns the downloads without a "signature" or without "data".
 function downloadsWithout(part) {
   return [...downloads.values()].filter(download => !download[part]);
 }
 
-// Takes a key that came with the files, if there is only one, there is no key yet, and the field for the key is empty.
+// Uses a key that came with the files, if it is the only one, the page has no key yet, and the field for the key is empty.
 async function takeKeysAmongFiles(files) {
   if (key || byId("key-text").value.trim() !== "") {
     // On a page that only needs the download, the key is shown below.
     const side = byId("key").nextElementSibling ? "above" : "below";
     for (const file of files) {
-      const reason = key ? [`this page uses the key ${side}, `, lettersBox(key.keyId), "."] : [`the text in the field ${side} ${NO_KEY_IN_FIELD}`];
-      sayOfFiles(nameOf(file.name), " came with the files and was ignored: ", ...reason);
+      const reason = key ? [`this page uses the key ${side}, `, codeBox(key.keyId), "."] : [`the text in the field ${side} ${NO_KEY_IN_FIELD}`];
+      addFilesMessage(nameBox(file.name), " came with the files and was ignored: ", ...reason);
     }
   } else if (files.length > 1) {
     clearKey();
-    sayOfKey(SEVERAL_KEYS);
+    showKeyMessage(SEVERAL_KEYS);
   } else if (files.length === 1) {
     await takeKeyFile(files[0], "files");
   }
 }
 
 // Adds a message about the files that were chosen or dropped.
-function sayOfFiles(...words) {
-  byId("files-said").append(element("p", "", ...words));
+function addFilesMessage(...nodes) {
+  byId("files-message").append(element("p", "", ...nodes));
 }
 
 function clearMessages() {
   clearLog();
-  byId("files-said").replaceChildren();
+  byId("files-message").replaceChildren();
 }
 
-// Sets the data or the signature of a download.
+// Sets a part of a download, "data" or "signature", to a File. Adds the download if there is none of this name. A download has:
+//   name, bareName  its name, and the name by which it is compared with others
+//   data, signature its parts, each a File or null
+//   pastedAt        0, or the value of pastedCount when its signature was pasted
+//   tried           the signature file that gave its verdict, or that is being tried, or null
+//   row             its element in the list
+//   run             its verification, as beginRun returns it, or null
+//   action          the action of the visitor that made it unverified
+//   list            the list that it is (see readAsList), or null
+//   listedNames     the names under which a list contains it
 function takeDownload(file, name, part) {
   if (!downloads.has(name)) {
+    const parts = {data: null, signature: null, pastedAt: 0, tried: null};
     const row = element("li", "");
-    downloads.set(name, {name, bareName: bareName(name), data: null, signature: null, pastedAt: 0, tried: null, row, run: null, act: null, list: null,
-      listedNames: []});
-    byId("verdicts").append(downloads.get(name).row);
+    downloads.set(name, {name, bareName: bareName(name), ...parts, row, run: null, action: null, list: null, listedNames: []});
+    byId("verdicts").append(row);
   }
   const download = downloads.get(name);
   download[part] = file;
-  if (file === pasted) {
+  if (file === pastedSignature) {
     download.pastedAt = ++pastedCount;
   }
   renew(download);
 }
 
-// Makes a download unverified, so that it is verified again. The new verdict is attributed to the last action.
+// Makes a download unverified, so that it is verified again. The last action of the visitor is noted as the cause.
 function renew(download) {
   stop(download);
-  changed.add(download);
-  download.act = lastAct;
+  unverified.add(download);
+  download.action = latestAction;
   download.tried = null;
   download.listedNames = [];
   showWaiting(download);
@@ -376,7 +404,7 @@ function renew(download) {
 
 function remove(download) {
   stop(download);
-  changed.delete(download);
+  unverified.delete(download);
   download.row.remove();
   downloads.delete(download.name);
   setList(download, null);
@@ -393,14 +421,14 @@ function clearList() {
 // ---- Verifying ----
 
 function stop(download) {
-  undrawn.delete(download);
+  pendingDraws.delete(download);
   download.run?.stop();
 }
 
-// Returns a verification that can be stopped, whatever it is waiting for.
+// Returns an object for a verification that can be stopped at any time: `stop` stops it, and `stopped` is a promise that then resolves.
 function beginRun() {
   const run = {isStopped: false, key};
-  run.ended = new Promise(resolve => {
+  run.stopped = new Promise(resolve => {
     run.stop = () => resolve(run.isStopped = true);
   });
   return run;
@@ -408,25 +436,25 @@ function beginRun() {
 
 // Shows the state of all unverified downloads, and verifies them.
 function reviewAll() {
-  changed.forEach(showWaiting);
+  unverified.forEach(showWaiting);
   byId("nothing").hidden = downloads.size > 0;
   byId("clear").hidden = downloads.size === 0;
   showBand();
   work();
 }
 
-// Returns the names of PARTS that a download lacks.
+// Returns the PARTS that a download lacks.
 function missingParts(download) {
   const isMissing = [download.data === null, signaturesOf(download).length + listsFor(download).length === 0, key === null];
   return PARTS.filter((_, at) => isMissing[at]);
 }
 
-// Removes the next download that can be verified from `changed`, and returns it, or undefined. A download that an unfinished action may
-// change has to wait. Everything that changes a download later adds it again.
-function takeChanged() {
-  for (const download of changed) {
-    if (!isHeld(download)) {
-      changed.delete(download);
+// Removes from `unverified` the next download that can be verified, and returns it, or undefined if there is none. Downloads that an
+// unfinished action may change are skipped. Downloads that lack a part are removed too: renew adds them again when they get it.
+function nextUnverified() {
+  for (const download of unverified) {
+    if (!isBlocked(download)) {
+      unverified.delete(download);
       if (missingParts(download).length === 0) {
         return download;
       }
@@ -435,13 +463,13 @@ function takeChanged() {
   return undefined;
 }
 
-// Verifies the downloads one after another, because the library has only one state.
+// Verifies the downloads one after another, because they share the buffers of one library.
 async function work() {
   if (isWorking) {
     return;
   }
   isWorking = true;
-  for (let download = takeChanged(); download; download = takeChanged()) {
+  for (let download = nextUnverified(); download; download = nextUnverified()) {
     await verify(download);
   }
   isWorking = false;
@@ -449,11 +477,11 @@ async function work() {
 
 async function verify(download) {
   const run = download.run = beginRun();
-  const verdict = await Promise.race([verdictOn(download, run), run.ended]).catch(() => ({verdict: "bad", why: WENT_WRONG}));
-  // New threads are started, because the old ones may still send results for the file that was stopped.
+  const verdict = await Promise.race([verdictOn(download, run), run.stopped]).catch(() => ({verdict: "bad", why: WENT_WRONG}));
+  // The old threads may still send results for the stopped file, so they are replaced.
   if (run.isStopped || verdict.why === WENT_WRONG) {
-    engineBegun.then(engine => engine.end?.());
-    engineBegun = beginEngine();
+    enginePromise.then(engine => engine.end?.());
+    enginePromise = startEngine();
   }
   if (!run.isStopped) {
     download.listedNames = verdict.verdict === "good" ? verdict.listedNames ?? [] : [];
@@ -462,14 +490,22 @@ async function verify(download) {
   }
 }
 
-function rejected(number, keyIds) {
+// Returns the verdict for an error number of the library.
+function rejectedVerdict(number, keyIds) {
   const verdict = number === LEGACY_NOT_ACCEPTED ? "unsupported" : "bad";
-  return {verdict, why: WHY_NOT.get(number) ?? WENT_WRONG, number, keyIds};
+  return {verdict, why: REASONS.get(number) ?? WENT_WRONG, number, keyIds};
 }
 
-// Returns the verdict for the first valid signature of a download, or for all of them if none is valid, or null if the run was stopped.
+// Returns the verdict on a download by its first valid signature, or a combined one if none is valid, or null if the run was stopped. A
+// verdict is an object with these properties, and further ones for some kinds of verdicts:
+//   verdict   a key of VERDICTS
+//   number    the error number of the library, which is 0 for a valid signature or list, and undefined if the library was not called
+//   why       the reason, if no signature or list is valid
+//   comment   the trusted comment, if a signature or a list is valid
 async function verdictOn(download, run) {
-  const signatures = signaturesOf(download), lists = listsFor(download), failed = [];
+  const signatures = signaturesOf(download);
+  const lists = listsFor(download);
+  const failed = [];
   const isRelease = BUILT_IN_LIST.length > 0 || signatures[0]?.isBuiltIn === true;
   const hashes = new Set(lists.flatMap(({entries}) => entries.map(({hash}) => hash)));
   const reading = new Reading(download.data, ["blake2b", ...hashes]);
@@ -482,16 +518,16 @@ async function verdictOn(download, run) {
   }
   for (const signature of signatures) {
     download.tried = signature.file;
-    const verdict = await verdictBy(signature.file, download, run, reading);
+    const verdict = await verdictBySignature(signature.file, download, run, reading);
     if (verdict === null) {
       return null;
     }
     if (verdict.verdict === "good") {
-      const asList = await listIn(download.data.name, reading.smallData, signature.file, verdict.comment);
+      const asList = await readAsList(download.data.name, reading.smallData, signature.file, verdict.comment);
       return {...signedVerdict(verdict, download, signature.isBuiltIn, isRelease), asList};
     }
     failed.push({...verdict, ...signature});
-    // The file cannot be read, or the signature is for this file but its comment was changed. Then other signatures do not help.
+    // Other signatures do not help if the file cannot be read, or if this signature is for the file but its comment was changed.
     if (verdict.number === undefined || verdict.number === COMMENT_NOT_SIGNED) {
       return verdict;
     }
@@ -502,10 +538,11 @@ async function verdictOn(download, run) {
 }
 
 // Returns the verdict on a download with a valid signature. It is good only if the file has the signed name and, on a release page, the
-// signature is built in.
+// signature is built in. signedNames are the signed names that the file does not have exactly, otherNames those that it does not have
+// even without the suffix that a browser adds.
 function signedVerdict(verdict, {data, tried}, isBuiltIn, isRelease) {
-  const inComment = fieldsOfComment(verdict.comment).names;
-  const names = isBuiltIn && inComment.length === 0 ? [nameOfSigned(tried.name)] : inComment;
+  const namesInComment = fieldsOfComment(verdict.comment).names;
+  const names = isBuiltIn && namesInComment.length === 0 ? [downloadName(tried.name)] : namesInComment;
   // Names are compared after Unicode normalization, because accented letters have several encodings.
   const signedNames = names.filter(name => name.normalize() !== data.name.normalize());
   const otherNames = signedNames.filter(name => !isSignedName(data.name, name));
@@ -513,17 +550,18 @@ function signedVerdict(verdict, {data, tried}, isBuiltIn, isRelease) {
   return {...verdict, verdict: finalVerdict, signedNames, otherNames};
 }
 
-// Returns the verdict on a download without a valid signature: that for the signature that was given for it, or else for the built-in one
-// for its name. If there are several, no single reason is given.
+// Returns the verdict on a download without a valid signature, from the verdicts by all signatures that were tried. It is the verdict by
+// the signature that came with the file or the link, or else by the built-in signature for the name of the file. If there are several of
+// either kind, no single reason is given.
 function failedVerdict(failed, isRelease) {
-  const uncertain = failed.find(({verdict, isBuiltIn}) => verdict === "unsupported" && isBuiltIn === isRelease);
+  const unsupported = failed.find(({verdict, isBuiltIn}) => verdict === "unsupported" && isBuiltIn === isRelease);
   const [given, otherGiven] = failed.filter(({isBuiltIn, isNamed}) => isNamed && !isBuiltIn);
   const [builtIn, otherBuiltIn] = failed.filter(({isBuiltIn, isNamed}) => isNamed && isBuiltIn);
-  if (uncertain) {
-    return uncertain;
+  if (unsupported) {
+    return unsupported;
   }
   if (given && !otherGiven) {
-    // On a release page, a legacy signature of somebody else must not turn the verdict from red to amber.
+    // On a release page, a legacy signature that is not built in must not turn the verdict from red to amber.
     return isRelease ? {...given, verdict: "bad", more: NOT_OF_RELEASE} : given;
   }
   if (builtIn && !otherBuiltIn) {
@@ -532,9 +570,11 @@ function failedVerdict(failed, isRelease) {
   return failed.length === 1 ? failed[0] : {verdict: "bad", why: NONE_FITS};
 }
 
-// The data of a download. It is read once for all prehashed signatures and lists that are tried, because reading a file takes much longer
-// than checking a signature, and at most once more for all legacy signatures, which also need the data itself. `states` has the states of
-// all hash functions in use, by their names. `smallData` has the pieces of a file that is small enough for a list.
+// Reads and hashes the data of a download. Reading takes much longer than checking a signature, so the data is read only once for all
+// prehashed signatures and lists, and at most once more for all legacy signatures, which need the data itself.
+//   states      the states of all hash functions in use, by their names
+//   legacyData  the pieces of the data, if a legacy signature needs them, otherwise null
+//   smallData   the pieces of the data, if it is small enough for a list, otherwise null
 class Reading {
   constructor(file, hashes) {
     Object.assign(this, {file, library, hashes, states: null, legacyData: null, smallData: null, isRead: false});
@@ -563,59 +603,61 @@ class Reading {
   }
 }
 
-// Shows the number of bytes that were read. Returns false if the run was stopped.
-function reportProgress(download, run, done) {
+// Shows how many bytes of a download were read. Returns false if the run was stopped.
+function reportProgress(download, run, bytesRead) {
   if (!run.isStopped) {
-    draw(download, () => showProgress(download, done), SHOWN_MILLISECONDS);
+    draw(download, () => showProgress(download, bytesRead), PROGRESS_MS);
   }
   return !run.isStopped;
 }
 
-// Reads the data of a download. Returns true if it was read, null if the run was stopped, and otherwise the verdict.
+// Reads the data of a download. Returns true if it was read, null if the run was stopped, and otherwise a bad verdict.
 async function readDownload(download, run, reading, isLegacy) {
-  const engine = isLegacy || download.data.size <= MAX_NEAR_BYTES ? new NearEngine() : await engineBegun;
+  const engine = isLegacy || download.data.size <= MAX_PAGE_THREAD_BYTES ? new PageEngine() : await enginePromise;
   // A stopped run must not use the threads of the next one.
-  const isRead = !run.isStopped && await reading.read(isLegacy, engine, done => reportProgress(download, run, done));
+  const isRead = !run.isStopped && await reading.read(isLegacy, engine, bytesRead => reportProgress(download, run, bytesRead));
   if (run.isStopped) {
     return null;
   }
   return isRead || {verdict: "bad", why: "The file could not be read, or it changed while it was read. Choose it again."};
 }
 
-async function verdictBy(signature, download, run, reading) {
+// Returns the verdict on a download by one signature file, or null if the run was stopped.
+async function verdictBySignature(signature, download, run, reading) {
   const {data} = download;
   reportProgress(download, run, 0);
-  const text = await textOfFile(signature);
+  const text = await bytesOfTextFile(signature);
   if (text === null) {
     return {verdict: "bad", why: "The signature file cannot be read, or is too large to be a signature. Get the signature again."};
   }
   // The key and the signature are checked before any data is read.
   const read = library.readSignature(text), keyIds = {publicKeyId: run.key.keyId, signatureKeyId: read.keyId};
   if (read.number !== 0) {
-    return rejected(read.number, keyIds);
+    return rejectedVerdict(read.number, keyIds);
   }
   const verification = new Verification(library, run.key.bytes, read, data.size <= MAX_LEGACY_BYTES);
   if (verification.number !== 0) {
-    return rejected(verification.number, keyIds);
+    return rejectedVerdict(verification.number, keyIds);
   }
   const isRead = await readDownload(download, run, reading, read.isLegacy);
   if (isRead !== true) {
     return isRead;
   }
   verification.takeFed(reading.states.blake2b, reading.legacyData ?? []);
-  const {number, first} = await verification.end();
+  const {number, isDataValid} = await verification.end();
   if (number === 0) {
     return {verdict: "good", number, keyIds, comment: verification.comment()};
   }
-  const verdict = rejected(number, keyIds);
-  return first && await isOfOtherEnds(new TextDecoder().decode(text), verification) ? {...verdict, why: WHY_NOT_ENDS} : verdict;
+  const verdict = rejectedVerdict(number, keyIds);
+  const hasOuterSpace = isDataValid && await differsInOuterSpace(new TextDecoder().decode(text), verification);
+  return hasOuterSpace ? {...verdict, why: OUTER_SPACE_REASON} : verdict;
 }
 
 // Returns true if the trusted comment differs from the signed one only in white space at its beginning or end.
-async function isOfOtherEnds(signatureText, verification) {
+async function differsInOuterSpace(signatureText, verification) {
   const {questions} = verification;
-  const comments = commentsWithEnds(signatureText, verification.comment());
+  const comments = commentsWithOuterSpace(signatureText, verification.comment());
   const messages = comments.map(comment => Uint8Array.of(...questions.signature, ...new TextEncoder().encode(comment)));
-  const answers = await Promise.all(messages.map(message => accepts(questions.publicKey, questions.commentSignature, message)));
-  return answers.includes(true);
+  const results = await Promise.all(messages.map(message => accepts(questions.publicKey, questions.commentSignature, message)));
+  return results.includes(true);
 }

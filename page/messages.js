@@ -1,38 +1,46 @@
 // SPDX-License-Identifier: MIT
-// The texts of the page: verdicts, reasons by the error numbers of include/minisign.h, and hints for wrong input. Also shows texts
-// of unknown origin safely.
+// The texts of the page: the words of the verdicts, the reasons by the error numbers of include/minisign.h, and hints for wrong input.
+// Also makes the elements that show texts, including texts of unknown origin, safely.
 
-const DAMAGED = "Download the signature again: it is incomplete or damaged, or it is not a Minisign signature.";
-const NO_KEY = "Get the public key again: it is incomplete or damaged, or it is not a Minisign key.";
+// The ends of several reasons.
+const SIG_HINT = "Download the signature again: it is incomplete or damaged, or it is not a Minisign signature.";
+const KEY_HINT = "Get the public key again: it is incomplete or damaged, or it is not a Minisign key.";
 
-// Error numbers of include/minisign.h that the page treats specially. The page uses the first one for a public key, too, because
+// The error numbers of include/minisign.h that the page treats specially. The page uses UNKNOWN_ALGORITHM for a public key, too, because
 // the library does not check the algorithm of a key.
-const UNKNOWN_ALGORITHM = 28, OTHER_KEY = 29, LEGACY_NOT_ACCEPTED = 30, COMMENT_NOT_SIGNED = 32;
-const NOT_LISTED = 92, DIGEST_MISMATCH = 94;
+const NOT_UTF8 = 8;
+const UNKNOWN_ALGORITHM = 28;
+const OTHER_KEY = 29;
+const LEGACY_NOT_ACCEPTED = 30;
+const COMMENT_NOT_SIGNED = 32;
+const NOT_LISTED = 92;
+const DIGEST_MISMATCH = 94;
 
-const WHY_NO_KEY = new Map([
-  [UNKNOWN_ALGORITHM, `This is not a Minisign public key: those begin with RW. ${NO_KEY}`],
-  [8, `The public key is not UTF-8 text. ${NO_KEY}`],
-  [16, `The public key is empty. ${NO_KEY}`],
-  [17, `The public key file has no second line. ${NO_KEY}`],
-  [18, `The second line of the public key file is not 56 characters long. ${NO_KEY}`],
-  [19, `The second line of the public key file contains a character that is not allowed in a key. ${NO_KEY}`],
-  [20, `The public key is too short. ${NO_KEY}`],
-  [44, `A public key has 56 characters. This text is longer or shorter. ${NO_KEY}`],
-  [45, `The public key contains a character that is not allowed in a key. ${NO_KEY}`],
+// Why there is no public key, by the error number.
+const KEY_REASONS = new Map([
+  [UNKNOWN_ALGORITHM, `This is not a Minisign public key: those begin with RW. ${KEY_HINT}`],
+  [NOT_UTF8, `The public key is not UTF-8 text. ${KEY_HINT}`],
+  [16, `The public key is empty. ${KEY_HINT}`],
+  [17, `The public key file has no second line. ${KEY_HINT}`],
+  [18, `The second line of the public key file is not 56 characters long. ${KEY_HINT}`],
+  [19, `The second line of the public key file contains a character that is not allowed in a key. ${KEY_HINT}`],
+  [20, `The public key is too short. ${KEY_HINT}`],
+  [44, `A public key has 56 characters. This text is longer or shorter. ${KEY_HINT}`],
+  [45, `The public key contains a character that is not allowed in a key. ${KEY_HINT}`],
 ]);
 
-const WHY_NOT = new Map([
-  [8, `The signature is not UTF-8 text. ${DAMAGED}`],
-  [20, `The signature is too short. ${DAMAGED}`],
-  [21, `The signature is empty. ${DAMAGED}`],
-  [22, `The signature has no second line. ${DAMAGED}`],
-  [23, `The signature has no third line. ${DAMAGED}`],
-  [24, `The signature has no fourth line. ${DAMAGED}`],
-  [25, `The first line of the signature does not begin with “untrusted comment:”. ${DAMAGED}`],
-  [26, `The second or fourth line of the signature contains a character that is not allowed there. ${DAMAGED}`],
-  [27, `The third line of the signature does not begin with “trusted comment:”. ${DAMAGED}`],
-  [UNKNOWN_ALGORITHM, `The signature uses an algorithm that Minisign does not support. ${DAMAGED}`],
+// Why a file is not verified or a list is not used, by the error number.
+const REASONS = new Map([
+  [NOT_UTF8, `The signature is not UTF-8 text. ${SIG_HINT}`],
+  [20, `The signature is too short. ${SIG_HINT}`],
+  [21, `The signature is empty. ${SIG_HINT}`],
+  [22, `The signature has no second line. ${SIG_HINT}`],
+  [23, `The signature has no third line. ${SIG_HINT}`],
+  [24, `The signature has no fourth line. ${SIG_HINT}`],
+  [25, `The first line of the signature does not begin with “untrusted comment:”. ${SIG_HINT}`],
+  [26, `The second or fourth line of the signature contains a character that is not allowed there. ${SIG_HINT}`],
+  [27, `The third line of the signature does not begin with “trusted comment:”. ${SIG_HINT}`],
+  [UNKNOWN_ALGORITHM, `The signature uses an algorithm that Minisign does not support. ${SIG_HINT}`],
   [OTHER_KEY, "The signature was made with another key, so the public key on this page cannot verify it."],
   [LEGACY_NOT_ACCEPTED, "The signature is in Minisign's legacy format. This page can verify such a signature only if the file has at most " +
     "64 MiB. Verify the file with the program minisign instead."],
@@ -47,15 +55,15 @@ const WHY_NOT = new Map([
   [DIGEST_MISMATCH, "This file is not the one that the signed list has under this name. Do not use the file."],
 ]);
 
-// For a comment that differs from the signed one only in white space at its beginning or end, which the library ignores.
-const WHY_NOT_ENDS = "The file is the one that was signed, but the signer's trusted comment has white space at its beginning or end, " +
+// The reason if the trusted comment differs from the signed one only in white space at its beginning or end, which the library removes.
+const OUTER_SPACE_REASON = "The file is the one that was signed, but the signer's trusted comment has white space at its beginning or end, " +
   "and this page rejects such comments. This is probably a mistake and not an attack. Ask the signer for a new signature, with a " +
   "comment that neither begins nor ends with white space.";
 
 const WENT_WRONG = "An internal error occurred, so the file was not verified. Reload the page and try again.";
 const TOO_LONG_A_KEY = "No public key: this file cannot be read, or is too large to be a public key.";
 
-// Hints for other input in the field for the key, by the results of hintOf.
+// Hints for input of another kind than the page expects, by the results of hintOf and kindOfText.
 const HINTS = new Map([
   ["secret key", "This is a secret key. Nobody but its owner may see it, and no web page needs it. " +
     "The public key is in another file, usually minisign.pub."],
@@ -70,7 +78,7 @@ const HINTS = new Map([
   ["broken", "The key is broken over several lines. Paste it as one line:"],
   ["alone", "This is only the key, without the first line of a public key file. Paste it into the field:"],
 ]);
-// The hints that are followed by the key.
+// The hints after which the page shows the key that it found in the input.
 const HINTS_WITH_KEY = ["command", "words", "broken", "alone"];
 const NO_SIGNATURE = "This is not a signature. A signature has four lines, and the first one begins with “untrusted comment:”.";
 
@@ -85,15 +93,15 @@ const UNLISTED = "The file is not one of those that are built into this page. It
   "The file may be from an older release, or something else that the owner of the key has signed.";
 const BAD_BUILT_IN_LIST = "The list that is built into this page is not valid, so the page cannot verify the files of the release.";
 const NO_KEY_IN_FIELD = "is not a key. Correct that text, or clear the field.";
-const WHOSE = "This page cannot know who owns the key. Compare all of its 56 characters with the key that the project publishes.";
-const WITH_FILES = "The key came with the files, so whoever made the files may have made the key.";
-const BY_LINK = "The key came with the link to this page, so whoever made the link chose the key.";
-const PASTE = "Before you use a file, get the key from where the project publishes it, and paste it into the field for the key.";
+const COMPARE_KEY = "This page cannot know who owns the key. Compare all of its 56 characters with the key that the project publishes.";
+const KEY_WITH_FILES = "The key came with the files, so whoever made the files may have made the key.";
+const KEY_IN_LINK = "The key came with the link to this page, so whoever made the link chose the key.";
+const PASTE_KEY = "Before you use a file, get the key from where the project publishes it, and paste it into the field for the key.";
 const WAIT = ["Wait until this page has read the file.", "Wait until this page has read the files."];
 
-// The verdicts, and the states before a verdict, from worst to best: symbol, words, and next step for one file and for several.
-// Their colours are in page.css. A file that is being read comes before one that waits for input, so that nobody is asked for a
-// file that is being read. The next step of a file that waits for input is in missingStep.
+// The verdicts, and the states of a file without a verdict, from worst to best. Each has a symbol, words, the next step for one file, and
+// the next step for several files. The colours are in page.css. "reading" and "queued" come before "waiting", so that the band never asks
+// for a file that is being read. missingStep returns the next step for "waiting".
 const VERDICTS = new Map([
   ["bad", ["✗", "NOT verified", ...BUILT_IN_KEY
     ? ["Do not use this file. Download it again from the project.", "Do not use these files. Download them again from the project."]
@@ -115,45 +123,48 @@ const VERDICTS = new Map([
   ["good", ["✓", "Verified", ...["file", "files"].map(each => `You can use the ${each} if ${BUILT_IN_KEY ? "this page" : "the key"} is the project's own.`)]],
 ]);
 
-// The parts without which a download cannot be verified, in the order in which they are named.
+// What a verification needs, in the order in which the page names what is missing.
 const PARTS = ["file", "signature", "public key"];
 
-// Returns the next step if these parts are missing.
+// Returns the next step if a set of PARTS is missing.
 function missingStep(parts) {
   const names = PARTS.filter(part => parts.has(part)).map(part => `the ${part}`);
   return `Add what is missing: ${names.join(", ").replace(/, ([^,]*)$/, " and $1")}.`;
 }
 
-// The sources of a key. `from` completes a sentence after "the key .."; NAME stands for the name of its file. `isGiven` is true if
-// the visitor or the builder of the page gave the key on purpose. `fits` and `fails` are shown once above the list: `fits` if there
-// is a valid signature, otherwise `fails` if there is one that is not valid.
-const SOURCES = new Map([
-  ["typed", {from: ["which you pasted or typed"], isGiven: true, fits: WHOSE, fails: ""}],
-  ["chosen", {from: ["which you chose as the file ", "NAME"], isGiven: true, fits: WHOSE, fails: ""}],
-  ["files", {from: ["which came with the files as ", "NAME"], isGiven: false, fits: `${WITH_FILES} ${PASTE}`, fails: WITH_FILES}],
-  ["link", {from: ["which came with the link to this page"], isGiven: false, fits: `${BY_LINK} ${PASTE}`, fails: BY_LINK}],
+// The sources of a key. Each has:
+//   from       the words that complete a sentence after "the key .."; NAME stands for the name of the key's file
+//   isTrusted  true if the visitor or the builder of the page gave the key on purpose, so that files can be verified with it
+//   ifValid    a sentence that is shown once above the list if a signature is valid
+//   ifInvalid  a sentence that is shown instead if no signature is valid and one is invalid
+const KEY_SOURCES = new Map([
+  ["typed", {from: ["which you pasted or typed"], isTrusted: true, ifValid: COMPARE_KEY, ifInvalid: ""}],
+  ["chosen", {from: ["which you chose as the file ", "NAME"], isTrusted: true, ifValid: COMPARE_KEY, ifInvalid: ""}],
+  ["files", {from: ["which came with the files as ", "NAME"], isTrusted: false, ifValid: `${KEY_WITH_FILES} ${PASTE_KEY}`, ifInvalid: KEY_WITH_FILES}],
+  ["link", {from: ["which came with the link to this page"], isTrusted: false, ifValid: `${KEY_IN_LINK} ${PASTE_KEY}`, ifInvalid: KEY_IN_LINK}],
   ["page", {
     from: ["which is built into this page"],
-    isGiven: true,
-    fits: "The key is built into this page, so trust the result only as much as the place where you got this page.",
-    fails: "",
+    isTrusted: true,
+    ifValid: "The key is built into this page, so trust the result only as much as the place where you got this page.",
+    ifInvalid: "",
   }],
 ]);
 
-// Characters that are invisible or change how other characters are shown: control characters other than tab, characters that
-// change the direction or join others, line and paragraph separators, blank letters, private and unassigned characters.
-const UNSEEABLE = /(?!\t)[\p{Cc}\p{Cf}\p{Cs}\p{Co}\p{Cn}\p{Zl}\p{Zp}\p{Default_Ignorable_Code_Point}\u2800]/gu;
+// Characters that are invisible or change how other characters are shown: control characters except for tab, characters that change the
+// direction of text or join other characters, line and paragraph separators, letters without ink, and characters that are for private
+// use or not assigned.
+const INVISIBLE = /(?!\t)[\p{Cc}\p{Cf}\p{Cs}\p{Co}\p{Cn}\p{Zl}\p{Zp}\p{Default_Ignorable_Code_Point}\u2800]/gu;
 
-function codeOf(character) {
+function codePointOf(character) {
   return `U+${character.codePointAt(0).toString(16).toUpperCase().padStart(4, "0")}`;
 }
 
-// Returns the text with each invisible character replaced by its number.
-function withCodes(text) {
-  return text.replace(UNSEEABLE, character => `[${codeOf(character)}]`);
+// Returns the text with each invisible character replaced by its code point in brackets.
+function escaped(text) {
+  return text.replace(INVISIBLE, character => `[${codePointOf(character)}]`);
 }
 
-// Returns an element with a class, and these nodes and texts in it. A text is never parsed as markup.
+// Returns an element with a class that contains these nodes and texts. Texts are never parsed as markup.
 function element(name, className, ...inside) {
   const node = document.createElement(name);
   if (className) {
@@ -163,51 +174,55 @@ function element(name, className, ...inside) {
   return node;
 }
 
-// Returns the text as nodes. The number of an invisible character has its own element, so that it is not mistaken for text.
-function nodesOf(text) {
+// Returns the nodes for a text. Each invisible character is replaced by an element with its code point, so that nobody mistakes the code
+// point for text.
+function textNodes(text) {
   const nodes = [];
   let at = 0;
-  for (const found of text.matchAll(UNSEEABLE)) {
-    nodes.push(text.slice(at, found.index), element("span", "unseeable", codeOf(found[0])));
+  for (const found of text.matchAll(INVISIBLE)) {
+    nodes.push(text.slice(at, found.index), element("span", "unseeable", codePointOf(found[0])));
     at = found.index + found[0].length;
   }
   return [...nodes, text.slice(at)];
 }
 
-// Returns an element that browsers do not translate.
-function verbatim(...parts) {
+// Returns an element as `element` does. Browsers do not translate it.
+function untranslated(...parts) {
   const node = element(...parts);
   node.translate = false;
   return node;
 }
 
-// The maximum length of a name in the band, and how many of these characters are the last ones of the name.
-const MAX_NAME = 40, NAME_END = 16;
+// The maximum length of a name in the band, in characters. A longer name is shown without its middle: NAME_END characters are its end,
+// where versions mostly are.
+const MAX_NAME = 40;
+const NAME_END = 16;
 
-// Returns the name without its middle if it is long. The version is mostly at the end.
 function shortened(name) {
-  const letters = [...name];
-  return letters.length <= MAX_NAME ? name : `${letters.slice(0, MAX_NAME - NAME_END - 1).join("")}…${letters.slice(-NAME_END).join("")}`;
+  const all = [...name];
+  return all.length <= MAX_NAME ? name : `${all.slice(0, MAX_NAME - NAME_END - 1).join("")}…${all.slice(-NAME_END).join("")}`;
 }
 
-// Returns the name of a file, in a box.
-function nameOf(name) {
-  return verbatim("bdi", "name", ...nodesOf(name));
+// Returns an element with the name of a file.
+function nameBox(name) {
+  return untranslated("bdi", "name", ...textNodes(name));
 }
 
-// Returns the letters of a key or a key ID, in a box.
-function lettersBox(letters) {
-  return verbatim("code", "letters", letters);
+// Returns an element with a key, a key ID or a command.
+function codeBox(code) {
+  return untranslated("code", "letters", code);
 }
 
 // Returns the nodes that say where a key came from.
-function sourceOf({kind, name}) {
-  return SOURCES.get(kind).from.map(part => part === "NAME" ? nameOf(name) : part);
+function sourceNodes({kind, name}) {
+  return KEY_SOURCES.get(kind).from.map(part => part === "NAME" ? nameBox(name) : part);
 }
 
-function sizeOf(bytes) {
+// Returns a size in words, with a decimal unit.
+function formatSize(bytes) {
   const units = ["bytes", "kB", "MB", "GB", "TB"];
-  let value = bytes, unit = 0;
+  let value = bytes;
+  let unit = 0;
   while (value >= 1000 && unit < units.length - 1) {
     value /= 1000;
     unit += 1;
