@@ -4,8 +4,9 @@
     bench/as_c.py [TURNS]
 
 The jobs are hashing, by calls and by `minisign -V`, and decrypting a key with the limits of `minisign -G`, by a call and by
-`minisign -S`. All take turns. The table has the least processor time, and the median ratio to the archives within a turn. The
-last lines compare the C with the goal and with libsodium's portable BLAKE2b. docs/PERFORMANCE.md has the results.
+`minisign -S`. All programs take turns; TURNS is the number of turns. The table has the minimum processor time, and the median ratio to
+the archives within a turn. The last lines compare the C with the goal and with libsodium's portable BLAKE2b. docs/PERFORMANCE.md has
+the results.
 
 Needs: Python 3.9 or later, make, binutils, gcc, clang, libsodium with its header, minisign, and 1.1 GB of memory.
 """
@@ -35,7 +36,7 @@ LIBRARIES = {ARCHIVES: [], "the archive for x86-64-v2": [f"V3={static_library.DI
 def build(directory, name, words):
     """Builds the programs with a library: the one that hashes, the one that decrypts keys, and `c/minisign`. Returns their directory."""
     out = os.path.join(directory, name.replace(" ", "-"))
-    compiler = installed(needs.libsodium)
+    compiler = installed(needs.compiler_with_libsodium)
     static_library.run_make(f"OUT={out}", f"CC={compiler}", *words)
     for program in ("as_c", "usual_keys"):
         subprocess.run([compiler, "-O2", "-I", os.path.join(HERE, "..", "include"), "-o", f"{out}/{program}",

@@ -3,13 +3,13 @@
 
     bench/beside_rust.py UPSTREAM [ROUNDS]
 
-UPSTREAM is the directory of the crate's own files. compare/oracle/build.sh builds it with plain stand-ins for
-scrypt and base64, so `open` compares with plain Rust and not with the crate `scrypt`. The jobs are those of
+UPSTREAM is the directory of the crate's own files. compare/oracle/build.sh builds the crate with simple replacements for the crates
+`scrypt` and `ct_codecs`, so the job `open` compares with simple Rust code and not with the crate `scrypt`. The jobs are those of
 bench/library_bench (build_library_bench.py builds the program) and of beside_rust.rs, which this script builds with full
-optimization for the processor that `rt run` builds for. The time is the least processor time (user and system) of ROUNDS
+optimization for the processor that `rt run` builds for. The time is the minimum processor time (user and system) of ROUNDS
 runs, by default 5. The script stops if the two programs print different results.
 
-Needs Python 3.9 or later and rustc, which it installs if it may.
+Needs Python 3.9 or later and rustc, which it installs if it has permission.
 """
 
 import hashlib

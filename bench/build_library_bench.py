@@ -30,7 +30,7 @@ def build(directory):
     for name in os.listdir(os.path.join(HERE, NAME)):
         shutil.copy(os.path.join(HERE, NAME, name), os.path.join(directory, "src", name.removesuffix(".txt")))
     crate, kit = proved.Crate(LINE, proved.crates()), proved.kit()
-    why = proved.supply(crate.below)
+    why = proved.build_libraries(crate.dependencies)
     if why:
         raise proved.NotBuilt(why)
     made = proved.rattle("build", NAME, directory, "--toolchain", proved.toolchain(), "--backend", "llvm", "-o", f"{NAME}.o", crate=crate)

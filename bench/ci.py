@@ -3,8 +3,8 @@
 
     bench/ci.py LOG
 
-The output of `.ci/run` goes to the file LOG. It has the times of each script of tests/Makefile, which become a second
-table. The script samples the prover's processes twice a second and tells them apart by their arguments and their directory,
+The output of `.ci/run` is written to the file LOG. It contains the times of each script of tests/Makefile, which are printed as a
+second table. The script samples the prover's processes twice a second and tells them apart by their arguments and their directory,
 so no other prover may run. The row "everything else" has the scripts, and processes that were too short to be sampled.
 Processor times grow with the load of other virtual machines on the host, even if `vmstat` shows no steal time (`st`).
 
@@ -26,7 +26,7 @@ TICKS = os.sysconf("SC_CLK_TCK")
 # The line that tests/counted.sh prints after a script.
 SCRIPT = re.compile(r"(?m)^== (.*): (\d+) s, (\d+) of the processor$")
 # The names of parts that are not proofs of a crate.
-MUST_FAIL, GROUPS, ARCHIVES = "the edits of must-fail/", "the edits in groups", "archives for C, the page's module"
+MUTANTS, GROUPS, ARCHIVES = "the mutants of must-fail/", "the mutants in groups", "archives for C, the page's module"
 
 
 def part_of(words, directory):
@@ -35,7 +35,7 @@ def part_of(words, directory):
         return ""
     name = words[words.index("--crate-name") + 1]
     if "/rt-edit-" in directory:
-        return MUST_FAIL
+        return MUTANTS
     if "/wrong-bodies-" in directory:
         return GROUPS
     if words[-1].endswith(".a"):

@@ -1,14 +1,14 @@
 #!/usr/bin/env python3
-"""Lists the processor time of the must-fail edits of a crate, the longest first.
+"""Lists the processor time that the prover takes to reject each mutant of a crate, the longest first.
 
-    bench/edits.py CRATE[/NAME]..
+    bench/edits.py CRATE[/NAME] ..
 
-It tries them as `tests/proofs/wrong_bodies.py` does, with one check of the prover at a time. The prover saves each module when
-it is done with it. A module's time is the processor time of the prover since the module before, so the first edit also has the
-time for loading the libraries. Mostly it is a search without success that takes long: then change a smaller function, or
-choose a change that contradicts the contract sooner.
+NAME selects a mutant of the crate. The mutants are tried as by `tests/proofs/wrong_bodies.py`, with one check of the prover at a
+time. The prover saves each module when it is done with it. The time of a module is the processor time of the prover since the
+previous module, so that of the first mutant includes the time for loading the libraries. Mutants that take long mostly cause a long
+search without success. Then mutate a smaller function, or choose a mutation that contradicts the contract sooner.
 
-Needs Python 3.9 or later, the kit, and Linux.
+Needs Python 3.9 or later, the Rattle kit, and Linux.
 """
 
 import os
@@ -20,43 +20,43 @@ sys.path += [HERE, *(os.path.join(HERE, "..", "tests", name) for name in ("proof
 
 import proved
 import wrong_bodies
-from proofs import Taken, costs, modules
+from proofs import ProcessorTimes, costs, modules
 
 
 class Trial(wrong_bodies.Trial):
-    """A trial that records the processor time of a check, by function and part (`parts`) and in all (`whole`)."""
+    """A trial that records the processor seconds of a check: by function and part (`parts`), and in total (`total`)."""
 
     def check(self, directory, functions):
-        words = [word for function in sorted(functions) for word in ("--only", function)]
+        options = [option for function in sorted(functions) for option in ("--only", function)]
         with tempfile.TemporaryDirectory(prefix="edits-") as results:
-            with Taken() as taken:
-                ran = proved.rattle("check", self.crate, directory, *words, "--allow-holes", "--incremental", results)
-            self.parts, self.whole = costs(modules(results, taken)), taken.seconds[-1]
+            with ProcessorTimes() as times:
+                ran = proved.rattle("check", self.crate, directory, *options, "--allow-holes", "--incremental", results)
+            self.parts, self.total = costs(modules(results, times)), times.seconds[-1]
         return ran.stdout
 
 
 def show(trial, group):
-    """Tries a group, and prints a line for each edit and one for everything else."""
+    """Tries a group of mutants. Prints a line for each mutant, and one for everything else."""
     verdicts = {verdict.body.checked: verdict for verdict in trial.tried(group)}
     rows = sorted(((sum(parts.values()), name, parts) for name, parts in trial.parts.items() if name in verdicts), reverse=True)
     for seconds, name, parts in rows:
-        shown = ", ".join(f"{part} {seconds:.1f}" for part, seconds in parts.most_common(3) if seconds >= 0.1)
-        print(f"{seconds:7.1f}  {verdicts[name].body.label}, {verdicts[name].outcome}: {shown}")
-    print(f"{trial.whole - sum(seconds for seconds, *_ in rows):7.1f}  everything else of {trial.crate}", flush=True)
+        longest = ", ".join(f"{part} {seconds:.1f}" for part, seconds in parts.most_common(3) if seconds >= 0.1)
+        print(f"{seconds:7.1f}  {verdicts[name].body.label}, {verdicts[name].outcome}: {longest}")
+    print(f"{trial.total - sum(seconds for seconds, *_ in rows):7.1f}  everything else of {trial.crate}", flush=True)
 
 
 def main(names):
     os.chdir(proved.ROOT)
     crates = list(dict.fromkeys(name.partition("/")[0] for name in names))
     if not crates or not {*crates} <= {*proved.crates()}:
-        print("usage: bench/edits.py CRATE[/NAME]..")
+        print("usage: bench/edits.py CRATE[/NAME] ..")
         return 2
     for crate in crates:
         bodies = [body for body in wrong_bodies.bodies_of(crate, False) if {crate, body.label} & {*names} and not body.why_not]
         trial = Trial(crate)
-        why = proved.supply(proved.crates()[crate].below) or trial.lacks_proof(bodies)
-        if why:
-            print(why)
+        error = proved.build_libraries(proved.crates()[crate].dependencies) or trial.lacks_proof(bodies)
+        if error:
+            print(error)
             return 1
         for group in wrong_bodies.groups_of(bodies):
             show(trial, group)

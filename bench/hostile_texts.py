@@ -4,9 +4,8 @@ attacker could make.
 
     bench/hostile_texts.py
 
-Prints the processor time and the peak memory of each run. Fails if a result is not the one that the file format requires,
-if the memory is more than MAX_MEMORY times the size of the file, or if a file of twice the size takes more than MAX_GROWTH
-times the time.
+Prints the processor time and the peak memory of each run. Fails if a result is not what the file format requires, if the memory is more
+than MAX_MEMORY times the size of the file plus BASE_MEMORY, or if a file of twice the size takes more than MAX_GROWTH times the time.
 
 Needs: Python 3.9 or later, and the program, built by `rt run -- x` in crates/minisign_tool.
 """
@@ -33,7 +32,7 @@ ONE_LINE = {
 NO_PUBLIC_KEY = "error: Missing encoded key in public key\n"
 NO_SIGNATURE = "error: Missing signature\n"
 NO_SECRET_KEY = "error: Missing encoded key in secret key\n"
-NOT_56_LETTERS = "error: Base64 conversion failed - was an actual public key given?\n"
+NOT_56_CHARACTERS = "error: Base64 conversion failed - was an actual public key given?\n"
 NO_COMMENT_LINE = "error: Untrusted comment must start with: untrusted comment: \n"
 COMMENT_REJECTED = "error: Comment signature verification failed\n"
 VERIFIED = "Signature and comment signature verified\nTrusted comment: t\n"
@@ -41,7 +40,7 @@ SIGNED = ""
 
 
 def with_long_line(text, at, letter=b"A"):
-    """Returns a function that makes files of a given length from a valid file: it adds letters at the end of line `at`, counted from 1."""
+    """Returns a function that makes files of a given length from a valid file: it appends `letter` repeatedly to line `at`, counted from 1."""
 
     def of_length(length):
         lines = text.splitlines(keepends=True)
@@ -60,8 +59,8 @@ def repeated(letter):
 def public_texts():
     """Yields public key files: a name, a function that makes the file, and the message of `verify`."""
     yield from ((name, repeated(letter), NO_PUBLIC_KEY) for name, letter in ONE_LINE.items())
-    yield "only line feeds", repeated(b"\n"), NOT_56_LETTERS
-    yield "a long second line", with_long_line(toy.public_text(), 2), NOT_56_LETTERS
+    yield "only line feeds", repeated(b"\n"), NOT_56_CHARACTERS
+    yield "a long second line", with_long_line(toy.public_text(), 2), NOT_56_CHARACTERS
     yield "a long fourth line", with_long_line(toy.public_text(), 4), VERIFIED
 
 
@@ -101,22 +100,22 @@ def long_secret_key(length):
 
 def runs():
     """Yields each run: its name, which file is large, the function that makes this file, the expected message, and the arguments."""
-    for name, make, said in public_texts():
-        yield f"verify, public key: {name}", "key", make, said, ["verify", "key", "data", "signature"]
-    for name, make, said in signature_texts():
-        yield f"verify, signature: {name}", "signature", make, said, ["verify", "key", "data", "signature"]
-    for name, make, said in secret_texts():
-        yield f"sign, secret key: {name}", "secret", make, said, ["sign", "secret", "data", "made"]
+    for name, make, message in public_texts():
+        yield f"verify, public key: {name}", "key", make, message, ["verify", "key", "data", "signature"]
+    for name, make, message in signature_texts():
+        yield f"verify, signature: {name}", "signature", make, message, ["verify", "key", "data", "signature"]
+    for name, make, message in secret_texts():
+        yield f"sign, secret key: {name}", "secret", make, message, ["sign", "secret", "data", "made"]
 
 
-def measure(directory, arguments, said):
-    """Returns the least processor time and the peak memory of ROUNDS runs. Ends the script if a result is not the expected one."""
-    ended = [run([TOOL, *arguments], directory=directory) for _ in range(ROUNDS)]
-    for result in ended:
-        expected = int(said.startswith("error")), toy.WARNING + said
+def measure(directory, arguments, message):
+    """Returns the minimum processor time and the peak memory of ROUNDS runs. Ends the script if a run does not print this message."""
+    results = [run([TOOL, *arguments], directory=directory) for _ in range(ROUNDS)]
+    expected = int(message.startswith("error")), toy.WARNING + message
+    for result in results:
         if (result.status, result.output) != expected:
             raise SystemExit(f"{arguments[0]}: got {result.status, result.output[:200]}, expected {expected}")
-    return min(result.processor_seconds for result in ended), max(result.memory for result in ended)
+    return min(result.processor_seconds for result in results), max(result.memory for result in results)
 
 
 def main():
@@ -127,7 +126,7 @@ def main():
         "data": DATA,
     }
     failures = []
-    for name, large, make, said, arguments in runs():
+    for name, large, make, message, arguments in runs():
         row = []
         with tempfile.TemporaryDirectory() as directory:
             for file, text in good.items():
@@ -137,7 +136,7 @@ def main():
                 text = make(length)
                 with open(os.path.join(directory, large), "wb") as out:
                     out.write(text)
-                seconds, memory = measure(directory, arguments, said)
+                seconds, memory = measure(directory, arguments, message)
                 row.append((len(text), seconds, memory))
         shown = "  ".join(f"{seconds:5.2f} s {memory:6.1f} MiB" for _, seconds, memory in row)
         print(f"{name:48} {shown}", flush=True)

@@ -1,12 +1,12 @@
 #!/usr/bin/env python3
-"""Times `minisign-install` on a file of 1 GiB, in elapsed time, compared with doing the same by hand: `cat` into a temporary
-file, `sync` and `mv`, and `b2sum` of the data.
+"""Times `minisign-install` on a file of 1 GiB, in elapsed time, compared with doing the same by hand: copying with `cat`, `sync` and
+`mv`, and hashing with `b2sum`.
 
     bench/installing.py [DIRECTORY] [PROGRAM]
 
-The commands take turns; the ratio is that of `minisign-install` to the sum of the two others in the same turn. The files are
-created in DIRECTORY, by default a temporary directory, which has to be on a disk. PROGRAM is a build of `minisign-install`;
-by default it is built.
+The commands take turns. The printed ratio is that of `minisign-install` to the sum of the two others in the same turn. The files are
+created in DIRECTORY, by default in a temporary directory, which must be on a disk. PROGRAM is a build of `minisign-install`. Without
+it, the script builds the program.
 
 Needs: Python 3.9 or later, make, a C compiler, libsodium with its header, minisign and coreutils, and 4 GiB of disk space.
 """
@@ -29,7 +29,7 @@ BY_HAND = ["sh", "-c", "cat data > temporary && sync temporary && mv temporary t
 
 def build(directory):
     program = os.path.join(directory, "out", "minisign-install")
-    static_library.run_make(f"OUT={directory}/out", f"CC={needs.libsodium()}", program)
+    static_library.run_make(f"OUT={directory}/out", f"CC={needs.compiler_with_libsodium()}", program)
     return program
 
 

@@ -4,8 +4,8 @@
     bench/kept_rows.py [ROUNDS ROUNDS]
 
 The arguments are the numbers of rounds with N = 2^15 and with N = 2^20, by default 15 and 3. A round runs each k once, in a
-separate process, and derives 64 bytes with r = 8 and p = 1. Each key is compared with that of hashlib. For each k the script
-prints the least processor time of a process (user and system), the least elapsed time of the call, and the peak resident
+separate process, and derives 64 bytes with r = 8 and p = 1. Each key is compared with that of hashlib. For each k, the script
+prints the minimum processor time of a process (user and system), the minimum elapsed time of the call, and the peak resident
 memory.
 
 Needs: Python 3.9 or later with matplotlib, 1.1 GB of memory, and the program `library_bench`, which build_library_bench.py
@@ -49,8 +49,8 @@ ROW_BYTES = 1024
 MIB = 2**20
 
 
-class Least:
-    """The least processor time and elapsed time, and the peak memory in MiB, of several runs with one N and one k."""
+class BestTimes:
+    """The minimum processor time and elapsed time, and the peak memory in MiB, of several runs with the same N and k."""
 
     def __init__(self):
         self.processor = self.clock = math.inf
@@ -78,8 +78,8 @@ def expected_key(n_log2):
 
 
 def measure(n_log2, rounds):
-    """Returns a `Least` for each k."""
-    best = {k: Least() for k in STEPS}
+    """Returns a `BestTimes` for each k."""
+    best = {k: BestTimes() for k in STEPS}
     expected = expected_key(n_log2)
     for _ in range(rounds):
         for k in STEPS:

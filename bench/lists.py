@@ -4,9 +4,9 @@
 
     bench/lists.py [PROGRAM]
 
-The jobs are: a file of 256 MiB; eight files of 32 MiB; 10,000 files of 1 KiB; one file of a list with 100,000 entries. The programs take
-turns. The table has the median processor time, the median ratio within a turn, in processor time and elapsed time, and the
-median peak memory. PROGRAM is a build of `minisign-check`; by default it is built as the tests do.
+The jobs are: a file of 256 MiB; eight files of 32 MiB; 10,000 files of 1 KiB; one file of a list with 100,000 entries. The programs
+take turns. The table has the median processor time, the median ratio within a turn, in processor time and elapsed time, and the
+median peak memory. PROGRAM is a build of `minisign-check`. Without it, the script builds the program as the tests do.
 
 Needs: Python 3.9 or later, make, binutils, a C compiler, libsodium with its header and minisign. It makes its input in
 a temporary directory, which needs 1 GiB of disk space.
@@ -57,7 +57,7 @@ def main():
     with tempfile.TemporaryDirectory() as room:
         ours = os.path.realpath(sys.argv[1]) if len(sys.argv) > 1 else os.path.join(room, "out", "minisign-check")
         if len(sys.argv) < 2:
-            needs.libsodium()
+            needs.compiler_with_libsodium()
             static_library.run_make(f"OUT={room}/out", ours)
         timed([[minisign, "-GW", "-p", "key.pub", "-s", "key.key"]], room)
         print("| Job | `minisign -V` and `sha256sum -c` | `minisign-check` | Ratio | Ratio of elapsed times | Peak memory |")

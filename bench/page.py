@@ -4,11 +4,11 @@
 
     bench/page.py [ROUNDS [PAGE]]
 
-The programs take turns, each of a minute at most. For each program it prints the least time; the least, median and greatest
-ratio to `c/minisign -V` within a turn; the least processor time, of all processes and of the busiest thread, which depends
-less on the load of the machine; and the peak memory of a process that shows the page, compared with that of an empty page in
-the same process. The memory is that of a first turn, which is not timed, because later a browser may still hold memory of
-earlier pages. PAGE is by default the one of dist/.
+The programs take turns, each of a minute at most. ROUNDS is the number of turns. For each program, the script prints the minimum time;
+the minimum, median and maximum ratio to `c/minisign -V` within a turn; the minimum processor time, of all processes and of the
+busiest thread, which depends less on the load of the machine; and the peak memory of a process that shows the page, compared with that
+of an empty page in the same process. The memory is measured in a first turn, which is not timed, because later a browser may still
+hold memory of earlier pages. PAGE is the page to time, by default the one of dist/.
 
 Needs what tests/page/page.py needs, and 1 GB of disk space.
 """
@@ -152,7 +152,7 @@ def main():
         pk, sk, sig = (os.path.join(directory, name) for name in ("minisign.pub", "minisign.key", "data.minisig"))
         processor_timed([minisign, "-G", "-W", "-p", pk, "-s", sk])
         processor_timed([minisign, "-S", "-s", sk, "-m", data, "-x", sig])
-        static_library.run_make(f"OUT={directory}/c", f"CC={needs.libsodium()}")
+        static_library.run_make(f"OUT={directory}/c", f"CC={needs.compiler_with_libsodium()}")
         arguments = ["-V", "-q", "-p", pk, "-x", sig, "-m", data]
         browsers = [Chromium(*needs.chromium(), directory), Firefox(needs.firefox(), directory)]
         try:

@@ -1,15 +1,15 @@
 #!/usr/bin/env python3
-"""Lists how long the functions of a crate take to prove, the longest first.
+"""Lists the processor times for the proofs of a crate's functions, the longest first.
 
     bench/proofs.py CRATE [--test] [ROWS]
 
-The crate is proved from scratch, by one job; the libraries that it depends on are proved first if necessary. The prover
-saves each module when it is done with it. A module's time is the processor time of the prover since the module before.
-Most of it is not spent on the proof search, but on what the prover computes from a function's borrows (`Lts`), its proof
-and its calls (`Tie`). These grow faster than the function: with its blocks and locals, with each `?`, and with each owned
-value that is dropped on several paths.
+With --test, the crate's tests are proved, too. ROWS is the maximum number of lines. The crate is proved from scratch, with one job;
+the libraries that it depends on are proved before if necessary. The prover saves each module when it is done with it. The time of a
+module is the processor time of the prover since the previous module. Most of it is not spent on the proof search, but on what the
+prover computes from a function's borrows (`Lts`), its proof and its calls (`Tie`). These times grow faster than the function: with
+its blocks and locals, with each `?`, and with each owned value that is dropped on several paths.
 
-Needs Python 3.9 or later, the kit, and Linux.
+Needs Python 3.9 or later, the Rattle kit, and Linux.
 """
 
 import bisect
@@ -33,7 +33,7 @@ PARTS = {"Answers", "Code", "Given", "Goals", "Invariants", "Kinds", "Layout", "
          "Symbol", "TheLink", "Tie"}
 
 
-class Taken:
+class ProcessorTimes:
     """Records the processor time of this process's child over time."""
 
     def __init__(self):
@@ -71,11 +71,11 @@ class Taken:
         return ([0.0] + self.seconds)[bisect.bisect(self.times, time_of_day)]
 
 
-def modules(directory, taken):
+def modules(directory, times):
     """Returns the modules that the prover saved below a directory, each with its processor seconds."""
     files = sorted((os.stat(f"{at}/{name}").st_mtime, name[: -len(".oantt")]) for at, _, names in os.walk(directory)
                    for name in names if name.endswith(".oantt") and not at.endswith("/records"))
-    return [(name, taken.until(end) - taken.until(begin)) for (begin, _), (end, name) in zip(files, files[1:])]
+    return [(name, times.until(end) - times.until(begin)) for (begin, _), (end, name) in zip(files, files[1:])]
 
 
 def costs(modules):
@@ -91,20 +91,20 @@ def costs(modules):
 def main(words):
     rows = next((int(word) for word in words if word.isdigit()), 30)
     crate, flags = words[0], [word for word in words if word == "--test"]
-    why = proved.supply(proved.crates()[crate].below)
+    why = proved.build_libraries(proved.crates()[crate].dependencies)
     if why:
         print(f"a library is not proved: {why}")
         return 1
     with tempfile.TemporaryDirectory(prefix="proofs-") as room:
-        with Taken() as taken:
+        with ProcessorTimes() as times:
             ran = proved.rattle("check", crate, f"{proved.ROOT}/crates/{crate}", "--incremental", room, *flags)
-        by_name = costs(modules(room, taken))
+        by_name = costs(modules(room, times))
     for name, parts in sorted(by_name.items(), key=lambda value: -sum(value[1].values()))[:rows]:
         shown = ", ".join(f"{part} {seconds:.1f}" for part, seconds in parts.most_common(4) if seconds >= 0.1)
         print(f"{sum(parts.values()):7.1f}  {name}: {shown}")
     total = sum((parts for parts in by_name.values()), Counter())
     print(f"{sum(total.values()):7.1f}  total: {', '.join(f'{part} {seconds:.0f}' for part, seconds in total.most_common(8))}")
-    print(proved.first_of(ran.stdout))
+    print(proved.first_error(ran.stdout))
     return ran.returncode
 
 

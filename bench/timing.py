@@ -31,7 +31,7 @@ def installed(find, *arguments):
         raise SystemExit(f"FAILED: {why}") from why
 
 
-def greatest_memory(process):
+def peak_memory(process):
     """Returns the peak resident memory of a running process in MiB, or 0 if it has ended."""
     try:
         with open(f"/proc/{process.pid}/status") as status:
@@ -54,44 +54,47 @@ class Run:
 
 
 def run(command, stdin_path=None, stdout_path=None, directory=None):
-    """Runs a command in a directory. The output is standard error, and standard output too unless that goes to a file."""
-    memory, ended = 0.0, 0
+    """Runs a command in a directory. The output of the result is standard error, and also standard output unless that goes to a file."""
+    memory, finished = 0.0, 0
     with open(stdin_path or os.devnull, "rb") as stdin, open(stdout_path or os.devnull, "wb") as stdout:
-        taken = {"stdout": stdout, "stderr": subprocess.PIPE} if stdout_path else {"stdout": subprocess.PIPE, "stderr": subprocess.STDOUT}
-        begun = time.perf_counter()
-        process = subprocess.Popen(command, stdin=stdin, cwd=directory, **taken)
-        while not ended:
-            memory = max(memory, greatest_memory(process))
+        if stdout_path:
+            streams = {"stdout": stdout, "stderr": subprocess.PIPE}
+        else:
+            streams = {"stdout": subprocess.PIPE, "stderr": subprocess.STDOUT}
+        start = time.perf_counter()
+        process = subprocess.Popen(command, stdin=stdin, cwd=directory, **streams)
+        while not finished:
+            memory = max(memory, peak_memory(process))
             time.sleep(0.002)
-            ended, status, usage = os.wait4(process.pid, os.WNOHANG)
-        seconds = time.perf_counter() - begun
+            finished, status, usage = os.wait4(process.pid, os.WNOHANG)
+        seconds = time.perf_counter() - start
         process.returncode = os.waitstatus_to_exitcode(status)
         output = (process.stderr or process.stdout).read().decode(errors="replace")
     return Run(seconds, usage.ru_utime + usage.ru_stime, memory, process.returncode, output)
 
 
 def measured(command, stdin_path=None, stdout_path=None):
-    """Runs a command that has to succeed."""
-    ended = run(command, stdin_path, stdout_path)
-    if ended.status != 0:
-        raise SystemExit(f"{command[0]}: exit status {ended.status}: {ended.output}")
-    return ended
+    """Runs a command that must succeed. Returns the `Run`."""
+    result = run(command, stdin_path, stdout_path)
+    if result.status != 0:
+        raise SystemExit(f"{command[0]}: exit status {result.status}, expected 0: {result.output}")
+    return result
 
 
 def timed(command, stdin_path=None):
-    """Runs a command that has to succeed. Returns its elapsed seconds, its peak resident memory in MiB, and its output."""
-    ended = measured(command, stdin_path)
-    return ended.seconds, ended.memory, ended.output
+    """Runs a command that must succeed. Returns its elapsed seconds, its peak resident memory in MiB, and its output."""
+    result = measured(command, stdin_path)
+    return result.seconds, result.memory, result.output
 
 
 def processor_timed(command, stdin_path=None, stdout_path=None):
     """Like `timed`, with processor seconds, which depend less on the load of the machine."""
-    ended = measured(command, stdin_path, stdout_path)
-    return ended.processor_seconds, ended.memory, ended.output
+    result = measured(command, stdin_path, stdout_path)
+    return result.processor_seconds, result.memory, result.output
 
 
 def compare(runs, rounds=3):
-    """Times the runs, taking turns, and prints the least time of each and its ratio to that of the last run in the list."""
+    """Times the runs, which take turns. Prints the minimum time of each and its ratio to that of the last run in the list."""
     best = {name: (float("inf"), 0.0) for name, _ in runs}
     for _ in range(rounds):
         for name, run in runs:

@@ -1,7 +1,7 @@
 /*
  * Makes one key derivation with the limits of `minisign -G`, for bench/usual_keys.py: with the library, which encrypts a
- * key (`make`) or decrypts one (`open`), or with libsodium (`sodium`). Prints the elapsed and processor seconds of the
- * call.
+ * key (`make`) or decrypts the one in a file (`open KEY_FILE`), or with libsodium (`sodium`). Prints the elapsed and
+ * processor seconds of the call.
  */
 #define _DEFAULT_SOURCE
 
@@ -53,6 +53,7 @@ static int open_key(void)
 
 static int derive(void)
 {
+    /* Minisign derives as many bytes: they encrypt the key ID, the secret key and the checksum. */
     uint8_t stream[104], salt[crypto_pwhash_scryptsalsa208sha256_SALTBYTES] = { 0 };
 
     return crypto_pwhash_scryptsalsa208sha256(stream, sizeof stream, (const char *) PASSWORD, sizeof PASSWORD - 1, salt,
@@ -62,19 +63,22 @@ static int derive(void)
 
 int main(int argc, char **argv)
 {
-    double clock, used;
+    double began, cpu_began;
     int good, is_opening = argc == 3 && strcmp(argv[1], "open") == 0;
     FILE *key = is_opening ? fopen(argv[2], "rb") : NULL;
 
     if (sodium_init() < 0 || argc < 2) {
         return 1;
     }
+    if (!is_opening && strcmp(argv[1], "make") != 0 && strcmp(argv[1], "sodium") != 0) {
+        return 1;
+    }
     if (key != NULL) {
         text_len = fread(text, 1, sizeof text, key);
         fclose(key);
     }
-    clock = now(CLOCK_MONOTONIC);
-    used = now(CLOCK_PROCESS_CPUTIME_ID);
+    began = now(CLOCK_MONOTONIC);
+    cpu_began = now(CLOCK_PROCESS_CPUTIME_ID);
     if (is_opening) {
         good = open_key();
     } else if (strcmp(argv[1], "make") == 0) {
@@ -82,6 +86,6 @@ int main(int argc, char **argv)
     } else {
         good = derive();
     }
-    printf("%f %f\n", now(CLOCK_MONOTONIC) - clock, now(CLOCK_PROCESS_CPUTIME_ID) - used);
+    printf("%f %f\n", now(CLOCK_MONOTONIC) - began, now(CLOCK_PROCESS_CPUTIME_ID) - cpu_began);
     return !good;
 }

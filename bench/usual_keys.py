@@ -42,7 +42,7 @@ def ran(typed, *command):
 
 def build(directory):
     """Builds the program usual_keys.c and `c/minisign` from `dist/`, and returns their paths."""
-    compiler = installed(needs.libsodium)
+    compiler = installed(needs.compiler_with_libsodium)
     static_library.run_make(f"OUT={directory}/c", f"CC={compiler}")
     calls = os.path.join(directory, "calls")
     subprocess.run([compiler, "-O2", "-I", os.path.join(HERE, "..", "include"), "-o", calls, os.path.join(HERE, "usual_keys.c"),

@@ -4,8 +4,8 @@ of the archive and of the program.
 
     bench/verifying.py
 
-The program is built twice: with the normal library, which uses the calls for x86-64-v3 if the processor supports that, and
-with a library that has the calls for x86-64-v2 twice.
+The program is built twice: with the normal library, which uses the code for x86-64-v3 if the processor supports it, and with a
+library in which the code for x86-64-v2 also takes the place of that for x86-64-v3. So the latter is measured on every processor.
 
 Needs: Python 3.9 or later, make, a C compiler, libsodium with its header, minisign and coreutils' b2sum. It makes its
 input in a temporary directory, which needs 1 GB of disk space.
@@ -23,11 +23,11 @@ import static_library
 
 
 def build(name, v2, v3, directory):
-    """Builds the program with these two archives, prints the sizes, and returns the program's path."""
-    made = os.path.join(directory, name)
-    static_library.run_make(f"OUT={made}", f"V2={v2}", f"V3={v3}", f"CC={needs.libsodium()}")
-    program = os.path.join(made, "minisign")
-    library = os.path.join(made, "libminisign.a")
+    """Builds the program with the archives `v2` and `v3`, prints the sizes, and returns the path of the program."""
+    out = os.path.join(directory, name)
+    static_library.run_make(f"OUT={out}", f"V2={v2}", f"V3={v3}", f"CC={needs.compiler_with_libsodium()}")
+    program = os.path.join(out, "minisign")
+    library = os.path.join(out, "libminisign.a")
     print(f"{name}: library {os.path.getsize(library)} bytes, program {os.path.getsize(program)} bytes")
     return program
 
@@ -42,7 +42,7 @@ def main():
         processor_timed([minisign, "-S", "-s", sk, "-m", data, "-x", sig])
         arguments = ["-V", "-q", "-p", pk, "-x", sig, "-m", data]
         v2, v3 = (os.path.join(static_library.DIST, f"calls-x86-64-{name}.a") for name in ("v2", "v3"))
-        programs = {name: build(name, v2, of_v3, directory) for name, of_v3 in (("chosen", v3), ("x86-64-v2", v2))}
+        programs = {name: build(name, v2, as_v3, directory) for name, as_v3 in (("normal library", v3), ("x86-64-v2", v2))}
         compare(
             [(name, lambda value=program: processor_timed([value, *arguments])) for name, program in programs.items()]
             + [("b2sum", lambda: processor_timed(["b2sum", data])),

@@ -5,11 +5,12 @@
     compare/compare.py list UPSTREAM [--program FILE]
 
 UPSTREAM is the directory of the crate's own files. oracle/build.sh builds the crate, and a program that calls it and answers
-requests, in a temporary directory. `run` makes requests from a seed, sends them to both programs, and prints each kind of
-difference that known.py does not name, with its shortest request. `list` makes the stored run of crates/minisign_compare
-(stdin, stdout and data/) again from the crate's answers. README.md says more.
+requests, in a temporary directory. `run` makes N random requests of each kind from a seed, sends them to both programs, and prints
+each kind of difference that known.py does not list, with its shortest request. FILE is the program of this library, by default the
+one that `rt run` built. `list` writes the stored run of crates/minisign_compare (stdin, stdout and data/) again, from the answers of
+the crate. README.md says more.
 
-Needs Python 3.9 or later and rustc, which it installs if it may.
+Needs Python 3.9 or later and rustc, which it installs if it has permission.
 """
 
 import argparse
@@ -31,16 +32,16 @@ import needs  # noqa: E402
 import requests  # noqa: E402
 
 
-def built_oracle(arguments, directory):
-    """Builds the crate and the program that calls it, and returns the program's path."""
+def build_oracle(arguments, directory):
+    """Builds the crate and the program that calls it, and returns the path of the program."""
     build = os.path.join(HERE, 'oracle', 'build.sh')
     try:
         environment = dict(os.environ, RUSTC=needs.first_rust_compiler())
     except needs.Missing as why:
         sys.exit(f'FAILED: {why}')
-    made = subprocess.run(['sh', build, arguments.upstream, directory], env=environment, capture_output=True, text=True)
-    if made.returncode:
-        sys.exit(f'{build}: exit status {made.returncode}:\n{made.stderr[-2000:]}')
+    ran = subprocess.run(['sh', build, arguments.upstream, directory], env=environment, capture_output=True, text=True)
+    if ran.returncode:
+        sys.exit(f'{build}: exit status {ran.returncode}:\n{ran.stderr[-2000:]}')
     return os.path.join(directory, 'oracle')
 
 
@@ -60,7 +61,8 @@ def answers(program, lines, directory):
 
 
 def summary(request, answer):
-    """Returns the kind of a request and of its answer, without the values."""
+    """Returns the kind of a request and its answer: a tuple of the request's name, the outcome, flags, options of the data, flags in the
+    answer, and effects of the call. Values that differ from request to request are left out."""
     error = answer.error()
     outcome = (error[0], re.sub(rb'[0-9A-F]{16}', b'ID', error[1])) if error else answer.kind()
     words = request.split(' ')
@@ -78,7 +80,7 @@ def run(arguments):
     # These requests change the table of accepted signatures, so their order matters, and repeated ones must not be removed.
     lines += requests.tables(random.Random(arguments.seed))
     with tempfile.TemporaryDirectory() as directory, tempfile.TemporaryDirectory() as files:
-        theirs = answers(built_oracle(arguments, directory), lines, files)
+        theirs = answers(build_oracle(arguments, directory), lines, files)
         ours = answers(arguments.program, lines, files)
     entries, names, differences = collections.Counter(), collections.Counter(), collections.defaultdict(list)
     for request, line, answered in zip(lines, theirs, ours):
@@ -104,20 +106,21 @@ def run(arguments):
     return different == 0
 
 
-def chosen(lines, expected):
-    """Returns the indices of the requests for the stored run: short ones with all kinds of answers, and with each outcome for all
-    forms of data (read in pieces, from a position, with an error, or changed before it is read again)."""
+def select_requests(lines, expected):
+    """Returns the indices of the requests for the stored run: short requests with all kinds of answers, and each outcome with each form
+    of data (read in pieces, from a position, with an error, or changed before it is read again)."""
     kinds = []
     for request, answer in zip(lines, expected):
         name, outcome, flags, parts, marks, done = summary(request, answer)
         kinds.append({(name, outcome, flags, marks, done), (name, outcome, parts)})
-    picked, seen = set(), set()
-    for least in (2, 1):
+    selected, covered = set(), set()
+    # First the requests that cover two new kinds, then those that cover one.
+    for min_new in (2, 1):
         for at in sorted(range(len(lines)), key=lambda at: (len(lines[at]), at)):
-            if len(kinds[at] - seen) >= least:
-                picked.add(at)
-                seen |= kinds[at]
-    return sorted(picked)
+            if len(kinds[at] - covered) >= min_new:
+                selected.add(at)
+                covered |= kinds[at]
+    return sorted(selected)
 
 
 def store(arguments):
@@ -125,10 +128,10 @@ def store(arguments):
     plain = list(dict.fromkeys(requests.all_requests(arguments.seed, arguments.count)))
     last = list(requests.tables(random.Random(arguments.seed)))
     with tempfile.TemporaryDirectory() as directory, tempfile.TemporaryDirectory() as files:
-        oracle = built_oracle(arguments, directory)
+        oracle = build_oracle(arguments, directory)
         theirs = answers(oracle, plain, files)
         answered = [known.expected(request, line)[0] for request, line in zip(plain, theirs)]
-        lines = [plain[at] for at in chosen(plain, answered)] + last
+        lines = [plain[at] for at in select_requests(plain, answered)] + last
         theirs = answers(oracle, lines, files)
     expected = [known.expected(request, line)[0].line() for request, line in zip(lines, theirs)]
     os.makedirs(os.path.join(CRATE, 'data'), exist_ok=True)

@@ -1,4 +1,4 @@
-"""Makes requests for the comparison: all short inputs, inputs around each limit, and random changes of valid ones.
+"""Makes requests for the comparison: all short inputs, inputs around each limit, and valid inputs with random changes.
 
 Keys and signatures are those of the toy scheme (tests/shared/toy.py). A request is one line; oracle/README.md describes them.
 """
@@ -60,7 +60,7 @@ def sealed_record(password, opslimit, memlimit, salt=bytes(range(32)), keynum=KE
 
 
 def secret_text(record, comment=b'c'):
-    return toy.joined([COMMENT + comment, base64.b64encode(record)])
+    return toy.join_lines([COMMENT + comment, base64.b64encode(record)])
 
 
 def files():
@@ -143,7 +143,7 @@ def signature_lines():
 def signature_texts(rng):
     lines = signature_lines()
     for four in itertools.product(*lines):
-        yield f'sig_from_string {text(toy.joined(four))}'
+        yield f'sig_from_string {text(toy.join_lines(four))}'
     for count in range(4):
         for chosen in itertools.product(*lines[:count]):
             body = b'\n'.join(chosen)
@@ -168,10 +168,10 @@ def signature_texts(rng):
     for length in range(100):
         raw = bytes(rng.randrange(256) for _ in range(length))
         encoded = base64.b64encode(raw)
-        yield f'sig_from_string {text(toy.joined([lines[0][0], encoded, lines[2][0], lines[3][0]]))}'
-        yield f'sig_from_string {text(toy.joined([lines[0][0], lines[1][0], lines[2][0], encoded]))}'
+        yield f'sig_from_string {text(toy.join_lines([lines[0][0], encoded, lines[2][0], lines[3][0]]))}'
+        yield f'sig_from_string {text(toy.join_lines([lines[0][0], lines[1][0], lines[2][0], encoded]))}'
         named = base64.b64encode((b'ED' + raw)[:max(length, 2)])
-        yield f'sig_from_string {text(toy.joined([lines[0][0], named, lines[2][0], encoded[:-1]]))}'
+        yield f'sig_from_string {text(toy.join_lines([lines[0][0], named, lines[2][0], encoded[:-1]]))}'
 
 
 def secret_key_texts(rng):

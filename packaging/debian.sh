@@ -6,8 +6,8 @@
 #
 #     DEBFULLNAME=NAME DEBEMAIL=ADDRESS packaging/debian.sh minisign-in-rattle-VERSION.tar.gz DIRECTORY
 #
-# On Debian, `apt install build-essential debhelper libsodium-dev pkg-config` installs everything that this needs. The script
-# signs nothing and uploads nothing.
+# On Debian, `apt install build-essential debhelper libsodium-dev pkg-config` installs everything that the script needs. The
+# packages are not signed, and nothing is uploaded.
 set -eu
 if [ $# != 2 ] || [ -z "${DEBFULLNAME-}" ] || [ -z "${DEBEMAIL-}" ]; then
     sed -n 's/^#     //p' "$0" >&2
@@ -23,8 +23,9 @@ tar -xzf "$archive" -C "$directory"
 cd "$directory/$top"
 cp -R packaging/debian debian
 
-# The name of the shared library's package contains the version of the soname, as Debian requires.
+# Debian requires that the name of the shared library's package contains the version in its soname.
 abi=$(make -s --no-print-directory -C c soname | sed 's/^libminisign\.so\.//')
+# The files of a release have its date.
 date=$(date -u -R -r CHANGELOG.md)
 maintainer=$(printf '%s <%s>' "$DEBFULLNAME" "$DEBEMAIL" | sed 's/[\\&|]/\\&/g')
 sed -i "s|@VERSION@|$version|g; s|@ABI@|$abi|g; s|@DATE@|$date|g; s|@MAINTAINER@|$maintainer|g" debian/control debian/changelog

@@ -1,23 +1,23 @@
 #!/bin/sh
 # SPDX-License-Identifier: MIT
 #
-# Writes the archive of a release to standard output. The same commit gives the same bytes: each file has the date of the
-# commit. `make -C c release` calls this script, after it has checked that dist/ was built from the sources.
+# Writes the archive of a release to standard output. The same commit gives the same bytes, because each file gets the date of
+# the commit. `make -C c release` calls this script after it has checked that dist/ was built from the sources.
 #
 #     packaging/release.sh NAME > FILE
 #
-# NAME is the directory in the archive. In a git repository, the archive contains the tracked files as they are in the
-# working tree. Elsewhere, for example in a release, it contains all files except those that were built.
+# NAME is the name of the directory in the archive. In a git repository, the archive contains the tracked files as they are in
+# the working tree. Elsewhere, for example in an unpacked release, it contains all files except those that were built.
 set -eu
 name=$1
 cd "$(dirname "$0")/.."
 
-# The contents of a release: everything needed to build it and to rebuild dist/, the documents, and from the tests only the
-# corpus and the modules that tools/ uses too.
+# The contents of a release: everything that is needed to build it and to rebuild dist/, and the documents. Of the tests, only
+# the corpus and the modules that tools/ uses are included.
 parts='CHANGELOG.md CONTRIBUTING.md HANDLES LICENSE SECURITY.md bench/README.md bindings c compare/README.md
     compare/oracle/README.md crates crates.txt dist docs examples include packaging page tools tests/corpus tests/shared'
 
-# Prints the paths of these files, one per line. Tracked files that were deleted are left out.
+# Prints the paths of the files, one on each line. Tracked files that were deleted are left out.
 list_files() {
     # shellcheck disable=SC2086
     if test -e .git; then
@@ -37,8 +37,8 @@ list_files >"$directory/files"
 test -s "$directory/files" || { echo 'packaging/release.sh: no file of the repository is found' >&2; exit 1; }
 tar -cf "$directory/archive" -T "$directory/files"
 tar -xf "$directory/archive" -C "$directory/$name"
-# c/release.md becomes the README of the release. It is also kept under its own name, so that a release can be made from a
-# release.
+# c/release.md becomes the README of the release. It is also included as c/release.md, so that a release can be made from an
+# unpacked release.
 cp c/release.md "$directory/$name/README.md"
 cp c/release.md "$directory/$name/c/release.md"
 time=$(sh packaging/time.sh)

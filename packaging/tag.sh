@@ -1,13 +1,14 @@
 #!/bin/sh
 # SPDX-License-Identifier: MIT
 #
-# Tags a release of the version of include/minisign.h: makes a commit on top of HEAD that adds the copied files of the Go module
-# (bindings/go_copies.sh), and the tags vVERSION and bindings/go/vVERSION for it. git ignores these files in other commits, but
-# `go` fetches a module from a commit, so the commit of a release needs them. Branches and working files are unchanged.
+# Tags a release. VERSION is the version in include/minisign.h. The script makes a commit on top of HEAD that adds the files
+# that bindings/go_copies.sh copies into the Go module, and tags this commit as vVERSION and bindings/go/vVERSION. Other commits
+# do not contain these files, because git ignores them, but `go` fetches a module from a commit and so needs them there. No
+# branch and no working file is changed.
 #
 #     packaging/tag.sh
 #
-# Run it in a clone without changes, once CI and `make -f tests/Makefile release` have passed. Then push both tags.
+# Run it in a clone without changes, after CI and `make -f tests/Makefile release` have passed. Then push both tags.
 set -eu
 cd "$(dirname "$0")/.."
 version=$(sed -n 's/^.define MINISIGN_VERSION_TEXT "\(.*\)"/\1/p' include/minisign.h)

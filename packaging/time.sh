@@ -1,8 +1,8 @@
 #!/bin/sh
 # SPDX-License-Identifier: MIT
 #
-# Prints the time that files of a release get, in seconds since 1970: that of the commit, or in a release that of its files.
-# SOURCE_DATE_EPOCH replaces it. Call it at the top of the repository.
+# Prints the time for the files of a release, in seconds since 1970: SOURCE_DATE_EPOCH if it is set; in a git repository, the
+# time of the commit; in an unpacked release, the time of its files. Call it in the top directory.
 set -eu
 if test -n "${SOURCE_DATE_EPOCH-}"; then
     echo "$SOURCE_DATE_EPOCH"

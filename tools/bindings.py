@@ -1,6 +1,6 @@
 #!/usr/bin/env python3
 # SPDX-License-Identifier: MIT
-"""Generates the files of the packages in `bindings/` that repeat include/minisign.h and include/minisign_list.h.
+"""Generates the files of the packages in `bindings/` that repeat declarations of include/minisign.h and include/minisign_list.h.
 
     tools/bindings.py            writes the files
     tools/bindings.py --check    fails if a file is not what the header says; the last line is `N passed, M failed`
@@ -12,7 +12,7 @@
     JavaScript    errors.js and errors.d.ts: errors; header.js: numbers, structs and calls for signing;
                   calls.js: numbers and structs for verifying, which the page uses too
 
-Parts of these files are written by hand: their heads, and code that several calls share. In calls.js all code is.
+Parts of these files are written by hand: their heads, code that several calls share, and all code of calls.js.
 
 Needs Python 3.9 or later and clang.
 """
@@ -48,13 +48,13 @@ def name_of(constant):
     return "".join(word.capitalize() for word in constant.removeprefix("minisign_").split("_"))
 
 
-# Calls that are declared but get no function: the packages let the library allocate the memory of scrypt, clear values in their own
-# language, and never seal with limits below the minimum. Only the package for Rust has the kinds of errors and the records of secret
-# keys, which it clears; bindings/rust/src/raw.rs calls these by hand.
-DECLARED_ALONE = ("minisign_opening_memory", "minisign_open_sealed_key_in_place", "minisign_clear", "minisign_secret_key_text_with_any_limits",
+# Calls for which only a declaration is generated, and no function. In the packages, the library allocates the memory of scrypt, values are
+# cleared by code of the package's language, and keys are never sealed with limits below the minimum. Only the Rust package has the kinds
+# of errors and the records of secret keys, which it clears; bindings/rust/src/raw.rs makes these calls by hand-written code.
+WITHOUT_FUNCTION = ("minisign_opening_memory", "minisign_open_sealed_key_in_place", "minisign_clear", "minisign_secret_key_text_with_any_limits",
                   "minisign_error_kind", "minisign_secret_key_record")
-# Calls for lists that each package makes by hand: two of them return the number of a line also after an error, and the third one reads
-# and changes a length. Packages do not write lists.
+# Calls for lists that each package makes by hand-written code. Two of them return the number of a line even after an error. The third one
+# reads and changes a length; packages do not write lists.
 LISTS_BY_HAND = ("minisign_list_find", "minisign_list_entries", "minisign_list_append")
 
 
@@ -62,8 +62,8 @@ LISTS_BY_HAND = ("minisign_list_find", "minisign_list_entries", "minisign_list_a
 
 
 def role_of(call, parameter, after, header):
-    """Returns the kind of a parameter, which is a key of the tables below, and the number of parameters that belong to it, with
-    itself: a pointer and its length are two."""
+    """Returns the kind of a parameter, which is a key of the tables below, and the number of parameters that form one value: two for
+    a pointer and its length, otherwise one."""
     structs = header.structs
     if parameter.kind in header.in_parts:
         return "parts", 1
@@ -248,7 +248,7 @@ def python_header(header):
         result = "error" if call.answer == "enum minisign_error" else ctype(call.answer, header)
         text += f"        library.{call.name}.restype = {result}\n"
         text += in_brackets(f"        library.{call.name}.argtypes = (", parameters, ")", is_list=True) + "\n"
-    return text + "".join(python_call(call, header) for call in header.calls if call.name not in (*DECLARED_ALONE, *LISTS_BY_HAND))
+    return text + "".join(python_call(call, header) for call in header.calls if call.name not in (*WITHOUT_FUNCTION, *LISTS_BY_HAND))
 
 
 def python_call(call, header):
@@ -294,8 +294,8 @@ GO_ROLES = {
     "new array among parts": ("{name} *[{count}]byte", "(*C.uint8_t)(&{name}[0])"),
     "bytes among parts": ("{name} []byte", "pointer({name}), C.size_t(len({name}))"),
 }
-# Calls that get no function in Go: raw.go has it, or it is not needed.
-GO_WITHOUT = (*DECLARED_ALONE, *LISTS_BY_HAND, "minisign_version", "minisign_error_text")
+# Calls for which no Go function is generated, because raw.go has one or none is needed.
+GO_WITHOUT_FUNCTION = (*WITHOUT_FUNCTION, *LISTS_BY_HAND, "minisign_version", "minisign_error_text")
 
 
 def go_flat(call, header):
@@ -328,7 +328,7 @@ def go_call(call, header):
     elif call.answer != "void" and not results:
         lines, types = [f"return {expression}"], [f"C.{call.answer.removeprefix('enum ')}"]
     elif call.answer != "void":
-        raise Unfit(f"{call.name} returns a number and writes something: add it to GO_WITHOUT")
+        raise Unfit(f"{call.name} returns a number and writes something: add it to GO_WITHOUT_FUNCTION")
     else:
         lines = [expression, *([f"return {', '.join(results)}"] if results else [])]
     result = f" ({', '.join(types)})" if len(types) > 1 else "".join(f" {kind}" for kind in types)
@@ -339,7 +339,7 @@ def go_call(call, header):
 
 
 def go_header(header):
-    calls = [call for call in header.calls if call.name not in GO_WITHOUT]
+    calls = [call for call in header.calls if call.name not in GO_WITHOUT_FUNCTION]
     flat = "".join(go_flat(call, header) for call in calls if any(parameter.kind in header.in_parts for parameter in call.parameters))
     text = by_hand(GO, "// SPDX", "#include <minisign_list.h>\n") + f"\n{flat}*/\nimport \"C\"\n"
     return text + by_hand(GO, "\n// The calls of minisign.h", "1\n}\n") + "".join(go_call(call, header) for call in calls)
@@ -365,14 +365,14 @@ JAVASCRIPT_ROLES = {
 }
 JAVASCRIPT_WIDTH = 80
 # The calls for signing and for secret keys. tools/signing_module.py has the same list.
-SIGNING = ("read_secret_key", "open_unsealed_key", "open_sealed_key", "take_secret_key", "public_key_of", "comment_message", "signed_text",
+SIGNING_CALLS = ("read_secret_key", "open_unsealed_key", "open_sealed_key", "take_secret_key", "public_key_of", "comment_message", "signed_text",
            "secret_key_text", "public_key_text")
 # The structs that header.js reads and writes, and the sizes of their numbers.
 JAVASCRIPT_STRUCTS = ("public_key", "unopened_key", "secret_key", "new_key", "sealing")
-WIDTHS = {"uint8_t": 1, "uint32_t": 4, "uint64_t": 8}
+NUMBER_SIZES = {"uint8_t": 1, "uint32_t": 4, "uint64_t": 8}
 # The marks of the generated part of calls.js, and the fields that it reads.
 JAVASCRIPT_MADE, JAVASCRIPT_END = "made by tools/bindings.py ----\n\n", "// ---- End of the generated part ----"
-READ_OF = {"public_key": ("key", "key_id"), "signature": ("key_id", "legacy"),
+READ_FIELDS = {"public_key": ("key", "key_id"), "signature": ("key_id", "legacy"),
            "list_entry": ("line", "name_offset", "name_len", "digest", "hash", "is_escaped"),
            "questions": ("public_key", "digest", "signature", "comment_signature", "message_len", "comment_offset", "comment_len", "legacy")}
 
@@ -381,7 +381,7 @@ def places_of(fields):
     """Yields the offset of each field of a struct without pointers, and the size of the struct."""
     at, widest = 0, 1
     for field in fields:
-        width = WIDTHS[field.kind]
+        width = NUMBER_SIZES[field.kind]
         at, widest = (at + width - 1) // width * width, max(widest, width)
         yield field.name, at
         at += width * int(field.count or 1)
@@ -423,26 +423,26 @@ def javascript_header(header):
     text += "\nexport const STRUCTS = {\n"
     for struct in JAVASCRIPT_STRUCTS:
         fields = header.structs[f"minisign_{struct}"]
-        lengths = [*(WIDTHS[field.kind] * int(field.count or 1) for field in fields), None]
+        lengths = [*(NUMBER_SIZES[field.kind] * int(field.count or 1) for field in fields), None]
         rows = [f"{name}: {place}" if length is None else f"{name}: [{place}, {length}]"
                 for (name, place), length in zip(places_of(fields), lengths)]
         text += f"  {struct}: {{\n" + "".join(f"    {row},\n" for row in rows) + "  },\n"
     text += "};\n" + by_hand(JAVASCRIPT, "\n// An instance of", "giveBack(instance);\n    }\n  }\n")
     calls = {call.name.removeprefix("minisign_"): call for call in header.calls}
-    return text + "".join(f"\n{javascript_call(calls[name], header)}" for name in SIGNING) + "}\n"
+    return text + "".join(f"\n{javascript_call(calls[name], header)}" for name in SIGNING_CALLS) + "}\n"
 
 
 def javascript_calls(header):
     """Returns calls.js, with its generated part: answers and structs."""
     begin, _, rest = sources.read(JAVASCRIPT_CALLS).partition(JAVASCRIPT_MADE)
-    places = {struct: dict(places_of(header.structs[f"minisign_{struct}"])) for struct in ("state", "list", "public_key", *READ_OF)}
+    places = {struct: dict(places_of(header.structs[f"minisign_{struct}"])) for struct in ("state", "list", "public_key", *READ_FIELDS)}
     generated = "".join(f"const {member.name} = {member.number:#x};\n" for member in header.enums["answer"])
     generated += "".join(f"const {member.name} = {member.number};\n" for member in header.enums["hash"])
     generated += "\n// The sizes of the structs, and the offsets of the fields that are read.\n"
     for struct, fields in places.items():
         generated += f"const {struct.removeprefix('public_').upper()}_BYTES = {fields['size']};\n"
-        if struct in READ_OF:
-            read = [f"{name}: {fields[name]}" for name in READ_OF[struct]]
+        if struct in READ_FIELDS:
+            read = [f"{name}: {fields[name]}" for name in READ_FIELDS[struct]]
             line = f"const {struct.upper()} = {{ {', '.join(read)} }};\n"
             generated += line if len(line) <= JAVASCRIPT_WIDTH else f"const {struct.upper()} = {{\n" + "".join(f"  {word},\n" for word in read) + "};\n"
     return f"{begin}{JAVASCRIPT_MADE}{generated}\n{JAVASCRIPT_END}{rest.partition(JAVASCRIPT_END)[2]}"
@@ -614,7 +614,7 @@ def rust_header(header):
     text += "}\n\n" + "".join(f"pub const {name}: {kind} = sys::MINISIGN_{name};\n" for name, kind, value in rust_constants(header)) + "\n"
     text += "".join(f"pub type {name_of(struct)} = sys::{struct};\n" for struct in header.structs)
     text += by_hand(RUST, "\n/// Returns an error unless", "Reason::NOT_UTF8)\n}\n")
-    return text + "".join(rust_call(call, header) for call in header.calls if call.name not in (*DECLARED_ALONE, *LISTS_BY_HAND))
+    return text + "".join(rust_call(call, header) for call in header.calls if call.name not in (*WITHOUT_FUNCTION, *LISTS_BY_HAND))
 
 
 def generated_files():

@@ -1,7 +1,7 @@
-"""Generates the C code between the headers and the proved calls, for `tools/header.py`.
+"""Generates the C functions that are declared in the headers and make the proved calls, for `tools/header.py`.
 
 `c/library/boundary.c` has a function for each declared call, which makes the proved call. `c/library/portable/pointers.c`
-is used instead if the calls are compiled from dist/calls.c, where addresses are numbers. `c/library/names` lists the
+is used in its place if the proved calls are compiled from dist/calls.c, where addresses are numbers. `c/library/names` lists the
 proved calls. The heads of the two C files are written by hand. `tests/shared/exports.py` compares the declarations with the
 exports of the crate `minisign_c`.
 """
@@ -13,14 +13,14 @@ from sources import Unfit, read
 
 FILE, POINTERS = "c/library/boundary.c", "c/library/portable/pointers.c"
 # The call that is written by hand, at the end of the head of boundary.c.
-OWN = "minisign_version"
+HAND_WRITTEN_CALL = "minisign_version"
 
 # The maximum length of a generated line.
 COLUMNS = 115
 
 def proved_calls(header):
     """Returns the calls that the proved library exports."""
-    return [call for call in header.calls if call.name != OWN]
+    return [call for call in header.calls if call.name != HAND_WRITTEN_CALL]
 
 
 def plain(kind):
@@ -86,19 +86,19 @@ def head_of(file, end):
 
 def boundary_text(header):
     """Returns boundary.c."""
-    return "\n".join([head_of(FILE, rf"\w+ {OWN}\(void\)\n\{{.*?\n\}}"), *(call_text(call, [*header.taken(call)], header.secrets) for call in proved_calls(header))])
+    return "\n".join([head_of(FILE, rf"\w+ {HAND_WRITTEN_CALL}\(void\)\n\{{.*?\n\}}"), *(call_text(call, [*header.taken(call)], header.secrets) for call in proved_calls(header))])
 
 
 # ---------------------------------------------------------------------------------------------------------------
 # pointers.c: the calls of dist/calls.c take addresses as numbers, and store numbers in memory in little-endian order.
 
 # The sizes of numbers in bits.
-WIDTHS = {"uint64_t": 64, "size_t": 64, "uint32_t": 32}
+NUMBER_BITS = {"uint64_t": 64, "size_t": 64, "uint32_t": 32}
 
 
 def numbers_in(header):
     """Returns the structs with numbers that a caller reads or writes, and the names and sizes of these numbers."""
-    found = {name: [(field.name, WIDTHS[field.kind]) for field in fields if field.kind in WIDTHS and not field.count] for name, fields in header.structs.items()}
+    found = {name: [(field.name, NUMBER_BITS[field.kind]) for field in fields if field.kind in NUMBER_BITS and not field.count] for name, fields in header.structs.items()}
     return {name: numbers for name, numbers in found.items() if numbers and name not in header.in_parts}
 
 
@@ -114,11 +114,11 @@ def turned(parameter, length, structs):
     kind, name = parameter.kind, parameter.name
     if not parameter.star and not parameter.count:
         return [], [], name
-    if kind in WIDTHS and not length:
+    if kind in NUMBER_BITS and not length:
         # A number that the call may write.
         copy = f"{name}_kept"
-        return ([f"uint64_t {copy} = 0;", f"store{WIDTHS[kind]}(address(&{copy}), *{name});"],
-                [f"*{name} = ({kind}) load{WIDTHS[kind]}(address(&{copy}));"], f"address(&{copy})")
+        return ([f"uint64_t {copy} = 0;", f"store{NUMBER_BITS[kind]}(address(&{copy}), *{name});"],
+                [f"*{name} = ({kind}) load{NUMBER_BITS[kind]}(address(&{copy}));"], f"address(&{copy})")
     if kind in structs and length:
         # On a little-endian processor, the buffer is not read.
         loop = "if (!IS_LITTLE_ENDIAN) {{\n        for (size_t i = 0; i < {1}; i++) {{\n            {2}_{3}(&{0}[i]);\n        }}\n    }}"

@@ -4,21 +4,20 @@
     tools/dist.py [PART ..]            proves the sources, builds the files and writes them
     tools/dist.py --check [PART ..]    proves the sources, builds the files and compares them with dist/ byte for byte
 
-PART is `calls` or `page`; the default is both. The files are archives of the proved calls of the crate minisign_c, the
-same calls translated to C (`portable_calls.py`), the page that verifies a download, `PROVED`, which names the kit and
-the sources that were proved, and `SHA256SUMS`. The head of PROVED is written by hand.
+PART is `calls` or `page`; the default is both. The files of dist/ are: archives of the proved calls of the crate minisign_c; the same
+calls translated to C (`portable_calls.py`); the page that verifies a download; `PROVED`, which names the kit and the sources that
+were proved; and `SHA256SUMS`. The head of PROVED is written by hand.
 
-Libraries that `rt lib` has already proved are used as they are; the others are proved first. `--after SAID` uses the
-libraries that a finished `rt ci` has left here. SAID is a file with the output of `rt ci`. Nothing is written if a
-verdict rests on proofs that an earlier `rt check` kept (`incremental=trusted`). In this case run `rt ci` first, and then
-this script with `--after`. In CI, `--check` runs in parallel with `rt ci` and builds with the libraries that it proves
-(`tests/shared/proved.py`).
+Libraries that `rt lib` has already proved are used as they are; the others are proved first. With `--after OUTPUT`, the script uses the
+libraries that a finished `rt ci` has left here; OUTPUT is a file with the output of that `rt ci`. No file is written if a proof relies
+on results that an earlier `rt check` stored (`incremental=trusted`). In this case, run `rt ci` first, and then this script with
+`--after`. In CI, `--check` runs in parallel with `rt ci` and builds with the libraries that `rt ci` proves (`tests/shared/proved.py`).
 
-Another kit with the same logic may give other bytes, and so may another wasm-opt or zopfli for the page. Then `--check` says so,
-and compares all of the page except its module. (tests/c tests the archives of dist/.) It prints which files are
-identical, and one line per failure; the last line is `N passed, M failed`.
+Another version of the kit with the same logic may produce other bytes, and so may another wasm-opt or zopfli for the page. In that case,
+`--check` reports this, and compares all of the page except its module. (tests/c tests the archives of dist/.) It prints which files
+are identical, and one line per failure; the last line is `N passed, M failed`.
 
-Needs Python 3.9 or later, clang, the kit, and what `page/build.py` needs.
+Needs Python 3.9 or later, clang, the Rattle kit, and what `page/build.py` needs.
 """
 
 import argparse
@@ -58,7 +57,7 @@ C_CALLS, C_CALLS_OF, TRANSLATED = "calls.c", "calls-x86-64-v2.a", "translated fr
 LISTED = [*ARCHIVES, C_CALLS, PAGE_FILE, PROVED]
 # The keys of PROVED, in their order.
 PROVED_KEYS = ["kit", "sources of the calls", *ARCHIVES, TRANSLATED, SOURCES_OF_PAGE, PAGE_FILE, LOWERED, MODULE]
-# The verdict of a file contains this if its proof used results of earlier runs without checking them again.
+# The prover's verdict contains this if the proof used results of earlier runs without checking them again.
 FROM_EARLIER_RUNS = "incremental=trusted"
 # The parts, with the crate of each. The page is first, because it needs fewer crates, which `rt ci` proves first.
 PARTS = {"page": PAGE, "calls": CALLS}
@@ -111,12 +110,12 @@ def built_calls(directory, is_check):
 
 
 def built_page(*_):
-    """Yields the page. It contains the sum of its sources, which PROVED has too, with the sum of the module."""
-    module, by = build.lowered(build.proved_module()), build.lowering()
+    """Yields the page. The page contains the digest of its sources. PROVED also has this digest, and that of the module."""
+    module, by = build.lowered(build.proved_module()), build.lowering_tool()
     if os.path.exists(os.path.join(DIST, PAGE_FILE)):
         # If the module is the same, the page has it in the same compressed form, whichever zopfli is installed.
         build.taken_from(os.path.join(DIST, PAGE_FILE))
-    sums = build.sum_of(module), build.sources_sum("page")
+    sums = build.sha256_of(module), build.sources_sum("page")
     page = build.page(module, by, sums=sums).encode()
     yield Built(PAGE_FILE, page, {PAGE_FILE: proved.verdicts[PAGE], SOURCES_OF_PAGE: sums[1], LOWERED: by, MODULE: sums[0]})
 
@@ -165,7 +164,7 @@ def make(parts):
 
 
 def check_files(report):
-    """dist/ has exactly the files of SHA256SUMS, with these sums."""
+    """Checks that dist/ has exactly the files of SHA256SUMS, with these digests."""
     listed = dict(reversed(line.split("  ", 1)) for line in read(SUMS).decode().splitlines())
     found = {name for name in os.listdir(DIST) if name not in (SUMS, "README.md")}
     report.check(found == {*listed} == {*LISTED}, "dist", f"it has {sorted(found)}, and {SUMS} lists {sorted(listed)}")
@@ -174,19 +173,19 @@ def check_files(report):
 
 
 def check_sources(report, parts, lines):
-    """The sums of the sources are up to date, and cover all crates."""
+    """Checks that the digests of the sources are up to date, and cover all crates."""
     script = sources.read("tools/sources.sh")
     below = re.search(r"^below='(.*)'$", script, re.M)[1].split()
     for part in parts:
         more = re.search(rf'^{part}\) crates="\$below (.*?)"', script, re.M)[1].split()
         crate, key = PARTS[part], f"sources of the {part}"
-        expected = {*proved.crates()[crate].below, crate}
+        expected = {*proved.crates()[crate].dependencies, crate}
         report.check({*below, *more} == expected, "tools/sources.sh", f"it must name exactly {crate} and the crates that it uses")
         report.check(lines.get(key) == build.sources_sum(part), "dist", f"the {key} have changed since dist/ was built: run tools/dist.py")
 
 
 def check_verdicts(report, lines):
-    """Each verdict in PROVED is that of a complete proof."""
+    """Checks that each verdict in PROVED is that of a complete proof."""
     for name in [*ARCHIVES, PAGE_FILE]:
         verdict = lines.get(name, "")
         is_complete = verdict.startswith("logic=proved ") and FROM_EARLIER_RUNS not in verdict.split()
@@ -194,7 +193,7 @@ def check_verdicts(report, lines):
 
 
 def check_built(report, file, lines, kit):
-    """A file has the bytes that were built now."""
+    """Checks that a file has the bytes that were built now."""
     old_tools, new_tools = ([used_kit, *((used[LOWERED],) if file.name == PAGE_FILE else ())]
                             for used_kit, used in ((lines["kit"], lines), (kit, file.lines)))
     is_same = read(file.name) == file.data
@@ -218,7 +217,7 @@ def check(parts):
     check_verdicts(report, lines)
     check_sources(report, parts, lines)
     module = build.taken_from(os.path.join(DIST, PAGE_FILE))[0]
-    report.check(lines.get(MODULE) == build.sum_of(module), f"dist/{PAGE_FILE}", f"its module is not the one that {PROVED} names")
+    report.check(lines.get(MODULE) == build.sha256_of(module), f"dist/{PAGE_FILE}", f"its module is not the one that {PROVED} names")
     logics = [re.search(r"logic \S+", version)[0] for version in (lines["kit"], kit)]
     report.check(logics[0] == logics[1], "dist", f"it was proved by {lines['kit']}, and the installed {kit} has another logic")
     for file in built(parts, is_check=True):
@@ -234,13 +233,13 @@ def check(parts):
 
 
 def check_translated(report, lines):
-    """PROVED says from what the C is translated, and does not say that it is proved."""
+    """Checks that PROVED names the bitcode from which the C is translated, and does not claim that the C is proved."""
     found = [line for line in read(PROVED).decode().partition("\n\n")[2].splitlines() if C_CALLS in line]
     report.check(found == [f"{TRANSLATED}: {lines.get(TRANSLATED)}"] and "logic=proved" not in found[0], PROVED, f"its lines about {C_CALLS} are {found}")
 
 
 def main(words):
-    parser = argparse.ArgumentParser(usage="tools/dist.py [--check] [--after SAID] [calls] [page]")
+    parser = argparse.ArgumentParser(usage="tools/dist.py [--check] [--after OUTPUT] [calls] [page]")
     parser.add_argument("--check", action="store_true")
     parser.add_argument("--after")
     parser.add_argument("parts", nargs="*")
@@ -250,7 +249,7 @@ def main(words):
         parser.error(f"there is no part {' '.join(sorted(unknown))}")
     try:
         if given.after:
-            proved.take_over(given.after)
+            proved.use_ci_output(given.after)
         if given.check:
             return check(parts)
         make(parts)

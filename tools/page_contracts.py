@@ -4,9 +4,9 @@
     tools/page_contracts.py            rewrites crates/minisign_page/src/lib.rt and specs/ListCalls.antt
     tools/page_contracts.py --check    fails if that would change the file
 
-An export is copied from its docstring to the brace that opens its body; the bodies are written by hand. Two names differ: the prefix of
-the exports, and the meaning of an error number, because the page has no errors of installations. The exports in OWN are only in the
-page. The contracts use definitions of minisign_c, on which minisign_page does not depend, so these are copied to
+An export is copied from its docstring to the brace that opens its body. The bodies are written by hand. Two names differ: the prefix of
+the exports, and the definition of error numbers, because the page has no errors of installing. Only the page has the exports in
+PAGE_ONLY. The contracts use definitions of minisign_c, on which minisign_page does not depend, so these are copied to
 crates/minisign_page/specs/ListCalls.antt. The last line is `N passed, M failed`.
 
 Needs Python 3.9 or later.
@@ -23,7 +23,7 @@ EXPORT = r'(?m)^(?:///.*\n)*#\[unsafe\(no_mangle\)\]\npub extern "C" fn {prefix}
 CALL = re.compile(r"\bminisign_(\w+)(?=[(`])")
 RENAMED = (("IsCallMeaning", "IsListMeaning"), ("of the error of an installation or a list,", "of the error of a list,"))
 # Exports that the library for C does not have: it compares a digest with one entry, and the page compares it with all entries.
-OWN = ("sha256_begin", "sha256_update", "sha256_digest", "sha512_begin", "sha512_update", "sha512_digest")
+PAGE_ONLY = ("sha256_begin", "sha256_update", "sha256_digest", "sha512_begin", "sha512_update", "sha512_digest")
 
 
 # The definitions for lists: those of the library, and of them the part that is copied, from the first text to the second one.
@@ -65,7 +65,7 @@ def generated(page, library):
     """Returns the text of the page's crate with the contracts of the library."""
     ours, theirs = heads(page, "page"), heads(library, "minisign")
     for name, head in ours.items():
-        if name in OWN:
+        if name in PAGE_ONLY:
             continue
         if name not in theirs:
             raise SystemExit(f"{PAGE}: minisign_c has no minisign_{name}")

@@ -1,26 +1,25 @@
 #!/usr/bin/env python3
-"""Generates the tables of docs/PROMISES.md from the comments above the clauses of the crates.
+"""Generates the tables of docs/PROMISES.md from the comments above the contract clauses of the crates.
 
     tools/promises.py            writes the tables
     tools/promises.py --check    fails if a table is not up to date; the last line is `N passed, M failed`
 
-The comment above an `ensures` describes the clauses below it, up to the next comment; an empty line `//` begins another
-paragraph. The first paragraph of a function's doc comment describes the clauses before the first such comment. An
-implementation with a contract is described by the first paragraph of its doc comment. A clause without a comment must not
-follow an empty line.
+A comment above an `ensures` clause describes the clauses below it, up to the next comment. An empty line `//` separates paragraphs of
+the comment. Clauses before the first such comment are described by the first paragraph of the function's doc comment, and an
+implementation with a contract by the first paragraph of its doc comment. A clause without a comment must not follow an empty line.
 
 The document marks the place of each table with a line:
 
     <!-- headlines -->                        one row for each part of docs/TRUSTED.md: its first clause, and the sentence
                                               above this clause
     <!-- promises of CRATE: PLACES -->        one row for each paragraph
-    <!-- calls of CRATE: PLACES -->           one row for each call: the first sentence of its paragraph in bold type, or
-                                              else of its first paragraph. If that sentence is short, the next one too
+    <!-- calls of CRATE: PLACES -->           one row for each call: the first sentence of its paragraph in bold type, or if
+                                              there is none, of its first paragraph; and the next sentence if the first is short
 
-Rows of a table with the same text are merged. PLACES are modules, types and functions, or prefixes such as
-`minisign_install_*`. A table has the public calls of these places, in the order of PLACES. Without PLACES it has all calls
-of the crate that no other table has. If a crate has a table, each of its public calls with a clause must be in a table,
-except for the modules that are listed after `; without: `.
+Rows of a table with the same text are merged. PLACES are modules, types and functions, or prefixes such as `minisign_install_*`. A
+table has the public calls of these places, in the order of PLACES. Without PLACES, it has all calls of the crate that are in no other
+table. If a crate has a table, each of its public calls with a clause must be in a table, except those of the modules that are listed
+after `; without: `.
 
 Needs Python 3.9 or later.
 """
@@ -42,7 +41,8 @@ MARK = re.compile(r"^<!-- (?P<kind>promises|calls) of (?P<crate>\w+)(?:: (?P<pla
                   r"(?:; without: (?P<without>.*?))? -->$")
 HEADS = {"promises": "| Promise | Carried by |", "calls": "| Call of [{crate}](../crates/{crate}/src) | Promise |"}
 # The end of a sentence, and the length below which a sentence is short.
-END, SHORT = re.compile(r"(?<=[^.\s])\.(?:\*\*)?(?= [A-Z`*]|$)"), 60
+SENTENCE_END = re.compile(r"(?<=[^.\s])\.(?:\*\*)?(?= [A-Z`*]|$)")
+SHORT_LENGTH = 60
 # An implementation has a contract for callers if it has one of these ghost members.
 CONTRACT_MEMBERS = ("output", "debug_output", "eq", "is_default", "from_gives")
 # Sentences that are left out of the tables, because docs/PROMISES.md says at one place which calls allocate.
@@ -56,10 +56,10 @@ def paragraphs(comment):
     return [" ".join(part.split()) for part in re.split(r"\n\s*\n", "\n".join(lines)) if part.strip()]
 
 
-def sentence_of(text):
-    """Returns the first sentence, and the next one too if the first one is short."""
-    ends = [found.end() for found in END.finditer(text)]
-    return text[:ends[1 if ends[0] < SHORT and len(ends) > 1 else 0]]
+def first_sentences(text):
+    """Returns the first sentence of a text, and if that is short, also the second one."""
+    ends = [match.end() for match in SENTENCE_END.finditer(text)]
+    return text[:ends[1 if ends[0] < SHORT_LENGTH and len(ends) > 1 else 0]]
 
 
 def doc_of(item):
@@ -73,7 +73,7 @@ class Call:
     def __init__(self, item, module, is_public):
         self.item, self.module, self.is_public = item, module, is_public
 
-    def is_at(self, place, modules):
+    def match(self, place, modules):
         """Returns how exactly a place names this call: 0 if it does not, 1 by its module, 2 by its type or a prefix, 3 by its name."""
         item = self.item
         if place in modules:
@@ -91,26 +91,26 @@ class Call:
         bare = re.sub(r"^impl<.*?> (?=\w)", "impl ", re.sub(r"\bwhere\b.*", "", self.item.header))
         return f"`{bare.replace('impl fmt::', 'impl ').strip()}`"
 
-    def carried(self, clauses):
-        """Returns the name of the call with the names of these clauses."""
+    def with_clauses(self, clauses):
+        """Returns the name of the call, followed by the names of these `ensures` clauses."""
         names = [f"`{clause.name}`" for clause in clauses if clause.name and clause.kind.startswith("ensures")]
         return self.name() + (f": {', '.join(names)}" if names else "")
 
     def rows(self):
-        """Returns the paragraphs, each with the call and the clauses that it describes."""
+        """Returns the rows of a table of promises: each paragraph, and the call with the clauses that the paragraph describes."""
         groups = self.groups() if self.item.what == "fn" else [([doc_of(self.item)], [])]
         if not all(texts and texts[0] for texts, _ in groups):
             raise Unfit(f"{self.item.path} has no comment that says what it promises")
-        return [(paragraph, self.carried(clauses)) for texts, clauses in groups for paragraph in texts]
+        return [(paragraph, self.with_clauses(clauses)) for texts, clauses in groups for paragraph in texts]
 
     def row(self):
-        """Returns one sentence for the whole call, with the names of all its clauses."""
+        """Returns the row of a table of calls: one or two sentences, and the call with all its clauses."""
         texts = [paragraph for paragraph, _ in self.rows()]
         first = next((paragraph for paragraph in texts if paragraph.startswith("**")), texts[0])
-        return sentence_of(first).replace("**", ""), self.carried(self.item.clauses)
+        return first_sentences(first).replace("**", ""), self.with_clauses(self.item.clauses)
 
     def groups(self):
-        """Returns the paragraphs above clauses, with the clauses below them."""
+        """Returns pairs: the paragraphs of a comment, and the clauses that the comment describes."""
         groups = []
         for clause in (clause for clause in self.item.clauses if clause.kind.startswith("ensures")):
             if clause.comment or not groups:
@@ -160,7 +160,7 @@ def headlines(library):
     for title, part in HEADLINES.items():
         crate, path, name = part.clauses[0]
         clause = trusted.function_of(library, crate, path, name).clause(name)[0]
-        sentence = sentence_of(paragraphs(clause.comment)[0])
+        sentence = first_sentences(paragraphs(clause.comment)[0])
         text = " ".join(clause.text.split()).replace("|", "\\|")
         lines.append(f"| {title} | {sentence} | `{path}`: `{text}` |")
     return [*lines, ""]
@@ -177,7 +177,7 @@ def calls_by_table(library, crate, marks, without):
     tables = {line: [] for line in marks}
     modules = {call.module for call in calls} | {*without}
     for call in calls:
-        exact, at, line = max((call.is_at(place, modules), -at, line) for line, places in marks.items()
+        exact, at, line = max((call.match(place, modules), -at, line) for line, places in marks.items()
                               for at, place in enumerate(places or [""]))
         rest = next((line for line, places in marks.items() if not places), None)
         if not exact and call.is_public and rest is None:

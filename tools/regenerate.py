@@ -1,11 +1,11 @@
 #!/usr/bin/env python3
 """Regenerates all generated files, by running the scripts of tools/ in the right order.
 
-    tools/regenerate.py              runs all of them; tools/dist.py proves what is not proved yet and builds dist/
-    tools/regenerate.py --quick      leaves out tools/dist.py, and so all proofs; takes some seconds
-    tools/regenerate.py --check      changes nothing and fails if a file is not up to date; works with --quick too
+    tools/regenerate.py              runs all scripts; tools/dist.py proves libraries that are not proved yet, and builds dist/
+    tools/regenerate.py --quick      leaves out tools/dist.py, and therefore all proofs; takes some seconds
+    tools/regenerate.py --check      changes no file, and fails if one is not up to date; can be combined with --quick
 
-A script that fails ends the run, because later scripts read what earlier ones write; with --check all scripts run.
+If a script fails, the run ends, because later scripts read the files that earlier ones write. With --check, all scripts run.
 
 Needs what the scripts need: Python 3.9 or later, clang, and for tools/trusted.py and tools/dist.py the Rattle kit.
 Without the kit --quick leaves out tools/trusted.py and says so.

@@ -28,7 +28,7 @@ ITEM = re.compile(
 )
 HEADER_END = re.compile(r"[(\[]|(?P<end>[{;]|\b(?:requires|ensures)\b)")
 CLAUSE = re.compile(r"\s*(?P<kind>(?:requires|ensures|decreases)\*?)\s*(?P<name>\w*)\s*(?=\{)")
-# The comment directly above a clause, and directly above an item.
+# The comment directly above a clause, and the comment and attributes directly above an item.
 ABOVE = re.compile(r"(?P<blank>\n[ \t]*)?(?P<comment>(?:\n[ \t]*//[^\n]*)*)\n[ \t]*\Z")
 ABOVE_ITEM = re.compile(r"\n(?P<comment>(?:[ \t]*(?!//!)(?://|#)[^\n]*\n)*[ \t]*)\Z")
 USE = re.compile(r"use\s+(?P<module>[^\s;{]+?)(?:\.\{(?P<names>[^}]*)\}|\s+as\s+(?P<alias>\w+))?\s*;?\s*$", re.S)
@@ -74,8 +74,9 @@ def files_below(directory, ending=""):
 # Items of Rattle.
 
 
-# A `requires` or an `ensures`. The name may be empty. `text` is what is in the braces, `whole` is all of the clause, `comment` is
-# directly above it, and `is_apart` is true if an empty line is above both. `begin` and `end` are offsets in the file.
+# A clause: a `requires` or an `ensures`. The name may be empty. `text` is the text in the braces, and `whole` the text of the clause.
+# `comment` is the comment directly above the clause, and `is_apart` is true if an empty line is above the comment or the clause.
+# `begin` and `end` are offsets in the file.
 Clause = namedtuple("Clause", "kind name text whole comment is_apart begin end")
 # A `.rt` file: its items, including nested ones, and what its ghost code imports. `imports` maps the name in the file to the module
 # and the name there, which is empty for a whole module.

@@ -1,19 +1,19 @@
 #!/usr/bin/env python3
-"""Generates docs/TRUSTED.md, which prints every definition on which the promises of the crates depend.
+"""Generates docs/TRUSTED.md, which contains every definition on which the promises of the crates depend.
 
     tools/trusted.py            writes the document
     tools/trusted.py --check    fails if it is not up to date; the last line is `N passed, M failed`
 
 The document has parts: verdicts, opening keys, signing, devices, the calls from C, installing and lists. Each part begins
-with its most important clauses. The script follows the names in these clauses to their definitions, and the names in
-those. A definition is printed in the first part that reaches it, after the definition that uses it first. The first part
-also prints all definitions of the kit that it reaches, so that a reader needs no kit. The other definitions of the kit are
-listed by name at the end, and in some parts so are those of files that are better read as a whole.
+with its most important clauses. The script follows the names in these clauses to their definitions, then the names in these
+definitions, and so on. A definition is printed in the first part that reaches it, after the definition that uses it first. The
+first part also prints all definitions of the Rattle kit that it reaches, so that readers do not need the kit. The other definitions
+of the kit are listed by name at the end. In some parts, definitions in files that are better read as a whole are listed by name, too.
 
-Written by hand, in the document itself, are everything before and after the parts, and the title and the text
-of each part, up to its first clause or list, except the numbers of definitions and lines.
+The following is written by hand in the document itself: everything before and after the parts, and the title and the text of each
+part up to its first clause or list. Only the numbers of definitions and lines in this text are generated.
 
-Needs Python 3.9 or later and the kit, which has the command `rt`.
+Needs Python 3.9 or later and the Rattle kit, which has the command `rt`.
 """
 
 import itertools
@@ -37,16 +37,17 @@ OPENING = Part((("minisign", "open_with_password", ""),), "open_key")
 SIGNING = Part((("minisign", "sign_bytes", "headline"),))
 DEVICES = Part((("minisign", "verify_texts", "headline"), ("minisign", "SecretKey::from_box", "headline"),
                 ("minisign", "sign_texts", "headline")))
-# The calls from C: what they achieve in sequence.
+# The calls from C, and what a sequence of them promises.
 FROM_C = Part((("minisign_c", "verify_in_a_row", "number"), ("minisign_c", "verify_in_a_row", "accepted"), ("minisign_c", "sign_in_a_row", "verifies")),
               # The table of errors is in docs/FORMATS.md.
               files=r"/crates/minisign_base/specs/Faults\.antt")
-# The laws, the relation that describes an application, and the installer as one function are printed in full.
+# Of minisign_install, only the definitions in these files are printed in full; they are the laws, the relation that describes an
+# application, and the installer as one function. The others are listed by name.
 OF_APPLICATIONS = r"/crates/minisign_install/(?!specs/(?:Applications|Histories|StepRuns|Step|Decisions|Traces)\.)"
 INSTALLING = Part((("minisign_install", "any_application_is_safe", "safe"), ("minisign_install", "any_application_is_safe", "lasts"),
                    ("minisign_install", "any_good_update_arrives", "installed")), files=OF_APPLICATIONS)
 RUNS = Part((("minisign_install", "any_history_keeps_the_version", "versions"),), files=OF_APPLICATIONS)
-# The function that decides whether a recorded run is that of such an application.
+# The function that decides if a recorded run follows these rules.
 RECORDED = Part((("minisign_install", "first_unlawful_line", "lawful"),), files=OF_APPLICATIONS)
 LISTS = Part((("minisign_lists", "verify_listed", ""), ("minisign_lists", "lists_are_decided", ""),
               ("minisign_c", "check_listed_in_a_row", "number"), ("minisign_c", "check_listed_in_a_row", "accepted"),

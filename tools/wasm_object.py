@@ -5,7 +5,7 @@ which numbers are addresses. A form that this file does not know is an error, so
 from collections import namedtuple
 
 # The encodings of the types of values, and of a block without a result.
-KINDS, NOTHING = {0x7F: "i32", 0x7E: "i64"}, 0x40
+VALUE_TYPES, NO_RESULT = {0x7F: "i32", 0x7E: "i64"}, 0x40
 
 # The instructions by their opcodes: name, and kind of operand.
 INSTRUCTIONS = {
@@ -38,7 +38,7 @@ for first, operands, names in (
     INSTRUCTIONS.update(named(first, operands, names))
 
 # Instructions that are not supported, with their names for the error message.
-UNREAD = {
+UNSUPPORTED = {
     0x11: "call_indirect", 0x12: "return_call", 0x13: "return_call_indirect", 0x1C: "select of a type", 0x25: "table.get",
     0x26: "table.set", 0x3F: "memory.size", 0x40: "memory.grow", 0x43: "f32.const", 0x44: "f64.const", 0xD0: "ref.null",
     0xD1: "ref.is_null", 0xD2: "ref.func", 0xFC08: "memory.init", 0xFC09: "data.drop",
@@ -70,7 +70,7 @@ Place = namedtuple("Place", "segment offset")
 
 
 class Unread(Exception):
-    """The object has something that cannot be read or translated."""
+    """The object contains something that this module cannot read or translate."""
 
 
 class Reader:
@@ -118,18 +118,18 @@ class Reader:
     def kind(self):
         """Reads the type of a value."""
         kind = self.byte()
-        if kind not in KINDS:
+        if kind not in VALUE_TYPES:
             raise Unread(f"unknown type of value {kind:#x}")
-        return KINDS[kind]
+        return VALUE_TYPES[kind]
 
 
 def read_operand(read, what):
     """Reads the operand of an instruction."""
     if what == "block":
         kind = read.byte()
-        if kind != NOTHING and kind not in KINDS:
+        if kind != NO_RESULT and kind not in VALUE_TYPES:
             raise Unread("a block that takes values")
-        return KINDS.get(kind)
+        return VALUE_TYPES.get(kind)
     if what == "labels":
         return [read.number() for _ in range(read.number() + 1)]
     if what == "place":
@@ -150,7 +150,7 @@ def read_code(read):
     code = read.byte()
     code = code << 8 | read.number() if code == 0xFC else code
     if code not in INSTRUCTIONS:
-        raise Unread(f"the instruction {UNREAD.get(code, hex(code))}")
+        raise Unread(f"the instruction {UNSUPPORTED.get(code, hex(code))}")
     return INSTRUCTIONS[code]
 
 
