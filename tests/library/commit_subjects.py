@@ -1,10 +1,11 @@
 #!/usr/bin/env python3
-"""Checks that commit subjects have the form `area: imperative`, are at most 72 characters long and come with a body.
+"""Checks that each commit has a subject of the form `area: imperative` with at most 72 characters, and a body.
 
     tests/library/commit_subjects.py
 
-It reads the commits after the one in LAST_UNCHECKED. Merges need only a short subject. In a directory that is not a git clone, such as
-an unpacked release, there are no commits: then the script says so and checks only its own examples. The last line is `N passed, M failed`.
+The script checks the commits after LAST_UNCHECKED. For merges it checks only the length of the subject. In a
+directory that is not a git clone, such as an unpacked release, it checks only the examples in this file, and says
+so. The last line is `N passed, M failed`.
 
 Needs Python 3.9 or later, and git for the commits.
 """
@@ -15,28 +16,29 @@ import subprocess
 import sys
 
 TOP = os.path.dirname(os.path.dirname(os.path.dirname(os.path.realpath(__file__))))
-# The last commit before subjects had a fixed form.
+# The last commit from before the rules for subjects were introduced.
 LAST_UNCHECKED = "d4d9728e0c99ad1ad14d5cc8609071f25454f20f"
-LONGEST = 72
+MAX_LENGTH = 72
 # One or more areas, such as `tests`, `c/install` or `rust, go`, then a verb in lower case.
 FORM = re.compile(r"[a-z0-9_./-]+(, [a-z0-9_./-]+)*: [a-z].{4,}[^.]")
-# Subjects that begin with one of these words describe the result. They are not an instruction.
+# If one of these words follows the area, the subject is not in the imperative.
 NOT_IMPERATIVE = re.compile(r": (what|whether|of|who|where|the|a|an|it|its|that|this|these|no|there)\b")
-# Examples that test this script: subject, body, and the first word of the expected reason, empty if the subject is accepted.
+# Examples that test this script: a subject, a body, and the first word of the reason for which `error_in` must
+# reject them, or an empty string if they must be accepted.
 EXAMPLES = (
     ("installer: read CLOCK_REALTIME instead of time()", "reason", ""),
     ("A reading that was disturbed is no reading on quiet cores", "reason", "form"),
     ("tests: what settled memory is", "reason", "imperative"),
-    ("tests: " + "x" * LONGEST, "reason", "long"),
+    ("tests: " + "x" * MAX_LENGTH, "reason", "long"),
     ("tests: rename variables", "", "body"),
     ("c: rewrite messages", "reason", ""),
 )
 
 
-def fault_of(subject, body, is_merge=False):
-    """Returns the reason why a subject is rejected, or an empty string if it is accepted."""
-    if len(subject) > LONGEST:
-        return f"long: {len(subject)} characters, and {LONGEST} are allowed"
+def error_in(subject, body, is_merge=False):
+    """Returns the reason for which a commit message is rejected, or an empty string if it is accepted."""
+    if len(subject) > MAX_LENGTH:
+        return f"long: {len(subject)} characters, and {MAX_LENGTH} are allowed"
     if is_merge:
         return ""
     if not FORM.fullmatch(subject):
@@ -47,7 +49,7 @@ def fault_of(subject, body, is_merge=False):
 
 
 def commits():
-    """Yields hash, parents, subject and body of each commit to check."""
+    """Yields the hash, the parents, the subject and the body of each commit that must be checked."""
     ran = subprocess.run(["git", "log", "--format=%h%x1f%P%x1f%s%x1f%b%x1e", f"{LAST_UNCHECKED}..HEAD"], cwd=TOP,
                          stdout=subprocess.PIPE, check=True)
     for record in ran.stdout.decode().split("\x1e")[:-1]:
@@ -58,18 +60,18 @@ def commits():
 def main():
     passed, failures = 0, []
     for subject, body, expected in EXAMPLES:
-        fault = fault_of(subject, body).partition(":")[0]
-        passed += fault == expected
-        if fault != expected:
-            failures.append(f"the example '{subject}': got {fault or 'accepted'}, expected {expected or 'accepted'}")
+        error = error_in(subject, body).partition(":")[0]
+        passed += error == expected
+        if error != expected:
+            failures.append(f"the example '{subject}': got {error or 'accepted'}, expected {expected or 'accepted'}")
     if not os.path.exists(os.path.join(TOP, ".git")):
         print("this is not a git clone: no commits to check")
     else:
         for name, parents, subject, body in commits():
-            fault = fault_of(subject, body, len(parents) > 1)
-            passed += not fault
-            if fault:
-                failures.append(f"{name} '{subject}': {fault}")
+            error = error_in(subject, body, len(parents) > 1)
+            passed += not error
+            if error:
+                failures.append(f"{name} '{subject}': {error}")
     for failure in failures:
         print(f"FAILED: {failure}")
     print(f"{passed} passed, {len(failures)} failed")

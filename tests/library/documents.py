@@ -1,14 +1,16 @@
 #!/usr/bin/env python3
-"""Checks that documents and comments name only what exists.
+"""Checks that the names, paths and links in documents and comments exist.
 
     tests/library/documents.py
 
-It compares with the sources: functions and clauses that documents name, the calls that a CALLING.md quotes, the error
-texts of docs/FORMATS.md, links, paths, and the old texts of the must-fail edits. It also checks the names and paths in
-the comments of all code, makefiles and manual pages. No file may name a directory of a particular machine, and no crate
-the proofs of another one. Each block of commands or code in a document has to be run by a test script.
+  * The functions and clauses that documents name, the calls that a CALLING.md quotes, and the error messages in
+    docs/FORMATS.md must be in the sources. Links and paths in documents must lead to existing files.
+  * The names and paths in the comments of all code, makefiles and manual pages must exist.
+  * The old text of each must-fail edit must occur exactly once in its file.
+  * No file may name a directory of a particular machine, and no crate may use the proofs of another one.
+  * A test script must run each block of commands or code in a document.
 
-It prints a line for each missing name; the last line is `N passed, M failed`. Needs Python 3.9 or later.
+The script prints a line for each failure; the last line is `N passed, M failed`. Needs Python 3.9 or later.
 """
 
 import builtins
@@ -29,11 +31,12 @@ from wrong_bodies import WrongBody
 
 FORMATS = "docs/FORMATS.md"
 ARCHITECTURE = "docs/ARCHITECTURE.md"
-# Generated from the sources. The script that generates it also checks it.
+# A document that is generated from the sources. The script that generates it also checks it.
 GENERATED = "docs/TRUSTED.md"
+# The document of a crate that quotes its calls with their contracts.
 CALLS = re.compile(r"crates/([^/]+)/CALLING\.md")
-# The documents with commands and examples, and the script that runs the blocks of each language. A block without a language
-# shows output, or lines of a file.
+# The documents with commands and examples, and the script that runs their blocks of each language. A block without
+# a language shows output or lines of a file, and is not run.
 COMMANDS, PACKAGES = "tests/c/commands.py", "tests/bindings/install_commands.py"
 RUN_BY = {
     "README.md": {"sh": COMMANDS, "c": "tests/c/installed.py"},
@@ -49,18 +52,21 @@ RUN_BY = {
     "bindings/rust/README.md": {"sh": PACKAGES, "toml": PACKAGES, "rust": "tests/bindings/rust.py"},
     "bindings/rust-minisign/README.md": {"toml": "tests/bindings/drop_in.py", "rust": "tests/bindings/drop_in.py"},
 }
-# The first lines of the paragraphs that are indented and not fenced: the usage, the output of a check, and the files of
-# examples/updater, which tests/installer/checking.py compares with the document.
+# The first lines of the code blocks that are indented instead of fenced: the usage, the output of a command, and
+# the files of examples/updater, which tests/installer/checking.py compares with the document.
 INDENTED = {"docs/LISTS.md": ["minisign-check -p PUBKEY [OPTION ..] LIST [FILE ..]"],
             "docs/INSTALLING.md": ["minisign-install [OPTION ..] PK DATA SIG TARGET", "2",
                                     "[Unit]", "[Service]", "[Unit]", "[Timer]", "[Install]", "#!/bin/sh"]}
-IN_COMMANDS = re.compile(r"(?<![\w./-])(?:\.ci|bench|c|crates|docs|examples|tests|tools)/[\w./*-]+")
+# Paths in commands.
+PATHS_IN_COMMANDS = re.compile(r"(?<![\w./-])(?:\.ci|bench|c|crates|docs|examples|tests|tools)/[\w./*-]+")
 QUOTED = re.compile(r"`([^`]+)`")
-# Quoted names of functions, separated by commas.
+# Quoted names of functions, separated by commas or `and`.
 NAMES = r"((?:`[\w:]+`(?:, | and )?)+)"
+# A fenced block: its language and its content.
 BLOCK = re.compile(r"^```(\w*)\n(.*?)^```$", re.M | re.S)
 PATH_NAME = re.compile(r"[A-Za-z_]\w*(?:::(?:[A-Za-z_]\w*|\.\.))*$")
-# Texts that have the form of a name but are words, constants of any language, or `module::..`.
+# Quoted texts that have the form of a name but need not be one: short words, constants of any language, and
+# `module::..`.
 NO_NAME = re.compile(r"[a-zA-Z]{1,8}|[A-Z][A-Z0-9]*|.*::\.\.")
 TEXT = re.compile(r'"((?:[^"\\]|\\.)*)"')
 
@@ -69,33 +75,35 @@ TEXT = re.compile(r'"((?:[^"\\]|\\.)*)"')
 CODE = (".rt", ".rt.txt", ".antt", ".antt.txt", ".c", ".h", ".js", ".mjs", ".ts", ".go", ".rs", ".py", ".sh", ".html", ".toml", ".json",
         "Makefile", ".ci/run")
 COMMENTED = (*CODE, ".css", ".txt", ".1", ".3", ".edit")
-# Comments whose syntax differs from Rattle's. (A Python string in triple quotes is a comment if it is a statement.)
+# The syntax of comments, by the ending of the file, where it differs from Rattle's. In Python, a string in triple
+# quotes is a comment if it is a statement.
 HASH, ROFF = re.compile(r"(?<!\S)#[^\n]*"), re.compile(r'(?m)^\.\\"[^\n]*')
 PYTHON = re.compile(r'#[^\n]*|"""(?:[^\\]|\\.)*?"""|"(?:[^"\\\n]|\\.)*"|\'(?:[^\'\\\n]|\\.)*\'', re.S)
 OTHER_COMMENTS = {
     ".antt": re.compile(r"(?<!\S)--(?=\s)[^\n]*"), ".html": re.compile(r"<!--.*?-->", re.S), ".css": re.compile(r"/\*.*?\*/", re.S),
     ".1": ROFF, ".3": ROFF, ".edit": re.compile(r"(?m)^why: [^\n]*"), ".sh": HASH, ".toml": HASH, ".txt": HASH, "": HASH,
 }
-# Words that have the form of a name: with an underscore, or with a capital letter inside.
+# Words that have the form of a name, because they have an underscore or a capital letter inside.
 NAMES_IN_COMMENTS = re.compile(r"(?<![\w`./:-])(?:[A-Za-z]\w+_\w+|[A-Za-z][a-z0-9]+[A-Z]\w*)(?![\w`])")
 PATHS_IN_COMMENTS = re.compile(r"(?<![\w`./-])(?:\.ci|bench|bindings|c|compare|crates|docs|examples|include|page|tests|tools)/[\w/-]+\.[a-z]+\b")
-# A directory that only some machines or users have.
-OF_ONE_MACHINE = re.compile(r"(?<![\w.])/(?:opt|work|root|home|Users)/\S*")
+# A path in a directory that only some machines or users have.
+MACHINE_PATH = re.compile(r"(?<![\w.])/(?:opt|work|root|home|Users)/\S*")
 # Words that have the form of a name but come from outside the repository.
 OTHER_NAMES = {"OpenPGP", "WebAssembly", "TypeScript", "macOS", "KiB", "MiB", "GiB", "EdDSAs", "BlockMix", "scryptBlockMix",
                "scryptROMix", "VerifyError", "crypto_pwhash_scryptsalsa208sha256", "AddressSanitizer", "UndefinedBehaviorSanitizer",
                "DevTools", "WebDriver"}
 
 FILES = [os.path.relpath(file, ROOT) for file in sources.files_below(ROOT)]
-# Files and directories, including those that a build makes beside the sources. ENDINGS are those that documents may leave out.
+# All files and directories of the repository, including those that a build creates next to the sources.
 PATHS = dict.fromkeys(os.sep.join(file.split(os.sep)[:last + 1])
                       for file in (*FILES, *(line for line in read(".gitignore").split() if not line.endswith("/")))
                       for last in range(file.count(os.sep) + 1))
+# The endings that documents may omit from paths.
 ENDINGS = ("", ".antt", ".rt", ".py", ".md", ".c", ".rs")
 
 
 def comments_in(path, text):
-    """Returns the comments of a file. Those of an edit are its lines `why:`."""
+    """Returns the comments of a file. The comments of a must-fail edit are its lines `why:`."""
     ending = ".rt" if path.endswith(".rt.txt") else os.path.splitext(path)[1]
     if ending == ".py":
         matches = [match for match in PYTHON.finditer(text) if match[0].startswith(("#", '"""'))]
@@ -115,8 +123,8 @@ class Index:
         self.types = {item.name for item in self.items if item.what in ("struct", "enum", "trait", "type")}
         specs = [file for directory in self.library.crates.values() for file in sources.files_below(f"{directory}/specs", ".antt")]
         self.definitions = [definition for file in specs for definition in sources.read_module(file).definitions.values()]
-        # The names in code: `of_crates` are those of the crates and of C, the only ones that comments in a crate may use; `known` are
-        # all names, including Python's builtins.
+        # The names in code. `of_crates` are the names in the crates and the C sources, which are the only ones that
+        # comments in a crate may use. `known` are all names, including Python's builtins.
         self.of_crates = {*self.library.crates, *(os.path.basename(file).partition(".")[0] for file in FILES)}
         self.known = {*self.of_crates, *dir(builtins)}
         for file in (file for file in FILES if file.endswith(CODE)):
@@ -143,21 +151,23 @@ def without_blocks(text):
     return BLOCK.sub(lambda block: "\n" * block[0].count("\n"), text)
 
 
-def places(document, text):
-    """Yields each line with its place, `FILE:LINE`."""
+def numbered_lines(document, text):
+    """Yields the position of each line, as `FILE:LINE`, and the line."""
     return ((f"{document}:{number}", line) for number, line in enumerate(text.split("\n"), 1))
 
 
 def shortened(text):
-    """Returns a contract as a CALLING.md quotes it: `S` is what `self` points to before the call, and `S'` afterwards."""
+    """Returns a clause as a CALLING.md quotes it: `S` stands for what `self` points to before the call, and `S'`
+    for what it points to afterwards."""
     return re.sub(r"\bself\.(?:now|old)\b", "S", re.sub(r"\bself\.new\b", "S'", sources.in_one_line(text)))
 
 
 def check_calls(report, index, document, text):
-    """Checks that each call that a CALLING.md quotes is in its file, word for word, and has each quoted clause."""
+    """Checks that each call that a CALLING.md quotes is in the named file with the same signature, and has each
+    quoted clause."""
     directory = f"{ROOT}/crates/{CALLS.match(document)[1]}/"
     file, calls, is_quoted = "", [], False
-    for where, line in places(document, text):
+    for where, line in numbered_lines(document, text):
         if line.startswith("```"):
             is_quoted, file, calls = line == "```text", "", []
         elif is_quoted and line.startswith("src/"):
@@ -166,8 +176,8 @@ def check_calls(report, index, document, text):
             path = re.match(r"fn ([\w:]+)", line)[1]
             calls = [each for each in index.functions(path.rpartition("::")[2]) if (each.file, each.path) == (file, path)]
             headers = [re.sub(r"^(?:pub(?:\(crate\))? )?", "", sources.in_one_line(call.header)) for call in calls]
-            wanted = line.replace(f"fn {path}", "fn " + path.rpartition("::")[2])
-            report.check(wanted in headers, where, f"`{wanted}` is not in {file}, which has {headers}")
+            expected = line.replace(f"fn {path}", "fn " + path.rpartition("::")[2])
+            report.check(expected in headers, where, f"`{expected}` is not in {file}, which has {headers}")
         elif is_quoted and line.strip():
             parts = re.fullmatch(r"  (requires|ensures)(?: (\w+))?: (.*)", line)
             clauses = [shortened(clause.text) for call in calls for clause in index.clauses_of(call)
@@ -176,7 +186,8 @@ def check_calls(report, index, document, text):
 
 
 def check_links(report, document, text):
-    for where, line in places(document, text):
+    """Checks that each relative link leads to an existing file and, if it has an anchor, to a heading in this file."""
+    for where, line in numbered_lines(document, text):
         for link in re.findall(r"\]\((?!\w+:)([^)\s]+)\)", line):
             path, _, anchor = link.partition("#")
             target = os.path.normpath(os.path.join(os.path.dirname(document), path)) if path else document
@@ -190,7 +201,8 @@ def check_links(report, document, text):
 
 @functools.lru_cache(maxsize=None)
 def find(path):
-    """Returns the files and directories whose path ends with a document's path, such as `specs/Fed` in any crate."""
+    """Returns the files and directories to which a path in a document may refer. It may be the end of a longer
+    path, such as `specs/Fed` in any crate, without the ending of the file, and it may have wildcards."""
     path = path.rstrip("/")
     if "*" in path or "NAME" in path:
         return glob.glob(os.path.join(ROOT, path.replace("NAME", "*")))
@@ -206,24 +218,25 @@ def is_path(text):
 
 
 def squeezed(text):
-    """Returns the text without comment lines, with each run of white space replaced by a space."""
+    """Returns source code without comment lines, with each run of white space replaced by a space."""
     return re.sub(r"\s+", " ", re.sub(r"(?m)^\s*//.*$", "", text)).strip()
 
 
 def check_blocks(report, document, text, index):
-    """Checks that each block of Rust is part of a source file, up to comments."""
+    """Checks that each block of Rust is part of a source file, ignoring comments and white space."""
     for block in (block for language, block in BLOCK.findall(text) if language == "rust"):
         is_in_source = any(squeezed(block) in squeezed(source.text) for source in index.sources)
         report.check(is_in_source, document, f"no source file has this block: {block[:100]!r}")
 
 
 def check_paths(report, document, text):
-    """Checks each path that is quoted or used in a command, and names that the text locates, as in "`NAME` of `FILE`"."""
-    for path in (path for language, block in BLOCK.findall(text) if language == "sh" for path in IN_COMMANDS.findall(block)):
+    """Checks each path that is quoted or used in a command, and each name whose file is given, as in "`NAME` of
+    `FILE`"."""
+    for path in (path for language, block in BLOCK.findall(text) if language == "sh" for path in PATHS_IN_COMMANDS.findall(block)):
         report.check(not is_path(path) or find(path), document, f"no file or directory {path}")
-    for where, line in places(document, text):
+    for where, line in numbered_lines(document, text):
         for name in QUOTED.findall(line):
-            for path in [name] if " " not in name else IN_COMMANDS.findall(name):
+            for path in [name] if " " not in name else PATHS_IN_COMMANDS.findall(name):
                 report.check(not is_path(path) or find(path), where, f"no file or directory {path}")
         for names, path in re.findall(NAMES + r" of `([\w./]+)`", line):
             for name in QUOTED.findall(names) if is_path(path) else ():
@@ -242,16 +255,17 @@ def names_of(path):
 
 
 def quoted_names(text):
-    """Returns the quoted names and paths of names in a text, each as it is quoted and without its arguments."""
+    """Returns the quoted names in a text, such as `f`, `a::f` and `f(x)`. Each is a pair: the quoted text, and the
+    name without arguments."""
     quoted = [(word, re.sub(r"\(.*\)$", "", word)) for word in QUOTED.findall(text)]
     return [(word, name) for word, name in quoted if PATH_NAME.match(name) and not NO_NAME.fullmatch(name)]
 
 
 def check_names(report, document, text, index, types):
-    """Checks that each quoted name is in some source, and that `TYPE::NAME` names a member of that type."""
-    for where, line in places(document, without_blocks(text)):
+    """Checks that each quoted name occurs in a source file, and that each `TYPE::NAME` names a member of this type."""
+    for where, line in numbered_lines(document, without_blocks(text)):
         if document == "docs/DIFFERENCES.md" and line.startswith("|"):
-            # The first column is about the Rust crate minisign, and names its items.
+            # The first column names items of another project, the Rust crate minisign.
             line = line[line.find(" | "):]
         for quoted, name in quoted_names(line):
             *owners, last = name.split("::")
@@ -264,26 +278,27 @@ def check_names(report, document, text, index, types):
 
 
 def check_comments(report, path, index):
-    """Checks that each word of a comment that is quoted or has the form of a name is in some source, and that each path exists."""
+    """Checks that each quoted name and each word with the form of a name in a comment occurs in a source file, and
+    that each path in a comment exists."""
     text = read(path)
     known = index.of_crates if path.startswith("crates/") else index.known
-    # Examples of use in comments, `/// let ..;`, have variables of their own.
+    # Comments of the form `/// let ..;` are examples with variables of their own, and are skipped.
     for comment in (comment for comment in comments_in(path, text) if not re.match(r"/// let .*;$", comment)):
         names = [name for _, name in quoted_names(comment)]
         for name in {*names, *NAMES_IN_COMMENTS.findall(comment)} - OTHER_NAMES:
-            # A word that ends with an underscore is the beginning of a name.
+            # A word that ends with an underscore stands for all names that begin with it.
             holds = all(word in known or word.endswith("_") and any(known_name.startswith(word) for known_name in known)
                         for word in name.split("::"))
             report.check(holds, path, f"a comment names `{name}`, which is in no source")
-        # The paths that an edit quotes are inputs of the function, and not files.
+        # The paths that a must-fail edit quotes are inputs of a function, not files.
         quoted = [re.sub(r"\(.*\)$", "", word) for word in QUOTED.findall(comment) if not path.endswith(".edit")]
         for place in {*filter(is_path, quoted), *PATHS_IN_COMMENTS.findall(comment)}:
             report.check(place.startswith(".") or find(place), path, f"a comment names the file {place}, which does not exist")
 
 
 def check_clauses(report, index, document, text):
-    """Checks the clauses that a sentence names, as in "the clause `x` of `f`"."""
-    for where, line in places(document, text):
+    """Checks that the clauses that a sentence names, as in "the clause `x` of `f`", exist."""
+    for where, line in numbered_lines(document, text):
         for name, functions in re.findall(r"clauses? `(\w+)` of " + NAMES, line):
             for function in QUOTED.findall(functions):
                 candidates = index.functions(function.rpartition("::")[2])
@@ -292,24 +307,24 @@ def check_clauses(report, index, document, text):
 
 
 def check_texts(report, index):
-    """Checks that each quoted text of docs/FORMATS.md that contains a space is in a string of the sources, and that
-    docs/FORMATS.md has each form of the usage that the program shows."""
+    """Checks that each quoted text with a space in docs/FORMATS.md is part of a string in the sources, and that
+    docs/FORMATS.md has each form of the usage that minisign_tool prints."""
     strings = "\n".join({text for source in (*index.sources, *index.definitions) for text in TEXT.findall(source.text)})
     formats = read(FORMATS)
     for usage in set(re.findall(r"usage: minisign_tool ([^\\\n]+)", strings)):
         for form in usage.split(" | "):
             report.check(f"`{form}`" in formats, FORMATS, f"the form `{form}` of the usage is missing")
-    # tools/header.py generates this table.
+    # This table is skipped, because tools/header.py generates it.
     table = re.compile(r"^\| Name \| Number \|.*?(?=\n\n|\Z)", re.M | re.S)
-    for where, line in places(FORMATS, table.sub(lambda match: "\n" * match[0].count("\n"), formats)):
+    for where, line in numbered_lines(FORMATS, table.sub(lambda match: "\n" * match[0].count("\n"), formats)):
         for quoted in QUOTED.findall(line):
             is_text = " " in quoted.strip() and not re.search(r"[*^+=<]", quoted)
             report.check(not is_text or quoted in strings, where, f"no string of the sources contains {quoted!r}")
 
 
 def check_architecture(report):
-    """Checks that docs/ARCHITECTURE.md names each crate, each module of `minisign` and `minisign_tool`, and each file of definitions
-    of `minisign`."""
+    """Checks that docs/ARCHITECTURE.md names each crate, each module of `minisign` and `minisign_tool`, and each
+    file of definitions of `minisign`."""
     text = read(ARCHITECTURE)
     named = {name for part in QUOTED.findall(without_blocks(text)) for name in NAME.findall(part)}
     for crate in re.findall(r"(?m)^\w+(?=:)", read("crates.txt")):
@@ -320,26 +335,25 @@ def check_architecture(report):
 
 
 def check_layers(report, index):
-    """Checks that no crate uses the proofs of another crate, except its Laws, which are made for callers. A crate may rely only on
-    the contracts, definitions and laws of another one."""
+    """Checks that no crate uses the proofs of another crate, except its laws (proofs/Laws), which are made for callers."""
     for file in (file for file in FILES if file.startswith("crates/") and file.endswith((".antt", ".rt"))):
         named = {*re.findall(r"\b(\w+)(?:\.|::)proofs\b(?!(?:\.|::)Laws\b)", read(file))}
         others = named & {*index.library.crates} - {file.split("/")[1]}
         report.check(not others, file, f"it uses proofs of {', '.join(others)}")
 
 
-def check_edit(report, shown):
-    """Checks that a must-fail edit says why it is wrong and names its function, and that its file exists and has each old text
-    exactly once."""
-    why_not = WrongBody(shown.split("/")[1], shown).why_not
-    report.check(not why_not, shown, why_not)
+def check_edit(report, path):
+    """Checks that a must-fail edit says why the edited function is wrong and names it, that its file exists, and
+    that this file has each old text exactly once."""
+    error = WrongBody(path.split("/")[1], path).why_not
+    report.check(not error, path, error)
 
 
 def check_run(report, document, text, scripts):
-    """Checks that each block of commands or code is fenced, and has a language whose blocks a script runs."""
+    """Checks that each block of commands or code is fenced, and that a script runs the blocks of its language."""
     fences = {*re.findall(r"(?m)^[ \t>]*(?:```|~~~).*$", text)[::2]} - {"```"}
-    wanted = {f"```{language}" for language in scripts}
-    report.check(fences == wanted, document, f"the blocks begin with {fences}, but scripts run {wanted}")
+    expected_fences = {f"```{language}" for language in scripts}
+    report.check(fences == expected_fences, document, f"the blocks begin with {fences}, but scripts run {expected_fences}")
     for script in scripts.values():
         report.check(os.path.basename(document) in read(script), document, f"{script} does not name this document")
     indented, expected = re.findall(r"\n\n(?:    |\t)(.*)", without_blocks(text)), INDENTED.get(document, [])
@@ -347,15 +361,15 @@ def check_run(report, document, text, scripts):
 
 
 def check_kit(report, readme):
-    """Checks that README names the kit of dist/PROVED, and no other."""
+    """Checks that README.md names the kit that dist/PROVED names, and no other."""
     proved_by = re.findall(r"(?m)^kit: (.*)$", read("dist/PROVED"))
     named = re.findall(r"`(rattle-kit-[^`]+)`", readme)
     report.check(named == proved_by, "README.md", f"it names the kits {named}, and dist/PROVED names {proved_by}")
 
 
 def check_version(report, documents):
-    """Checks that each version of the logic that a document names with a kit is the installed kit's. The kit's name is not compared,
-    because a kit is replaced more often than its logic."""
+    """Checks that each version of the logic that a document names with a kit is the version of the installed kit.
+    The names of the kits are not compared, because a kit is replaced more often than its logic."""
     if sources.find_kit():
         ran = subprocess.run(["rt", "version"], stdout=subprocess.PIPE, stderr=subprocess.STDOUT, timeout=60)
         for document, text in documents.items():
@@ -371,15 +385,16 @@ def main():
         if document != GENERATED:
             check_paths(report, document, text)
             check_clauses(report, index, document, text)
-            # The packages and examples/rattle, which is a separate repository, have their own types and examples.
-            is_apart = document.startswith(("bindings/", "examples/rattle/"))
-            check_names(report, document, text, index, set() if is_apart else index.types)
-            if not is_apart and not CALLS.match(document):
+            # The packages, and examples/rattle, which is the start of a separate repository, have types and
+            # examples of their own.
+            is_separate = document.startswith(("bindings/", "examples/rattle/"))
+            check_names(report, document, text, index, set() if is_separate else index.types)
+            if not is_separate and not CALLS.match(document):
                 check_blocks(report, document, text, index)
         if CALLS.match(document):
             check_calls(report, index, document, text)
     for path in (file for file in FILES if file.endswith((*COMMENTED, ".md")) and not file.startswith("dist/")):
-        place = OF_ONE_MACHINE.search(read(path))
+        place = MACHINE_PATH.search(read(path))
         report.check(place is None, path, f"it names a directory of a particular machine: {place and place[0]}")
         if not path.endswith(".md"):
             check_comments(report, path, index)

@@ -3,10 +3,10 @@
 
     tests/library/vectors.py
 
-A vector has a name, the expected values, and the tests that cover it. Each of these tests has to exist and to contain one of
-the values, and each value has to occur in one of the tests. Comments and docstrings do not count. The script also checks that
-CI runs the tests, and the number of vectors, so that none disappears unnoticed. The first lines of the list describe its
-format. The last line is `N passed, M failed`.
+A vector has a name, the expected values, and the tests that cover it. Each of these tests must exist and contain
+one of the values, and each value must occur in one of the tests. Comments and docstrings are ignored. The script
+also checks that CI runs the tests, and that the list has the expected number of vectors, so that none disappears
+unnoticed. The first lines of vectors.txt describe its format. The last line of the output is `N passed, M failed`.
 
 Needs Python 3.9 or later and make.
 """
@@ -24,20 +24,21 @@ TESTS = os.path.join(TOP, "tests")
 # The modules of tests/rows come first, because this directory also has a module sealed_keys.
 sys.path[:0] = [os.path.join(TESTS, name) for name in ("rows", "tool", "shared", "")] + [os.path.join(TOP, "tools")]
 
-import ending
 import named_errors
 import needs
 import real_runs
 import rows
-from asking import BY_NAME, encoded, rejected
+import test_script
+from asking import ERROR_TEXTS, encoded, rejected
 from process import run
 from sources import read
 
 LIST = "tests/library/vectors.txt"
-# The number of vectors in the list, so that removing one also means changing this.
+# The expected number of vectors in the list.
 COUNT = 372
-# Invalid vectors, which the checks have to reject. They name a test that does not exist, a wrong value, a value that occurs only in a
-# comment, a function that is not a test, a test without any of the values, a test case outside of a range, no value, or no test.
+# Invalid vectors in the format of the list, which this script must reject. Each one's name says what is wrong with
+# it: it names a test that does not exist, a wrong value, a value that occurs only in a comment, a function that is
+# not a test, a test without any of the values, a range that is too large, no value, or no test.
 INVALID_VECTORS = (
     "no row | 255\n    row hashing: number stored: -255",
     "no module | 255\n    row hash: number stored: 255",
@@ -57,15 +58,16 @@ INVALID_VECTORS = (
     "no values\n    row hashing: number stored: 255",
     "no tests | 255",
 )
-# The crate of the tests in Rattle, and the crates whose items these tests use.
+# The crate with the tests in Rattle, and the crates whose items these tests use.
 VECTORS = "minisign_vectors"
 USED = (VECTORS, "minisign_fixtures", "minisign_examples")
-# The script that runs the tests of each kind. The tests in Rattle and the facts of all crates are run by `rt ci`.
+# The script that runs the tests of each kind. `rt ci` runs the kinds that are missing here: `test` and `run`.
 RUN_BY = {"row": "tests/rows/rows.py", "error": "tests/rows/rows.py", "case": "tests/tool/real_runs.py",
           "edit": "tests/proofs/wrong_bodies.py", "fact": "tests/proofs/wrong_facts.py", "memory": "tests/library/refused_memory.py"}
-# Values of at least this length may be a part of a longer word.
+# A value of at least this length may occur within a word of a test's text. A shorter value must be a separate word.
 MIN_SUBSTRING = 12
 
+# Comments, strings and character literals in Rattle; the first line of an item; and a list of bytes.
 RATTLE = re.compile(r'//[^\n]*|b?"(?:[^"\\]|\\.)*"|b?\'(?:[^\'\\]|\\.)\'', re.S)
 ITEM = re.compile(r"(?m)^(?:#\[[^\n]*\]\n)*(?:pub )?(?:const fn|fn|const|static|type|struct|enum|trait|impl|mod|use|ghost use)\b")
 BYTES = re.compile(r"(?:0x[0-9a-f]{2},?\s*)+")
@@ -84,7 +86,8 @@ class Vector:
 
 
 def expanded(name):
-    """Expands the ranges of a name, such as {1..6} or {2..14..4}, which means every fourth number. Returns all names."""
+    """Returns all names that a name with ranges stands for. A range is written {1..6}, or {2..14..4} for every
+    fourth number."""
     range_of_names = re.search(r"\{(\d+)\.\.(\d+)(?:\.\.(\d+))?\}", name)
     if not range_of_names:
         return [name]
@@ -102,7 +105,7 @@ def read_list(text):
 # == Test cases of tests/rows, and named errors ==
 
 def decoded(word):
-    """Returns a word of a request or response. If its value is in hexadecimal, the text that it encodes follows."""
+    """Returns a word of a request or response. If its value is encoded in hexadecimal, the decoded text is appended."""
     name, is_value, value = word.rpartition("=")
     if not re.fullmatch(r"x(?:[0-9a-f]{2})*", value):
         return word
@@ -111,41 +114,44 @@ def decoded(word):
 
 @functools.lru_cache(maxsize=None)
 def rows_of(module):
-    """Returns the test cases of a module of tests/rows by name, each as a text."""
-    named, texts = {text: name for name, (_, text) in BY_NAME.items()}, {}
+    """Maps the names of the test cases of a module of tests/rows to their texts."""
+    names_of_errors, texts = {text: name for name, (_, text) in ERROR_TEXTS.items()}, {}
     for row in importlib.import_module(module).ROWS if module in rows.MODULES else []:
         answer = rejected(row.answer) if isinstance(row.answer, str) else row.answer
         words = [*row.request.split(" "), "->", *answer.head.split(" "),
                  *(f"{name}={encoded(value)}" for name, value in answer.values.items())]
         text = " ".join(map(decoded, words))
-        errors = [named[said] for said in re.findall(r" '(.*?)'|\"(.*?)\"", text) for said in said if said in named]
-        texts[row.name] = " ".join([texts.get(row.name, ""), text, *errors, *([row.answer] if isinstance(row.answer, str) else [])])
+        quoted = [part for pair in re.findall(r" '(.*?)'|\"(.*?)\"", text) for part in pair]
+        errors = [names_of_errors[part] for part in quoted if part in names_of_errors]
+        answers = [row.answer] if isinstance(row.answer, str) else []
+        texts[row.name] = " ".join([texts.get(row.name, ""), text, *errors, *answers])
     return texts
 
 
 def text_of_row(name):
-    """Returns the text of a test case, given as `MODULE: NAME`. Cases with the same name count as one."""
+    """Returns the text of the test case `MODULE: NAME`. The texts of cases with the same name are joined."""
     module, _, row = name.partition(": ")
     return rows_of(module).get(row)
 
 
 def text_of_error(name):
-    """Returns the name, kind and text of a named error."""
-    named = next((error for error in named_errors.ERRORS if error["name"] == name), None)
-    return named and f"{named['name']} {named['kind']} `{named['text']}`"
+    """Returns the name, the kind and the message of a named error as a text."""
+    error = next((error for error in named_errors.ERRORS if error["name"] == name), None)
+    return error and f"{error['name']} {error['kind']} `{error['text']}`"
 
 
 # == Runs of the program ==
 
 def text_of_case(name):
-    """Returns the text of a run of tests/tool, given as `COMMAND: NAME`, with the files that it leaves."""
+    """Returns the text of the case `COMMAND: NAME` of tests/tool, with the files that the run must leave."""
     command, _, case_name = name.partition(": ")
     cases = [case for case in real_runs.CASES.get(command, ()) if case.name == case_name]
-    return " ".join(f"{case!r} {vars(case.left) if case.left else ''}" for case in cases) or None
+    return " ".join(f"{case!r} {vars(case.check_directory) if case.check_directory else ''}" for case in cases) or None
 
 
 def text_of_run(crate):
-    """Returns the text of the stored run of a crate's program: its arguments, input and files, and its exit status if this is stored."""
+    """Returns the text of a stored run of a crate's program: its arguments, its input, its files, and its exit
+    status if stored."""
     if not os.path.exists(f"crates/{crate}/args"):
         return None
     paths = [f"crates/{crate}/{name}" for name in ("args", "stdin", "stdout", "status")]
@@ -161,15 +167,17 @@ def text_of_run(crate):
 # == Tests in Rattle ==
 
 def without_comments(text):
+    """Returns Rattle source text without comments."""
     return RATTLE.sub(lambda match: " " if match[0].startswith("//") else match[0], text)
 
 
 def items_of(text):
-    """Returns the items of a source by name, and the paths of its imports by name."""
+    """Returns two dictionaries for a Rattle source: the source of each item, and the full path of each import, by
+    their names."""
     text = without_comments(text)
-    places = [match.start() for match in ITEM.finditer(text)]
+    starts = [match.start() for match in ITEM.finditer(text)]
     items, imports = {}, {}
-    for begin, end in zip(places, [*places[1:], len(text)]):
+    for begin, end in zip(starts, [*starts[1:], len(text)]):
         item = text[begin:end]
         named = re.match(r"(?:#\[[^\n]*\]\n)*(?:pub )?(?:const fn|fn|const|static|type|struct|enum|trait) (\w+)", item)
         if named:
@@ -180,7 +188,8 @@ def items_of(text):
 
 
 def imported(tree, before=""):
-    """Returns the paths of the names that a `use` imports, by name. `before` is the path that precedes the tree of names."""
+    """Maps the names that a `use` imports to their full paths. `tree` is the text after `use`, or a part of it in
+    braces, and `before` is the path in front of these braces."""
     tree = " ".join(tree.split())
     head, brace, inner = tree.partition("{")
     if not brace:
@@ -189,19 +198,19 @@ def imported(tree, before=""):
             return {before.rstrip(":").rpartition("::")[2]: before[:-2]}
         return {(name or path).rpartition("::")[2].strip(): before + path.strip()}
     paths, depth, part = {}, 0, ""
-    for letter in inner[:inner.rindex("}")] + ",":
-        depth += {"{": 1, "}": -1}.get(letter, 0)
-        if letter == "," and depth == 0:
+    for character in inner[:inner.rindex("}")] + ",":
+        depth += {"{": 1, "}": -1}.get(character, 0)
+        if character == "," and depth == 0:
             paths.update(imported(part, before + head.strip()) if part.strip() else {})
             part = ""
         else:
-            part += letter
+            part += character
     return paths
 
 
 @functools.lru_cache(maxsize=None)
 def modules_of(crate):
-    """Returns the items and imports of each module that a crate declares, by path."""
+    """Maps the path of each module of a crate to its items and imports, as `items_of` returns them."""
     modules, waiting = {}, [("", f"crates/{crate}/src/lib.rt")]
     while waiting:
         path, file = waiting.pop()
@@ -215,7 +224,8 @@ def modules_of(crate):
 
 
 def resolved(crate, module, name):
-    """Returns the crate, module and name of the item that a name in a module refers to, or None."""
+    """Returns the crate, the module and the name of the item to which a name in a module refers, or None if it is
+    not in USED."""
     items, imports = modules_of(crate)[module]
     if name in items:
         return crate, module, name
@@ -225,12 +235,13 @@ def resolved(crate, module, name):
     target = crate if parts[0] == "crate" else parts[0]
     if target not in USED or "::".join(parts[1:-1]) not in modules_of(target):
         return None
-    at = "::".join(parts[1:-1])
-    return (target, at, parts[-1]) if parts[-1] in modules_of(target)[at][0] else None
+    path = "::".join(parts[1:-1])
+    return (target, path, parts[-1]) if parts[-1] in modules_of(target)[path][0] else None
 
 
 def text_of_test(path):
-    """Returns the text of a test in Rattle, with all items that it uses. The lists of bytes in it follow as hexadecimal digits."""
+    """Returns the source of a test in Rattle and of all items that it uses. The lists of bytes in them are appended
+    in hexadecimal."""
     module, _, name = path.rpartition("::")
     item = modules_of(VECTORS).get(module, ({}, {}))[0].get(name)
     if item is None or not item.startswith("#[test]\n"):
@@ -248,7 +259,8 @@ def text_of_test(path):
 # == Facts and mutants ==
 
 def text_of_fact(name):
-    """Returns the text of a fact (a proved equation), given as `CRATE: NAME`. Its strings of hexadecimal bytes follow without spaces."""
+    """Returns the text of the fact `CRATE: NAME`, which is a proved equation. Its hexadecimal strings are appended
+    without spaces."""
     crate, _, fact = name.partition(": ")
     path = f"crates/{crate}/proofs/Facts.antt"
     text = re.sub(r"(?m)(?<!\S)--(?=\s).*$", "", read(path)) if os.path.exists(path) else ""
@@ -258,20 +270,23 @@ def text_of_fact(name):
 
 
 def text_of_edit(name):
-    """Returns the text of a mutant that a proof must reject, given by crate and name, without the line that explains it."""
+    """Returns the text of a mutant that the prover must reject, given by crate and name with a slash, without the
+    lines `why:`."""
     crate, _, edit = name.partition("/")
     path = next(filter(os.path.exists, (f"crates/{crate}/{kind}/{edit}.edit" for kind in ("wrong-bodies", "must-fail"))), None)
     return path and " ".join(line for line in read(path).splitlines() if not line.startswith("why:"))
 
 
 def text_of_memory(path):
-    """Returns the text of a test in Rattle in which `refused_memory.py` makes allocations fail. Its name contains WORD of that script."""
+    """Returns the text of a test in Rattle that `refused_memory.py` runs with failing allocations. The name of such
+    a test contains the NAME_PART of that script."""
     tree = ast.parse(read(RUN_BY["memory"]))
-    word = next((ast.literal_eval(node.value) for node in tree.body
-                 if isinstance(node, ast.Assign) and ast.unparse(node.targets[0]) == "WORD"), None)
-    return text_of_test(path) if word and word in path else None
+    name_part = next((ast.literal_eval(node.value) for node in tree.body
+                      if isinstance(node, ast.Assign) and ast.unparse(node.targets[0]) == "NAME_PART"), None)
+    return text_of_test(path) if name_part and name_part in path else None
 
 
+# The function that returns the text of a test, for each kind of test. It returns None if there is no such test.
 TEXT_OF = {"row": text_of_row, "error": text_of_error, "case": text_of_case, "run": text_of_run, "test": text_of_test,
            "fact": text_of_fact, "edit": text_of_edit, "memory": text_of_memory}
 
@@ -279,15 +294,15 @@ TEXT_OF = {"row": text_of_row, "error": text_of_error, "case": text_of_case, "ru
 # == The checks ==
 
 def occurs(value, text):
-    """Returns true if a text contains a value: a long one anywhere, a short one as a separate word."""
+    """Returns true if a text contains a value. A value shorter than MIN_SUBSTRING must be a separate word."""
     if len(value) >= MIN_SUBSTRING:
         return value in text
     return re.search(rf"(?<!\w){re.escape(value)}(?!\w)", text) is not None
 
 
-def faults_of(vector):
-    """Yields a text for each fault of a vector. Each value has to occur in one of the tests, or in all tests of a range, and each test has
-    to contain one of the values."""
+def errors_in(vector):
+    """Yields a message for each error in a vector. Each value must occur in one of the tests, or in all tests of a
+    range, and each test must contain one of the values."""
     if not vector.covers:
         yield "no test covers it"
     if not vector.values and any(kind != "edit" for kind, _ in vector.covers):
@@ -308,7 +323,8 @@ def faults_of(vector):
 
 
 def missing_in_ci(kinds):
-    """Yields a text for each of these kinds of tests that CI does not run, and for each missing crate of tests."""
+    """Yields a message for each kind of test that CI does not run, and for each crate with tests that is not in
+    crates.txt."""
     listed = run([needs.program("make", "make"), "-s", "-f", "tests/Makefile", "list"])[1].split()
     for kind in kinds:
         if kind in RUN_BY and RUN_BY[kind] not in listed:
@@ -331,13 +347,13 @@ def check_all(checks, _):
     missing = [*missing_in_ci({kind for vector in vectors for kind, _ in vector.covers})]
     checks.check(not missing, *missing)
     for vector in vectors:
-        faults = [*faults_of(vector)]
-        checks.check(not faults, vector.name, "; ".join(faults))
+        errors = [*errors_in(vector)]
+        checks.check(not errors, vector.name, "; ".join(errors))
     for vector in map(Vector, INVALID_VECTORS):
-        checks.check([*faults_of(vector)], f"the invalid vector `{vector.name}` is accepted")
+        checks.check([*errors_in(vector)], f"the invalid vector `{vector.name}` is accepted")
     covers = {(kind, each) for vector in vectors for kind, name in vector.covers for each in expanded(name)}
     print(f"{len(vectors)} vectors, covered by {len(covers)} tests")
 
 
 if __name__ == "__main__":
-    sys.exit(ending.check("vectors", check_all))
+    sys.exit(test_script.run_checks("vectors", check_all))

@@ -1,4 +1,4 @@
-"""Runs a program at a pseudoterminal. pexpect reads what the program shows, and types the user's input."""
+"""Runs a program at a pseudoterminal. pexpect reads the program's output and types the user's input."""
 
 import contextlib
 import fcntl
@@ -10,12 +10,14 @@ import time
 
 import needs
 
+# The time limit for a program, and for each text that it has to show.
 SECONDS = 600
 
 
 class AtTerminal:
-    """A program at its own terminal. `shown` is everything that it has shown so far.
+    """A program that runs at a terminal of its own.
 
+    `shown` is everything that the terminal has shown so far. `before` is the text before the last match of `expect`.
     `prepare` is called in the child process before the program starts."""
 
     def __init__(self, command, program, directory, environment, prepare=lambda: None):
@@ -31,34 +33,37 @@ class AtTerminal:
         self.shown = self.before = b""
 
     def write(self, text):
-        """Records what pexpect has read: pexpect calls this as its log file."""
+        """Appends to `shown` what pexpect has read. pexpect calls it, because this object is its log file."""
         self.shown += text
 
     def flush(self):
         """Does nothing. pexpect calls it after each write to its log file."""
 
     def expect(self, pattern):
-        """Reads until the pattern is shown after the previous match. Returns the match, or None if the program ends first or nothing
-        matches in time. `before` is then the text between the two matches, or up to the end."""
+        """Waits until text after the previous match matches the pattern. Returns the match, or None if the program ends
+        first or the time limit is reached. Sets `before` to the text between the previous match and this one, or to all
+        text since the previous match if there is none."""
         index = self.terminal.expect([pattern, self.pexpect.EOF, self.pexpect.TIMEOUT])
         self.before = self.terminal.before
         return self.terminal.match if index == 0 else None
 
     def type(self, line):
+        """Types bytes, which include the line feed."""
         self.terminal.send(line)
 
-    def shows_typed(self):
-        """Returns true if the terminal shows what is typed."""
+    def is_echoing(self):
+        """Returns true if the terminal shows typed characters."""
         return bool(termios.tcgetattr(self.terminal.child_fd)[3] & termios.ECHO)
 
-    def wait_for_hiding(self):
-        """Waits until the terminal stops echoing. Minisign turns the echo off, drops pending input, and only then asks."""
+    def wait_for_echo_off(self):
+        """Waits until the terminal has stopped echoing. A program that asks for a password turns the echo off and
+        then drops pending input, so a password that was typed earlier would be lost."""
         end = time.monotonic() + SECONDS / 10
-        while self.shows_typed() and time.monotonic() < end:
+        while self.is_echoing() and time.monotonic() < end:
             time.sleep(0.002)
 
     def finish(self, line=b""):
-        """Types a line, if one is given, waits for the program to end, and returns its exit status."""
+        """Types the line, unless it is empty, waits for the program to end, and returns its exit status."""
         if line:
             self.type(line)
         with contextlib.suppress(self.pexpect.TIMEOUT):
@@ -66,7 +71,8 @@ class AtTerminal:
         return self.end()
 
     def end(self):
-        """Waits for the program, which is killed after SECONDS, closes the terminal, and returns the exit status."""
+        """Waits for the program to end, closes the terminal, and returns the exit status. Kills the program after
+        SECONDS."""
         try:
             self.process.wait(SECONDS)
         except subprocess.TimeoutExpired:

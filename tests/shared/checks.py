@@ -1,14 +1,15 @@
-"""Counts the checks of a test script and collects its failures."""
+"""Counts the checks of a test script that pass, and collects a line for each one that fails."""
 
 
 class Checks:
-    """The number of checks that passed, and a line for each one that failed."""
+    """The results of a test script: the number of passed checks, and a line for each failed one."""
 
     def __init__(self):
         self.passed, self.failures = 0, []
 
     def check(self, holds, *what):
-        """Counts a check. If it failed, `what`, joined by colons, is the failure's line."""
+        """Records that a check passed if `holds` is true. Otherwise records a failure, whose line is `what`, joined
+        by colons."""
         if holds:
             self.passed += 1
         else:
@@ -16,18 +17,22 @@ class Checks:
         return bool(holds)
 
     def ended(self, what, ran, status=0, says=""):
-        """Checks the exit status and the output of a command, given as `process.run` returns them. Returns the output."""
-        actual, said = ran
-        holds = actual == status and says in said
-        self.check(holds, f"{what}: exit status {actual}, expected {status}{f' and {says!r}' if says else ''}: {said[-800:]}")
-        return said
+        """Checks that a command ended with this exit status and that its output contains `says`. `ran` is the result of
+        `process.run`, and `what` describes the command in the failure. Returns the output."""
+        actual_status, output = ran
+        expected = f"{status} and {says!r}" if says else status
+        holds = actual_status == status and says in output
+        self.check(holds, f"{what}: exit status {actual_status}, expected {expected}: {output[-800:]}")
+        return output
 
     def same(self, actual, expected, what):
-        """Checks that two values are equal. The failure shows the beginning of each."""
+        """Checks that two values are equal. `what` names the value in the failure, which shows the first 300
+        characters of both."""
         return self.check(actual == expected, f"{what}: got {actual!r:.300}, expected {expected!r:.300}")
 
     def end(self):
-        """Prints the failures and the last line, and returns the exit status of the script."""
+        """Prints the failures and the line `N passed, M failed`. Returns the exit status of the script: 1 after a
+        failure."""
         for failure in self.failures:
             print(f"FAILED: {failure}")
         print(f"{self.passed} passed, {len(self.failures)} failed")

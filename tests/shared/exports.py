@@ -1,8 +1,10 @@
-"""Compares `minisign.h`, `minisign_install.h` and `minisign_list.h` with the exports of the crate `minisign_c`: each function that a header
-declares has to be an export with the same name and types, and each export has to be declared. It also writes assertions
-that the structs have the layout of the crates, in a file that is only compiled, as C or as C++.
+"""Compares `minisign.h`, `minisign_install.h` and `minisign_list.h` with the exports of the crate `minisign_c`.
 
-A slice of Rattle is a pointer and a length in C. Needs Python 3.9 or later.
+Each function that a header declares must be an export with the same name and types, and each export must be declared. A
+slice parameter in Rattle is a pointer and a length in C. This module also writes a file of static assertions, for C and
+C++, which check that the structs of the headers have the same layout as those of the crates.
+
+Needs Python 3.9 or later.
 """
 
 import ctypes
@@ -17,19 +19,22 @@ import c_header
 import sources
 from running import write
 
-# The C type for each number and struct type of Rattle.
-KINDS = {"u32": "uint32_t", "u64": "uint64_t", "i64": "int64_t", "usize": "size_t", "State": "minisign_state",
-         "PublicKeyValue": "minisign_public_key", "SignatureValue": "minisign_signature", "Questions": "minisign_questions",
-         "UnopenedKeyValue": "minisign_unopened_key", "SecretKeyValue": "minisign_secret_key", "Sealing": "minisign_sealing",
-         "NewKey": "minisign_new_key", "Installation": "minisign_installation", "Choices": "minisign_install_options",
+# The C type for each integer type of Rattle and each struct type of the crates.
+C_TYPES = {"u32": "uint32_t", "u64": "uint64_t", "i64": "int64_t", "usize": "size_t", "State": "minisign_state",
+           "PublicKeyValue": "minisign_public_key", "SignatureValue": "minisign_signature", "Questions": "minisign_questions",
+           "UnopenedKeyValue": "minisign_unopened_key", "SecretKeyValue": "minisign_secret_key", "Sealing": "minisign_sealing",
+           "NewKey": "minisign_new_key", "Installation": "minisign_installation", "Choices": "minisign_install_options",
          "ListValue": "minisign_list", "EntryValue": "minisign_list_entry", "FileValue": "minisign_list_file"}
 # The opaque structs, whose fields are private to the library.
-CLOSED = ("minisign_state", "minisign_installation", "minisign_list_file")
-NUMBERS = {"u8": ctypes.c_uint8, "u32": ctypes.c_uint32, "u64": ctypes.c_uint64}
+OPAQUE_STRUCTS = ("minisign_state", "minisign_installation", "minisign_list_file")
+# The ctypes type for each integer type that a field may have.
+INTEGERS = {"u8": ctypes.c_uint8, "u32": ctypes.c_uint32, "u64": ctypes.c_uint64}
 
+# An exported function: its name, parameters and result type. Then a field of a struct: its name and type.
 EXPORT = re.compile(r'^pub extern "C" fn (minisign_\w+)\((.*?)\)(?: -> (\w+))?(?: \{)?\s*$', re.M | re.S)
 FIELD = re.compile(r"^    (?:pub(?:\(crate\))? )?(\w+): ([^;,]+(?:; \w+\])?),$", re.M)
-HEAD = """\
+# The first lines of the file with assertions.
+FILE_HEAD = """\
 #include <assert.h>
 #include <stdalign.h>
 #include <stddef.h>
@@ -37,7 +42,7 @@ HEAD = """\
 #include "minisign_install.h"
 #include "minisign_list.h"
 
-/* (some processors of 32 bits, as i386, align numbers of 64 bits to less) */
+/* Some 32-bit processors, such as i386, align 64-bit integers to 4 bytes. */
 #define IS_ALIGNED(type, alignment) (alignof(type) == (alignment) || (sizeof(void *) < 8 && alignof(type) < (alignment)))
 #define IS_LAID_OUT(type, size, alignment) \\
     static_assert(sizeof(type) == (size) && IS_ALIGNED(type, alignment), #type)
@@ -46,36 +51,39 @@ HEAD = """\
 """
 
 
-def kinds_in_c(kind):
-    """Returns the C types of a Rattle type. For an unknown one it returns a text that says so, which then matches no declaration."""
+def c_types_of(kind):
+    """Returns the C types that correspond to a Rattle type: two for a slice, none for the allocator, otherwise one.
+    For an unknown type, the C type is a text that says so and that no declaration matches."""
     if kind == "Global":
         return []
-    lent, is_mut, to = re.fullmatch(r"(&?)(mut )?(.*)", kind).groups()
-    const, slice_of = "" if is_mut else "const ", re.fullmatch(r"\[u(8|32)(; \d+)?\]", to)
-    if lent and slice_of:
-        return [f"{const}uint{slice_of[1]}_t *", *([] if slice_of[2] else ["size_t"])]
-    structs_of = re.fullmatch(r"\[(\w+)\]", to)
-    known = KINDS.get(structs_of[1] if structs_of else to, f"{to}, which this script does not know")
-    if lent and structs_of:
-        return [f"{const}{known} *", "size_t"]
-    return [f"{const}{known} *" if lent else known]
+    is_reference, is_mut, target = re.fullmatch(r"(&?)(mut )?(.*)", kind).groups()
+    const = "" if is_mut else "const "
+    integers = re.fullmatch(r"\[u(8|32)(; \d+)?\]", target)
+    if is_reference and integers:
+        return [f"{const}uint{integers[1]}_t *", *([] if integers[2] else ["size_t"])]
+    structs = re.fullmatch(r"\[(\w+)\]", target)
+    c_type = C_TYPES.get(structs[1] if structs else target, f"{target}, which this script does not know")
+    if is_reference and structs:
+        return [f"{const}{c_type} *", "size_t"]
+    return [f"{const}{c_type} *" if is_reference else c_type]
 
 
 def parameters_of(parameters):
-    """Returns the parameters of an export, each as `name: type`."""
+    """Splits the parameter list of an export into parameters, each as `name: type`."""
     return [parameter for parameter in re.split(r",\s*(?![^\[]*\])", parameters.strip().rstrip(",")) if parameter]
 
 
 def exported():
-    """Returns the C types of the parameters and of the result of each export of `minisign_c`, by name."""
+    """Maps the name of each export of `minisign_c` to the C types of its parameters and the C type of its result."""
     texts = map(sources.read, ("crates/minisign_c/src/lib.rt", "crates/minisign_c/src/installing.rt"))
-    return {name: ([kind for parameter in parameters_of(parameters) for kind in kinds_in_c(parameter.partition(":")[2].strip())],
-                   kinds_in_c(result)[0] if result else "void")
+    return {name: ([kind for parameter in parameters_of(parameters) for kind in c_types_of(parameter.partition(":")[2].strip())],
+                   c_types_of(result)[0] if result else "void")
             for text in texts for name, parameters, result in EXPORT.findall(text)}
 
 
-def unfit_declarations():
-    """Returns a line for each function whose declaration and export differ, or of which one is missing."""
+def wrong_declarations():
+    """Returns a line for each function whose declaration differs from its export, or that is only declared or only
+    exported."""
     exports = exported()
     headers = c_header.every()
     declared = {call.name: ([boundary.plain_parameter(parameter) for parameter in headers.taken(call)], boundary.plain(call.answer))
@@ -84,31 +92,31 @@ def unfit_declarations():
             for name in sorted({*declared, *exports}) if declared.get(name) != exports.get(name)]
 
 
-def laid_out(kind, structs, lengths):
-    """Returns a Rattle type as a ctypes type. `structs` has the texts of structs and `lengths` the constants for lengths of arrays,
-    by name."""
+def ctypes_type(kind, structs, lengths):
+    """Returns the ctypes type for a Rattle type. `structs` maps the names of structs to their source text, and
+    `lengths` maps the names of constants to array lengths."""
     array = re.fullmatch(r"\[(.+); (\w+)\]", kind)
     if array:
-        return laid_out(array[1], structs, lengths) * int(lengths.get(array[2], array[2]))
-    if kind in NUMBERS:
-        return NUMBERS[kind]
-    fields = [(name, laid_out(of, structs, lengths)) for name, of in FIELD.findall(structs[kind])]
+        return ctypes_type(array[1], structs, lengths) * int(lengths.get(array[2], array[2]))
+    if kind in INTEGERS:
+        return INTEGERS[kind]
+    fields = [(name, ctypes_type(field_type, structs, lengths)) for name, field_type in FIELD.findall(structs[kind])]
     return type(kind, (ctypes.Structure,), {"_fields_": fields})
 
 
-def write_layout(room):
-    """Writes a C file with assertions about the layout of each struct of the headers into a directory, and returns its path."""
-    structs, lengths, lines, headers = {}, {}, [HEAD], c_header.every()
+def write_layout(directory):
+    """Writes a C file with assertions about the layout of each struct of the headers, and returns the path of the file."""
+    structs, lengths, lines, headers = {}, {}, [FILE_HEAD], c_header.every()
     for file in sources.files_below(os.path.join(sources.ROOT, "crates"), ".rt"):
         text = sources.read(file)
         lengths.update(re.findall(r"const (\w+): usize = (\d+);", text))
         if "#[repr(C)]" in text:
             structs.update((item.name, item.text) for item in sources.read_source(file).items
                            if item.what == "struct" and "#[repr(C)]" in item.text)
-    names = {name: own for own, name in KINDS.items()}
+    rattle_names = {c_name: name for name, c_name in C_TYPES.items()}
     for name in (name for name in headers.structs if name not in headers.in_parts):
-        struct = laid_out(names[name], structs, lengths)
+        struct = ctypes_type(rattle_names[name], structs, lengths)
         lines.append(f"IS_LAID_OUT({name}, {ctypes.sizeof(struct)}, {ctypes.alignment(struct)});")
-        places = [(field, getattr(struct, field)) for field, _ in struct._fields_ if name not in CLOSED]
-        lines += [f"IS_AT({name}, {field}, {place.offset}, {place.size});" for field, place in places]
-    return write(room, "layout.c", "\n".join([*lines, ""]).encode())
+        fields = [(field, getattr(struct, field)) for field, _ in struct._fields_ if name not in OPAQUE_STRUCTS]
+        lines += [f"IS_AT({name}, {field}, {place.offset}, {place.size});" for field, place in fields]
+    return write(directory, "layout.c", "\n".join([*lines, ""]).encode())

@@ -1,8 +1,9 @@
-"""Applies mutants: each is a patch that breaks one thing in a copy of the sources, and a test has to notice it.
+"""Applies mutants. A mutant is a patch that adds one mistake to a copy of the sources, and a test must then fail.
 
-The patches are named after what they break. If a script has several test cases, the patch begins with a line
-`Must fail: CASE`. A patch has no more lines of context than identify the place, so most edits nearby leave it valid.
-CONTRIBUTING.md says how to write one; tests/library/patches.py applies each patch to the sources as they are.
+The name of a patch says what is wrong in the mutant. If a test script has several cases, the patch begins with a
+line `Must fail: CASE`, which names the case that must fail. A patch has only as many context lines as identify the
+changed place, so that it still applies after most edits nearby. CONTRIBUTING.md says how to write a mutant;
+tests/library/patches.py checks that each patch applies to the current sources.
 
 Needs Python 3.9 or later and git.
 """
@@ -19,12 +20,13 @@ import proved
 from process import run
 from running import expect, read, write
 
-# The name of the patch, its path, the path of the changed file from the top of the repository, and the test case that must fail.
+# The name of the mutant, the path of its patch, the path of the changed file in the repository, and the name of the
+# test case that must fail, or None.
 Mutant = namedtuple("Mutant", "name patch file case")
 
 
 def mutants_of(*directory):
-    """Returns the mutants of a directory below tests/, by name."""
+    """Returns the mutants in a directory below tests/, sorted by name."""
     mutants = []
     for patch in sorted(glob.glob(os.path.join(proved.ROOT, "tests", *directory, "*.patch"))):
         text = read(patch).decode()
@@ -36,7 +38,8 @@ def mutants_of(*directory):
 
 
 def apply(mutant, top, inside=""):
-    """Applies a mutant to a copy of the repository, or of its directory `inside`."""
+    """Applies a mutant to a copy of the repository in the directory `top`. With `inside`, `top` is a copy of only
+    that directory of the repository."""
     strip = f"-p{1 + len(inside.split('/'))}" if inside else "-p1"
     command = [needs.git(), "apply", "--unidiff-zero", "--whitespace=nowarn", strip, mutant.patch]
     # A repository above the copy would make git ignore the patch.
@@ -53,9 +56,10 @@ def applied_to(text, mutant):
         return read(top, mutant.file).decode()
 
 
-def copy_sources(room, *parts):
-    """Copies these directories of the repository, without build results, and returns the path of the copy."""
-    copy = tempfile.mkdtemp(dir=room)
-    for part in parts:
-        shutil.copytree(os.path.join(proved.ROOT, part), os.path.join(copy, part), ignore=shutil.ignore_patterns("out"))
+def copy_sources(parent, *directories):
+    """Copies these directories of the repository, without build results, to a new directory in `parent`, and
+    returns its path."""
+    copy = tempfile.mkdtemp(dir=parent)
+    for directory in directories:
+        shutil.copytree(os.path.join(proved.ROOT, directory), os.path.join(copy, directory), ignore=shutil.ignore_patterns("out"))
     return copy

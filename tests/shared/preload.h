@@ -1,6 +1,8 @@
-/* Macros for libraries that LD_PRELOAD loads to replace functions of the C library. REAL(name) is the replaced function.
-   MODE_ARGUMENT(flags), in a replacement of open or openat, is the argument `mode`, or 0 if the flags cannot create a
-   file, because the caller then need not pass this argument. */
+/* Macros for libraries that replace functions of the C library by LD_PRELOAD.
+
+   REAL(name) is the function that was replaced.
+   MODE_ARGUMENT(flags) is for replacements of open and openat. It is the argument `mode`, or 0 if a call with these flags
+   cannot create a file, because the caller need not pass a mode then. */
 #ifndef PRELOAD_H
 #define PRELOAD_H
 
@@ -19,12 +21,12 @@
 
 #define MODE_ARGUMENT(flags)                                                                                       \
     ({                                                                                                             \
-        va_list more;                                                                                              \
+        va_list arguments;                                                                                         \
         mode_t passed;                                                                                             \
                                                                                                                    \
-        va_start(more, flags);                                                                                     \
-        passed = (flags) & O_CREAT || ((flags) & O_TMPFILE) == O_TMPFILE ? va_arg(more, mode_t) : 0;               \
-        va_end(more);                                                                                              \
+        va_start(arguments, flags);                                                                                \
+        passed = (flags) & O_CREAT || ((flags) & O_TMPFILE) == O_TMPFILE ? va_arg(arguments, mode_t) : 0;          \
+        va_end(arguments);                                                                                         \
         passed;                                                                                                    \
     })
 

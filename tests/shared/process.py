@@ -1,47 +1,51 @@
-"""Runs programs for test scripts, in a given directory and with given standard input and environment variables."""
+"""Runs programs for test scripts, with a given directory, standard input and environment."""
 
 import os
 import subprocess
 from dataclasses import dataclass
 
+# The default time limit, in seconds.
 SECONDS = 1800
 
 
 @dataclass(frozen=True)
-class Ran:
-    """The result of a run: the exit status, standard output and standard error. `reached` is true if the program made the call that
-    was to fail."""
+class RunResult:
+    """The result of running a program. `reached` is true if the program made the system call that the test wanted
+    to break."""
 
     status: int
-    output: bytes
-    said: bytes
+    stdout: bytes
+    stderr: bytes
     reached: bool = False
 
     def __str__(self):
-        return f"exit status {self.status}, stdout {self.output[-200:]!r}, stderr {self.said[-400:]!r}"
+        return f"exit status {self.status}, stdout {self.stdout[-200:]!r}, stderr {self.stderr[-400:]!r}"
 
 
 def run_program(command, directory, typed=None, seconds=120, **how):
-    """Runs a program in a directory, with the bytes `typed` or nothing on its standard input. `how` goes to `subprocess.run`."""
-    given = {"stdin": subprocess.DEVNULL} if typed is None or "stdin" in how else {"input": typed}
-    ran = subprocess.run(command, cwd=directory, timeout=seconds,
-                         **{"stdout": subprocess.PIPE, "stderr": subprocess.PIPE, "umask": 0o022, **given, **how})
-    return Ran(ran.returncode, ran.stdout or b"", ran.stderr or b"")
+    """Runs a program in a directory and returns its `RunResult`. Its standard input is the bytes `typed`, or empty
+    if `typed` is None. The other arguments are passed to `subprocess.run`."""
+    stdin = {"stdin": subprocess.DEVNULL} if typed is None or "stdin" in how else {"input": typed}
+    finished = subprocess.run(command, cwd=directory, timeout=seconds,
+                              **{"stdout": subprocess.PIPE, "stderr": subprocess.PIPE, "umask": 0o022, **stdin, **how})
+    return RunResult(finished.returncode, finished.stdout or b"", finished.stderr or b"")
 
 
-def run_apart(command, directory=None, typed=b"", seconds=SECONDS, stderr=subprocess.PIPE, **environment):
-    """Runs a command, with these variables added to the environment. Returns its exit status, standard output and standard error."""
+def run_with_stderr(command, directory=None, typed=b"", seconds=SECONDS, stderr=subprocess.PIPE, **environment):
+    """Runs a command, with `environment` added to the environment variables. Returns its exit status, standard
+    output and standard error."""
     ran = run_program(command, directory, typed, seconds, env=dict(os.environ, **environment), stderr=stderr)
-    return ran.status, ran.output.decode(errors="replace"), ran.said.decode(errors="replace")
+    return ran.status, ran.stdout.decode(errors="replace"), ran.stderr.decode(errors="replace")
 
 
 def run(command, directory=None, typed=b"", seconds=SECONDS, **environment):
-    """Runs a command. Returns its exit status and its output, of both streams together."""
-    return run_apart(command, directory, typed, seconds, subprocess.STDOUT, **environment)[:2]
+    """Runs a command. Returns its exit status and its output, in which standard error is merged into standard output."""
+    return run_with_stderr(command, directory, typed, seconds, subprocess.STDOUT, **environment)[:2]
 
 
 def run_measured(command, directory, typed=b"", **how):
-    """Runs a command with `typed` on its standard input. Returns its exit status, its output, and its peak memory (RSS) in KiB."""
+    """Runs a command, with the bytes `typed` as its standard input. Returns its exit status, its standard output,
+    and its peak memory use (RSS) in KiB."""
     process = subprocess.Popen(command, cwd=directory, stdin=subprocess.PIPE, stdout=subprocess.PIPE, **how)
     with process.stdin, process.stdout:
         process.stdin.write(typed)
@@ -52,14 +56,15 @@ def run_measured(command, directory, typed=b"", **how):
     return process.returncode, output, used.ru_maxrss
 
 
-def told(run):
-    """Calls `run` with the write end of a pipe. Returns its result, and the bytes that the program, or a library preloaded into
-    it, wrote to the pipe: `disturbed_calls.c` reports there that the program made the broken call."""
-    reader, says = os.pipe()
+def with_report_pipe(run):
+    """Calls `run` with the write end of a pipe, which `run` passes to a program. Returns the result of `run`, and
+    the bytes that were written to the pipe. The preloaded library `faulty_calls.c` writes a byte when the program
+    makes the call to break."""
+    reader, writer = os.pipe()
     try:
-        answer = run(says)
+        result = run(writer)
     finally:
-        os.close(says)
+        os.close(writer)
         with os.fdopen(reader, "rb") as pipe:
-            said = pipe.read()
-    return answer, said
+            report = pipe.read()
+    return result, report

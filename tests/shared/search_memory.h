@@ -1,7 +1,8 @@
 /*
- * Searches the registers and all writable memory of the process for the needles of needles.h. TRAP raises a signal,
- * whose handler calls `look`. It runs on its own stack, so the kernel writes all registers to memory there and nothing
- * else changes.
+ * Searches the registers and all writable memory of this process for secret bytes, the needles of needles.h.
+ *
+ * TRAP raises a signal whose handler calls `look`, which the including file defines. The handler runs on a stack of its
+ * own: the kernel saves all registers there, where the search finds them, and no other memory is changed.
  */
 #ifndef SEARCH_MEMORY_H
 #define SEARCH_MEMORY_H
@@ -18,24 +19,26 @@
 
 #include "needles.h"
 
+/* The capacity for the list of memory maps. */
 #define MAPS_BYTES (1 << 18)
 
-/* The places in which a needle is counted. OWN is the memory in which secrets may be. */
+/* The places where a needle may be found. Secrets are allowed in OWN. */
 enum { REGISTERS, STACK, ELSEWHERE, OWN, PLACES };
 
+/* How often the last search found each needle in each place. */
 static size_t counts[NEEDLES][PLACES];
 static uint8_t signal_stack[65536];
 
-/* The format and arguments of printf for the line of a needle: the event, the needle, and its count in each place. */
-#define COUNTS_OF(done, n) \
-    "%s\t%s\t%zu\t%zu\t%zu\t%zu\n", done, needles[n].name, counts[n][REGISTERS], counts[n][STACK], \
+/* The arguments of printf for the line about a needle: the event, the name of the needle, and its counts. */
+#define COUNTS_OF(event, n) \
+    "%s\t%s\t%zu\t%zu\t%zu\t%zu\n", event, needles[n].name, counts[n][REGISTERS], counts[n][STACK], \
         counts[n][ELSEWHERE], counts[n][OWN]
 
-/* Called at TRAP; the including file defines it. */
+/* The handler of TRAP calls this function, which the including file defines. */
 static void look(void);
 
-/* Returns the place of an address; the including file defines it. is_undumped is true for memory that is excluded from
- * core dumps. */
+/* Returns the place to which an address belongs. The including file defines this function. is_undumped is true for
+ * memory that is excluded from core dumps. */
 static int place_of(const uint8_t *at, bool is_undumped);
 
 static bool is_within(const uint8_t *at, const void *from, size_t len)
@@ -45,14 +48,15 @@ static bool is_within(const uint8_t *at, const void *from, size_t len)
 
 static void search(const uint8_t *from, const uint8_t *to, bool is_undumped)
 {
-    /* True for the masked first byte of each needle. */
+    /* True for each byte that is the masked first byte of a needle. */
     static bool begins[256];
 
     for (size_t n = 0; n < NEEDLES; n++) {
         begins[needles[n].masked[0]] = true;
     }
     for (const volatile uint8_t *at = from; at < to; at++) {
-        /* Most memory is zeros, with which no needle begins. Ranges are whole pages, so 8 bytes can be read. */
+        /* Most memory is zeros, which are skipped 8 at a time if no needle begins with a zero. Ranges are whole pages,
+         * so 8 bytes can be read. */
         if ((uintptr_t) at % 8 == 0 && !begins[MASK] && *(const volatile uint64_t *) at == 0) {
             at += 7;
             continue;
@@ -71,8 +75,8 @@ static void search(const uint8_t *from, const uint8_t *to, bool is_undumped)
     }
 }
 
-/* Searches all readable and writable memory. list is /proc/self/maps, or smaps for the flags that exclude memory from
- * core dumps. */
+/* Searches all memory that is readable and writable. `list` is the path of the list of memory maps: /proc/self/maps, or
+ * /proc/self/smaps, which also shows the memory that is excluded from core dumps. */
 static void search_all(const char *list)
 {
     static char maps[MAPS_BYTES];
@@ -122,8 +126,8 @@ static void trapped(int number, siginfo_t *info, void *context)
 #endif
 }
 
-/* Must be called before the first TRAP. */
-static void watch(void)
+/* Installs the signal handler. Must be called before the first TRAP. */
+static void install_trap(void)
 {
     stack_t stack = { .ss_sp = signal_stack, .ss_size = sizeof signal_stack };
     struct sigaction action = { .sa_flags = SA_SIGINFO | SA_ONSTACK };
@@ -137,7 +141,7 @@ static void watch(void)
 #if defined(__aarch64__)
 #define TRAP() __asm__ __volatile__("brk #0" : : : "memory")
 #elif !defined(__x86_64__)
-/* A call, unlike a trap instruction, changes some registers and a little of the stack. */
+/* Unlike a trap instruction, this call changes some registers and a few bytes of the stack. */
 #define TRAP() raise(SIGTRAP)
 #else
 #define TRAP() __asm__ __volatile__("int3" : : : "memory")

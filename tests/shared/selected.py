@@ -1,5 +1,6 @@
-"""Selects test cases by the command line: `tests/x/y.py WORD ..` runs the cases whose names contain one of the words. Cases are
-the entries of tables, and the functions of a script whose names begin with `check_`."""
+"""Selects test cases by words on the command line: `tests/x/y.py WORD ..` runs only the cases whose names contain
+one of the words, in upper or lower case. A case is an entry of a table, or a function of the script whose name
+begins with `check_`."""
 
 import functools
 import os
@@ -7,45 +8,47 @@ import sys
 
 
 def words():
-    """The words of the command line that are neither options nor files."""
+    """Returns the command-line arguments that are neither options nor names of files."""
     return [word for word in sys.argv[1:] if not word.startswith("-") and not os.path.exists(word)]
 
 
-def file():
-    """The first file that the command line names, or None."""
+def file_argument():
+    """Returns the path of the first file on the command line, or None."""
     return next((os.path.realpath(word) for word in sys.argv[1:] if not word.startswith("-") and os.path.exists(word)), None)
 
 
 def is_selected(*names):
-    """Returns true if one of the names contains one of the words, or if there are no words."""
+    """Returns true if one of the names contains one of the words, or if the command line has no words."""
     return not words() or any(word.lower() in name.lower() for word in words() for name in names)
 
 
-def choose_among(module):
-    """Replaces the functions `check_..` of a script so that they return None at once unless they are selected, or called by a selected
-    one. Functions in the script's list ALWAYS, whose results others need, always run. A script that imports this module itself selects
-    its cases by itself, and is left unchanged."""
-    depth, made = [], {}
+def select_checks(module):
+    """Wraps each function of a script whose name begins with `check_`: it returns None at once unless its name is
+    selected, or a selected function calls it.
 
-    def chosen(function):
+    The functions in the script's list ALWAYS are not wrapped, because other functions need their results. Nothing
+    is changed in a script that imports this module, because it selects its cases itself."""
+    running, wrappers = [], {}
+
+    def wrapper_of(function):
         @functools.wraps(function)
-        def run(*given, **more):
-            if not depth and not is_selected(function.__name__.removeprefix("check_")):
+        def run_if_selected(*arguments, **keywords):
+            if not running and not is_selected(function.__name__.removeprefix("check_")):
                 return None
-            depth.append(function)
+            running.append(function)
             try:
-                return function(*given, **more)
+                return function(*arguments, **keywords)
             finally:
-                depth.pop()
+                running.pop()
 
-        return run
+        return run_if_selected
 
     if not words() or hasattr(module, "selected"):
         return
     for name, function in [*vars(module).items()]:
         if name.startswith("check_") and callable(function) and name not in getattr(module, "ALWAYS", ()):
-            made[function] = chosen(function)
-            setattr(module, name, made[function])
-    # Tables of the script may hold the same functions.
+            wrappers[function] = wrapper_of(function)
+            setattr(module, name, wrappers[function])
+    # Dictionaries of the script may contain the same functions.
     for table in (value for value in vars(module).values() if isinstance(value, dict)):
-        table.update({key: made[function] for key, function in table.items() if callable(function) and function in made})
+        table.update({key: wrappers[value] for key, value in table.items() if callable(value) and value in wrappers})

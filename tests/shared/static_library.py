@@ -1,5 +1,6 @@
-"""Builds the library and the programs of `c/` as a user without the Rattle kit does: with make, from `dist/`, and without `rt` in
-PATH. `tools/dist.py --check` checks that `dist/` was built from the proved sources.
+"""Builds the library and the programs in `c/` as a user who does not have the Rattle kit builds them: with make,
+from the files in `dist/`, and without `rt` in PATH. `tools/dist.py --check` checks that `dist/` was built from the
+proved sources.
 """
 
 import contextlib
@@ -11,36 +12,36 @@ import shutil
 
 import needs
 import proved
-from process import SECONDS, run_apart
+from process import SECONDS, run_with_stderr
 from proved import NotBuilt
 from running import read
 
 DIRECTORY = os.path.join(proved.ROOT, "c")
 DIST = os.path.join(proved.ROOT, "dist")
-# Warnings are errors in tests only, because a user's compiler may have other warnings.
+# Warnings are errors only in tests, because a user's compiler may print other warnings.
 STRICT = "WARNINGS=-std=c11 -Wall -Wextra -Wpedantic -Werror"
-# The last line of `make test`, which has at least 25 checks.
+# Matches the last line of `make test` if at least 25 checks, and all of them, have passed.
 TESTS_PASSED = re.compile(r"(?m)^(2[5-9]|[3-9]\d) passed, 0 failed$")
 
 
 def path_without_kit():
-    """Returns PATH without the directories that contain `rt`. Debian's directories come first."""
-    without_rt = (directory for directory in needs.directories() if not os.path.exists(os.path.join(directory, "rt")))
+    """Returns PATH without the directories that contain `rt`. On Debian, /usr/bin comes first."""
+    without_rt = (directory for directory in needs.path_directories() if not os.path.exists(os.path.join(directory, "rt")))
     return os.pathsep.join(without_rt) or "/usr/bin:/bin"
 
 
-# The cache of object files of dist/calls.c, which all scripts share because compiling this file takes seven seconds. The name of an
-# object file is a digest of everything that determines its content.
+# A cache for the object file of dist/calls.c, which takes seven seconds to compile. All test scripts share it. The
+# name of a cached file is a digest of everything that determines its content.
 OBJECT_CACHE = os.path.join(proved.ROOT, "out", "object-cache")
-# The variables of make that determine an object file, in addition to the compiler and the preprocessed source.
+# The variables of make that determine the object file, in addition to the compiler and the preprocessed source.
 COMPILE_VARIABLES = ("CFLAGS", "HAS_PAGES", "WARNINGS")
 MAKEFILE = f"{DIRECTORY}/Makefile"
 
 
 def object_digest(variables):
-    """Returns a digest of the compiler, the variables of make, the makefile, and the preprocessed source."""
+    """Returns a digest of the compiler, the variables of make, the makefile, and the preprocessed dist/calls.c."""
     compiler, flags = variables["CC"].split(), variables.get("CPPFLAGS", "-D_FORTIFY_SOURCE=2").split()
-    settings = [run_apart([*compiler, "--version"])[1], os.path.realpath(shutil.which(compiler[0]) or ""),
+    settings = [run_with_stderr([*compiler, "--version"])[1], os.path.realpath(shutil.which(compiler[0]) or ""),
                 *map(variables.get, COMPILE_VARIABLES)]
     source = run_or_fail([*compiler, "-O2", *flags, "-E", "-P", "-I", f"{DIRECTORY}/library/portable", f"{DIST}/calls.c"])
     return hashlib.sha256(repr(settings).encode() + read(MAKEFILE) + source.encode()).hexdigest()
@@ -48,9 +49,11 @@ def object_digest(variables):
 
 @contextlib.contextmanager
 def cached_object(variables, reuse=True):
-    """Runs the body, which calls make with these variables, with the cache of object files of dist/calls.c. If the cache has the object
-    file and `reuse` is true, it is copied to where make would build it. If the cache does not have it, the file that make builds is
-    added. Meanwhile a lock keeps other scripts from building the same file."""
+    """Lets the body, which calls make with these variables, use the cache.
+
+    If the cache has the object file of dist/calls.c and `reuse` is true, it is copied to the path where make would
+    build it. If the cache does not have it, the object file that make has built is added to the cache. A lock
+    prevents other scripts from building the same file meanwhile."""
     out = os.path.join(DIRECTORY, variables.get("OUT", ""))
     built = os.path.join(out, "portable-calls.o")
     # Without OUT, with C_CALLS, or if the object file exists, make does not compile dist/calls.c.
@@ -73,21 +76,21 @@ def cached_object(variables, reuse=True):
 
 
 def run_or_fail(command, directory=None, seconds=SECONDS, **environment):
-    """Runs a command, raises `NotBuilt` if it fails, and returns its standard output."""
-    status, said, why = run_apart(command, directory, seconds=seconds, **environment)
+    """Runs a command and returns its standard output. Raises `NotBuilt` if it fails."""
+    status, output, errors = run_with_stderr(command, directory, seconds=seconds, **environment)
     if status != 0:
-        raise NotBuilt(f"{' '.join(command)[:200]}: status {status}: {said[-600:]}{why[-1000:]}")
-    return said
+        raise NotBuilt(f"{' '.join(command)[:200]}: status {status}: {output[-600:]}{errors[-1000:]}")
+    return output
 
 
 def run_make(*arguments):
-    """Runs make in `c/`, with these arguments."""
-    words = [STRICT, f"CC={needs.c_compiler()}", *arguments]
-    with cached_object(dict(word.split("=", 1) for word in words if "=" in word)):
-        run_or_fail([needs.program("make", "make"), "-s", "-C", DIRECTORY, *words], PATH=path_without_kit())
+    """Runs make in `c/` with these arguments. The default compiler is `needs.c_compiler()`, and warnings are errors."""
+    arguments = [STRICT, f"CC={needs.c_compiler()}", *arguments]
+    with cached_object(dict(argument.split("=", 1) for argument in arguments if "=" in argument)):
+        run_or_fail([needs.program("make", "make"), "-s", "-C", DIRECTORY, *arguments], PATH=path_without_kit())
 
 
 def library(out, *arguments):
-    """Builds the static library in this directory and returns its path."""
+    """Builds the static library in the directory `out`, with these arguments of make, and returns its path."""
     run_make(f"OUT={out}", *arguments, "library")
     return os.path.join(out, "libminisign.a")
