@@ -1,12 +1,13 @@
 #!/usr/bin/env bash
-# Runs a test script and stores its result, for tests/Makefile.
+# Runs a test script and stores the number of its passed and failed checks. tests/Makefile calls this script.
 #
-#     tests/counted.sh FILE COMMAND ..     runs the command, and writes `N passed, M failed`, its last line, to FILE.count
-#     tests/counted.sh --total DIRECTORY   adds up the results in the directory
+#     tests/counted.sh FILE COMMAND ..     runs the command, and writes its last line, `N passed, M failed`, to FILE.count
+#     tests/counted.sh --total DIRECTORY   prints the sums of the numbers in all files *.count of the directory
 #
-# A command that crashes, or that does not end with such a line, counts as at least one failure.
+# If the command crashes, or its last line has another form, FILE.count has at least one failure. The output and the times of
+# the command are written to FILE.log and FILE.times.
 set -u
-# The scripts run make as a user does, so they must not inherit the flags of the make that runs this script.
+# The test scripts run make as a user does, so they must not inherit the flags of the make that runs this script.
 unset MAKEFLAGS MAKEOVERRIDES MAKELEVEL MFLAGS
 export PYTHONUNBUFFERED=1
 if [[ $1 == --total ]]; then

@@ -1,21 +1,21 @@
 #!/usr/bin/env python3
 """Checks that the Go module in bindings/go works for a user: it is packed, unpacked into an empty directory, and built
-by Debian's Go, without network and kit, as a dependency of a program in another module.
+by Debian's Go, without a network and without the Rattle kit, as a dependency of a program in another module.
 
     tests/bindings/go.py
 
 It is also built from the directory `vendor` of a program, and from a git repository, in a path with spaces and with no
 make in PATH. The module's own tests and examples run under `go vet`; under the race detector, with the archive for
 newer x86-64 processors; and for AArch64 in an emulator. Compiled as C, the module gives the same results here, for
-32-bit ARM, and for Windows under wine. Without cgo, the compiler prints a sentence that says so. The results are
+32-bit ARM, and for Windows under wine. Without cgo, the compiler prints that cgo is needed. The results are
 compared with `c/minisign`, libsodium and the header (`compare_results`). For 20,000 damaged keys and signatures, and for keys
 and signatures that the caller changed or composed, the verdicts are those of go-minisign, except for the differences in
 the tables below. The examples of README.md are pasted into a module and run. Each mutant of go/mutants is detected. It
 prints a line for each failure; the last line is `N passed, M failed`.
 
-Needs Python 3.9 or later, golang-go, make, clang, a C compiler, binutils, libsodium with its header, minisign, strace, and of
-Debian golang-github-jedisct1-go-minisign-dev, gcc-aarch64-linux-gnu, libc6-dev-arm64-cross, gcc-arm-linux-gnueabihf,
-libc6-dev-armhf-cross, qemu-user-static, gcc-mingw-w64-x86-64, wine64 and git. It installs what is missing if it may.
+Needs Python 3.9 or later, golang-go, make, clang, a C compiler, binutils, libsodium with its header, minisign, strace, and the
+Debian packages golang-github-jedisct1-go-minisign-dev, gcc-aarch64-linux-gnu, libc6-dev-arm64-cross, gcc-arm-linux-gnueabihf,
+libc6-dev-armhf-cross, qemu-user-static, gcc-mingw-w64-x86-64, wine64 and git. It installs missing packages if it has permission.
 """
 
 import base64
@@ -30,27 +30,27 @@ sys.path += [HERE, *(os.path.join(HERE, "..", name) for name in ("shared", "c"))
 
 import commands
 import emulated
-import ending
 import needs
 import portable
 import process
 import shared_cases
 import static_library
+import test_script
 from mutants import mutants_of
-from shared_cases import TOP, Program, symbols_of, read, run, write
+from shared_cases import TOP, Program, read, run, symbols_of, write
 
 PACKAGE = os.path.join(TOP, "bindings", "go")
-# The files that tools/bindings.py makes.
+# The files that tools/bindings.py generates.
 GENERATED = ("errors.go", "header.go")
-# The number of calls, or of keys, and by how many pages of 4 KiB the memory may grow after a tenth of them.
-CALLS, PAGES = 50_000, 256
-KEYS, PAGES_OF_KEYS = 20_000, 512
+# The numbers of calls and of keys, and the maximum growth of memory after the first tenth of them, in pages of 4 KiB.
+CALLS, CALL_PAGES = 50_000, 256
+KEYS, KEY_PAGES = 20_000, 512
 # The directory of Debian's Go sources, and the path of go-minisign below it.
 SOURCES, GO_MINISIGN = "/usr/share/gocode", "github.com/jedisct1/go-minisign"
 # The changes of go/changed.go that go-minisign accepts, because it does not check the first line.
 ACCEPTED_BY_GO_MINISIGN = ["no untrusted comment", "another first line", "an untrusted comment of two lines"]
-# The number of damaged cases that both verify.
-DAMAGED = 20_000
+# The number of damaged cases that this module and go-minisign verify.
+DAMAGED_COUNT = 20_000
 
 
 def line_of(text, number):
@@ -77,18 +77,18 @@ def is_canonical(letters):
         return False
 
 
-# The cases that this module rejects, by the name of the error, and go-minisign accepts.
-REJECTED_HERE = {
+# Cases that go-minisign accepts and this module rejects: by the name of our error, a function that returns true for them.
+REJECTED_ONLY_HERE = {
     "COMMENT_SIGNATURE_REFUSED": lambda case: has_blank_comment(case) or is_broken(case),
     "NOT_UTF8": lambda case: any(text.decode(errors="ignore").encode() != text for text in (case.key, case.signature)),
     "UNTRUSTED_COMMENT_PREFIX": lambda case: not case.signature.startswith(b"untrusted comment: "),
     "PUBLIC_KEY_LENGTH": lambda case: len(line_of(case.key, 2)) != 56,
     "SIGNATURE_NOT_BASE64": lambda case: is_broken(case) or not all(is_canonical(line_of(case.signature, number)) for number in (2, 4)),
     # A comment signature that is cut short is 64 zero bytes in a Signature.
-    "WEAK_ED25519": lambda case: is_broken(case) or case in [vector for vector, _ in shared_cases.vector_texts()],
+    "WEAK_ED25519": lambda case: is_broken(case) or case in [vector for vector, _ in shared_cases.vector_files()],
 }
-# The cases that go-minisign rejects, by its error text, and this module accepts.
-REJECTED_THERE = {
+# Cases that go-minisign rejects and this module accepts: by the text of go-minisign's error, a function that returns true for them.
+REJECTED_ONLY_BY_GO_MINISIGN = {
     "Invalid encoded signature": lambda case: [len(line_of(case.signature, number).rstrip(b"\r=")) for number in (2, 4)] != [99, 86]
                                  or len(case.signature.rstrip(b"\r\n").split(b"\n")) > 4,
     "Invalid encoded public key": lambda case: case.key.rstrip(b"\r\n").count(b"\n") > 1 or len(line_of(case.key, 2).rstrip(b"\r")) != 56,
@@ -160,7 +160,7 @@ def compare_results(program, room, minisign, cases):
     program.check_verdicts(minisign, cases, (["verify"], True), (["files", room], True),
                         *((["pieces", str(length)], False) for length in (1, 128, 1000, 0)))
     program.check_vectors(["verify"], rejection)
-    program.check_errors(["pieces", "7"], shared_cases.rejections(), rejection)
+    program.check_errors(["pieces", "7"], shared_cases.rejected_cases(), rejection)
     program.check_fields(["read"], fields_line)
     record = base64.b64decode(shared_cases.PUBLISHED_BASE64)
     program.check_bare_keys(f"{record[2:10].hex()} {record[10:].hex()} <nil>", *[".*minisign: base64 conversion failed.*"] * 3)
@@ -185,18 +185,18 @@ def check_changed(checks, program):
 def check_go_minisign(checks, go, room, program):
     """Checks that go-minisign has the same verdicts on cases, and on fields that the caller changed, except for those in the tables, and
     that each row of the tables is needed."""
-    cases = shared_cases.corpus() + shared_cases.damaged_cases(DAMAGED) + [case for case, _ in shared_cases.vector_texts()]
+    cases = shared_cases.corpus() + shared_cases.damaged_cases(DAMAGED_COUNT) + [case for case, _ in shared_cases.vector_files()]
     go_minisign = Program(checks, go.build_with_go_minisign("verdicts.go", f"{room}/verdicts"))
     ours, theirs = (each.run("verify", cases=cases)[1].decode().splitlines() for each in (program, go_minisign))
-    checks.check(len(ours) == len(theirs) == len(cases) > DAMAGED, f"{len(ours)} and {len(theirs)} verdicts on {len(cases)} cases")
+    checks.check(len(ours) == len(theirs) == len(cases) > DAMAGED_COUNT, f"{len(ours)} and {len(theirs)} verdicts on {len(cases)} cases")
     differences = set()
     for case, our_line, their_line in zip(cases, ours, theirs):
         if our_line.startswith("accepted") != their_line.startswith("true"):
             is_ours = our_line.startswith("rejected")
-            why, table = (our_line.split()[1], REJECTED_HERE) if is_ours else (their_line.partition(", ")[2], REJECTED_THERE)
+            why, table = (our_line.split()[1], REJECTED_ONLY_HERE) if is_ours else (their_line.partition(", ")[2], REJECTED_ONLY_BY_GO_MINISIGN)
             differences.add(why)
             checks.check(why in table and table[why](case), f"{case.name}: this module: {our_line}; go-minisign: {their_line}")
-    checks.check(differences == {*REJECTED_HERE, *REJECTED_THERE}, f"go-minisign differs in {differences}")
+    checks.check(differences == {*REJECTED_ONLY_HERE, *REJECTED_ONLY_BY_GO_MINISIGN}, f"go-minisign differs in {differences}")
     rows = verdicts(go.build_with_go_minisign("changed.go", f"{room}/their"))
     checks.check(len(rows) >= 28, f"only {len(rows)} changes with go-minisign")
     for name, why, verdict, _ in rows:
@@ -216,7 +216,7 @@ def check_errors(program):
 
 def check_lists(program, room, minisign):
     """Checks the results of a program that verifies files with signed lists."""
-    program.check_lists(minisign, boolean=lambda is_true: str(is_true).lower())
+    program.check_lists(minisign, spell_boolean=lambda is_true: str(is_true).lower())
     program.check_pairs(24, "files", room)
 
 
@@ -230,9 +230,9 @@ def check_signing(program, room, minisign, decrypts=True):
     shared_cases.check_new_key_files(program, os.path.join(room, "written"))
 
 
-# The file of tests/corpus that is `app`, whether it has the published signature, and the status, output and error of the example of
-# README.md that verifies it.
-VERIFIED = [("test", True, 0, "trusted comment: timestamp:1556193335\tfile:test\n", ""),
+# The file of tests/corpus that is copied to `app`; true if its published signature is there; and the status, output and error of the example
+# of README.md that verifies it.
+README_CASES = [("test", True, 0, "trusted comment: timestamp:1556193335\tfile:test\n", ""),
             ("hello", True, 1, "", "Signature verification failed"), ("test", False, 1, "", "no such file or directory")]
 
 
@@ -250,7 +250,7 @@ def check_readme(checks, go, room, package, minisign):
     os.rename(package, moved)
     go.run(directory, "build", "-mod=vendor", "-o", "readme")
     os.rename(moved, package)
-    for app, is_signed, *expected, error in VERIFIED:
+    for app, is_signed, *expected, error in README_CASES:
         write(directory, "app.minisig", b"")
         os.remove(os.path.join(directory, "app.minisig"))
         for name, source in (("app", app), ("app.minisig", "published.minisig"))[:1 + is_signed]:
@@ -315,7 +315,7 @@ def check_by_git(checks, room):
     clone, repository = commands.Clone(room), os.path.join(room, "repository.git")
     os.rename(clone.top, repository)
     config = write(room, "gitconfig", f'[url "file://{room}/"]\n\tinsteadOf = https://example.com/\n'.encode())
-    go = Go(room, PATH=shared_cases.path_directory(room, *NEEDED), GIT_CONFIG_GLOBAL=config, GOSUMDB="off",
+    go = Go(room, PATH=shared_cases.make_path_directory(room, *NEEDED), GIT_CONFIG_GLOBAL=config, GOSUMDB="off",
             GOFLAGS="-mod=mod -modcacherw", GOPROXY="direct")
     untagged, files = (clone.git("rev-parse", "HEAD", at=repository).strip(), clone.git("ls-files", at=repository))
     write(repository, ".git/config", read(repository, ".git/config") + b"[user]\n\tname = Ann\n\temail = ann@example.com\n")
@@ -381,8 +381,8 @@ def check_mutants(checks, go, package, room, minisign):
 
 def run_all(checks, room):
     check_sources(checks)
-    minisign = shared_cases.c_minisign(room)
-    package, go = shared_cases.unpacked_package("go", room), Go(room)
+    minisign = shared_cases.build_c_minisign(room)
+    package, go = shared_cases.pack_and_unpack("go", room), Go(room)
     check_own_tests(checks, go, package)
 
     def programs(source, name):
@@ -396,12 +396,12 @@ def run_all(checks, room):
     compare_results(program, room, minisign, shared_cases.all_cases(checks, minisign))
     check_errors(program)
     few = shared_cases.corpus() + shared_cases.damaged_cases(60)
-    program.check_growth(CALLS, PAGES, few)
+    program.check_growth(CALLS, CALL_PAGES, few)
     program.check_threads(few)
     racing.check_threads(few)
     signing, racing = programs("signing.go", "signing")
     check_signing(signing, os.path.join(room, "signed"), minisign)
-    signing.check_growth(KEYS, PAGES_OF_KEYS)
+    signing.check_growth(KEYS, KEY_PAGES)
     signing.check_threads()
     racing.check_threads()
     lists, racing = programs("lists.go", "lists")
@@ -417,4 +417,4 @@ def run_all(checks, room):
 
 
 if __name__ == "__main__":
-    sys.exit(ending.check("bindings-go", run_all, ValueError))
+    sys.exit(test_script.run_checks("bindings-go", run_all, ValueError))

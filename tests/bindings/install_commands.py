@@ -1,6 +1,6 @@
 #!/usr/bin/env python3
-"""Checks that the commands in the READMEs of bindings/ install each package: runs them, as they are in the READMEs, in a
-clone of the repository and without the kit, and then runs a user's program, which verifies a file with the package.
+"""Checks that the commands in the READMEs of bindings/ install each package. Runs the commands in a clone of the repository and
+without the Rattle kit, and then a user's program, which verifies a file with the package.
 
     tests/bindings/install_commands.py
 
@@ -9,7 +9,7 @@ packages are left out, and so is JavaScript if there is no npm. It prints a line
 `N passed, M failed`.
 
 Needs Python 3.9 or later with setuptools and wheel, golang-go, cargo, rustc, nodejs, make, binutils, clang, lld, git,
-a C compiler and libsodium with its header. It installs what is missing if it may.
+a C compiler and libsodium with its header. It installs missing packages if it has permission.
 """
 
 import os
@@ -21,10 +21,10 @@ HERE = os.path.dirname(os.path.realpath(__file__))
 sys.path += [HERE, *(os.path.join(HERE, "..", name) for name in ("shared", "c"))]
 
 import commands
-import ending
 import needs
 import shared_cases
 import static_library
+import test_script
 from python import python
 from shared_cases import TOP, read, run, write
 
@@ -69,7 +69,7 @@ def check_package(checks, package, room):
 
 
 def run_all(checks, room):
-    needs.libsodium()
+    needs.compiler_with_libsodium()
     for name, package in (("make", "make"), ("ld", "binutils"), ("go", "golang-go"), ("cargo", "cargo"), ("clang", "clang"), ("wasm-ld", "lld")):
         needs.program(name, package)
     needs.rust_compiler()
@@ -87,4 +87,4 @@ def run_all(checks, room):
 
 
 if __name__ == "__main__":
-    sys.exit(ending.check("install-commands", run_all))
+    sys.exit(test_script.run_checks("install-commands", run_all))

@@ -1,11 +1,11 @@
 #!/usr/bin/env python3
 """Checks that the JavaScript package in bindings/javascript works for a user: the archive of `npm pack` is unpacked into
 the directory `node_modules` of a program, and used in Node, and in a page and a worker of Chromium and of Firefox,
-without network and kit.
+without a network and without the Rattle kit.
 
     tests/bindings/javascript.py [PAGE]
 
-The WebAssembly module is taken from PAGE, by default from the page in `dist/`. The script compares the results with those of
+The WebAssembly module is taken from the web page PAGE, by default from the page in `dist/`. The script compares the results with those of
 `c/minisign` and libsodium (`CASES`), and the errors and the sizes of structs with include/minisign.h. It also checks that
 
 - the types need neither the DOM library nor those of Node;
@@ -23,7 +23,7 @@ Without npm, a script packs all files that npm could pack. It prints a line for 
 
 Needs Linux, Python 3.9 or later, nodejs (or the program that the environment variable NODE names), node-typescript, esbuild,
 make, clang, lld, a C compiler, libsodium with its header, and for the browsers chromium, chromium-driver and
-firefox-esr. It installs what is missing if it may.
+firefox-esr. It installs missing packages if it has permission.
 """
 
 import functools
@@ -39,11 +39,11 @@ import threading
 HERE = os.path.dirname(os.path.realpath(__file__))
 sys.path += [HERE, *(os.path.join(HERE, "..", name) for name in ("shared", "page"))]
 
-import ending
 import javascript_memory
 import needs
 import shared_cases
 import static_library
+import test_script
 from browser import Chromium
 from firefox import Firefox
 from mutants import mutants_of
@@ -58,17 +58,17 @@ MODULE, SIGNING_MODULE = "module.js", "signing_module.js"
 GENERATED = ("errors.js", "header.js")
 GENERATED_IN_CALLS = re.compile("// ---- From include/minisign.h, made by tools/bindings.py ----.*// ---- End of the generated part ----",
                                 re.S)
-# The globals that the package uses besides those of the language. Browsers, Node, Deno and workers all have them: they are in the "Minimum
-# common web platform API".
+# The globals that the package uses, besides those of the language. Browsers, workers, Node and Deno have them, because they belong to the
+# "Minimum common web platform API".
 GLOBALS = ("TextDecoder", "TextEncoder", "WebAssembly", "atob", "crypto")
-# The number of calls or keys, and by how many bytes the memory may grow after the first tenth of them. If each key kept a page of a
+# The numbers of calls and of keys, and the maximum growth of memory after the first tenth of them, in bytes. If each key kept a page of a
 # module's memory, the memory would grow by more.
-CALLS, GROWTH = 5_000, 800_000
+CALLS, CALL_GROWTH = 5_000, 800_000
 KEYS, KEY_GROWTH = 1_000, 16 * 1048576
 # The cases of streams.mjs. Each runs in a separate process, because an error event without a listener ends the process.
 STREAMS = ("aborted", "cancelled", "descriptors", "late", "event", "both", "absent", "opening", "begun", "between", "web", "accepted")
-# The error codes that verifying can return, except those for API misuse.
-VERIFYING = {8, *range(16, 33), 44, 45, 81}
+# The error codes that verification can return, except those for API misuse.
+VERIFICATION_ERRORS = {8, *range(16, 33), 44, 45, 81}
 
 
 def install(room, page):
@@ -79,7 +79,7 @@ def install(room, page):
         print("there is no npm: packing all files that it could take")
         packing["NPM"] = os.path.join(HERE, "javascript", "npm.sh")
     os.makedirs(os.path.join(user, "node_modules"))
-    os.rename(shared_cases.unpacked_package("javascript", room, **packing), os.path.join(user, "node_modules", "minisign-proved"))
+    os.rename(shared_cases.pack_and_unpack("javascript", room, **packing), os.path.join(user, "node_modules", "minisign-proved"))
     for program in PROGRAMS:
         shutil.copy(program, user)
     return user
@@ -106,7 +106,7 @@ def check_sources(checks, user):
     checks.check(errors == expected, f"errors.js has other errors than the header: {set(errors.items()) ^ set(expected.items())}")
     typed = set(re.findall(r'"([A-Z0-9_]+)"', re.search(r"type ErrorCode =(.*?);", text_of_package("errors.d.ts"), re.S)[1]))
     checks.check(typed == set(expected), f"errors.d.ts has other errors than the header: {typed ^ set(expected)}")
-    places = shared_cases.layout(user)
+    places = shared_cases.struct_layout(user)
     structs = {"STATE": "state", "KEY": "public_key", "SIGNATURE": "signature", "QUESTIONS": "questions", "LIST": "list", "LIST_ENTRY": "list_entry"}
     found = re.findall(rf"const ({'|'.join(structs)})_BYTES = (\d+);", text_of_package("calls.js"))
     sizes = {name: int(size) for name, size in found}
@@ -146,33 +146,33 @@ def by_node(checks, user, program):
                    directory=user, NODE_NO_WARNINGS="1", PATH=static_library.path_without_kit())
 
 
-def ask_cases(program, minisign, cases):
+def check_cases(program, minisign, cases):
     """Checks the results with and without allowing legacy signatures, the errors, and the Ed25519 test vectors."""
     program.check_verdicts(minisign, cases, (["cases", "legacy"], True), (["cases"], False))
-    program.check_errors(["cases"], shared_cases.rejections())
+    program.check_errors(["cases"], shared_cases.rejected_cases())
     program.check_vectors(["cases", "legacy"])
 
 
-def ask_pieces(program, minisign, _):
+def check_pieces(program, minisign, _):
     """Checks the results with data in each form that the package accepts."""
     cases = shared_cases.corpus() + shared_cases.large_cases(minisign)
     program.check_verdicts(minisign, cases, (["pieces"], False), (["pieces", "legacy"], True))
 
 
-def ask_arguments(program, *_):
+def check_arguments(program, *_):
     """Checks arguments of wrong types, the properties of a verifier, and the trusted comment before data was passed."""
     for least, word in ((32, "wrong"), (10, "verifier"), (9, "letters")):
         program.check_pairs(least, word, cases=[PUBLISHED])
     program.check_comments(["comment"])
 
 
-def ask_streams(program, *_):
+def check_streams(program, *_):
     """Checks what happens to the stream if reading it fails or the verification fails."""
     for what in STREAMS:
         by_node(program.checks, program.directory, "streams.mjs").check_pairs(1, what, *PUBLISHED_PATHS)
 
 
-def ask_fields(program, minisign, _):
+def check_fields(program, minisign, _):
     """Checks the key IDs and legacy flags of parsed keys and signatures, and that verifying with the parsed objects gives the same results."""
     def form(fields):
         comment, = shared_cases.accepted_comments(minisign, [fields.case], allow_legacy)
@@ -182,50 +182,50 @@ def ask_fields(program, minisign, _):
 
     for words, allow_legacy in ((["read"], False), (["read", "legacy"], True)):
         program.check_fields(words, form)
-        rows = [(case, name) for case, name in shared_cases.rejections()
+        rows = [(case, name) for case, name in shared_cases.rejected_cases()
                 if case.signature != PUBLISHED.signature and not (allow_legacy and name == "LEGACY_NOT_ACCEPTED")]
         program.check_errors(words, rows, lambda name: rf"([0-9A-F]{{1,16}} [0-9A-F]{{1,16}} (true|false) )?rejected {name}")
 
 
-def ask_options(program, *_):
+def check_options(program, *_):
     """Checks that options must be plain objects with known own properties, also if Object.prototype has more properties."""
     paths = [PUBLISHED_PATHS[0], PUBLISHED_PATHS[1], os.path.join(shared_cases.CORPUS, "published-legacy.minisig")]
     for least, word in ((120, "kinds"), (100, "polluted")):
         by_node(program.checks, program.directory, "options.mjs").check_pairs(least, word, *paths)
 
 
-def ask_long(program, *_):
+def check_long(program, *_):
     """Checks that other tasks run while long data is verified or signed, so that an AbortSignal can stop the call."""
     for least, word in ((6, "verifying"), (1, "signing"), (3, "timers"), (2, "same"), (8, "cut")):
         by_node(program.checks, program.directory, "long.mjs").check_pairs(least, word, PUBLISHED_PATHS[0], PUBLISHED_PATHS[2])
 
 
-def ask_writable(program, *_):
+def check_writable(program, *_):
     """Checks the streams of verifiers and signers, the fields of trusted comments, the code of each error, and that many signatures share
     one instance of the signing module."""
     for least, word in ((15, "streams"), (21, "fields"), (11, "codes"), (3, "instances")):
         by_node(program.checks, program.directory, "writable.mjs").check_pairs(least, word, *PUBLISHED_PATHS)
 
 
-def ask_saving(program, *_):
+def check_saving(program, *_):
     """Checks that saveVerified replaces a file only after the signature was accepted, and leaves no other file."""
     with tempfile.TemporaryDirectory(prefix="saved-", dir=program.directory) as directory:
         by_node(program.checks, program.directory, "saving.mjs").check_pairs(24, directory, *PUBLISHED_PATHS)
 
 
-def ask_lists(program, minisign, _):
-    """Checks the verifying of files with signed lists."""
+def check_lists(program, minisign, _):
+    """Checks verifying files against signed lists."""
     lists = by_node(program.checks, program.directory, "lists.mjs")
-    lists.check_lists(minisign, boolean=lambda is_true: str(is_true).lower())
+    lists.check_lists(minisign, spell_boolean=lambda is_true: str(is_true).lower())
     lists.check_pairs(30, "arguments", cases=[shared_cases.list_rows(minisign)[0][0]])
     with tempfile.TemporaryDirectory(prefix="listed-", dir=program.directory) as directory:
         lists.check_pairs(17, "files", directory)
 
 
 # The checks of verification, by the names that mutants give after `Must fail:`.
-CASES = {"cases": ask_cases, "pieces": ask_pieces, "read": ask_fields, "arguments": ask_arguments, "streams": ask_streams,
-         "options": ask_options, "long": ask_long, "writable": ask_writable, "saving": ask_saving,
-         "lists": ask_lists}
+CASES = {"cases": check_cases, "pieces": check_pieces, "read": check_fields, "arguments": check_arguments, "streams": check_streams,
+         "options": check_options, "long": check_long, "writable": check_writable, "saving": check_saving,
+         "lists": check_lists}
 
 
 def check_signing(checks, user, room, minisign, decrypts=True):
@@ -238,7 +238,7 @@ def check_signing(checks, user, room, minisign, decrypts=True):
     return program
 
 
-# File names in a directory, with non-ASCII letters, and with a tab, which separates the fields of a trusted comment.
+# Paths with a directory, with a character that is not ASCII, and with a tab, which separates the fields of a trusted comment.
 NAMES = ["app", "an app (1) \u00e9.tar.gz", "below/app.zip", "tab\there"]
 # Key IDs with leading zeros and without, as numbers.
 KEY_IDS = [0, 1, 0x0F, 0x10, 0xABCDEF0123, 0x0123456789ABCDEF, 0xE7620F1842B4E81F, 2**64 - 1]
@@ -274,8 +274,8 @@ def check_files(checks, user, room, minisign):
 
 
 # The maximum number of copies of the seed in the heap of malloc. WebCrypto leaves a few copies in freed memory, but not one per signature.
-MOST_FREED = 10
-# How often to search if the seed is found. A leak is found each time, but freed memory may keep a copy until malloc reuses it.
+MAX_FREED = 10
+# The number of searches if the seed is found. A leak is found in each search. Freed memory may keep a copy until malloc reuses it.
 SEARCHES = 3
 
 
@@ -283,14 +283,14 @@ def check_memory(checks, user, room, minisign):
     """Checks that the seed of a key is never in the heap of the JavaScript engine, where it could not be cleared, and that clearing the key
     leaves at most the copies of WebCrypto."""
     run([minisign, "-G", "-W", "-s", "open", "-p", "pub"], room)
-    write(room, "sealed", shared_cases.sealed(read(room, "open"), shared_cases.LIMITS[4][0]))
+    write(room, "sealed", shared_cases.sealed(read(room, "open"), shared_cases.KEY_LIMITS[4][0]))
     program, ways = by_node(checks, user, "heap.mjs"), (["generate"], ["read", f"{room}/open"], ["read", f"{room}/sealed", shared_cases.PASSWORD])
     for words in ways:
         environment = dict(os.environ, **program.environment)
         for _ in range(SEARCHES):
-            counts = javascript_memory.search([*program.command, *words], user, environment, MOST_FREED)
+            counts = javascript_memory.search([*program.command, *words], user, environment, MAX_FREED)
             (used_freed, used), (freed, cleared) = counts
-            is_clean = used_freed > 0 and used == cleared == 0 and freed <= MOST_FREED
+            is_clean = used_freed > 0 and used == cleared == 0 and freed <= MAX_FREED
             if is_clean:
                 break
         checks.check(is_clean, f"{words[0]}: copies of the seed (malloc, elsewhere), in use and cleared: {counts}")
@@ -317,7 +317,7 @@ def check_bundles(checks, user, room, _):
             status, output, errors = by_node(checks, user, bundle).run(*words)
             checks.check((status, output.decode()) == (0, f"{comment}\n"), f"esbuild {name} {form}: {status} {output} {errors}")
             if name == "bundled":
-                named = re.search(r"bundle has (\d+) kB", text_of_package("README.md"))
+                named = re.search(r"bundle is (\d+) kB", text_of_package("README.md"))
                 checks.check(named and abs(len(text) - 1000 * int(named[1])) < 1000, f"README.md does not say that a bundle has {len(text)} bytes")
 
 
@@ -329,7 +329,7 @@ def check_readme(checks, user, room, minisign):
     for name, text in (("app", read(PUBLISHED_PATHS[1])), ("app.minisig", read(PUBLISHED_PATHS[2])), ("release.zip", b"a release\n")):
         write(directory, name, text)
     run([minisign, "-G", "-W", "-s", "list.key", "-p", "list.pub"], directory)
-    write(directory, "SHA256SUMS", "".join(f"{shared_cases.hex_of('sha256', read(directory, name))}  {name}\n" for name in ("app", "release.zip")).encode())
+    write(directory, "SHA256SUMS", "".join(f"{shared_cases.hex_digest('sha256', read(directory, name))}  {name}\n" for name in ("app", "release.zip")).encode())
     run([minisign, "-S", "-s", "list.key", "-m", "SHA256SUMS", "-t", "version:2\tfile:SHA256SUMS"], directory)
     for number, block in enumerate(blocks):
         write(directory, f"readme-{number}.mjs", block.encode())
@@ -399,12 +399,12 @@ class Handler(http.server.SimpleHTTPRequestHandler):
 
 def check_browsers(checks, user, room, minisign):
     """Checks the results in a page and in a worker of Chromium and of Firefox."""
-    corpus, vectors = shared_cases.corpus(), [case for case, _ in shared_cases.vector_texts()]
+    corpus, vectors = shared_cases.corpus(), [case for case, _ in shared_cases.vector_files()]
     cases = corpus + shared_cases.damaged_cases()
     asked = {"cases": cases, "pieces": corpus, "vectors": vectors, "lists": [case for case, _ in shared_cases.list_rows(minisign)]}
     digits = {what: [[part.hex() for part in case[1:]] for case in rows] for what, rows in asked.items()}
     run([minisign, "-G", "-W", "-s", "strong", "-p", "public"], room)
-    sealed = shared_cases.sealed(read(room, "strong"), shared_cases.LIMITS[4][0]).decode()
+    sealed = shared_cases.sealed(read(room, "strong"), shared_cases.KEY_LIMITS[4][0]).decode()
     directory = os.path.join(room, "served")
     shutil.copytree(os.path.join(user, "node_modules", "minisign-proved"), os.path.join(directory, "minisign-proved"))
     for name in ("browser.mjs", "index.html"):
@@ -477,16 +477,16 @@ def check_mutants(checks, user, room, minisign):
 
 def run_all(checks, room):
     page = next(filter(os.path.isfile, sys.argv[1:]), os.path.join(TOP, "dist", "minisign.html"))
-    user, minisign = install(room, page), shared_cases.c_minisign(room)
+    user, minisign = install(room, page), shared_cases.build_c_minisign(room)
     check_sources(checks, user)
     cases = shared_cases.all_cases(checks, minisign)
     program = by_node(checks, user, "answers.mjs")
     for ask in CASES.values():
         ask(program, minisign, cases)
     program.check_verdicts(minisign, cases, (["threads"], False))
-    program.check_growth(CALLS, GROWTH, cases=[PUBLISHED, PUBLISHED._replace(data=b"other data")])
-    tested = {name for _, name in shared_cases.rejections()} | {"BARE_PUBLIC_KEY_LENGTH", "BARE_PUBLIC_KEY_NOT_BASE64"}
-    expected = {name for name, number in shared_cases.ERRORS.items() if number in VERIFYING}
+    program.check_growth(CALLS, CALL_GROWTH, cases=[PUBLISHED, PUBLISHED._replace(data=b"other data")])
+    tested = {name for _, name in shared_cases.rejected_cases()} | {"BARE_PUBLIC_KEY_LENGTH", "BARE_PUBLIC_KEY_NOT_BASE64"}
+    expected = {name for name, number in shared_cases.ERRORS.items() if number in VERIFICATION_ERRORS}
     checks.check(tested == expected, f"errors without a test, or tests of other errors: {tested ^ expected}")
     signing = check_signing(checks, user, os.path.join(room, "signed"), minisign)
     if signing:
@@ -500,4 +500,4 @@ def run_all(checks, room):
 
 
 if __name__ == "__main__":
-    sys.exit(ending.check("javascript", run_all, ValueError, RuntimeError))
+    sys.exit(test_script.run_checks("javascript", run_all, ValueError, RuntimeError))

@@ -22,8 +22,8 @@ import sys
 HERE = os.path.dirname(os.path.realpath(__file__))
 sys.path.append(os.path.join(HERE, "..", "shared"))
 
-import ending
 import needs
+import test_script
 from mutants import copy_sources, mutants_of
 from shared_cases import TOP, check_mutants, read, run
 
@@ -104,4 +104,4 @@ def run_all(checks, room):
 
 
 if __name__ == "__main__":
-    sys.exit(ending.check("layout", run_all, ValueError))
+    sys.exit(test_script.run_checks("layout", run_all, ValueError))

@@ -1,6 +1,6 @@
 #!/usr/bin/env python3
 """Checks that the Python package in bindings/python works for a user: its wheel is built from the packed archive of
-sources, without the kit, installed into new environments, without a network, and used with libsodium and with the
+sources, without the Rattle kit, installed into new environments, without a network, and used with libsodium and with the
 package `cryptography`.
 
     tests/bindings/python.py
@@ -14,8 +14,8 @@ tests/installer; and that each mutant of python/mutants is detected. It prints a
 skipped; the last line is `N passed, M failed`.
 
 Needs Debian's Python with pip, venv, setuptools, wheel and cryptography, mypy, make, binutils, clang, a C compiler,
-libsodium with its header, minisign and setfacl, musl-gcc, strace, and of Debian gcc-mingw-w64-x86-64, wine64,
-gcc-aarch64-linux-gnu, libc6-dev-arm64-cross and qemu-user-static. It installs what is missing if it may.
+libsodium with its header, minisign and setfacl, musl-gcc, strace, and the Debian packages gcc-mingw-w64-x86-64, wine64,
+gcc-aarch64-linux-gnu, libc6-dev-arm64-cross and qemu-user-static. It installs missing packages if it has permission.
 """
 
 import ast
@@ -33,12 +33,12 @@ HERE = os.path.dirname(os.path.realpath(__file__))
 sys.path += [HERE, *(os.path.join(HERE, "..", name) for name in ("shared", "c"))]
 
 import emulated
-import ending
 import needs
 import portable
 import process
 import shared_cases as shared
 import static_library
+import test_script
 from mutants import mutants_of
 from running import build_preload
 from shared_cases import TOP, read, run, write
@@ -47,14 +47,14 @@ from static_library import run_or_fail
 USER, CHECKS, INSTALLER = (os.path.join(HERE, f"python_{name}.py") for name in ("user", "checks", "installing"))
 PACKAGE = "minisign_proved"
 SOURCES = os.path.join(TOP, "bindings", "python")
-# The other cases use the wheel that this one builds.
+# Functions that are run even if other cases are selected, because they build the wheel for them.
 ALWAYS = ("check_builds",)
 
 
 @functools.lru_cache(maxsize=None)
 def python():
     """Returns the path of Debian's Python with the modules that the package is built and tested with."""
-    path, imports = os.path.join(needs.DEBIAN, "python3"), "import setuptools, pip, venv, ensurepip, wheel, cryptography"
+    path, imports = os.path.join(needs.DEBIAN_PROGRAMS, "python3"), "import setuptools, pip, venv, ensurepip, wheel, cryptography"
     return needs.need(lambda: path if os.path.exists(path) and run([path, "-c", imports])[0] == 0 else None,
                       "Debian's Python with pip, venv, setuptools, wheel and cryptography", "python3-pip", "python3-venv",
                       "python3-setuptools", "python3-wheel", "python3-cryptography")
@@ -89,7 +89,7 @@ def check_loaded(checks, what, compiler, library, before=(), **variables):
 def check_builds(checks, archive, room):
     """Builds the archive of sources in a path with spaces: as C by Debian's compiler and with musl, for AArch64 with the archive of proved
     functions, and for Windows. Checks that a compiler without GNU options is rejected with an error that says so."""
-    programs, arm, windows = shared.path_directory(room, *NEEDED), emulated.AARCH64, portable.Windows(room)
+    programs, arm, windows = shared.make_path_directory(room, *NEEDED), emulated.AARCH64, portable.Windows(room)
 
     def unpacked(name):
         directory = os.path.join(room, f"sources of {name}")
@@ -124,7 +124,7 @@ def check_builds(checks, archive, room):
 
 def build_wheel(checks, room):
     """Builds the wheel from the packed archive of sources, with the archives of proved functions, and checks it. Returns its path."""
-    package = shared.unpacked_package("python", room, PYTHON=python())
+    package = shared.pack_and_unpack("python", room, PYTHON=python())
     archive, = glob.glob(os.path.join(room, "packed", "*.tar.gz"))
     command = [python(), "-m", "pip", "wheel", "-q", "--no-index", "--no-build-isolation", "--no-deps", "-w", room, archive]
     run_or_fail(command, PATH=check_builds(checks, archive, room))
@@ -191,8 +191,8 @@ def check_headers(checks, room, python_path, package):
     expected = [[number, "".join(map(str.capitalize, name.split("_"))), shared.error_texts()[name]]
                 for name, number in shared.ERRORS.items()]
     checks.same(sorted(errors), sorted(expected), "the exceptions")
-    checks.same(places, shared.layout(room), "the structs")
-    in_c = shared.numbers_in_c(room, ['"minisign_installing.h"'], [(expression, expression) for expression in installer])
+    checks.same(places, shared.struct_layout(room), "the structs")
+    in_c = shared.c_values(room, ['"minisign_installing.h"'], [(expression, expression) for expression in installer])
     checks.check(installer == in_c and len(in_c) > 30, f"the structs of the installer are {installer}, and in C {in_c}")
 
 
@@ -222,7 +222,7 @@ def compare_results(user, minisign, cases):
     rejection, Ed25519 vectors, and the fields that can be read before verifying."""
     user.check_verdicts(minisign, cases, (["verify", "allow"], True), (["verify", "reject"], False))
     user.check_verdicts(minisign, shared.corpus() + shared.large_cases(minisign), (["pieces"], True))
-    user.check_errors(["verify", "reject"], shared.rejections())
+    user.check_errors(["verify", "reject"], shared.rejected_cases())
     user.check_vectors(["verify", "allow"])
     user.check_fields(["fields"], fields_line)
     user.check_lists(minisign)
@@ -235,7 +235,7 @@ def check_examples(checks, python_path, room):
         write(room, name, data)
     minisign = lambda *words: run([needs.minisign(), *words], room)
     minisign("-G", "-W", "-p", "app.pub", "-s", "app.key")
-    digests = "".join(f"{shared.hex_of('sha256', data)}  {name}\n" for name, data in (("app-2", b"version 2"), ("data", b"data")))
+    digests = "".join(f"{shared.hex_digest('sha256', data)}  {name}\n" for name, data in (("app-2", b"version 2"), ("data", b"data")))
     write(room, "SHA256SUMS", digests.encode())
     for name, comment in (("app-2", "version:2\tfile:app"), ("data", "data"), ("SHA256SUMS", "file:SHA256SUMS")):
         minisign("-S", "-s", "app.key", "-m", name, "-t", comment)
@@ -248,7 +248,7 @@ def check_examples(checks, python_path, room):
 def check_installing(checks, python_path, room):
     """Runs the cases of tests/installer with the package. Only system calls of the library are disturbed and traced, not those of
     Python."""
-    preload = build_preload(room, "disturbed_calls", "libminisign.so")
+    preload = build_preload(room, "faulty_calls", "libminisign.so")
     output = checks.ended("installing", process.run([python_path, INSTALLER], LD_PRELOAD=preload), says=" passed, 0 failed\n")
     skipped, passed = re.fullmatch(r"(.*?)(\d*)(?: passed, \d+ failed\n)?", output, re.S).groups()
     print(skipped, end="")
@@ -262,7 +262,7 @@ def check_mutants(checks, python_path, package, room, minisign):
     def ask(checks, changed, directory, word):
         # libsodium is used where possible, because it loads faster.
         user = user_of(checks, python_path, "cryptography" if word in ("vectors", "strict") else "libsodium", os.path.dirname(changed))
-        cases = {"verify": lambda: user.check_errors(["verify", "reject"], shared.rejections()),
+        cases = {"verify": lambda: user.check_errors(["verify", "reject"], shared.rejected_cases()),
                  "fields": lambda: user.check_fields(["fields"], fields_line),
                  "pieces": lambda: user.check_verdicts(minisign, shared.corpus(), (["pieces"], True)),
                  "vectors": lambda: user.check_vectors(["verify", "allow"]),
@@ -276,7 +276,7 @@ def check_mutants(checks, python_path, package, room, minisign):
 
 
 def run_all(checks, room):
-    minisign, wheel = shared.c_minisign(room), build_wheel(checks, room)
+    minisign, wheel = shared.build_c_minisign(room), build_wheel(checks, room)
     with_libsodium, installed = environment(room, "with-libsodium", wheel)
     with_cryptography, package = environment(room, "with-cryptography", wheel, "--system-site-packages")
     check_sources(checks)
@@ -302,4 +302,4 @@ def run_all(checks, room):
 
 
 if __name__ == "__main__":
-    sys.exit(ending.check("bindings-python", run_all, ValueError, SyntaxError))
+    sys.exit(test_script.run_checks("bindings-python", run_all, ValueError, SyntaxError))

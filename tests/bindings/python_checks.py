@@ -40,7 +40,7 @@ from minisign_proved import Data, PublicKey, SecretKey, Signature, Text, Verifie
 from minisign_proved import installing as installer
 from python_user import result_of, write
 
-# The number of calls, how many of them come first, and by how many KiB the memory may grow after these.
+# The number of calls; the number of first calls, after which memory is measured; and its maximum growth from then on, in KiB.
 CALLS, FIRST_CALLS, MAX_GROWTH = 8_000, 1_000, 96
 
 
@@ -460,7 +460,7 @@ def installing(room: str) -> None:
 
 def check_early_exceptions(fails_unchanged: Callable[..., None]) -> None:
     """If a function raises before it can catch the exception, no signature counts as valid, and the run does not go on."""
-    for name, error in (("Answer", minisign.ReadingFailed), ("Show", KeyboardInterrupt)):
+    for name, error in (("AnswerFunction", minisign.ReadingFailed), ("ProgressFunction", KeyboardInterrupt)):
         raising = getattr(installer, name)(mock.Mock(side_effect=KeyboardInterrupt))
         with mock.patch.object(installer, name, lambda _: raising), mock.patch.object(sys, "unraisablehook"):
             fails_unchanged(error, f"an early exception in {name}")
@@ -600,7 +600,7 @@ def scattered(value: bytes) -> memoryview:
     return memoryview(b"".join(bytes([byte, 255 - byte]) for byte in value))[::2]
 
 
-# Other types that pass for bytes.
+# Functions that convert bytes to other types that are accepted as bytes.
 SAME_BYTES: Sequence[Callable[[bytes], Any]] = (bytearray, memoryview, scattered, lambda value: array.array("B", value), lambda value: type("Other", (bytes,), {})(value))
 NUMBER_TYPES: Sequence[object] = (0, 3, 1234, -1, True, False, 1.5, 2j)
 OTHER_TYPES: Sequence[object] = ([1, 2], (1, 2), {1: 2}, set(), object())
@@ -645,7 +645,7 @@ KINDS = {
     "secret key": Kind((None, b"key", *NUMBER_TYPES, *OTHER_TYPES)),
     "signature": Kind((None, "", "text", b"", b"text", *NUMBER_TYPES, *OTHER_TYPES)),
 }
-# Is appended to the name of a kind if the argument may also be None.
+# The suffix of the name of a kind if the argument may also be None.
 OR_NONE = " or none"
 
 

@@ -1,6 +1,6 @@
 """Checks that `install` and `check` of the Python package pass the cases of tests/installer. A program in Python with the
 options of `minisign-install` calls them. Each run of the program is a fork of this process, which has loaded the package
-before. `python.py` runs this script in a Python that has the package installed, with `disturbed_calls.c` preloaded.
+before. `python.py` runs this script in a Python that has the package installed, with `faulty_calls.c` preloaded.
 
 It prints a line for each case that failed or was skipped; the last line counts the cases. Needs Python 3.9 or later,
 minisign and setfacl.
@@ -20,13 +20,13 @@ import minisign_proved as minisign
 HERE = os.path.dirname(os.path.realpath(__file__))
 sys.path += [os.path.join(HERE, "..", name) for name in ("shared", "tool", "installer")]
 
-import ending
-from cut_off import BEGINNINGS, CUTS
+import test_script
+from cut_off import INITIAL_STATES, CUTS
 from downloads import download_cases
-from installers import AGAIN, ORDER, RealInstaller
+from installers import DOWNLOAD_AGAIN, ARGUMENT_ORDER, Signer
 from real_installing import cases_of
 from running import expect, run_cases
-from runs import Installing
+from runs import InstallerRunner
 from words import word_cases
 
 FAILED, MISUSED, REJECTED, OLDER, IN_USE, NOT_ON_DISK, UNRECORDED, SAME, EXPIRED, THERE = range(1, 11)
@@ -49,7 +49,7 @@ HINTS = {
     minisign.DifferentKeyIds: "use the public key of the signer", minisign.DirectoryNotSynced: "run the command again",
     minisign.TooLong: "use --max-size BYTES to accept larger data",
     **dict.fromkeys((minisign.OlderUpdate, minisign.Expired), "download the latest update"),
-    **dict.fromkeys((minisign.SignatureRefused, minisign.CommentSignatureRefused, minisign.OtherSize), AGAIN),
+    **dict.fromkeys((minisign.SignatureRefused, minisign.CommentSignatureRefused, minisign.OtherSize), DOWNLOAD_AGAIN),
 }
 NO_NUMBER = {"version": "omit --numbering version if the comment has a field timestamp:", "timestamp": "use --numbering version if the comment has a field version:"}
 HINTS_OF_CAUSES = {
@@ -101,7 +101,7 @@ def read_text(kind, word):
     except minisign.MinisignError as error:
         text, status = error, REJECTED
         if isinstance(error, minisign.TooLong):
-            text = f"this file is larger than 1 MiB\nhint: {ORDER}"
+            text = f"this file is larger than 1 MiB\nhint: {ARGUMENT_ORDER}"
     except OSError as why:
         text, status = f"{why.strerror} (os error {why.errno})", FAILED
     print(f"error: {word}: {text}", file=sys.stderr)
@@ -148,17 +148,17 @@ def install(words):
 
 # Cases that test the command line or the messages of a program, which functions do not have.
 LEFT_OUT = {"shows progress at a terminal", "works with a closed error stream", "installs nothing if an allocation fails",
-            "exits normally if nobody reads its errors", "--check shows only signed text, without control characters",
-            "the document shows the updater's files", "systemd accepts the updater's service and timer", "warns that --mode does not change an installed file"}
+            "exits normally if its error pipe has no reader", "--check shows only signed text, without control characters",
+            "docs/INSTALLING.md shows the updater's files", "systemd accepts the updater's service and timer", "warns that --mode does not change an installed file"}
 INCLUDED = {"takes a name that begins with a dash", "takes a file name other than the signed one"}
 
 
-def chosen_cases(installing):
+def chosen_cases(runner):
     # Interrupted runs that begin in other ways are left out, because the cases of `minisign-install` test the same C code.
-    cut_off = {f"recovers from {cut}, over {begin}" for begin, *_ in BEGINNINGS[1:] for cut, _ in CUTS}
+    cut_off = {f"recovers from {cut}, over {begin}" for begin, *_ in INITIAL_STATES[1:] for cut, _ in CUTS}
     # The cases of downloads are left out, because the updater script runs `minisign-install`.
     left_out = LEFT_OUT | cut_off | {name for name, *_ in (*word_cases, *download_cases)} - INCLUDED
-    cases = [*cases_of(installing)]
+    cases = [*cases_of(runner)]
     expect(left_out | INCLUDED <= {case[0] for case in cases}, "a name of LEFT_OUT or INCLUDED is not the name of a case")
     return [case for case in cases if case[0] not in left_out]
 
@@ -186,19 +186,19 @@ def run_all(room):
     """Runs the cases, and returns the failures and the number of cases."""
     # find_library runs other programs, which the cases would trace. Without it, the package loads libsodium by its usual name.
     ctypes.util.find_library = lambda _: None
-    installing = Installing(__file__, RealInstaller(room), room)
-    installing.preload, popen = os.environ.pop("LD_PRELOAD"), subprocess.Popen
+    runner = InstallerRunner(__file__, Signer(room), room)
+    runner.preload, popen = os.environ.pop("LD_PRELOAD"), subprocess.Popen
 
     def begin(command, preexec_fn=None, pass_fds=(), **how):
         """Starts a command as Popen does. If it is the program, the forked process runs `run_as_program` and executes nothing."""
         prepare = preexec_fn or bool
-        if command[0] == installing.program:
+        if command[0] == runner.program:
             preexec_fn, how["restore_signals"] = lambda: (prepare(), run_as_program(command[1:], how["env"], pass_fds)), False
         return popen(command, preexec_fn=preexec_fn, pass_fds=pass_fds, **how)
 
     with mock.patch.object(subprocess, "Popen", begin):
-        return run_cases(chosen_cases(installing))
+        return run_cases(chosen_cases(runner))
 
 
 if __name__ == "__main__":
-    sys.exit(ending.main("python-installing", run_all))
+    sys.exit(test_script.run_cases("python-installing", run_all))

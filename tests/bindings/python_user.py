@@ -51,7 +51,7 @@ def verify(legacy: str) -> None:
         print(result_of(lambda: PublicKey(key).verify(data, Signature(signature), legacy == "allow")))
 
 
-def cut(data: bytes, choose: random.Random) -> Iterator[bytes]:
+def split(data: bytes, choose: random.Random) -> Iterator[bytes]:
     """Splits data into pieces of random lengths, some of them empty."""
     begin = 0
     while begin < len(data):
@@ -68,14 +68,14 @@ def pieces() -> None:
 
         def in_pieces(bytes_type: Callable[[bytes], bytes]) -> str:
             verifier = Verifier(PublicKey(key), signature, True)
-            for piece in cut(data, choose):
+            for piece in split(data, choose):
                 verifier.update(bytes_type(piece))
             return verifier.finish()
 
         ways: List[Callable[[], str]] = [
             lambda: PublicKey(key).verify(data, signature, True),
             lambda: PublicKey(key).verify(io.BytesIO(data), signature, True),
-            lambda: PublicKey(key).verify(cut(data, choose), signature, True),
+            lambda: PublicKey(key).verify(split(data, choose), signature, True),
             lambda: in_pieces(bytes), lambda: in_pieces(bytearray), lambda: in_pieces(memoryview)]
         results = {result_of(way) for way in ways}
         print(results.pop() if len(results) == 1 else f"differs {results}")
@@ -126,9 +126,9 @@ def verify_listed() -> None:
 
             ways: List[Callable[[], ListEntry]] = [
                 lambda: signed().verify_listed(data, name), lambda: signed().verify_listed(io.BytesIO(data), name),
-                lambda: signed().verify_listed(cut(data, choose), name), lambda: at_path(name),
+                lambda: signed().verify_listed(split(data, choose), name), lambda: at_path(name),
                 lambda: signed().verify_listed_trusting_hashlib(data, name),
-                lambda: signed().verify_listed_trusting_hashlib(cut(data, choose), name)]
+                lambda: signed().verify_listed_trusting_hashlib(split(data, choose), name)]
             results = {listed_result(lambda: (signed(), way())) for way in ways}
             print(results.pop() if len(results) == 1 else f"differs {results}")
 

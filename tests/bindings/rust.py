@@ -16,9 +16,9 @@ bindings/rust under the name `minisign-verify`. The crates that they need come f
 It prints a line for each failure; the last line is `N passed, M failed`.
 
 Needs Python 3.9 or later, cargo, rustc, make, clang, a C compiler, binutils, llvm, libsodium with its header, minisign,
-strace, git, pkg-config, and of Debian librust-cc-dev, librust-pkg-config-dev, librust-rpassword-dev, librust-zeroize-dev,
-libstd-rust-dev-windows, gcc-mingw-w64-x86-64, wine64, gcc-aarch64-linux-gnu, libc6-dev-arm64-cross and qemu-user-static. It
-installs what is missing if it may, and downloads Rust's standard library for AArch64 once, with apt-get. If PATH has another
+strace, git, pkg-config, and the Debian packages librust-cc-dev, librust-pkg-config-dev, librust-rpassword-dev,
+librust-zeroize-dev, libstd-rust-dev-windows, gcc-mingw-w64-x86-64, wine64, gcc-aarch64-linux-gnu, libc6-dev-arm64-cross and
+qemu-user-static. It installs missing packages if it has permission, and downloads Rust's standard library for AArch64 once, with apt-get. If PATH has another
 cargo before Debian's, that cargo is tested too.
 """
 
@@ -35,31 +35,31 @@ sys.path += [HERE, *(os.path.join(HERE, "..", name) for name in ("shared", "c"))
 import commands
 import debian_crates
 import emulated
-import ending
 import needs
 import portable
 import shared_cases
 import static_library
+import test_script
 from mutants import mutants_of
 from shared_cases import TOP, Program, read, record_of, run, write
 
 CRATE, SYS = (os.path.join(TOP, "bindings", name) for name in ("rust", "rust-sys"))
-# The files of bindings/rust that are written by hand, of which only those in src/raw may have `unsafe`. Then the files of bindings/rust and
-# bindings/rust-sys that tools/bindings.py generates.
+# The files of bindings/rust that are written by hand. Only those in src/raw may contain `unsafe`. The other constants are the files of
+# bindings/rust and bindings/rust-sys that tools/bindings.py generates.
 BY_HAND = ["src/lib.rs", "src/base64.rs", "src/files.rs", "src/records.rs", "src/signing.rs", "src/raw.rs", "src/raw/sodium.rs", "src/lists.rs",
            "src/raw/lists.rs"]
 GENERATED, GENERATED_SYS = "src/raw/header.rs", "src/header.rs"
 # Symbols of libsodium, which a program without the feature `sodium` must not have.
 NO_SODIUM = dict.fromkeys(("crypto_sign", "sodium_init", "randombytes"), False)
-# The number of calls, and how many pages of 4 KiB the memory may grow by after the first tenth of the calls.
+# The number of calls, and the maximum growth of memory after the first tenth of the calls, in pages of 4 KiB.
 CALLS, MAX_PAGES = 10_000, 16
 
-# The dependency of a user's crate: under another name, under its own name, and without the feature `sodium`.
+# Lines of Cargo.toml for a dependency on the crate: under another name, under its own name, and without the feature `sodium`.
 RENAMED = 'minisign-verify = {{ package = "minisign-proved", path = "{crate}" }}'
 PLAIN = 'minisign-proved = {{ path = "{crate}" }}'
 WITHOUT_SODIUM = 'minisign-proved = {{ path = "{crate}", default-features = false }}'
 
-# The variant of Error for each error of the header for which the crate minisign-verify has a variant; then with the variants for data in
+# The variants of `Error` that the crate minisign-verify has, by the name of the error in the header. STREAM_VARIANTS are those for data in
 # pieces.
 VARIANTS = dict(line.split() for line in read(HERE, "rust", "known.txt").decode().splitlines())
 STREAM_VARIANTS = {**VARIANTS, "LEGACY_NOT_ACCEPTED": "UnsupportedLegacyMode"}
@@ -108,7 +108,7 @@ class Cargo:
                             "RUSTFLAGS": "-D warnings", "RUSTDOC": os.path.join(os.path.dirname(rustc), "rustdoc"),
                             "PATH": static_library.path_without_kit()}
         # CARGO_HOME is not set for rustup, which finds its toolchains in the home directory.
-        if os.path.dirname(cargo) == needs.DEBIAN:
+        if os.path.dirname(cargo) == needs.DEBIAN_PROGRAMS:
             self.environment["CARGO_HOME"] = os.path.join(room, "home")
         self.environment.update(environment)
 
@@ -121,28 +121,28 @@ class Cargo:
         return static_library.run_or_fail([self.cargo, *words], directory, **{**self.environment, **environment})
 
 
-# How the sections begin that the README of each Rust crate has, in this order. The first one is an example.
+# The beginnings of the sections of each Rust crate's README, in this order. The first section is an example.
 README_SECTIONS = ["```rust\n", "## (?:How to|Install and) switch\n", "## What is different from ", "## What is proved, and what is not\n",
-                "## Questions\n"]
-# Words of the questions that the table of each README answers.
-README_QUESTIONS = ["Licence", "C compiler", "libsodium", "Targets", "`no_std`", "WebAssembly", "async", "[Ss]ize", "[Bb]uild time"]
+                "## Requirements and limits\n"]
+# Words that the table in the last section of each README must contain in its first column.
+README_TOPICS = ["Licence", "C compiler", "libsodium", "Targets", "`no_std`", "WebAssembly", "async", "[Ss]ize", "[Bb]uild time"]
 
 
 def check_order(checks, name):
-    """Checks that the README of a crate has the sections of README_SECTIONS, and answers the questions of README_QUESTIONS."""
+    """Checks that the README of a crate has the sections of README_SECTIONS, and that its table has the README_TOPICS."""
     text = read(TOP, "bindings", name, "README.md").decode()
     places = [[found.start() for found in re.finditer(f"(?m)^{part}", text)][:1] for part in README_SECTIONS]
     checks.check(all(places) and places == sorted(places), f"{name}/README.md has the sections of README_SECTIONS at {places}")
-    cells = "\n".join(re.findall(r"(?m)^\| ([^|]*) \|", text.partition("\n## Questions\n")[2]))
-    missing = [word for word in README_QUESTIONS if not re.search(word, cells)]
-    checks.check(not missing, f"{name}/README.md does not answer {missing}")
+    cells = "\n".join(re.findall(r"(?m)^\| ([^|]*) \|", text.partition("\n## Requirements and limits\n")[2]))
+    missing = [word for word in README_TOPICS if not re.search(word, cells)]
+    checks.check(not missing, f"{name}/README.md has no rows for {missing}")
 
 
 def check_sources(checks):
     """Checks that only the module `raw` has `unsafe`, that BY_HAND lists all files, and the READMEs."""
     for name in ("rust", "rust-sys", "rust-minisign"):
         check_order(checks, name)
-    code = {name: shared_cases.code_of(read(CRATE, name).decode()) for name in BY_HAND}
+    code = {name: shared_cases.code_lines(read(CRATE, name).decode()) for name in BY_HAND}
     shared_cases.check_readme(checks, "rust")
     for name, lines in code.items():
         words = "\n".join(lines).replace("unsafe_code", "")
@@ -172,7 +172,7 @@ def check_inside(checks, cargo, crate, room):
     """Runs inside.rs within the crate: the structs have the layout of the C structs of the header, and secret keys are cleared."""
     sys_crate = f"{os.path.dirname(crate)}/minisign-proved-sys-{shared_cases.VERSION}"
     source, inside, lines = read(sys_crate, GENERATED_SYS), read(HERE, "rust", "inside.rs").decode(), []
-    for place, expected in shared_cases.layout(room).items():
+    for place, expected in shared_cases.struct_layout(room).items():
         struct, _, field = place.partition(".")
         if f"pub struct {struct} " in source.decode():
             lines.append(f"        {'offset' if field else 'size'}!({struct}, {expected}{field and ', '}{field});")
@@ -205,8 +205,8 @@ def compare_results(program, room, minisign, cases):
     """Checks the results of the program answers.rs, which uses the crate."""
     program.check_verdicts(minisign, cases, (["verify"], True), (["strict"], False), (["reader"], False),
                         *((["pieces", str(length)], False) for length in (1, 128, 1000, 0)))
-    program.check_errors(["strict"], shared_cases.rejections(), reason(VARIANTS))
-    program.check_errors(["pieces", "7"], shared_cases.rejections(), reason(STREAM_VARIANTS))
+    program.check_errors(["strict"], shared_cases.rejected_cases(), reason(VARIANTS))
+    program.check_errors(["pieces", "7"], shared_cases.rejected_cases(), reason(STREAM_VARIANTS))
     program.check_vectors(["verify"], reason(VARIANTS))
     program.check_comments(["comment"], reason(STREAM_VARIANTS))
     program.check_fields(["read"], fields_line)
@@ -224,11 +224,11 @@ def compare_results(program, room, minisign, cases):
 
 def check_lists(program, room, minisign):
     """Checks the results of the program lists.rs, which verifies files with signed lists, for cases and for files in a directory."""
-    program.check_lists(minisign, boolean=lambda is_true: str(is_true).lower())
+    program.check_lists(minisign, spell_boolean=lambda is_true: str(is_true).lower())
     os.makedirs(room)
     write(room, "app", b"data")
     run([minisign, "-G", "-W", "-p", "a.pub", "-s", "a.key"], room)
-    write(room, "SUMS", f"{shared_cases.hex_of('sha256', b'data')}  app\n".encode())
+    write(room, "SUMS", f"{shared_cases.hex_digest('sha256', b'data')}  app\n".encode())
     run([minisign, "-S", "-s", "a.key", "-m", "SUMS", "-t", "version:1\tfile:SUMS"], room)
     for ending in ("", ".minisig"):
         shutil.copy(os.path.join(room, f"SUMS{ending}"), os.path.join(room, f"OTHER{ending}"))
@@ -296,7 +296,7 @@ class UserCrate:
 
     def __init__(self, programs, room, name, dependency):
         self.directory = new_crate(room, name, dependency, "target.rs")
-        self.cargo = Cargo(self.directory, *(os.path.join(needs.DEBIAN, name) for name in ("cargo", "rustc")), PATH=programs)
+        self.cargo = Cargo(self.directory, *(os.path.join(needs.DEBIAN_PROGRAMS, name) for name in ("cargo", "rustc")), PATH=programs)
 
     def build(self, target="", **environment):
         """Builds the crate, and returns the exit status and all output."""
@@ -352,7 +352,7 @@ def check_libsodium(checks, crate, room):
         user_crate.check(checks, f"with libsodium, {variables}", {}, **variables)
         needed = run([needs.program("readelf", "binutils"), "-d", f"{user_crate.cargo.target}/debug/user"])[1].decode()
         checks.check(("libsodium.so" in needed) == is_shared, f"with libsodium, {variables}: {needed}")
-    programs = shared_cases.path_directory(os.path.join(room, "for-libsodium"), *BUILD_PROGRAMS)
+    programs = shared_cases.make_path_directory(os.path.join(room, "for-libsodium"), *BUILD_PROGRAMS)
     without_pkg_config = UserCrate(programs, room, "without pkg-config", depends_on(PLAIN, crate))
     status, why = without_pkg_config.build()
     checks.check(status != 0 and "libsodium was not found: install it" in why and "SODIUM_LIB_DIR" in why, f"without pkg-config: {why[-800:]}")
@@ -365,7 +365,7 @@ def check_targets(checks, programs, crate, room):
     needs.program("x86_64-w64-mingw32-gcc", "gcc-mingw-w64-x86-64")
     emulator, compiler, library = emulated.emulator(arm), emulated.compiler(arm), rust_for_arm()
     for name in ("x86_64-w64-mingw32-gcc", os.path.basename(compiler)):
-        os.symlink(os.path.join(needs.DEBIAN, name), os.path.join(programs, name))
+        os.symlink(os.path.join(needs.DEBIAN_PROGRAMS, name), os.path.join(programs, name))
     user_crate = UserCrate(programs, room, "other targets", depends_on(WITHOUT_SODIUM, crate))
     user_crate.check(checks, "for Windows", {}, [wine.program], WINDOWS, ".exe", wine.variables)
     wine.end()
@@ -401,7 +401,7 @@ def check_toolchain(checks, room, toolchain, minisign, is_first):
     """Checks the builds of one cargo. With the first cargo, it checks more cases, and also memory, threads, mutants and other targets."""
     cargo = Cargo(room, *toolchain, **({} if is_first else Cargo.UNOPTIMIZED))
     # UNOPTIMIZED because `cargo package` also builds the crate.
-    crate = shared_cases.unpacked_package("rust", room, {**cargo.environment, **Cargo.UNOPTIMIZED}, CARGO=cargo.cargo)
+    crate = shared_cases.pack_and_unpack("rust", room, {**cargo.environment, **Cargo.UNOPTIMIZED}, CARGO=cargo.cargo)
     answers = new_crate(room, "answers", depends_on(RENAMED, crate), "answers.rs")
     cargo.run(answers, "build", "--release")
     program = Program(checks, shutil.copy(os.path.join(cargo.target, "release", "user"), answers))
@@ -422,7 +422,7 @@ def check_toolchain(checks, room, toolchain, minisign, is_first):
     program.check_growth(CALLS, MAX_PAGES, few_cases)
     program.check_threads(few_cases)
     check_mutants(checks, cargo, crate, room, minisign)
-    programs = shared_cases.path_directory(room, *BUILD_PROGRAMS)
+    programs = shared_cases.make_path_directory(room, *BUILD_PROGRAMS)
     check_here(checks, programs, crate, room)
     check_targets(checks, programs, crate, room)
     shutil.rmtree(os.path.join(sys_crate, "library"))
@@ -432,10 +432,10 @@ def check_toolchain(checks, room, toolchain, minisign, is_first):
 
 def run_all(checks, room):
     debian_crates.use(room)
-    minisign = shared_cases.c_minisign(room)
+    minisign = shared_cases.build_c_minisign(room)
     check_sources(checks)
     pairs = toolchains()
-    checks.check(not needs.may_install() or pairs[0][0] == f"{needs.DEBIAN}/cargo", f"Debian's cargo is not tested: {pairs}")
+    checks.check(not needs.may_install() or pairs[0][0] == f"{needs.DEBIAN_PROGRAMS}/cargo", f"Debian's cargo is not tested: {pairs}")
     for number, toolchain in enumerate(pairs):
         directory = os.path.join(room, str(number))
         os.mkdir(directory)
@@ -443,4 +443,4 @@ def run_all(checks, room):
 
 
 if __name__ == "__main__":
-    sys.exit(ending.check("bindings-rust", run_all, ValueError))
+    sys.exit(test_script.run_checks("bindings-rust", run_all, ValueError))

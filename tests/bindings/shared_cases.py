@@ -1,10 +1,10 @@
 """Test cases and checks that the tests of all packages in bindings/ share.
 
-A case is a public key, data and a signature, each as bytes. The test of a package passes the cases to a program in the
-package's language, one case per line, and compares the output with the results of `c/minisign` (class `Program`). This
-module also reads the errors and the layout of structs from the header.
+A case is a public key, data and a signature, each as bytes. The test of a package passes the cases to a program in the language of
+the package, one case per line, and compares the output with the results of `c/minisign` (class `Program`). This module also reads
+the errors and the layout of structs from the headers.
 
-Needs Python 3.9 or later, make, a C compiler and libsodium with its header. It installs what is missing if it may.
+Needs Python 3.9 or later, make, a C compiler and libsodium with its header. Installs missing packages if it has permission.
 """
 
 import base64
@@ -25,7 +25,7 @@ TOP = os.path.realpath(os.path.join(HERE, "..", ".."))
 sys.path += [os.path.join(TOP, *path) for path in (("tests", "shared"), ("tests", "verdicts"), ("tests", "page"), ("tools",))]
 
 import c_header
-import edges
+import ed25519_edge_cases
 import minisign_cases
 import mutants
 import needs
@@ -36,25 +36,27 @@ from checks import Checks
 from process import SECONDS, run_program
 from running import Failure, expect, read, write
 from static_library import run_or_fail
-from texts import CORPUS, Limits, record_of, text_of, turned
+from texts import CORPUS, Limits, flip_bit, record_of, text_of
 
-# How many damaged cases of each kind there are (`damaged_cases` and `line_damaged_cases`).
-DAMAGED_COUNT, LINE_DAMAGED_COUNT = 500, 150
+# The number of cases of `damaged_cases` and of `line_damaged_cases`.
+DAMAGED_COUNT = 500
+LINE_DAMAGED_COUNT = 150
 
 
 def run(command, directory=None, environment=None, data=b""):
     """Runs a command, and returns its exit status, its output, and its error output."""
     ran = run_program(command, directory, data, SECONDS, env=dict(os.environ, **(environment or {})))
-    return ran.status, ran.output, ran.said.decode(errors="replace")
+    return ran.status, ran.stdout, ran.stderr.decode(errors="replace")
 
 
-def unpacked_package(package, room, environment=None, **chosen):
-    """Packs a package with `make -C bindings`, without the kit, unpacks its archive, and returns the directory of its files. `chosen`
-    sets variables of the makefile. For Rust there are archives of three crates, which are unpacked side by side, and the directory is that
-    of minisign-proved."""
-    out, to = os.path.join(room, "packed"), os.path.join(room, "unpacked")
-    words = [f"{name}={value}" for name, value in {"OUT": out, "PYTHON": sys.executable, **chosen}.items()]
-    command = [needs.program("make", "make"), "-s", "-C", os.path.join(TOP, "bindings"), package, *words]
+def pack_and_unpack(package, directory, environment=None, **make_variables):
+    """Packs a package with `make -C bindings`, without the Rattle kit in PATH, unpacks its archive, and returns the directory of its
+    files. For Rust there are archives of three crates, which are unpacked side by side, and the returned directory is that of
+    minisign-proved."""
+    out, to = os.path.join(directory, "packed"), os.path.join(directory, "unpacked")
+    variables = {"OUT": out, "PYTHON": sys.executable, **make_variables}
+    assignments = [f"{name}={value}" for name, value in variables.items()]
+    command = [needs.program("make", "make"), "-s", "-C", os.path.join(TOP, "bindings"), package, *assignments]
     run_or_fail(command, **{"PATH": static_library.path_without_kit(), **(environment or {})})
     archives = [name for name in os.listdir(out) if name.endswith((".crate", ".tar.gz", ".tgz"))]
     for archive in archives:
@@ -62,20 +64,20 @@ def unpacked_package(package, room, environment=None, **chosen):
     return os.path.join(to, f"minisign-proved-{VERSION}" if package == "rust" else os.listdir(to)[0])
 
 
-def path_directory(room, *names):
-    """Makes a directory that contains only these programs of Debian, and returns its path, which is to be the whole PATH of a run."""
-    directory = os.path.join(room, "programs")
+def make_path_directory(directory, *names):
+    """Makes a directory with links to these programs of Debian, and returns its path. It can be used as the whole PATH of a run."""
+    directory = os.path.join(directory, "programs")
     os.makedirs(directory)
     for name in names:
-        if os.path.exists(os.path.join(needs.DEBIAN, name)):
-            os.symlink(os.path.join(needs.DEBIAN, name), os.path.join(directory, name))
+        if os.path.exists(os.path.join(needs.DEBIAN_PROGRAMS, name)):
+            os.symlink(os.path.join(needs.DEBIAN_PROGRAMS, name), os.path.join(directory, name))
     return directory
 
 
-def c_minisign(room):
-    """Builds the program minisign of `c/` from `dist/`, and returns its path."""
-    program = os.path.join(room, "c", "minisign")
-    static_library.run_make(f"OUT={room}/c", f"CC={needs.libsodium()}", program)
+def build_c_minisign(directory):
+    """Builds `c/minisign` with the library of `dist/`, and returns its path."""
+    program = os.path.join(directory, "c", "minisign")
+    static_library.run_make(f"OUT={directory}/c", f"CC={needs.compiler_with_libsodium()}", program)
     return program
 
 
@@ -84,17 +86,18 @@ def symbols_of(program):
     return run([needs.program("nm", "binutils"), program])[1].decode()
 
 
-def code_of(text, comment="//"):
+def code_lines(text, comment="//"):
     """Returns the lines of a source file that are neither empty nor comments."""
     return [line for line in text.splitlines() if line.strip() and not line.strip().startswith(comment)]
 
 
 # The sections that each package's README must have, in this order.
-README_PARTS = ["Install", "Verify", "Sign", "Stream", "Errors", "What is different from", "Systems", "What is proved, and what is not"]
-# For a Rust crate, in the order in which its readers expect them: an example, how to switch, differences, what is proved, questions.
-RUST_README_PARTS = ["Verify", "Sign", "Stream", "Errors", "Install and switch", "What is different from", "What is proved, and what is not",
-                     "Questions"]
-# The examples of a package's README are the fenced blocks in this language.
+README_SECTIONS = ["Install", "Verify", "Sign", "Stream", "Errors", "What is different from", "Systems",
+                   "What is proved, and what is not"]
+# The sections of the README of a Rust crate, in this order.
+RUST_README_SECTIONS = ["Verify", "Sign", "Stream", "Errors", "Install and switch", "What is different from",
+                        "What is proved, and what is not", "Requirements and limits"]
+# The language of the fenced code blocks in a package's README that are examples.
 FENCES = {"rust": "rust", "go": "go", "python": "python", "javascript": "js"}
 
 
@@ -105,17 +108,19 @@ def readme_blocks(package):
 
 
 def readme_examples(package):
-    """Returns all examples of a package's README as one program, as if a reader pasted them into one file and added nothing."""
+    """Returns all examples of a package's README as one program, as if a reader pasted them into one file."""
     return "\n".join(readme_blocks(package))
 
 
 def check_readme(checks, package):
-    """Checks that a package's README has the same sections as the others, an example of verifying, and uses only the published key."""
+    """Checks that a package's README has the same sections as the others and an example of verification, and that all its keys and
+    signatures are the published ones."""
     text = read(TOP, "bindings", package, "README.md").decode()
     parts = re.findall(r"^## (What is different from|.*)", text, re.M)
-    expected = RUST_README_PARTS if package == "rust" else README_PARTS
-    checks.check([part for part in parts if part in expected] == expected, f"README.md has the parts {parts}")
-    checks.check(re.search(r"^## Verify\n.*?^```\w+\n.+?^```", text, re.M | re.S), "README.md has no example of verifying")
+    expected = RUST_README_SECTIONS if package == "rust" else README_SECTIONS
+    checks.check([part for part in parts if part in expected] == expected,
+                 f"README.md has the sections {parts}, expected {expected}")
+    checks.check(re.search(r"^## Verify\n.*?^```\w+\n.+?^```", text, re.M | re.S), "README.md has no example in section Verify")
     published = (PUBLISHED.key + b"\n" + PUBLISHED.signature).decode().split("\n")
     for letters in re.findall(r"\bR[UW][A-Za-z0-9+/=]{54,}", text):
         checks.check(letters in published, f"README.md has a key or signature that is not the published one: {letters}")
@@ -124,9 +129,9 @@ def check_readme(checks, package):
 # ---- Cases ----
 
 
-# A public key, data and a signature, which are verified together.
+# A public key file, data and a signature file, which are verified together.
 Case = namedtuple("Case", "name key data signature")
-# What a package can read from a case before it verifies: the key IDs of the key and of the signature, and whether the signature is legacy.
+# What a package can read from a case before it verifies: the key IDs of the key and of the signature, and true if the signature is legacy.
 Fields = namedtuple("Fields", "case key_id signature_key_id is_legacy")
 # The key, data and signature that the documentation of the Rust crate minisign publishes: the paths, the case, and the base64 line of the
 # key.
@@ -147,43 +152,44 @@ def corpus():
 
 
 def vectors():
-    """Returns cases of Ed25519 signatures on which implementations differ. Each comes with True if libsodium accepts it. Key and signature
-    are binary here, of 32 and 64 bytes."""
+    """Returns pairs: a case with an Ed25519 signature on which implementations differ, and true if libsodium accepts it. The key and the
+    signature of these cases are not files, but 32 and 64 bytes."""
     decode = bytes.fromhex
     return [(Case(vector["name"], decode(vector["A"]), decode(vector["msg"]), decode(vector["sig"])), vector["sodium"])
-            for vector in edges.vectors()]
+            for vector in ed25519_edge_cases.vectors()]
 
 
 @functools.lru_cache(maxsize=None)
-def vector_texts():
-    """Returns the signatures of `vectors` as legacy signature files, each with the name of its error in the header. All are rejected: even
-    if an implementation of Ed25519 accepts the data signature of a vector, it rejects the comment signature. The error shows which of the
-    two was rejected. The last three cases have a signature that is valid for every file if an implementation accepts points of small
-    order."""
-    rows = [(Case(vector["name"], key, bytes.fromhex(vector["msg"]), signature), edges.error_of(vector))
-            for vector in edges.vectors() for key, signature in [edges.legacy_texts(vector)]]
-    key, signature = edges.texts_for_every_file()
+def vector_files():
+    """Returns `vectors` as legacy signature files, each with the name of its error in the header. All of them must be rejected, whatever
+    implementation of Ed25519 is used: where implementations differ on the data signature, the comment signature is invalid, too. In the
+    last three cases, an implementation that accepts points of small order would accept the signature for all data."""
+    rows = []
+    for vector in ed25519_edge_cases.vectors():
+        key, signature = ed25519_edge_cases.legacy_files(vector)
+        case = Case(vector["name"], key, bytes.fromhex(vector["msg"]), signature)
+        rows.append((case, ed25519_edge_cases.expected_error(vector)))
+    key, signature = ed25519_edge_cases.files_accepted_for_all_data()
     return rows + [(Case("a signature for every file", key, data, signature), "WEAK_ED25519") for data in (b"", b"data", bytes(100_000))]
 
 
 def damaged_cases(count=DAMAGED_COUNT):
-    """Returns cases of the corpus with random changes of the key, the signature or the data. The changes are the same in each run."""
+    """Returns cases of the corpus in which the key, the signature or the data is changed at random. They are the same in each run."""
     return as_cases(minisign_cases.random_cases(kept_cases(), count))
 
 
 def line_damaged_cases():
-    """Returns a sample of cases in which a line, a character or the end of a signature file is changed, or the data. The sample is the same
-    in each run."""
-    whole = next(case for case in kept_cases() if case.data and case.sig.count(b"\n") == 4)
-    return as_cases(random.Random(LINE_DAMAGED_COUNT).sample(minisign_cases.damaged(whole), LINE_DAMAGED_COUNT))
+    """Returns a random sample of cases in which the data, or a line, a character or the end of a file is changed. It is the same in each
+    run."""
+    undamaged = next(case for case in kept_cases() if case.data and case.sig.count(b"\n") == 4)
+    return as_cases(random.Random(LINE_DAMAGED_COUNT).sample(minisign_cases.damaged(undamaged), LINE_DAMAGED_COUNT))
 
 
-def rejections():
-    """Returns cases that are rejected if legacy signatures are not allowed, each with the name of its error in the header."""
+def rejected_cases():
+    """Returns a case for each error, with the name of the error in the header. Legacy signatures are not allowed."""
     _, key, data, signature = PUBLISHED
     rows = [(error, error.text, signature) for error in key_errors(key)]
-    # For SIGNATURE_REFUSED (31) the data is changed instead of the data signature: if that is changed, the comment signature is not valid
-    # either.
+    # For SIGNATURE_REFUSED (31), the data is changed, and not the data signature, because the comment signature also covers that.
     errors = signature_errors(signature + b"\n", read(CORPUS, "second.minisig"))
     rows += [(error, key, error.text) for error in errors if error.number != 31]
     names = {number: name for name, number in ERRORS.items()}
@@ -194,9 +200,10 @@ def rejections():
 
 @functools.lru_cache(maxsize=None)
 def expected_fields():
-    """Returns cases with the fields that a package should read from them, decoded here with Python's base64. The cases are those of the
-    corpus that Minisign's own program accepts, except for the one that is not UTF-8; a signature of another key; and short key IDs."""
-    cases = [case for case, row in zip(corpus(), texts.kept_rows()) if row["status"] == 0 and row["signature"] != "no-utf8.minisig"]
+    """Returns `Fields`, decoded here with Python's base64. The cases are those of the corpus that Minisign accepts, without the one that
+    is not UTF-8; one with the public key of another signer; and some with short key IDs."""
+    cases = [case for case, row in zip(corpus(), texts.corpus_entries())
+             if row["status"] == 0 and row["signature"] != "no-utf8.minisig"]
     cases.append(cases[0]._replace(name="a signature of another key", key=read(CORPUS, "second.pub")))
     cases += [with_key_id(PUBLISHED, number) for number in SHORT_KEY_IDS]
     decoded = [(case, record_of(case.key), record_of(case.signature)) for case in cases]
@@ -204,11 +211,11 @@ def expected_fields():
 
 
 def key_id_text(key_id):
-    """Formats a key ID as Minisign prints it: in upper-case hexadecimal digits without leading zeros."""
+    """Formats a key ID as Minisign prints it, in upper-case hexadecimal digits without leading zeros."""
     return f"{int.from_bytes(key_id, 'little'):X}"
 
 
-# Key IDs that Minisign prints with fewer than 16 digits: 15, 14, 9, 1, and the only one whose first digit is a zero.
+# Key IDs that Minisign prints with 15, 14, 9 and 1 digits, and the key ID 0.
 SHORT_KEY_IDS = [0xABCDEF012345678, 0x620F1842B41F0A, 0x123456789, 0xB, 0]
 
 
@@ -223,67 +230,77 @@ def with_key_id(case, number):
 
 # ---- Signed lists ----
 
-# A key, a list and its signature; the name of the list, or nothing if every trusted comment is accepted; the hash function of a digest of
-# 128 digits on a line that does not name one; and a file with its name. All parts except for the title are bytes.
+# A case of verifying a file with a signed list. All fields except for the title are bytes.
+#   key, text, signature: the public key file, the list, and its signature file.
+#   list_name: the name of the list that the trusted comment must contain, or empty if every trusted comment is accepted.
+#   long_digest: the hash function of digests with 128 digits on lines that name no hash function.
+#   name, data: the file to verify.
 ListCase = namedtuple("ListCase", "title key text signature list_name long_digest name data")
 LIST_NAME, LIST_COMMENT = "SHA256SUMS", "version:2\tfile:SHA256SUMS"
 ACCENT = "\u00e9"
-# The files of the list, by their names in it.
-LISTED = {"app": b"version 2\n", "dir/b c": b"", "x) = y": b"parentheses", "star": b"binary", "twice": b"2", "long": b"l" * 200_000,
+# The contents of the listed files, by their names in the list.
+LISTED_FILES = {"app": b"version 2\n", "dir/b c": b"", "x) = y": b"parentheses", "star": b"binary", "twice": b"2", "long": b"l" * 200_000,
           ACCENT: b"accent"}
 
 
-def hex_of(name, data):
+def hex_digest(name, data):
     """Returns the digest of data in hexadecimal, as hashlib computes it."""
     return getattr(hashlib, name)(data).hexdigest()
 
 
-# The lines of the list, with the entry of each: its hash function, its name and whether it has escapes.
+# The lines of the list. Each comes with its entry, or None: the hash function, the name, and true if the name has escapes.
 LIST_LINES = [
     ("# the files of version 2\r\n", None),
     ("\n", None),
-    (f"{hex_of('sha256', LISTED['app'])}  app\r\n", ("sha256", "app", False)),
-    (f"SHA512 (dir/b c) = {hex_of('sha512', b'').upper()}\n", ("sha512", "dir/b c", False)),
-    (f"BLAKE2b (x) = y) = {hex_of('blake2b', LISTED['x) = y'])}\n", ("blake2b", "x) = y", False)),
-    (f"{hex_of('sha256', LISTED['star'])} *./star\n", ("sha256", "star", False)),
-    (f"\\{hex_of('sha256', b'')}  new\\nline\n", ("sha256", "new\\nline", True)),
-    (f"{hex_of('sha256', LISTED['twice'])}  twice\n", ("sha256", "twice", False)),
-    (f"{hex_of('sha512', LISTED['long'])}  long\n", ("sha512", "long", False)),
-    (f"{hex_of('sha256', LISTED[ACCENT])}  {ACCENT}\n", ("sha256", ACCENT, False)),
-    (f"SHA256 (./twice) = {hex_of('sha256', LISTED['twice'])}", ("sha256", "twice", False)),
+    (f"{hex_digest('sha256', LISTED_FILES['app'])}  app\r\n", ("sha256", "app", False)),
+    (f"SHA512 (dir/b c) = {hex_digest('sha512', b'').upper()}\n", ("sha512", "dir/b c", False)),
+    (f"BLAKE2b (x) = y) = {hex_digest('blake2b', LISTED_FILES['x) = y'])}\n", ("blake2b", "x) = y", False)),
+    (f"{hex_digest('sha256', LISTED_FILES['star'])} *./star\n", ("sha256", "star", False)),
+    (f"\\{hex_digest('sha256', b'')}  new\\nline\n", ("sha256", "new\\nline", True)),
+    (f"{hex_digest('sha256', LISTED_FILES['twice'])}  twice\n", ("sha256", "twice", False)),
+    (f"{hex_digest('sha512', LISTED_FILES['long'])}  long\n", ("sha512", "long", False)),
+    (f"{hex_digest('sha256', LISTED_FILES[ACCENT])}  {ACCENT}\n", ("sha256", ACCENT, False)),
+    (f"SHA256 (./twice) = {hex_digest('sha256', LISTED_FILES['twice'])}", ("sha256", "twice", False)),
 ]
-# Lists with a malformed line, whose number is 2. The last one is not UTF-8.
-LIST_BEGIN = LIST_LINES[2][0].encode()
-MALFORMED_LISTS = [LIST_BEGIN + line.encode() for line in (
-    f"{hex_of('sha256', b'')} b\n", f"{hex_of('sha256', b'')}  /b\n", f"{hex_of('sha256', b'')}  ../b\n", f"MD5 (b) = {hex_of('md5', b'')}",
-    f"{hex_of('sha256', b'')}  b\tc\n", f"{hex_of('sha256', b'')}  b\r\r\n", "b\n", " \n", f"{hex_of('sha256', b'')[1:]}  b\n")]
+# Lists whose second line is malformed.
+FIRST_ENTRY = LIST_LINES[2][0].encode()
+MALFORMED_LISTS = [FIRST_ENTRY + line.encode() for line in (
+    f"{hex_digest('sha256', b'')} b\n", f"{hex_digest('sha256', b'')}  /b\n", f"{hex_digest('sha256', b'')}  ../b\n",
+                                                            f"MD5 (b) = {hex_digest('md5', b'')}",
+    f"{hex_digest('sha256', b'')}  b\tc\n", f"{hex_digest('sha256', b'')}  b\r\r\n", "b\n", " \n", f"{hex_digest('sha256', b'')[1:]}  b\n")]
 
 
 @functools.lru_cache(maxsize=None)
 def list_rows(minisign):
-    """Returns cases of verifying a file with a signed list, each with the expected line: `accepted`, the trusted comment and the number of
-    the file's line in the list; or `rejected`, the error and the number of the line at fault, or 0."""
+    """Returns pairs of a `ListCase` and the line that a program must print for it: `accepted`, the trusted comment in hexadecimal digits
+    and the line number of the file's entry; or `rejected`, the error and the number of the line at fault, or 0."""
     text = "".join(line for line, _ in LIST_LINES).encode()
-    with tempfile.TemporaryDirectory(prefix="lists-") as room:
+    with tempfile.TemporaryDirectory(prefix="lists-") as directory:
         for name in ("ours", "theirs"):
-            run([minisign, "-G", "-W", "-p", f"{name}.pub", "-s", f"{name}.key"], room)
+            run([minisign, "-G", "-W", "-p", f"{name}.pub", "-s", f"{name}.key"], directory)
 
-        def signed(text, *words, comment=LIST_COMMENT, key="ours"):
-            write(room, LIST_NAME, text)
-            run([minisign, "-S", "-s", f"{key}.key", "-m", LIST_NAME, "-x", "sig", "-t", comment, *words], room)
-            return read(room, "sig")
+        def signed(text, *arguments, comment=LIST_COMMENT, key="ours"):
+            """Returns a signature file for a list."""
+            write(directory, LIST_NAME, text)
+            run([minisign, "-S", "-s", f"{key}.key", "-m", LIST_NAME, "-x", "sig", "-t", comment, *arguments], directory)
+            return read(directory, "sig")
 
-        first, good = read(room, "ours.pub"), signed(text)
-        case = ListCase("", first, text, good, LIST_NAME.encode(), b"sha512", b"app", LISTED["app"])
-        accepted = lambda line, comment=LIST_COMMENT: f"accepted {comment.encode().hex()} {line}"
-        rejected = lambda name, line=0: f"rejected {name} {line}"
-        rows = [(case._replace(name=name.encode(), data=data), accepted(next(at for at, (_, entry) in enumerate(LIST_LINES, 1) if entry and entry[1] == name)))
-                for name, data in LISTED.items() if name != "twice"]
-        rows += [(case._replace(name=name.encode(), data=data + b"x"), rejected("DIGEST_MISMATCH")) for name, data in LISTED.items() if name != "twice"]
+        def accepted(line, comment=LIST_COMMENT):
+            return f"accepted {comment.encode().hex()} {line}"
+
+        def rejected(error, line=0):
+            return f"rejected {error} {line}"
+
+        good = signed(text)
+        case = ListCase("", read(directory, "ours.pub"), text, good, LIST_NAME.encode(), b"sha512", b"app", LISTED_FILES["app"])
+        line_numbers = {entry[1]: number for number, (_, entry) in enumerate(LIST_LINES, 1) if entry}
+        listed_once = [(name, data) for name, data in LISTED_FILES.items() if name != "twice"]
+        rows = [(case._replace(name=name.encode(), data=data), accepted(line_numbers[name])) for name, data in listed_once]
+        rows += [(case._replace(name=name.encode(), data=data + b"x"), rejected("DIGEST_MISMATCH")) for name, data in listed_once]
         rows += [(case._replace(name=b"./app"), accepted(3)), (case._replace(name=b"App"), rejected("NOT_LISTED")),
-                 (case._replace(name=b"twice", data=LISTED["twice"]), rejected("LISTED_TWICE", 11)),
+                 (case._replace(name=b"twice", data=LISTED_FILES["twice"]), rejected("LISTED_TWICE", 11)),
                  (case._replace(long_digest=b"none"), rejected("MALFORMED_LINE", 9)),
-                 (case._replace(long_digest=b"blake2b", name=b"long", data=LISTED["long"]), rejected("DIGEST_MISMATCH")),
+                 (case._replace(long_digest=b"blake2b", name=b"long", data=LISTED_FILES["long"]), rejected("DIGEST_MISMATCH")),
                  (case._replace(list_name=b""), accepted(3)), (case._replace(list_name=b"SHA256SUM"), rejected("OTHER_LIST")),
                  (case._replace(text=text + b"\n"), rejected("SIGNATURE_REFUSED")),
                  (case._replace(signature=good.replace(b"version:2", b"version:3")), rejected("COMMENT_SIGNATURE_REFUSED")),
@@ -302,13 +319,14 @@ def list_rows(minisign):
 
 
 def listed_entries():
-    """Returns the line that a program prints for the entries of the list: for each one its line, hash function, digest, name and whether it
-    has escapes."""
-    def shown(at, line, kind, name, is_escaped):
-        digest = re.search("[0-9a-fA-F]{64,}", line)[0].lower()
-        return f"{at} {kind} {digest} {name.encode().hex()} {is_escaped}"
+    """Returns the line that a program must print for the entries of the list. For each entry, it has the line number, the hash function,
+    the digest, the name, and True if the name has escapes."""
 
-    return ",".join(shown(at, line, *entry) for at, (line, entry) in enumerate(LIST_LINES, 1) if entry)
+    def entry_text(number, line, hash_name, name, is_escaped):
+        digest = re.search("[0-9a-fA-F]{64,}", line)[0].lower()
+        return f"{number} {hash_name} {digest} {name.encode().hex()} {is_escaped}"
+
+    return ",".join(entry_text(number, line, *entry) for number, (line, entry) in enumerate(LIST_LINES, 1) if entry)
 
 
 # ---- The results of c/minisign ----
@@ -317,11 +335,11 @@ def listed_entries():
 @functools.lru_cache(maxsize=None)
 def accepted_comment(minisign, case, allow_legacy):
     """Returns the trusted comment if `c/minisign` accepts a case, otherwise None."""
-    with tempfile.TemporaryDirectory(prefix="case-") as room:
-        key, data, signature = (write(room, part, text) for part, text in zip("kds", case[1:]))
+    with tempfile.TemporaryDirectory(prefix="case-") as directory:
+        key, data, signature = (write(directory, part, text) for part, text in zip("kds", case[1:]))
         status, output, _ = run([minisign, "-V", "-Q", *([] if allow_legacy else ["-H"]), "-p", key, "-m", data, "-x", signature])
     if status not in (0, 1, 2):
-        raise static_library.NotBuilt(f"{minisign} ended with status {status} for {case.name}")
+        raise Failure(f"{minisign} exited with status {status} for {case.name}, expected 0, 1 or 2")
     return output[:-1] if status == 0 else None
 
 
@@ -335,17 +353,16 @@ def accepted_comments(minisign, cases, allow_legacy):
 def large_cases(minisign):
     """Returns two cases: 300,000 bytes of data that `c/minisign` has signed, and the same data with its last byte changed."""
     data = bytes(at * at % 251 for at in range(300_000))
-    with tempfile.TemporaryDirectory(prefix="large-") as room:
-        write(room, "data", data)
-        run([minisign, "-G", "-W", "-p", "pub", "-s", "key"], room)
-        run([minisign, "-S", "-s", "key", "-m", "data", "-x", "sig", "-t", "large"], room)
-        case = Case("large data", read(room, "pub"), data, read(room, "sig"))
+    with tempfile.TemporaryDirectory(prefix="large-") as directory:
+        write(directory, "data", data)
+        run([minisign, "-G", "-W", "-p", "pub", "-s", "key"], directory)
+        run([minisign, "-S", "-s", "key", "-m", "data", "-x", "sig", "-t", "large"], directory)
+        case = Case("large data", read(directory, "pub"), data, read(directory, "sig"))
     return [case, case._replace(name="large data, changed", data=data[:-1] + b"x")]
 
 
 def all_cases(checks, minisign):
-    """Returns the cases of the corpus, damaged cases, and large data. Checks that `c/minisign` accepts a plausible number of them, so that
-    the comparison with it means something."""
+    """Returns the cases of the corpus, damaged cases, and large data. Checks that `c/minisign` accepts some of them and rejects others."""
     cases = corpus() + damaged_cases() + line_damaged_cases()
     count = sum(comment is not None for comment in accepted_comments(minisign, cases, True))
     checks.check(40 <= count <= 200, f"c/minisign accepts {count} of {len(cases)} cases, expected 40 to 200")
@@ -369,97 +386,105 @@ def rejected_line(name):
 class Program:
     """Runs a test program that uses a package, and checks its output.
 
-    The program takes words as arguments, and cases on its standard input: each line has a key, data and a signature in hexadecimal
-    digits, or `-` for an empty one. It prints a line for each case: `accepted` and the trusted comment in hexadecimal digits, or `-` for
-    an empty one; or `rejected` and the error."""
+    The program gets arguments, and cases on its standard input. Each line has a key, data and a signature in hexadecimal digits, or `-`
+    in place of empty data. The program prints a line for each case: `accepted` and the trusted comment in hexadecimal digits, or `-` if
+    it is empty; or `rejected` and the error."""
 
     def __init__(self, checks, *command, name="", directory=None, **environment):
         self.checks, self.command, self.name = checks, command, name
         self.directory, self.environment = directory, environment
 
-    def run(self, *words, cases=()):
+    def run(self, *arguments, cases=()):
         """Runs the program, and returns its exit status, its output, and its error output."""
         lines = "".join(" ".join(part.hex() or "-" for part in case[1:]) + "\n" for case in cases)
-        return run([*self.command, *words], self.directory, self.environment, lines.encode())
+        return run([*self.command, *arguments], self.directory, self.environment, lines.encode())
 
-    def check_lines(self, words, cases, forms):
-        """Checks that the program prints one line per case, and that the line matches the case's regular expression in `forms`."""
-        status, output, errors = self.run(*words, cases=cases)
+    def check_lines(self, arguments, cases, patterns):
+        """Checks that the program prints one line for each case, which matches the regular expression for the case in `patterns`."""
+        status, output, errors = self.run(*arguments, cases=cases)
         lines = output.decode(errors="replace").splitlines()
-        is_complete = status == 0 and len(lines) == len(cases) == len(forms) > 0
-        self.checks.check(is_complete, f"{self.name} {words}: status {status}, {len(lines)} lines for {len(forms)} cases: {errors[-800:]}")
-        for case, line, form in zip(cases, lines, forms):
-            self.checks.check(re.fullmatch(form, line), f"{self.name} {words}, {case.name}: printed {line}, expected {form}")
+        is_complete = status == 0 and len(lines) == len(cases) == len(patterns) > 0
+        self.checks.check(is_complete,
+                          f"{self.name} {arguments}: status {status}, {len(lines)} lines for {len(patterns)} cases: {errors[-800:]}")
+        for case, line, pattern in zip(cases, lines, patterns):
+            self.checks.check(re.fullmatch(pattern, line), f"{self.name} {arguments}, {case.name}: printed {line}, expected {pattern}")
 
-    def check_pairs(self, least, *words, cases=()):
-        """Checks the program's own tests. It has to print at least `least` lines, each with an expected value, a tab, and the actual value,
-        and the two values must be equal."""
-        status, output, errors = self.run(*words, cases=cases)
+    def check_pairs(self, minimum, *arguments, cases=()):
+        """Checks the results of tests in the program itself. It must print at least `minimum` lines, each with the expected value, a tab,
+        and the actual value, which must be equal."""
+        status, output, errors = self.run(*arguments, cases=cases)
         lines = output.decode(errors="replace").splitlines()
-        self.checks.check(status == 0 and len(lines) >= least, f"{self.name} {words}: status {status}, {lines[-5:]}, {errors[-800:]}")
+        self.checks.check(status == 0 and len(lines) >= minimum, f"{self.name} {arguments}: status {status}, {lines[-5:]}, {errors[-800:]}")
         for line in lines:
             expected, _, actual = line.partition("\t")
-            self.checks.check(expected == actual, f"{self.name} {words}: {actual}, expected {expected}")
+            self.checks.check(expected == actual, f"{self.name} {arguments}: {actual}, expected {expected}")
 
-    def check_verdicts(self, minisign, cases, *ways):
+    def check_verdicts(self, minisign, cases, *calls):
         """Checks that the program accepts the cases that `c/minisign` accepts, with the same trusted comments, and rejects the others. Each
-        of `ways` is a pair: the arguments for the program, and True if they allow legacy signatures."""
-        for words, allow_legacy in ways:
+        of `calls` is a pair: the arguments for the program, and true if they allow legacy signatures."""
+        for arguments, allow_legacy in calls:
             comments = accepted_comments(minisign, cases, allow_legacy)
-            self.check_lines(words, cases, ["rejected .*" if comment is None else accepted_line(comment) for comment in comments])
+            self.check_lines(arguments, cases, ["rejected .*" if comment is None else accepted_line(comment) for comment in comments])
 
-    def check_errors(self, words, rows, form=rejected_line):
-        """Checks that the program rejects each case with the error of its row. `form` makes the expected line from the error's name."""
-        self.check_lines(words, [case for case, _ in rows], [form(name) for _, name in rows])
+    def check_errors(self, arguments, rows, expected_line=rejected_line):
+        """Checks that the program rejects each case with the error of its row. `expected_line` returns the expected line for the name of
+        an error."""
+        self.check_lines(arguments, [case for case, _ in rows], [expected_line(name) for _, name in rows])
 
-    def check_comments(self, words, form=rejected_line):
-        """Checks that the program, without the data, returns the trusted comment exactly if the comment signature is valid."""
+    def check_comments(self, arguments, expected_line=rejected_line):
+        """Checks that the program, which does not use the data, returns the trusted comment if and only if the comment signature is
+        valid. `expected_line` returns the expected line for the name of an error."""
         comment = PUBLISHED.signature.split(b"\n")[2].removeprefix(b"trusted comment: ")
-        self.check_errors(words, rejections(), lambda name: accepted_line(comment) if name == "SIGNATURE_REFUSED" else form(name))
+        self.check_errors(arguments, rejected_cases(), lambda name: accepted_line(comment) if name == "SIGNATURE_REFUSED"
+                          else expected_line(name))
 
-    def check_fields(self, words, form):
-        """Checks the key IDs and legacy flags that the program reads before it verifies. `form` makes the expected line from `Fields`."""
+    def check_fields(self, arguments, expected_line):
+        """Checks the key IDs and legacy flags that the program reads before it verifies. `expected_line` returns the expected line for
+        `Fields`."""
         rows = expected_fields()
-        self.checks.check(len(rows) > 20 and {fields.is_legacy for fields in rows} == {True, False}, f"only {len(rows)} cases are read")
-        self.check_lines(words, [fields.case for fields in rows], [form(fields) for fields in rows])
+        self.checks.check(len(rows) > 20 and {fields.is_legacy for fields in rows} == {True, False},
+                          f"there are {len(rows)} cases with fields, expected more than 20")
+        self.check_lines(arguments, [fields.case for fields in rows], [expected_line(fields) for fields in rows])
 
-    def check_lists(self, minisign, boolean=str, form=str):
+    def check_lists(self, minisign, spell_boolean=str, spell_error=str):
         """Checks how the program verifies files with signed lists. `verify_listed` verifies the file of each case with each function of the
-        package, and with a hash of the program; `entries` prints the entries of each list. `boolean` and `form` spell the booleans and the
-        names of errors in the expected lines as the package prints them."""
+        package, also with the function that hashes outside the library. `entries` prints the entries of each list. `spell_boolean` and
+        `spell_error` return booleans and names of errors as the program prints them."""
         rows = list_rows(minisign)
-        self.checks.check(len(rows) >= 45, f"there are {len(rows)} cases of lists")
-        expected = [re.sub(r"(?<=rejected )\w+", lambda name: form(name[0]), line) for _, line in rows]
+        self.checks.check(len(rows) >= 45, f"there are {len(rows)} cases of lists, expected at least 45")
+        expected = [re.sub(r"(?<=rejected )\w+", lambda name: spell_error(name[0]), line) for _, line in rows]
         self.check_lines(["verify_listed"], [case for case, _ in rows], list(map(re.escape, expected)))
-        entries = re.sub("True|False", lambda word: boolean(word[0] == "True"), listed_entries())
+        entries = re.sub("True|False", lambda match: spell_boolean(match[0] == "True"), listed_entries())
         self.check_lines(["entries"], [rows[0][0], rows[-1][0]], [re.escape(entries), ""])
 
-    def check_bare_keys(self, *forms):
-        """Checks how the program reads a public key from its base64 line only. The inputs are a valid key, one that is too short, one that
-        is not base64, and two lines; `forms` has a regular expression for the output of each."""
+    def check_bare_keys(self, *patterns):
+        """Checks how the program reads a public key from a base64 line. The inputs are a valid key, one that is too short, one that is not
+        base64, and two lines. `patterns` has a regular expression for the output of each."""
         key = PUBLISHED_BASE64
-        for text, form in zip((key, key[:-1], key[:-1] + "!", f"x\n{key}"), forms):
+        for text, pattern in zip((key, key[:-1], key[:-1] + "!", f"x\n{key}"), patterns):
             output = self.run("bare", text)[1].decode()
-            is_right = re.fullmatch(form, output.strip(), re.S)
-            self.checks.check(is_right, f"{self.name}: the bare key {text!r}: printed {output}, expected {form}")
+            self.checks.check(re.fullmatch(pattern, output.strip(), re.S),
+                              f"{self.name}: the bare key {text!r}: printed {output}, expected {pattern}")
 
-    def check_vectors(self, words, form=rejected_line):
-        """Checks that the program rejects each of `vector_texts` with the right error, whatever implementation of Ed25519 it uses."""
-        rows = vector_texts()
-        self.checks.check(len(rows) == edges.COUNT + 3, f"there are {len(rows)} vectors")
-        self.check_errors(words, rows, form)
+    def check_vectors(self, arguments, expected_line=rejected_line):
+        """Checks that the program rejects each of `vector_files` with the right error, whatever implementation of Ed25519 it uses.
+        `expected_line` returns the expected line for the name of an error."""
+        rows = vector_files()
+        self.checks.check(len(rows) == ed25519_edge_cases.VECTOR_COUNT + 3, f"there are {len(rows)} vectors")
+        self.check_errors(arguments, rows, expected_line)
 
-    def check_libsodium(self, words):
-        """Checks that the program's Ed25519, which is libsodium's, accepts exactly those of `vectors` that are marked as accepted."""
+    def check_libsodium(self, arguments):
+        """Checks that the program, which uses the Ed25519 of libsodium, accepts exactly those of `vectors` that libsodium accepts."""
         cases, verdicts = zip(*vectors())
-        self.checks.check(len(cases) == edges.COUNT, f"there are {len(cases)} vectors")
-        self.check_lines(words, cases, ["true" if is_accepted else "false" for is_accepted in verdicts])
+        self.checks.check(len(cases) == ed25519_edge_cases.VECTOR_COUNT, f"there are {len(cases)} vectors")
+        self.check_lines(arguments, cases, ["true" if is_accepted else "false" for is_accepted in verdicts])
 
-    def check_growth(self, count, most, cases=()):
-        """Checks that the program's memory grows by at most `most` between the first tenth of `count` calls and the last call. The program
-        reports it in pages or bytes."""
+    def check_growth(self, count, max_growth, cases=()):
+        """Checks that the memory of the program grows by at most `max_growth` from the first tenth of `count` calls to the last call. The
+        program reports its memory in pages or bytes, as it likes."""
         status, output, errors = self.run("growth", str(count), cases=cases)
-        self.checks.check(status == 0 and int(output) <= most, f"{self.name}: memory grows by {output!r} in {count} calls: {errors[-500:]}")
+        self.checks.check(status == 0 and int(output) <= max_growth,
+                          f"{self.name}: memory grows by {output!r} in {count} calls, expected at most {max_growth}: {errors[-500:]}")
 
     def check_threads(self, cases=()):
         """Checks that concurrent threads get the same results as a single thread."""
@@ -469,16 +494,17 @@ class Program:
 
 # ---- Signing ----
 
-# The trusted comment and the password of the cases of signing.
-COMMENT, PASSWORD = "version:2\tfile:app \u00e9", "pass word"
-# Limits that a key file is encrypted with, and whether they are weak: they are if they give fewer rows than the lowest limits of
+# The trusted comment and the password of the cases for signing.
+COMMENT = "version:2\tfile:app \u00e9"
+PASSWORD = "pass word"
+# Limits with which a key file is encrypted, and true if they are weak: if they give fewer scrypt rows than the lowest limits of
 # `minisign -G`.
-LIMITS = [(Limits(0, 0, 2, 512), True), (Limits(1 << 24, 32768, 1 << 10, 1), True), (Limits(1 << 30, 524287, 1 << 13, 1), True),
+KEY_LIMITS = [(Limits(0, 0, 2, 512), True), (Limits(1 << 24, 32768, 1 << 10, 1), True), (Limits(1 << 30, 524287, 1 << 13, 1), True),
           (Limits((1 << 24) - 1, 1048576, 1 << 13, 4), True), (Limits(1 << 24, 524288, 1 << 14, 1), False),
           (Limits(1 << 25, 1048576, 1 << 15, 1), False)]
-# Limits that a package is asked to encrypt with, and whether it has to reject them as too weak.
-ENCRYPTED_WITH = [((524287, 1 << 24), True), ((524288, (1 << 24) - 1), True), ((1, 1), True), ((524288, 1 << 24), False)]
-# The directory of a key, the trusted comment and the password to sign with, and the expected error or None.
+# Limits with which a package is asked to encrypt, and true if it must reject them as too weak.
+ENCRYPTION_LIMITS = [((524287, 1 << 24), True), ((524288, (1 << 24) - 1), True), ((1, 1), True), ((524288, 1 << 24), False)]
+# The directory of a key, the trusted comment, the password as a list of arguments, and the expected error or None.
 SIGNING_CASES = [
     ("open", COMMENT, [], None), ("sealed", COMMENT, [PASSWORD], None), ("by-c", "", [], None), ("open", "a\nb", [], "BAD_COMMENT"),
     ("open", "a\rb", [], "UNREADABLE_COMMENT"), ("open", "a", [PASSWORD], "KEY_NOT_SEALED"), ("sealed", "a", [], "KEY_SEALED"),
@@ -488,77 +514,88 @@ SIGNING_CASES = [
 
 def sealed(text, limits):
     """Encrypts the content of an unencrypted secret key file with PASSWORD and these limits."""
-    return text_of(texts.sealed(record_of(text), PASSWORD.encode(), limits))
+    return text_of(texts.seal_record(record_of(text), PASSWORD.encode(), limits))
 
 
-def check_signing(program, room, minisign, form=str, success="OK", takes_limits=True, decrypts=True):
+def check_signing(program, directory, minisign, spell_error=str, success="OK", takes_limits=True, decrypts=True):
     """Checks that a package's program and `c/minisign` can read each other's keys and signatures.
 
-    `make DIRECTORY [PASSWORD]` of the program writes a key pair, and `sign KEY DATA TO COMMENT [PASSWORD]` a signature. The program
-    prints `success`, or the error, which `form` makes from the error's name. `takes_limits` is false if a package encrypts only with the
-    default limits; then other limits are not tried. If `decrypts` is false, no encrypted key is tried, to save time."""
+    With the arguments `make DIRECTORY [PASSWORD]`, the program writes a key pair, and with `sign KEY DATA TO COMMENT [PASSWORD]` a
+    signature. It prints `success` or the error, as `spell_error` returns it. If `takes_limits` is false, the package encrypts only with
+    the default limits, so other limits are not tried. If `decrypts` is false, no encrypted key is tried, to save time."""
     checks, names = program.checks, ["open", "sealed" if decrypts else "other", "by-c"]
     for name in names:
-        os.makedirs(os.path.join(room, name))
-    data, sig = write(room, "data", b"some data\n" * 500), os.path.join(room, "sig")
-    output_of = lambda *words: program.run(*words)[1].decode().strip()
-    by_c = lambda *words: run([minisign, *words], room, data=f"{PASSWORD}\n".encode())
-    verified = lambda name: by_c("-V", "-H", "-Q", "-p", f"{name}/public", "-m", "data", "-x", "sig")
+        os.makedirs(os.path.join(directory, name))
+    data, sig = write(directory, "data", b"some data\n" * 500), os.path.join(directory, "sig")
+
+    def output_of(*arguments):
+        return program.run(*arguments)[1].decode().strip()
+
+    def by_c(*arguments):
+        return run([minisign, *arguments], directory, data=f"{PASSWORD}\n".encode())
+
+    def verified(name):
+        return by_c("-V", "-H", "-Q", "-p", f"{name}/public", "-m", "data", "-x", "sig")
+
     for name in names[:2]:
-        output = output_of("make", os.path.join(room, name), *([PASSWORD] if name == "sealed" else []))
+        output = output_of("make", os.path.join(directory, name), *([PASSWORD] if name == "sealed" else []))
         checks.check(output == success, f"making a key, {name}: {output!r}")
         by_c("-S", "-s", f"{name}/secret", "-m", "data", "-x", "sig", "-t", "t")
         result = verified(name)
         checks.check(result[:2] == (0, b"t\n"), f"c/minisign with the key {name}: {result}")
         by_c("-R", "-s", f"{name}/secret", "-p", f"{name}/recreated")
-        checks.check(read(room, name, "public") == read(room, name, "recreated"), f"c/minisign writes another public key for {name}")
-    records = [record_of(read(room, name, "public")) for name in names[:2]]
+        checks.check(read(directory, name, "public") == read(directory, name, "recreated"),
+                     f"c/minisign writes another public key for {name}")
+    records = [record_of(read(directory, name, "public")) for name in names[:2]]
     checks.check(all(records[0][at:at + 8] != records[1][at:at + 8] for at in (2, 10)), "two keys have one key ID, or are the same")
     by_c("-G", "-W", "-s", "by-c/secret", "-p", "by-c/public")
-    for name, comment, password, why in (row for row in SIGNING_CASES if row[0] in names):
+    for name, comment, password, error in (row for row in SIGNING_CASES if row[0] in names):
         os.remove(sig)
-        output, expected = output_of("sign", f"{room}/{name}/secret", data, sig, comment, *password), form(why) if why else success
+        output, expected = output_of("sign", f"{directory}/{name}/secret", data, sig, comment,
+                                     *password), spell_error(error) if error else success
         checks.check(output == expected, f"signing, {name}, {comment!r}: {output!r}, expected {expected}")
-        if why is None:
+        if error is None:
             result = verified(name)
             checks.check(result[:2] == (0, f"{comment}\n".encode()), f"c/minisign verifies a signature of {name}: {result}")
         else:
             checks.check(not os.path.exists(sig), f"signing, {name}, {comment!r}: a file was written")
-            write(room, "sig", b"")
-    # A key with a changed byte in its public key, whose signatures would reveal the secret. It has no checksum.
-    secret = read(room, "by-c", "secret")
-    damaged_key = write(room, "damaged", text_of(turned(record_of(secret), 100)[:126] + bytes(32)))
-    output = output_of("sign", damaged_key, data, f"{room}/none", "a")
-    checks.check("SIGNATURE_REFUSED" in output and not os.path.exists(f"{room}/none"), f"signing with a damaged key: {output}")
-    check_weak_limits(checks, output_of, room, secret, success if takes_limits else None)
+            write(directory, "sig", b"")
+    # A secret key without a checksum, with a changed byte in its public half. Its signatures would reveal the secret half.
+    secret = read(directory, "by-c", "secret")
+    damaged_key = write(directory, "damaged", text_of(flip_bit(record_of(secret), 100)[:126] + bytes(32)))
+    output = output_of("sign", damaged_key, data, f"{directory}/none", "a")
+    checks.check("SIGNATURE_REFUSED" in output and not os.path.exists(f"{directory}/none"), f"signing with a damaged key: {output}")
+    check_weak_limits(checks, output_of, directory, secret, success if takes_limits else None)
 
 
-def check_weak_limits(checks, output_of, room, secret, success):
-    """Checks that a program recognizes key files that are encrypted with weak limits: `strength KEY [PASSWORD]` prints `weak` or `strong`.
-    Checks also that it encrypts no key with weak limits: `encrypt OPERATIONS MEMORY` prints WEAK_LIMITS. `success` is None if the package
-    takes no limits."""
-    output = output_of("strength", write(room, "unsealed", secret))
+def check_weak_limits(checks, output_of, directory, secret, success):
+    """Checks that a program recognizes key files that are encrypted with weak limits: `strength KEY [PASSWORD]` must print `weak` or
+    `strong`. Also checks that it does not encrypt with weak limits: `encrypt OPERATIONS MEMORY` must print WEAK_LIMITS. If `success` is
+    None, the package takes no limits."""
+    output = output_of("strength", write(directory, "unsealed", secret))
     checks.check(output == "strong", f"a key that is not encrypted is {output}")
-    for limits, is_weak in LIMITS:
-        output, expected = output_of("strength", write(room, "weak", sealed(secret, limits)), PASSWORD), "weak" if is_weak else "strong"
+    for limits, is_weak in KEY_LIMITS:
+        output, expected = output_of("strength", write(directory, "weak", sealed(secret, limits)),
+                                     PASSWORD), "weak" if is_weak else "strong"
         checks.check(output == expected, f"a key that is encrypted with {limits} is {output}")
-    for limits, is_weak in ENCRYPTED_WITH if success else []:
+    for limits, is_weak in ENCRYPTION_LIMITS if success else []:
         output = output_of("encrypt", *map(str, limits))
         checks.check(output == ("WEAK_LIMITS" if is_weak else success), f"encrypting with {limits}: {output}")
 
 
-def check_key_ids(program, room, minisign):
-    """Checks that a package's program and `c/minisign` print key IDs as Debian's minisign does, also those with leading zeros.
-    `key_ids KEY` prints the key IDs of a secret key and of its public key, and the public key file, whose comment has the key ID."""
-    os.makedirs(room)
-    run([minisign, "-G", "-W", "-s", "secret", "-p", "public"], room)
-    record = record_of(read(room, "secret"))
+def check_key_ids(program, directory, minisign):
+    """Checks that a package's program and `c/minisign` print key IDs as Debian's minisign does, among them key IDs with leading zeros. With
+    the arguments `key_ids KEY`, the program prints the key IDs of a secret key and of its public key, and the public key file, whose
+    comment contains the key ID."""
+    os.makedirs(directory)
+    run([minisign, "-G", "-W", "-s", "secret", "-p", "public"], directory)
+    record = record_of(read(directory, "secret"))
     for number in SHORT_KEY_IDS:
-        key = write(room, "short", text_of(record[:54] + number.to_bytes(8, "little") + record[62:126] + bytes(32)))
+        key = write(directory, "short", text_of(record[:54] + number.to_bytes(8, "little") + record[62:126] + bytes(32)))
         public_keys = []
         for name, path in ((needs.minisign(), "by-debian"), (minisign, "by-c")):
-            run([name, "-R", "-f", "-s", key, "-p", path], room)
-            public_keys.append(read(room, path).decode())
+            run([name, "-R", "-f", "-s", key, "-p", path], directory)
+            public_keys.append(read(directory, path).decode())
         key_id = f"{number:X}"
         program.checks.same(public_keys[0].split("\n")[0], f"untrusted comment: minisign public key {key_id}", "Debian's minisign")
         program.checks.same(public_keys[1], public_keys[0], f"the public key {key_id} of c/minisign")
@@ -566,52 +603,58 @@ def check_key_ids(program, room, minisign):
         program.checks.same(output, f"{key_id} {key_id}\n{public_keys[0]}", f"{program.name}, the key {key_id}")
 
 
-# Runs a program with a umask, and with files of at most 512 bytes: a write beyond this size fails, as on a full disk.
+# A shell script that runs a program with a umask and a file size limit of 512 bytes. Writing more fails, as on a full disk.
 LIMITED_SHELL = 'trap "" XFSZ; umask "$0"; ulimit -f 1; exec "$@"'
-KEY_TEXT = "the text of a key\n" * 20
+KEY_FILE_CONTENT = "the text of a key\n" * 20
 
 
-def check_new_key_files(program, room, success="OK"):
-    """Checks that `write FILE TEXT` of a program writes a new key file that only its owner can read, replaces no file, syncs the file and
-    its directory, and leaves no file after an error. It prints `success` or the error."""
-    os.makedirs(room)
-    checks, path = program.checks, os.path.join(room, "new.key")
-    files = lambda: {name: os.path.islink(os.path.join(room, name)) or read(room, name) for name in os.listdir(room)}
+def check_new_key_files(program, directory, success="OK"):
+    """Checks that a program with the arguments `write FILE TEXT` creates a key file that only its owner can read, does not replace a file,
+    syncs the file and its directory, and leaves no file after an error. It prints `success` or the error."""
+    os.makedirs(directory)
+    checks, path = program.checks, os.path.join(directory, "new.key")
 
-    def write_key(what, succeeds, *before, text=KEY_TEXT, mask="022"):
+    def files():
+        """Returns the content of each file in the directory, or True for a link."""
+        return {name: os.path.islink(os.path.join(directory, name)) or read(directory, name) for name in os.listdir(directory)}
+
+    def write_key(what, succeeds, *before, text=KEY_FILE_CONTENT, mask="022"):
         limited = Program(checks, *before, "sh", "-c", LIMITED_SHELL, mask, *program.command, **program.environment)
         status, output, errors = limited.run("write", path, text)
-        is_right = (output.decode().strip() == success) == succeeds and status == 0
-        checks.check(is_right, f"{program.name}, {what}: {status}, {output}, {errors[-500:]}")
+        is_expected = (output.decode().strip() == success) == succeeds and status == 0
+        checks.check(is_expected, f"{program.name}, {what}: status {status}, {output}, {errors[-500:]}, "
+                                  f"expected {'success' if succeeds else 'an error'}")
 
     for mask in ("777", "277", "022", "000"):
         write_key(f"a new key under the umask {mask}", True, mask=mask)
         mode = os.stat(path).st_mode & 0o7777
-        checks.check((mode, files()) == (0o600, {"new.key": KEY_TEXT.encode()}), f"{program.name}, the umask {mask}: {mode:o}, {files()}")
+        checks.check((mode, files()) == (0o600, {"new.key": KEY_FILE_CONTENT.encode()}),
+                     f"{program.name}, the umask {mask}: {mode:o}, {files()}")
         write_key("a key at an existing path", False, text="other")
-        checks.check(files() == {"new.key": KEY_TEXT.encode()}, f"{program.name}, a key at an existing path: {files()}")
+        checks.check(files() == {"new.key": KEY_FILE_CONTENT.encode()}, f"{program.name}, a key at an existing path: {files()}")
         os.remove(path)
     os.symlink("elsewhere", path)
     write_key("a key at a dangling link", False)
     checks.check(files() == {"new.key": True}, f"{program.name}, a key at a dangling link: {files()}")
     os.remove(path)
-    write_key("a key on a full disk", False, text=KEY_TEXT * 2)
+    write_key("a key on a full disk", False, text=KEY_FILE_CONTENT * 2)
     checks.check(files() == {}, f"{program.name}, a key on a full disk leaves {files()}")
     strace = needs.program("strace", "strace")
     if run([strace, "true"])[0] != 0:
-        print(f"skipped: whether {program.name} syncs a new key: strace is not allowed to trace here")
+        print(f"skipped the fsync checks of {program.name}: strace is not allowed to trace here")
         return
-    trace = os.path.join(os.path.dirname(room), os.path.basename(room) + "-trace")
+    trace = os.path.join(os.path.dirname(directory), os.path.basename(directory) + "-trace")
     write_key("a new key under strace", True, strace, "-f", "-qq", "-y", "-e", "trace=fsync,openat", "-o", trace)
     calls = read(trace).decode()
     synced = re.findall(r"fsync\(\d+<(.*?)>\) += 0", calls)
-    checks.check(synced == [path, room], f"{program.name}, a new key: synced {synced}, expected {[path, room]}")
+    checks.check(synced == [path, directory], f"{program.name}, a new key: synced {synced}, expected {[path, directory]}")
     created = re.findall(rf'"{path}", ([A-Z_|]+), (\d+)', calls)
     checks.check([mode for flags, mode in created if "O_EXCL" in flags] == ["0600"], f"{program.name}, a new key is created with {created}")
-    for synced, error in ((path, "EIO"), (path, "EINVAL"), (room, "EIO"), (room, "EINVAL")):
+    # EINVAL for the directory is not an error, because some file systems cannot sync directories.
+    for synced, error in ((path, "EIO"), (path, "EINVAL"), (directory, "EIO"), (directory, "EINVAL")):
         with contextlib.suppress(FileNotFoundError):
             os.remove(path)
-        succeeds = (synced, error) == (room, "EINVAL")
+        succeeds = (synced, error) == (directory, "EINVAL")
         inject = ["-P", synced, "-e", f"inject=fsync:error={error}"]
         write_key(f"fsync of {synced} fails with {error}", succeeds, strace, "-f", "-qq", *inject, "-o", trace)
         checks.check(os.path.exists(path) == succeeds, f"{program.name}, fsync of {synced} fails with {error}: {files()}")
@@ -620,42 +663,42 @@ def check_new_key_files(program, room, success="OK"):
 # ---- Mutants ----
 
 
-class FirstFailure(Checks):
-    """Stops at the first check that fails."""
+class StopAtFailure(Checks):
+    """Checks that raise a `Failure` at the first one that fails."""
 
     def check(self, holds, *what):
         expect(holds, *what)
         return True
 
 
-def is_detected(package, room, run_checks, word, mutant=None, inside=""):
-    """Returns True if a check fails with a copy of a package that has this mutant, or no mutant."""
-    with tempfile.TemporaryDirectory(prefix="mutant-", dir=room) as directory:
-        changed = shutil.copytree(package, os.path.join(directory, "package", os.path.basename(package)))
+def is_detected(package, directory, run_checks, case, mutant=None, source_directory=""):
+    """Returns true if a check fails with a copy of a package that has this mutant, or no mutant."""
+    with tempfile.TemporaryDirectory(prefix="mutant-", dir=directory) as scratch:
+        copy = shutil.copytree(package, os.path.join(scratch, "package", os.path.basename(package)))
         if mutant:
-            mutants.apply(mutant, changed, inside)
+            mutants.apply(mutant, copy, source_directory)
         try:
-            run_checks(FirstFailure(), changed, directory, word)
+            run_checks(StopAtFailure(), copy, scratch, case)
         except (Failure, OSError):
             return True
     return False
 
 
-# How often a case that searches memory for secrets is run for a mutant. One run is not enough: malloc may overwrite a secret that the
-# mutant leaves before the search reaches it.
+# The maximum number of runs of a case that searches memory for secrets. A single run may miss a secret, because malloc may overwrite it
+# before the search reaches it.
 SEARCHES = 5
 
 
-def check_mutants(checks, package, inside, package_mutants, room, run_checks, searching=()):
-    """Checks that `run_checks` fails for each mutant of a package, and passes for a copy without a mutant. The package is a copy of the
-    repository's directory `inside`. `run_checks` takes the checks, the changed copy, an empty directory and the case that must fail. The
-    cases in `searching` search memory, and run up to SEARCHES times."""
-    for word in sorted({mutant.case for mutant in package_mutants}):
-        checks.check(not is_detected(package, room, run_checks, word), f"{word}: fails for a copy without a mutant")
+def check_mutants(checks, package, source_directory, package_mutants, directory, run_checks, searching=()):
+    """Checks that `run_checks` fails for each mutant of a package, and passes for a copy without a mutant. The package is a copy of
+    `source_directory`, a directory of the repository. `run_checks` gets the checks, the changed copy, an empty directory and the case
+    that must fail. The cases in `searching` search memory, and are run up to SEARCHES times."""
+    for case in sorted({mutant.case for mutant in package_mutants}):
+        checks.check(not is_detected(package, directory, run_checks, case), f"{case}: fails for a copy without a mutant")
     for mutant in package_mutants:
         try:
             tries = SEARCHES if mutant.case in searching else 1
-            is_failing = any(is_detected(package, room, run_checks, mutant.case, mutant, inside) for _ in range(tries))
+            is_failing = any(is_detected(package, directory, run_checks, mutant.case, mutant, source_directory) for _ in range(tries))
             checks.check(is_failing, f"{mutant.case} does not detect the mutant {mutant.name}")
         except Failure as why:
             checks.check(False, str(why))
@@ -676,18 +719,18 @@ def error_texts():
     return dict(re.findall(r'\[MINISIGN_(\w+)\] = "(.*)",', read(TOP, "tests", "c", "error_texts.c").decode()))
 
 
-def numbers_in_c(room, includes, rows):
-    """Returns the values of C expressions by name. A row has a name and an expression, and the headers are those that it needs."""
+def c_values(directory, includes, rows):
+    """Returns the values of C expressions by name. `rows` has pairs of a name and an expression, and `includes` the headers to include."""
     lines = [f'printf("{name} %lld\\n", (long long) {expression});\n' for name, expression in rows]
     text = "".join(f"#include {header}\n" for header in ("<stddef.h>", "<stdint.h>", "<stdio.h>", *includes))
-    path = write(room, "numbers.c", f"{text}int main(void) {{\n{''.join(lines)}return 0; }}\n".encode())
-    words = [f"-I{os.path.join(TOP, directory)}" for directory in ("include", "c")]
-    run_or_fail([needs.c_compiler(), *words, "-o", f"{room}/numbers", path])
-    return {name: int(number) for name, _, number in (line.rpartition(" ") for line in run_or_fail([f"{room}/numbers"]).splitlines())}
+    path = write(directory, "numbers.c", f"{text}int main(void) {{\n{''.join(lines)}return 0; }}\n".encode())
+    arguments = [f"-I{os.path.join(TOP, directory)}" for directory in ("include", "c")]
+    run_or_fail([needs.c_compiler(), *arguments, "-o", f"{directory}/numbers", path])
+    return {name: int(number) for name, _, number in (line.rpartition(" ") for line in run_or_fail([f"{directory}/numbers"]).splitlines())}
 
 
-def layout(room):
+def struct_layout(directory):
     """Returns the sizes of the structs of the headers by `name`, and the offsets of their fields by `name.field`, in bytes."""
     rows = [(name, f"sizeof({name})") for name in HEADERS.structs]
     rows += [(f"{name}.{field.name}", f"offsetof({name}, {field.name})") for name, fields in HEADERS.structs.items() for field in fields]
-    return numbers_in_c(room, ['"minisign_install.h"', '"minisign_list.h"'], rows)
+    return c_values(directory, ['"minisign_install.h"', '"minisign_list.h"'], rows)

@@ -1,11 +1,15 @@
 /*
- * Checks the allocation functions of c/library/allocation.c, which the proved calls use. Each block is complete and
- * aligned, and is cleared when it is freed or has grown into a new block. A failed allocation leaves the old block
- * unchanged. Only large blocks are mapped in advance with madvise, which may fail. Then it makes, opens and signs with
- * a key, which frees and clears all memory.
+ * Checks the allocation functions in c/library/allocation.c, with which the proved functions allocate memory:
  *
- * Linked with -Wl,--wrap=malloc -Wl,--wrap=realloc -Wl,--wrap=free -Wl,--wrap=madvise. With -DMINISIGN_MALLOC_ALONE the
- * functions are those of c/library/portable/allocation.c, which call nothing but malloc and free.
+ *   - a block has the requested length and alignment;
+ *   - a block is cleared before it is freed, also if it was moved to a larger block;
+ *   - a failed allocation leaves the old block unchanged;
+ *   - only large blocks are mapped in advance with madvise, and the functions work if madvise fails.
+ *
+ * Also checks that creating a key, opening it and signing with it frees and clears all memory.
+ *
+ * Linked with -Wl,--wrap=malloc -Wl,--wrap=realloc -Wl,--wrap=free -Wl,--wrap=madvise. With -DMINISIGN_MALLOC_ALONE, the
+ * functions in c/library/portable/allocation.c are checked instead, which call only malloc and free.
  */
 #ifdef MINISIGN_MALLOC_ALONE
 #include "../../c/library/portable/allocation.c"
@@ -19,8 +23,8 @@
 #define HINTS(len) ((len) >= LARGE_BYTES ? 2 : 0)
 #endif
 
-/* The bytes of a key's rows that make a large block, and the factor between tested alignments. With -DIS_EMULATED
- * the least large block, and fewer alignments. */
+/* The size of the rows of a key in a large block, and the factor between tested alignments. With -DIS_EMULATED, this is
+ * the smallest large block, and fewer alignments are tested. */
 #define LARGE_ROWS (IS_EMULATED ? LARGE_BYTES : (size_t) 16 << 20)
 #define NEXT_ALIGNMENT (IS_EMULATED ? 64 : 4)
 
@@ -29,7 +33,7 @@
 
 #include "texts_for_tests.h"
 
-/* Returns true if a block is zero except for one heading. */
+/* Returns true if a block consists of zeros, except for one heading of an allocation. */
 static int is_cleared(const char *block, size_t len)
 {
     size_t first = 0, front = len >= LARGE_BYTES ? LARGE_FRONT_BYTES : sizeof(struct heading);
@@ -44,18 +48,18 @@ static int is_cleared(const char *block, size_t len)
     return first + front >= len || is_zeros(block + first + front, len - first - front);
 }
 
-/* Freed blocks that were not cleared, and all freed blocks. */
-static volatile unsigned uncleared, given_back;
+/* The number of blocks that were freed without having been cleared, and the number of all freed blocks. */
+static volatile unsigned uncleared, freed;
 
-#define LOOK_AT(block, len) (given_back++, uncleared += !is_cleared(block, len))
+#define LOOK_AT(block, len) (freed++, uncleared += !is_cleared(block, len))
 #include "counted_memory.h"
 
-/* The calls of madvise: range and advice of each, and how many there were. (They are volatile like the variables of
+/* The range and the advice of each call of madvise, and the number of calls. (They are volatile for the reason given in
  * counted_memory.h.) */
-static volatile struct { char *from; size_t len; int hint; } hinted[64];
+static volatile struct { char *from; size_t len; int hint; } madvise_calls[64];
 static volatile unsigned hints;
-/* What madvise does: it works, fails, does nothing and returns 0, or is slow for huge pages. */
-static volatile enum { WILLING, REFUSING, LYING, SLOW } system_is;
+/* What madvise does: it works, it fails, it does nothing but returns 0, or it is slow for huge pages. */
+static volatile enum { WORKS, FAILS, DOES_NOTHING, IS_SLOW } madvise_mode;
 
 static void check_block_of(int holds, const char *what, size_t len, size_t alignment)
 {
@@ -68,28 +72,28 @@ int __real_madvise(void *from, size_t len, int hint);
 
 int __wrap_madvise(void *from, size_t len, int hint)
 {
-    hinted[hints % 64].from = from;
-    hinted[hints % 64].len = len;
-    hinted[hints++ % 64].hint = hint;
-    if (system_is == SLOW && hint == MADV_HUGEPAGE) {
+    madvise_calls[hints % 64].from = from;
+    madvise_calls[hints % 64].len = len;
+    madvise_calls[hints++ % 64].hint = hint;
+    if (madvise_mode == IS_SLOW && hint == MADV_HUGEPAGE) {
         clock_t until = clock() + CLOCKS_PER_SEC / 20;
 
         while (clock() < until) {
         }
     }
     errno = EINVAL;
-    return system_is == REFUSING ? -1 : system_is == LYING ? 0 : __real_madvise(from, len, hint);
+    return madvise_mode == FAILS ? -1 : madvise_mode == DOES_NOTHING ? 0 : __real_madvise(from, len, hint);
 }
 
 #endif
 
-/* Returns true if this many blocks are allocated, and all freed blocks were cleared. */
+/* Returns true if this number of blocks is allocated, and all freed blocks were cleared. */
 static int is_held(long blocks)
 {
-    return held == blocks && uncleared == 0;
+    return allocated_blocks == blocks && uncleared == 0;
 }
 
-/* A pattern without zeros, whose neighbouring bytes differ, and that repeats after PERIOD bytes. */
+/* A pattern without zeros that repeats after PERIOD bytes. Adjacent bytes differ. */
 enum { PERIOD = 251 };
 
 static void paint(char *block, size_t len)
@@ -111,7 +115,7 @@ static int is_painted(const char *block, size_t len)
                          : memcmp(block, front, PERIOD) == 0 && memcmp(block, block + PERIOD, len - PERIOD) == 0;
 }
 
-/* Allocates a block, fills it, and resizes it to another length, with failing allocations in between. */
+/* Allocates a block, fills it, and resizes it, with failing allocations in between. */
 static void check_block(size_t len, size_t alignment, size_t new_len)
 {
     struct grant block, resized;
@@ -125,8 +129,8 @@ static void check_block(size_t len, size_t alignment, size_t new_len)
     check_block_of(hints == HINTS(len), "the number of madvise calls", len, alignment);
 #ifndef MINISIGN_MALLOC_ALONE
     for (unsigned at = 0; at < hints; at++) {
-        check_block_of(hinted[at].hint == (at == 0 ? MADV_HUGEPAGE : MADV_POPULATE_WRITE) && hinted[at].from == block.block
-                  && hinted[at].len <= len && hinted[at].len + 65536 > len, "the arguments of madvise", len, alignment);
+        check_block_of(madvise_calls[at].hint == (at == 0 ? MADV_HUGEPAGE : MADV_POPULATE_WRITE) && madvise_calls[at].from == block.block
+                  && madvise_calls[at].len <= len && madvise_calls[at].len + 65536 > len, "the arguments of madvise", len, alignment);
     }
 #endif
     paint(block.block, len);
@@ -135,12 +139,12 @@ static void check_block(size_t len, size_t alignment, size_t new_len)
                    "resizing", new_len, alignment);
     check_block_of(is_held(1), "the old block was not freed or cleared", len, alignment);
     paint(resized.block, new_len);
-    greatest = 0;
+    max_request = 0;
     block = rattle_realloc(resized.block, new_len, new_len + 1, alignment);
     check_block_of(block.is_granted == 0 && block.block != NULL, "resizing without memory", new_len, alignment);
     block = rattle_alloc(len, alignment);
     check_block_of(block.is_granted == 0 && block.block != NULL, "allocating without memory", len, alignment);
-    greatest = SIZE_MAX;
+    max_request = SIZE_MAX;
     check_block_of(is_held(1) && is_painted(resized.block, new_len), "the block after a failed resize", new_len, alignment);
     errno = 77;
     rattle_dealloc(resized.block);
@@ -155,14 +159,14 @@ static void wait_for_pages(void *block)
 {
     struct pages *pages = pages_of(block);
 
-    if (pages->is_begun) {
+    if (pages->has_thread) {
         pthread_join(pages->thread, NULL);
-        pages->is_begun = 0;
+        pages->has_thread = 0;
     }
 }
 
-/* Allocates a block of several parts. All of it is mapped, from begin to end. After a part was slow, the next part
- * uses small pages. */
+/* Allocates a block that is mapped in several parts. All of it must be mapped, from the beginning to the end. If mapping
+ * a part with huge pages was slow, the next part must use small pages. */
 static void check_parts(void)
 {
     size_t len = 3 * PART_BYTES + 12345, at = 0;
@@ -173,11 +177,11 @@ static void check_parts(void)
     wait_for_pages(grant.block);
     check_block_of(grant.is_granted == 1 && hints == 8, "the madvise calls for several parts", len, 1);
     for (unsigned part = 0; part < hints; part += 2) {
-        check_block_of(hinted[part].from == (char *) grant.block + at && hinted[part + 1].from == hinted[part].from
-                  && hinted[part].len == hinted[part + 1].len && hinted[part + 1].hint == MADV_POPULATE_WRITE, "a part", len, 1);
-        check_block_of(system_is != SLOW || hinted[part].hint == (part == 2 ? MADV_HUGEPAGE : MADV_NOHUGEPAGE), "a slow part", len, 1);
-        check_block_of(part > 2 || hinted[part].hint == (part == 2 ? MADV_HUGEPAGE : MADV_NOHUGEPAGE), "the first parts", len, 1);
-        at += hinted[part].len;
+        check_block_of(madvise_calls[part].from == (char *) grant.block + at && madvise_calls[part + 1].from == madvise_calls[part].from
+                  && madvise_calls[part].len == madvise_calls[part + 1].len && madvise_calls[part + 1].hint == MADV_POPULATE_WRITE, "a part", len, 1);
+        check_block_of(madvise_mode != IS_SLOW || madvise_calls[part].hint == (part == 2 ? MADV_HUGEPAGE : MADV_NOHUGEPAGE), "a slow part", len, 1);
+        check_block_of(part > 2 || madvise_calls[part].hint == (part == 2 ? MADV_HUGEPAGE : MADV_NOHUGEPAGE), "the first parts", len, 1);
+        at += madvise_calls[part].len;
     }
     check_block_of(at <= len && at + 65536 > len, "the length of all parts", len, 1);
     paint(grant.block, len);
@@ -206,13 +210,13 @@ static void check_blocks(void)
         }
     }
 #ifndef MINISIGN_MALLOC_ALONE
-    system_is = REFUSING;
+    madvise_mode = FAILS;
     check_block(LARGE_BYTES, 8, 2 * LARGE_BYTES + 12345);
-    system_is = LYING;
+    madvise_mode = DOES_NOTHING;
     check_block(LARGE_BYTES, 8, 2 * LARGE_BYTES + 12345);
-    system_is = SLOW;
+    madvise_mode = IS_SLOW;
     check_parts();
-    system_is = WILLING;
+    madvise_mode = WORKS;
     check_parts();
 #endif
 }
@@ -230,7 +234,7 @@ static void check_lengths(void)
     }
 }
 
-/* Makes, reads, opens and signs with a key that is encrypted with this much memory of scrypt. */
+/* Writes, reads, opens and signs with a key. It is encrypted with scrypt, which uses `memory` bytes. */
 static void check_library(size_t memory)
 {
     static const char password[] = "a long password";
@@ -241,20 +245,20 @@ static void check_library(size_t memory)
     enum minisign_error error;
 
     memset(secret_key, 0x5a, sizeof secret_key);
-    given_back = uncleared = 0;
+    freed = uncleared = 0;
     take(bytes_of("12345678"), secret_key, &key);
     error = seal(&key, password, memory, 1, text, sizeof text, &len);
-    check_block_of(error == MINISIGN_OK && given_back > 0 && is_held(0), "making a key", memory, 1);
-    given_back = 0;
+    check_block_of(error == MINISIGN_OK && freed > 0 && is_held(0), "making a key", memory, 1);
+    freed = 0;
     error = minisign_read_secret_key(text, len, &unopened);
-    check_block_of(error == MINISIGN_OK && given_back == 0 && is_held(0), "reading it", memory, 1);
+    check_block_of(error == MINISIGN_OK && freed == 0 && is_held(0), "reading it", memory, 1);
     error = minisign_open_sealed_key(&unopened, bytes_of(password), strlen(password), MINISIGN_KEEP_EVERY_ROW, MINISIGN_USUAL_ROWS,
                                      &opened);
-    check_block_of(error == MINISIGN_OK && given_back > 0 && is_held(0), "opening it", memory, 1);
+    check_block_of(error == MINISIGN_OK && freed > 0 && is_held(0), "opening it", memory, 1);
     check_block_of(memcmp(&opened, &key, sizeof key) == 0, "another key was opened", memory, 1);
-    given_back = 0;
+    freed = 0;
     error = make_signed_text(&opened, digit, digit, bytes_of("c"), 1, bytes_of("c"), 1, signed_text, sizeof signed_text, &len);
-    check_block_of(error == MINISIGN_OK && given_back > 0 && is_held(0), "signing", memory, 1);
+    check_block_of(error == MINISIGN_OK && freed > 0 && is_held(0), "signing", memory, 1);
 }
 
 int main(void)

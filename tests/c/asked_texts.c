@@ -1,7 +1,7 @@
 /*
- * Parses and verifies keys and signatures that Minisign made (most by 0.11, of `hello` and a line feed), and compares
- * the error for each invalid text. The expected bytes were decoded by Python's base64, the digests are those of its
- * hashlib. Parsing and verifying allocates nothing.
+ * Checks parsing and verifying with key and signature files that Minisign wrote, mostly for the data `hello` and a line
+ * feed, and the error for each invalid file. The expected bytes were decoded with Python's base64, and the expected
+ * digests computed with its hashlib. Parsing and verifying must not allocate memory.
  *
  * Linked with -Wl,--wrap=malloc -Wl,--wrap=realloc -Wl,--wrap=free.
  */
@@ -21,7 +21,7 @@ static const char LEGACY[] =
 static const char DIGEST[] =
     "f60ce482e5cc1229f39d71313171a8d9f4ca3a87d066bf4b205effb528192a75f14f3271e2c1a90e1de53f275b4d4793"
     "eef2f5e31ea90d2ce29d2e481c36435f";
-/* The Blake2b digests, of 32 bytes, of PREHASHED and of LEGACY. */
+/* The 32-byte BLAKE2b digests of the texts PREHASHED and LEGACY. */
 static const char TEXT_DIGEST[] = "3d5e0455569719fc7b08d2328d4738eb12c3fa4ec4b6a07cf554ac51be495855";
 static const char LEGACY_TEXT_DIGEST[] = "add91b152541ffc3ce0fd091e45f1029635c407b50cbf487ff393cddc5284215";
 static const char PUBLIC_KEY[] = "7575ae18298f2a4026f58a9bc4f0755e23d3616e7c04c2b1440b8e10db4adcad";
@@ -34,20 +34,20 @@ static const char COMMENT_SIGNATURE[] =
 static const char KEY_ID[] = "b8a0ef8e4c6be621";
 #define HELLO_COMMENT "a trusted comment"
 
-/* The secret and the key ID of SECRET_KEY of texts_for_tests.h, which has no checksum. */
+/* The secret and the key ID of SECRET_KEY in texts_for_tests.h. This key has no checksum. */
 static const char SECRET[] =
     "f9b70e35e2d0769774b4015e01b61a56ad61f203e22db1e862b23b11f0044e83e57c360f364c01163e9721a9b9611456"
     "b2eff9108a88977e738b0f53a6c938bd";
 static const char SECRET_KEY_ID[] = "bbcd807aefe53eab";
 
-/* The same secret key with another key derivation, limits, key ID and checksum. */
+/* The same secret key in a file with another key derivation, other limits, another key ID, and another checksum. */
 #define KEY_TEXT(derivation, limits, key_id, checksum) \
     "untrusted comment: x\nRW" derivation "IyAAAAAAAAAAAAAAAAAAAAAAAAAAAAAAAAAAAAAAAAAA" limits key_id \
     "5tw414tB2l3S0AV4BthpWrWHyA+ItsehisjsR8AROg+V8Ng82TAEWPpchqblhFFay7/kQioiXfnOLD1OmyTi9A" checksum \
     "AAAAAAAAAAAAAAAAAAAAAAAAAAAAAAAAAAAAAAAAA=\n"
 #define NO_LIMITS "AAAAAAAAAAAAAAAAAAAAAA"
 
-/* Secret keys: with the key ID of HELLO_KEY; with a wrong checksum; encrypted; with an unknown key derivation. */
+/* Secret key files: with the key ID of HELLO_KEY, with a wrong checksum, encrypted, and with an unknown key derivation. */
 static const char KEY_OF_SIGNATURE[] = KEY_TEXT("QAAE", NO_LIMITS, "uKDvjkxr5iH", "A");
 static const char CORRUPTED_KEY[] = KEY_TEXT("QAAE", NO_LIMITS, "u82Aeu/lPqv", "Q");
 static const char SEALED_KEY[] = KEY_TEXT("RTY0", "AAABAAAAAAAAAAAAIAAAAA", "u82Aeu/lPqv", "A");
@@ -58,7 +58,7 @@ static minisign_unopened_key unopened;
 static minisign_secret_key signing;
 static uint8_t message[64 + sizeof HELLO_COMMENT - 1];
 
-/* Parses the key and the signature, and asks. Returns the first error. */
+/* Parses the key and the signature, and calls minisign_ask. Returns the first error. */
 static enum minisign_error ask(minisign_state *state, const char *key, const char *text, uint32_t allow_legacy)
 {
     minisign_public_key pk;
@@ -79,21 +79,22 @@ static void parses_signatures(void)
     static const char cut[] = "untrusted comment: x\r\n" OTHER_RECORD "\ntrusted comment: \t \xc3\xa9 t \r\nAAAA";
     minisign_signature prehashed = signature_of(PREHASHED), legacy = signature_of(LEGACY), short_one = signature_of(cut);
 
-    CHECK(is_hex(prehashed.key_id, KEY_ID) && memcmp(prehashed.algorithm, "ED", 2) == 0);
-    CHECK(is_hex(prehashed.signature, SIGNATURE_BYTES) && is_hex(prehashed.comment_signature, COMMENT_SIGNATURE));
+    CHECK(equals_hex(prehashed.key_id, KEY_ID) && memcmp(prehashed.algorithm, "ED", 2) == 0);
+    CHECK(equals_hex(prehashed.signature, SIGNATURE_BYTES) && equals_hex(prehashed.comment_signature, COMMENT_SIGNATURE));
     CHECK(prehashed.legacy == 0 && prehashed.whole == 1 && prehashed.reserved == 0);
     CHECK(prehashed.comment_len == sizeof HELLO_COMMENT - 1 && PREHASHED + prehashed.comment_offset == strstr(PREHASHED, HELLO_COMMENT));
-    CHECK(is_hex(prehashed.text_digest, TEXT_DIGEST) && prehashed.mark != 0);
-    CHECK(is_hex(legacy.key_id, KEY_ID) && memcmp(legacy.algorithm, "Ed", 2) == 0);
+    CHECK(equals_hex(prehashed.text_digest, TEXT_DIGEST) && prehashed.mark != 0);
+    CHECK(equals_hex(legacy.key_id, KEY_ID) && memcmp(legacy.algorithm, "Ed", 2) == 0);
     CHECK(legacy.legacy == 1 && legacy.whole == 1 && legacy.reserved == 0 && legacy.mark == prehashed.mark);
     CHECK(legacy.comment_len == strlen("legacy one") && LEGACY + legacy.comment_offset == strstr(LEGACY, "legacy one"));
-    CHECK(is_hex(legacy.text_digest, LEGACY_TEXT_DIGEST));
-    /* White space around a comment is not part of it, and a comment signature may be too short. */
-    CHECK(is_hex(short_one.signature, SIGNATURE_BYTES) && is_zeros(short_one.comment_signature, 64));
+    CHECK(equals_hex(legacy.text_digest, LEGACY_TEXT_DIGEST));
+    /* White space around a comment is not part of it. A comment signature that is too short can be parsed. */
+    CHECK(equals_hex(short_one.signature, SIGNATURE_BYTES) && is_zeros(short_one.comment_signature, 64));
     CHECK(short_one.whole == 0 && short_one.comment_len == 4 && cut + short_one.comment_offset == strstr(cut, "\xc3\xa9 t"));
 }
 
-/* The questions have the fields of the key and the signature, and a good answer to both is needed. */
+/* The questions for Ed25519 contain the fields of the key and of the signature. The verdict is OK only if both signatures are
+ * valid. */
 static void asks_and_verifies(void)
 {
     const minisign_public_key key = key_of(HELLO_KEY);
@@ -104,21 +105,21 @@ static void asks_and_verifies(void)
     CHECK(minisign_ask(&state, &key, &none, NULL, 0, 0, &questions, NULL, 0) == MINISIGN_SIGNATURE_NOT_READ);
     CHECK(minisign_ask(&state, &key, &legacy, NULL, 0, 0, &questions, NULL, 0) == MINISIGN_OTHER_SIGNATURE_TEXT);
     CHECK(ask(&state, HELLO_KEY, PREHASHED, 0) == MINISIGN_OK);
-    CHECK(is_hex(questions.public_key, PUBLIC_KEY) && is_zeros(questions.digest, 64));
-    CHECK(is_hex(questions.signature, SIGNATURE_BYTES) && is_hex(questions.comment_signature, COMMENT_SIGNATURE));
+    CHECK(equals_hex(questions.public_key, PUBLIC_KEY) && is_zeros(questions.digest, 64));
+    CHECK(equals_hex(questions.signature, SIGNATURE_BYTES) && equals_hex(questions.comment_signature, COMMENT_SIGNATURE));
     CHECK(questions.message_len == sizeof message && questions.legacy == 0 && questions.reserved == 0);
     CHECK(questions.comment_offset == 64 && questions.comment_len == sizeof HELLO_COMMENT - 1);
-    CHECK(is_hex(message, SIGNATURE_BYTES) && memcmp(message + 64, HELLO_COMMENT, sizeof HELLO_COMMENT - 1) == 0);
+    CHECK(equals_hex(message, SIGNATURE_BYTES) && memcmp(message + 64, HELLO_COMMENT, sizeof HELLO_COMMENT - 1) == 0);
     CHECK(minisign_comment_verdict(&state, MINISIGN_ANSWER_YES) == MINISIGN_OK);
     CHECK(minisign_update(&state, bytes_of("hel"), 3) == MINISIGN_OK);
     CHECK(minisign_update(&state, bytes_of("lo\n"), 3) == MINISIGN_OK);
-    CHECK(minisign_digest(&state, questions.digest) == MINISIGN_OK && is_hex(questions.digest, DIGEST));
+    CHECK(minisign_digest(&state, questions.digest) == MINISIGN_OK && equals_hex(questions.digest, DIGEST));
     CHECK(minisign_verdict(&state, MINISIGN_ANSWER_YES, MINISIGN_ANSWER_YES) == MINISIGN_OK);
     minisign_init(&state);
     CHECK(ask(&state, HELLO_KEY, LEGACY, 1) == MINISIGN_OK && questions.legacy == 1);
 }
 
-/* The error for each invalid public key and signature. The state is unchanged. */
+/* Checks the error for each invalid public key file and signature file, and that the state is unchanged. */
 static void rejects_signature_texts(void)
 {
     static const struct {
@@ -154,18 +155,18 @@ static void rejects_signature_texts(void)
     }
 }
 
-/* Opening a secret key returns its secret and its key ID, from which the public key is made. */
+/* Opening a secret key returns its secret and its key ID, from which the public key can be written. */
 static void opens_secret_key(void)
 {
     minisign_public_key half;
 
     CHECK(read_and_open(SECRET_KEY, NULL, &unopened, &signing) == MINISIGN_OK);
-    CHECK(is_hex(signing.secret, SECRET) && is_hex(signing.key_id, SECRET_KEY_ID));
+    CHECK(equals_hex(signing.secret, SECRET) && equals_hex(signing.key_id, SECRET_KEY_ID));
     CHECK(minisign_public_key_of(&signing, &half) == MINISIGN_OK);
-    CHECK(is_hex(half.key, SECRET + 64) && is_hex(half.key_id, SECRET_KEY_ID));
+    CHECK(equals_hex(half.key, SECRET + 64) && equals_hex(half.key_id, SECRET_KEY_ID));
 }
 
-/* The error for each invalid secret key. Nothing is written. */
+/* Checks the error for each invalid secret key file, and that nothing is written. */
 static void rejects_secret_keys(void)
 {
     static const struct {
@@ -194,7 +195,7 @@ static void rejects_secret_keys(void)
     }
 }
 
-/* The two signatures and comments of a Minisign signature make the same file again. */
+/* Writing the two signatures and comments of one of Minisign's signature files gives the same file. */
 static void writes_signature(void)
 {
     static const char untrusted[] = "signature from minisign secret key";
@@ -208,18 +209,18 @@ static void writes_signature(void)
     CHECK(len == sizeof PREHASHED - 1 && memcmp(text, PREHASHED, len) == 0);
     CHECK(minisign_comment_message(read.signature, bytes_of(HELLO_COMMENT), sizeof HELLO_COMMENT - 1, message, sizeof message)
           == MINISIGN_OK);
-    CHECK(is_hex(message, SIGNATURE_BYTES) && memcmp(message + 64, HELLO_COMMENT, sizeof HELLO_COMMENT - 1) == 0);
+    CHECK(equals_hex(message, SIGNATURE_BYTES) && memcmp(message + 64, HELLO_COMMENT, sizeof HELLO_COMMENT - 1) == 0);
 }
 
 /* ---- Public keys ---- */
 
 #define LINE KEY_LINE
 #define SECOND_LINE "RWQgIL+P9InzHS80IJTTlmrDw4sxOtdRTc3QnmnZMSSaSrd2GcKR5OlJ"
-/* The key and the key ID of each line. */
+/* The key and the key ID that each line encodes. */
 #define FIRST_KEY "79a561e70ee08cd3e754c63e9bd6b9c3520a1d4204cd104da2e7ef763b1853b71fe8b442180f62e7"
 #define SECOND_KEY "2f342094d3966ac3c38b313ad7514dcdd09e69d931249a4ab77619c291e4e9492020bf8ff489f31d"
 
-/* A text, and the key that it is parsed to, or the error. */
+/* A text, and the key to which it is parsed, or the error. */
 struct row {
     const char *text;
     const char *key;
@@ -257,7 +258,7 @@ static const struct row bare_keys[] = {
     { "\xff", NULL, MINISIGN_NOT_UTF8 },
 };
 
-/* Parses each text of a table. A rejected text leaves the key unchanged. */
+/* Parses each text of a table, and checks that a rejected text leaves the key unchanged. */
 static void read_keys(enum minisign_error (*read)(const uint8_t *text, size_t len, minisign_public_key *key),
                       const struct row *rows, size_t count)
 {
@@ -269,7 +270,7 @@ static void read_keys(enum minisign_error (*read)(const uint8_t *text, size_t le
         untouched = parsed;
         error = read(bytes_of(row->text), strlen(row->text), &parsed);
         check(error == row->error, "error %u, expected %u: %s", error, row->error, row->text);
-        check(row->key != NULL ? is_hex((const uint8_t *) &parsed + offsetof(minisign_public_key, key), row->key)
+        check(row->key != NULL ? equals_hex((const uint8_t *) &parsed + offsetof(minisign_public_key, key), row->key)
                                : memcmp(&parsed, &untouched, sizeof parsed) == 0,
               "the wrong key: %s", row->text);
     }
@@ -277,8 +278,8 @@ static void read_keys(enum minisign_error (*read)(const uint8_t *text, size_t le
 
 int main(void)
 {
-    /* (code before main may allocate) */
-    requests = held = 0;
+    /* Code that runs before main may have allocated memory. */
+    requests = allocated_blocks = 0;
     read_keys(minisign_read_public_key, key_files, LENGTH(key_files));
     read_keys(minisign_read_bare_public_key, bare_keys, LENGTH(bare_keys));
     parses_signatures();
@@ -286,7 +287,7 @@ int main(void)
     rejects_signature_texts();
     opens_secret_key();
     rejects_secret_keys();
-    CHECK(requests == 0 && held == 0);
+    CHECK(requests == 0 && allocated_blocks == 0);
     writes_signature();
     return ended();
 }

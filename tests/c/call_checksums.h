@@ -1,16 +1,16 @@
 /*
- * The common part of minisign_checksums.c, minisign_install_checksums.c and minisign_list_checksums.c, one program for each
- * header. A program makes random calls of all functions of its header, and prints a checksum of every byte that they
- * return. Two libraries behave the same if the output is the same, also on processors with another byte order or size of
- * pointers.
+ * The common part of minisign_checksums.c, minisign_install_checksums.c and minisign_list_checksums.c. Each program makes
+ * random calls to all functions of one header, and prints checksums of all bytes that they return. With the same seed, two
+ * builds of the library must have the same output, even on processors with different byte orders or sizes of pointers.
  *
  *     PROGRAM SEED CALLS
  *
- * The first lines are the checksum after each thousand of the calls. The others say how often each function returned each
- * result: `FUNCTION RESULT COUNT`. Functions that return no error number have the result 0.
+ * The first lines are the checksum after each 1000 calls. The other lines say how often each function returned each result:
+ * `FUNCTION RESULT COUNT`. The result of functions that return no error number is 0.
  *
- * The order in which a compiler evaluates arguments and operands must not matter. So random numbers are stored in variables
- * first: no argument contains a call that generates one, and no expression has two such calls as operands.
+ * The output must not depend on the order in which a compiler evaluates arguments and operands. Therefore random numbers are
+ * first stored in variables: no argument contains a call that generates a random number, and no expression has two such
+ * calls as operands.
  */
 #ifndef CALL_CHECKSUMS_H
 #define CALL_CHECKSUMS_H
@@ -19,7 +19,7 @@
 
 #include "texts_for_tests.h"
 
-/* The number of objects of each kind, and the size of a buffer. */
+/* The number of objects of each type on which the calls work, and the size of a buffer. */
 enum { COPIES = 4, SIZE = 4096 };
 enum { MAX_FUNCTIONS = 64, MAX_RESULTS = 256, STEP = 1000 };
 
@@ -59,7 +59,7 @@ static void fill(uint8_t *bytes, size_t len)
     }
 }
 
-/* Returns a number at which something changes, one beside it, or any number. */
+/* Returns a power of two or another edge case, a number next to an edge case, or any number. */
 static uint64_t edge_number(void)
 {
     static const uint64_t edges[] = { 0, 1, 5, 16, 256, 32768, 65536, 524288, 1048576, 16777216, 33554432, UINT64_C(1) << 30,
@@ -70,7 +70,7 @@ static uint64_t edge_number(void)
     return one_in(4) ? any >> random_below(64) : beside;
 }
 
-/* Returns a result of Ed25519, mostly yes, and sometimes a number that is none. */
+/* Returns a result of Ed25519: mostly yes, and sometimes a number that is not a valid result. */
 static enum minisign_answer any_answer(void)
 {
     uint32_t number = one_in(2) ? random_below(9) : (uint32_t) edge_number();
@@ -82,7 +82,8 @@ static enum minisign_answer any_answer(void)
 
 static uint64_t checksum = UINT64_C(14695981039346656037);
 
-/* As FNV-1a does, but for eight bytes at a time. Every step can be undone, so one difference is never lost. */
+/* Adds a number to the checksum, like FNV-1a, but eight bytes at a time. Each step is invertible, so a single difference
+ * always changes the checksum. */
 static void add_number(uint64_t number)
 {
     checksum = (checksum ^ number) * UINT64_C(1099511628211);
@@ -186,14 +187,15 @@ static void append_decimal(struct text *text, uint64_t number)
     append(text, digits + at, sizeof digits - at);
 }
 
-/* Removes `len` bytes. */
+/* Removes `len` bytes at the offset `at`. */
 static void remove_bytes(struct text *text, size_t at, size_t len)
 {
     memmove(text->bytes + at, text->bytes + at + len, text->len - at - len);
     text->len -= len;
 }
 
-/* Changes one line: replaces one of its first characters by one of base64, removes its last characters, or removes it. */
+/* Damages one line: replaces one of its first characters by another base64 character, removes its last characters, or
+ * removes the line. */
 static void change_line(struct text *text)
 {
     static const char base64[] = "ABCDEFGHIJKLMNOPQRSTUVWXYZabcdefghijklmnopqrstuvwxyz0123456789+/";
@@ -217,7 +219,7 @@ static void change_line(struct text *text)
     }
 }
 
-/* Replaces the last characters of the last line by padding of base64. */
+/* Replaces the last `count` characters of the last line by base64 padding. */
 static void pad_last_line(struct text *text, size_t count)
 {
     size_t end = text->len - (text->bytes[text->len - 1] == '\n');
@@ -227,7 +229,7 @@ static void pad_last_line(struct text *text, size_t count)
     }
 }
 
-/* Returns one of the texts, mostly as it is, and sometimes with CR LF or with a damaged, missing or additional byte. */
+/* Returns one of the texts: mostly unchanged, and sometimes with CR LF, or with a damaged, missing or additional byte. */
 static struct text any_text(const struct text texts[COPIES])
 {
     struct text text = texts[random_below(COPIES)];
@@ -269,7 +271,7 @@ static const uint8_t *bytes_or_null(const struct text *text)
     return text->len == 0 ? NULL : text->bytes;
 }
 
-/* Returns a comment, which is mostly one that a signature file may have. */
+/* Returns a comment. Most comments are allowed in a signature file. */
 static struct text any_comment(void)
 {
     static const char *const parts[] = { "timestamp:", "version:", "file:", "expires:", "size:", "\t", "\t", "12", "7", "0", "5",
@@ -307,7 +309,8 @@ static struct text any_comment(void)
 
 /* ---- Running ---- */
 
-/* Makes the calls by `make_calls`, and prints the output. */
+/* The main function of a program: calls `begin` once, calls `make_calls` until enough calls were made, and prints the
+ * checksums and results. */
 static int run(int argc, char **argv, void (*begin)(void), void (*make_calls)(void))
 {
     unsigned long calls = argc == 3 ? strtoul(argv[2], NULL, 10) : 0;

@@ -1,12 +1,12 @@
 /*
- * Searches registers and memory for secrets after each call of the library, for cleared.py, which writes the searched
- * bytes into needles.h: the first half of a secret key comes first, and a password is the fourth.
+ * Calls functions of the library, and after each call searches all registers and all writable memory for secrets.
+ * cleared.py runs this program, and writes the secrets ("needles") to needles.h: the first needle is the seed of a secret
+ * key, and the fourth is a password.
  *
- * After each call it searches all registers and all writable memory. The caller's own variables are counted separately,
- * because secrets belong there. A signal on its own stack makes the system write the registers into memory. For each
- * call and each searched needle it prints a line: the call, the needle, how often it was found in registers, on the
- * stack and elsewhere, and how often in the caller's variables. A line `deepest` says how far below the caller's frame
- * the stack was written.
+ * For each call and each needle, the program prints a line: the name of the call, the name of the needle, and how often it
+ * was found in registers, on the stack, elsewhere, and in the caller's variables, where secrets are allowed. For each call,
+ * a line `deepest` says how many bytes below the caller's frame the stack was written. search_memory.h describes how the
+ * registers are searched.
  */
 #define _GNU_SOURCE
 #include <stdio.h>
@@ -42,7 +42,7 @@ struct range {
     size_t len;
 };
 
-/* The caller's variables, which may hold secrets. */
+/* The caller's variables, which may contain secrets. */
 static const struct range own[] = { { new_key.secret, sizeof new_key.secret }, { password, sizeof password },
                                     { unsealed, sizeof unsealed },     { &key, sizeof key },
                                     { &opened, sizeof opened },        { &unopened, sizeof unopened },
@@ -76,7 +76,7 @@ static void look(void)
     search_all("/proc/self/maps");
 }
 
-/* Fills the stack below the calling frame with PAINT. */
+/* Fills the stack below the frame of the caller with the byte PAINT. */
 __attribute__((noinline)) static void paint(void)
 {
     volatile uint8_t painted[PAINTED_BYTES];
@@ -88,7 +88,7 @@ __attribute__((noinline)) static void paint(void)
 
 /* ---- The calls ---- */
 
-/* A call with its arguments: the limits of a key, how many of its rows are kept, and how it is opened. */
+/* A call and its arguments: the limits of a key, how many of its rows are stored, and how it is opened. */
 struct step {
     const char *name;
     enum minisign_error (*call)(void);
@@ -156,17 +156,17 @@ static enum minisign_error encode(void)
     return minisign_encode_unopened_key(&unopened, COMMENT, sizeof COMMENT - 1, unsealed, sizeof unsealed, &unsealed_len);
 }
 
-/* Memory for opening in place. It is searched as if it were the library's, because the library has to clear it. */
+/* The memory for opening a key in place. No secrets may be left in it, because the library must clear it. */
 static uint32_t words[256 * (4096 + 3)];
 static uint8_t room_of_parts[1024];
 
-/* (a signal makes the system write the registers on the stack of the call) */
+/* When a signal arrives, the system writes the registers to the stack. */
 static void ignore_signal(int number)
 {
     (void) number;
 }
 
-/* Opens the encrypted key. With a wrong checksum the key is decrypted before the error is found. */
+/* Opens the encrypted key. If its checksum is wrong, the error is found after the key was decrypted. */
 static enum minisign_error open_sealed(void)
 {
     struct itimerval often = { { 0, 200 }, { 0, 200 } }, never = { { 0, 0 }, { 0, 0 } };
@@ -278,14 +278,14 @@ int main(void)
 {
     bool is_well = true;
 
-    watch();
+    install_trap();
     for (size_t i = 0; i < needles[0].len; i++) {
         new_key.secret[i] = needles[0].masked[i] ^ MASK;
     }
     for (password_len = 0; password_len < needles[3].len; password_len++) {
         password[password_len] = needles[3].masked[password_len] ^ MASK;
     }
-    /* (the output buffer must not reuse freed memory) */
+    /* With a buffer of its own, printing does not overwrite freed memory. */
     setvbuf(stdout, malloc(65536), _IOFBF, 65536);
     for (step = steps; step < steps + sizeof steps / sizeof *steps; step++) {
         is_well &= search_after();

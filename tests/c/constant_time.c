@@ -1,10 +1,12 @@
 /*
  * Makes one call of the library under valgrind, with its secret bytes marked as undefined. valgrind reports each branch
- * and each address that depends on them.
+ * and each memory address that depends on them.
  *
- * constant_time.py builds this program with secret_texts.h, and passes the name of the call. The program prints the
- * call's result, and whether the output that everybody may read depends on a secret: the first such byte, or `public`.
- * Without a name it lists the calls.
+ *     constant_time [CALL]
+ *
+ * constant_time.py writes secret_texts.h and runs this program. It prints the result of the call. If the output of the call
+ * is public, it also prints `public`, or the offset of the first output byte that depends on a secret. Without CALL, it
+ * prints the names of all calls.
  */
 #include <stdio.h>
 #include <stdlib.h>
@@ -43,7 +45,7 @@ static void take_text(const unsigned char *bytes, size_t len)
     text_len = len;
 }
 
-/* Hides the base64 characters that encode these bytes of the record. */
+/* Marks the base64 characters that encode these bytes of the record as undefined. */
 static void hide_record(size_t from, size_t to)
 {
     const size_t first = from / 3 * 4, end = (to + 2) / 3 * 4;
@@ -62,7 +64,7 @@ static void hide_password(void)
     HIDE(password, sizeof password);
 }
 
-/* Takes the key. The first half of its secret is hidden. The second half is the public key. */
+/* Makes the secret key. The first half of its secret is marked as undefined; the second half is the public key. */
 static void take_key(void)
 {
     minisign_take_secret_key(&new_key, &key);
@@ -99,7 +101,7 @@ static enum minisign_error open_unsealed(void)
     return open_text(UNSEALED, sizeof UNSEALED);
 }
 
-/* The checksum is wrong in its first or in its last byte. */
+/* In these calls, the first or the last byte of the checksum is wrong. */
 static enum minisign_error open_wrong_first(void)
 {
     return open_text(UNSEALED_WRONG_FIRST, sizeof UNSEALED_WRONG_FIRST);

@@ -1,6 +1,6 @@
-/* Counts the allocations of a program, and refuses some on demand. Linked with -Wl,--wrap=malloc -Wl,--wrap=realloc
- * -Wl,--wrap=free. All variables are volatile, because compilers assume that malloc and free change no variables of
- * the file. */
+/* Counts the allocations of a program, and makes some of them fail. The program must be linked with -Wl,--wrap=malloc
+ * -Wl,--wrap=realloc -Wl,--wrap=free. All variables are volatile, because compilers assume that malloc and free do not
+ * change variables of this file. */
 #ifndef COUNTED_MEMORY_H
 #define COUNTED_MEMORY_H
 
@@ -8,15 +8,15 @@
 #include <stdlib.h>
 #include <string.h>
 
-/* The numbers of the first and of the last request that are refused, or 0 for none. */
+/* The numbers of the first and of the last request that fail, or 0 if none fails. Requests are counted from 1. */
 static volatile long refused_from, refused_to;
-/* Requests for more bytes than this are refused. */
-static volatile size_t greatest = SIZE_MAX;
-/* The number of requests, and of blocks that are allocated. */
-static volatile long requests, held;
+/* Requests for more bytes than this fail. */
+static volatile size_t max_request = SIZE_MAX;
+/* The number of requests, and the number of blocks that are currently allocated. */
+static volatile long requests, allocated_blocks;
 
-/* LOOK_AT is called with each block that is freed. Blocks are filled with zeros if it checks that they were cleared,
- * otherwise with other bytes. */
+/* LOOK_AT is called with each block before it is freed. New blocks are filled with zeros if LOOK_AT checks that blocks
+ * were cleared, and otherwise with other bytes. */
 #ifndef LOOK_AT
 #define LOOK_AT(block, len)
 #define FILLED_WITH 0xa5
@@ -24,7 +24,7 @@ static volatile long requests, held;
 #define FILLED_WITH 0
 #endif
 
-/* Bytes before a block: its length, and the inverted length. This keeps the alignment of malloc. */
+/* The bytes in front of a block: its length, and its inverted length. Their number keeps the alignment of malloc. */
 #define FRONT 16
 
 void *__real_malloc(size_t size);
@@ -36,11 +36,11 @@ void *__wrap_malloc(size_t size)
     char *taken;
 
     requests++;
-    if (size > greatest || (refused_from <= requests && requests <= refused_to)) {
+    if (size > max_request || (refused_from <= requests && requests <= refused_to)) {
         return NULL;
     }
     taken = __real_malloc(size + FRONT);
-    held++;
+    allocated_blocks++;
     memset(taken, FILLED_WITH, size + FRONT);
     memcpy(taken, front, sizeof front);
     return taken + FRONT;
@@ -58,7 +58,7 @@ void __wrap_free(void *block)
     size_t front[2];
 
     if (block != NULL) {
-        held--;
+        allocated_blocks--;
         memcpy(front, (char *) block - FRONT, sizeof front);
         if (front[1] != ~front[0]) {
             abort();

@@ -1,20 +1,22 @@
 #!/usr/bin/env python3
-"""Checks the errors and the versions that the headers and the packages state for each call.
+"""Checks the errors and the versions that the headers and the packages document for each call.
 
     tests/c/error_lists.py               runs the checks
     tests/c/error_lists.py --released    after a release: writes last_release.txt from the headers
 
-The comment of a call in the header, and so the manual page, names exactly the errors that the contract of the call
-allows. This script collects them from the clauses of the export in minisign_c: it follows the definitions of specs/ to
-the variants of the three enums of errors. Tables below list the errors that the definitions name but the call never
-returns, and errors that a comment names for another reason. error_texts.c has a text for each error. The documentation
-of the packages that lists the errors of a call names the same ones.
+Errors. The comment of a call in a header, and so its manual page, must name exactly the errors that the contract of
+the call allows. The script finds these errors by following the definitions in specs/ from the clauses of the export
+in minisign_c to the variants of the enums of errors. NEVER_RETURNED lists errors that are found in this way but
+that the call never returns, and NAMED_APART lists errors that a comment names for another reason. error_texts.c
+must have a message for each error. The documentation of the packages must list the same errors.
 
-"Since" is the version that last changed the declaration or the errors of a call. last_release.txt has the calls of the
-last release: a call that differs from it, or is not in it, must be "Since" the version of the header. It prints a line
-for each failure; the last line is `N passed, M failed`.
+Versions. "Since" is the version that last changed the declaration or the errors of a call. last_release.txt lists
+the calls of the last release. A call that is not in this list, or that differs from it, must be "Since" the version
+of the header.
 
-Needs clang, and installs it if it may.
+The script prints a line for each failure; the last line is `N passed, M failed`.
+
+Needs clang, which is installed if that is permitted.
 """
 
 import ast
@@ -28,23 +30,23 @@ TOP = os.path.dirname(os.path.dirname(HERE))
 sys.path += [os.path.join(TOP, *each) for each in (("tests", "shared"), ("tools",))]
 
 import c_header
-import ending
 import header
 import sources
+import test_script
 from running import read
 
 RELEASE = os.path.join(HERE, "last_release.txt")
 CRATE = "minisign_c"
 ENUMS = ("NamedFault", "Misuse", "InstallFault", "ListFault")
-# The error that is no variant of an enum: the definition of its number, and its name.
+# An error that is not a variant of an enum: the definition of its number, and its name.
 WEAK = ("weak_number", "WEAK_ED25519")
-# Definitions that map all errors to numbers and texts. They are not followed.
+# Files with definitions that map all errors to numbers and messages. These definitions are not followed.
 MAPS = re.compile(r"/specs/(?:Fault|Faults|KeyIds|Numbers)\.antt")
 # InstallFault::Library wraps the errors of the library, and has no number.
 NO_ERROR = {"LIBRARY"}
 
-# Errors that the definitions of a call's clauses name but the call never returns (a call stands for all of its errors),
-# and why.
+# For each call, the errors that the definitions of its clauses name but that it never returns, and the reason. The
+# name of a call stands for all of its errors.
 READ_BEFORE = "minisign_read_signature has read the text, and the call compares its digest"
 KEY_READ_BEFORE = "the definition of a verdict reads the key file too, which the caller has read before"
 ASKED_BEFORE = "minisign_ask has checked it, and a state without a question is rejected"
@@ -72,7 +74,7 @@ NEVER_RETURNED = {
     "minisign_list_find": [("ENTRY_NOT_READ", "an entry that was found is marked as read")],
     "minisign_list_append": [("NOT_LISTED", "the name is appended in this case")],
 }
-# Errors that the comment of a call names but the call does not return, and why.
+# For each call, the errors that its comment names but that it does not return, and the reason.
 ONE_COMMENT = "two calls share the comment"
 PASSED_IN = "the comment names it as an argument of minisign_install_failed"
 NAMED_APART = {
@@ -85,9 +87,10 @@ NAMED_APART = {
     "minisign_install_no_record": [("READING_FAILED", PASSED_IN)],
 }
 
-# The calls whose contract is an equation with the installer's step function, and the events of it that they report, or calls
-# whose errors they return too. The definition `after` has a line for each event that is expected at an operation.
-# minisign_install_answer returns what is found wrong with the comment when the signature file is read.
+# The calls whose contract is an equation with the step function of the installer. For each, the events that it
+# reports, or another call whose errors it returns too. The definition `after` has a line for each event that may
+# follow an operation. (minisign_install_answer also returns the errors of the comment, which were found when the
+# signature file was read.)
 STEP = os.path.join(TOP, "crates", "minisign_install", "specs", "Step.antt")
 EVENTS = {
     "minisign_install_done": ("Done",),
@@ -101,8 +104,8 @@ EVENTS = {
     "minisign_install_answer": ("Answered", "SignatureRead"),
 }
 
-# Documentation of packages that lists the errors of these calls. It leaves out API misuse, because the packages make
-# the calls in the right order, and may leave out OUT_OF_MEMORY.
+# The documentation in packages that lists the errors of these calls. It does not list API misuse, because the
+# packages make the calls in the right order, and it need not list OUT_OF_MEMORY.
 PYTHON, JAVASCRIPT = "bindings/python/src/minisign_proved/_keys.py", "bindings/javascript/index.d.ts"
 IN_PYTHON = {
     "PublicKey.__init__": ("minisign_read_public_key",),
@@ -112,13 +115,13 @@ IN_PYTHON = {
     "SecretKey.from_bytes": ("minisign_read_secret_key", "minisign_open_sealed_key", "minisign_open_unsealed_key"),
 }
 IN_JAVASCRIPT = {"readSecretKey": IN_PYTHON["SecretKey.from_bytes"]}
-# How a text there names all errors of a call.
-IN_WORDS = {"the errors that `Signature` lists": "minisign_read_signature"}
+# A phrase in the JavaScript documentation that stands for all errors of a call, and the call.
+PHRASES = {"the errors that `Signature` lists": "minisign_read_signature"}
 
 
 @functools.lru_cache(maxsize=None)
 def exports():
-    """Returns the exports of the crate by name."""
+    """Returns the library, and a dictionary of the exports of the crate, with their sources, by name."""
     library = sources.Library()
     found = {item.name: (item, source) for source in library.crate_sources(CRATE) for item in source.items
              if item.what == "fn" and item.name.startswith("minisign_")}
@@ -126,11 +129,13 @@ def exports():
 
 
 def name_in_c(variant):
+    """Returns the name of an error in the headers, without MINISIGN_."""
     return header.Number(0, variant, "").name
 
 
 def reached_errors(library, text, imports, definitions, seen):
-    """Returns the errors that a text of specs/ names, directly and through definitions."""
+    """Returns the errors that a text in specs/ names, directly or through definitions. `seen` collects the
+    definitions that were followed."""
     errors = set()
     for _, module, name, definition in library.named_in(text, imports, definitions):
         origins = [(place.split("."), each) for place, each in library.chain(module, name)]
@@ -146,7 +151,8 @@ def reached_errors(library, text, imports, definitions, seen):
 
 
 def by_event(library, event):
-    """Returns the errors that the definitions name on the lines for an event, or those of a call."""
+    """Returns the errors that the definitions name for an event. `event` may also be a call, which stands for its
+    errors."""
     if event.startswith("minisign_"):
         return by_contract(event)
     step = sources.read_module(STEP)
@@ -157,7 +163,7 @@ def by_event(library, event):
 
 @functools.lru_cache(maxsize=None)
 def by_contract(call):
-    """Returns the errors that the definitions of a call's clauses name."""
+    """Returns the errors that the clauses of a call name, directly or through definitions."""
     library, found = exports()
     item, source = found.get(call, (None, None))
     clauses = item.clauses if item else ()
@@ -167,18 +173,18 @@ def by_contract(call):
     return set().union(*(reached_errors(library, clause.text, source.imports, {}, set()) for clause in clauses)) - NO_ERROR
 
 
-def words_of(row, of_call):
-    """Returns the errors of a row of a table."""
-    return of_call(row[0]) if row[0].startswith("minisign_") else {*row[0].split()}
+def errors_in_row(row, errors_of_call):
+    """Returns the errors that a row of NEVER_RETURNED or NAMED_APART lists."""
+    return errors_of_call(row[0]) if row[0].startswith("minisign_") else {*row[0].split()}
 
 
 def returned_errors(call):
     """Returns the errors that a call can return."""
-    return by_contract(call).difference(*(words_of(row, by_contract) for row in NEVER_RETURNED.get(call, ())))
+    return by_contract(call).difference(*(errors_in_row(row, by_contract) for row in NEVER_RETURNED.get(call, ())))
 
 
 def named_errors(calls, call, errors, seen=()):
-    """Returns the errors that the comment of a call names, also by "those of" another call."""
+    """Returns the errors that the comment of a call names, also with the words "those of" another call."""
     found = {*re.findall(r"MINISIGN_(\w+)", calls[call].comment)} & errors
     for referenced in re.findall(r"those of (minisign_\w+)", calls[call].comment):
         if referenced in calls and referenced not in seen:
@@ -187,42 +193,42 @@ def named_errors(calls, call, errors, seen=()):
 
 
 def stated_errors(calls, call, errors):
-    """Returns the errors that a comment states for a call."""
-    return named_errors(calls, call, errors).difference(*(words_of(row, returned_errors) for row in NAMED_APART.get(call, ())))
+    """Returns the errors that a call returns according to its comment."""
+    return named_errors(calls, call, errors).difference(*(errors_in_row(row, returned_errors) for row in NAMED_APART.get(call, ())))
 
 
 def check_lists(checks, calls, errors):
-    """The comments name the errors of the contracts, and the tables have no superfluous rows."""
+    """Checks that the comments name the errors in the contracts, and that the tables have no superfluous rows."""
     checks.check({*exports()[1]} == {*calls} - {"minisign_version"}, "the headers do not declare the exports of minisign_c")
     for call in calls:
         found, expected = stated_errors(calls, call, errors), returned_errors(call)
-        more, less = sorted(found - expected), sorted(expected - found)
-        checks.check(not less, f"{call} can return {', '.join(less)}, and its comment does not name it")
-        checks.check(not more, f"{call}: its comment names {', '.join(more)}, and its contract does not")
+        superfluous, missing = sorted(found - expected), sorted(expected - found)
+        checks.check(not missing, f"{call} can return {', '.join(missing)}, which its comment does not name")
+        checks.check(not superfluous, f"the comment of {call} names {', '.join(superfluous)}, which its contract does not allow")
     for table, whole in ((NEVER_RETURNED, by_contract), (NAMED_APART, lambda call: named_errors(calls, call, errors))):
         for call, rows in table.items():
             for row in rows:
-                checks.check(row[0].startswith("minisign_") or words_of(row, by_contract) <= whole(call),
-                             f"{call}: a superfluous row: {row[0]}")
+                checks.check(row[0].startswith("minisign_") or errors_in_row(row, by_contract) <= whole(call),
+                             f"{call}: superfluous row {row[0]} in NEVER_RETURNED or NAMED_APART")
     every = set().union(*map(returned_errors, calls))
     checks.check(errors <= every, f"no call returns {', '.join(sorted(errors - every))}: list it in UNANSWERED of tools/header.py")
     checks.check(every <= errors, f"the headers do not declare {', '.join(sorted(every - errors))}: run tools/header.py")
 
 
 def check_texts(checks, errors):
-    """error_texts.c has a text for each error."""
+    """Checks that error_texts.c has a message for each error."""
     texts = {*re.findall(r"\[MINISIGN_(\w+)\] = ", read(HERE, "error_texts.c").decode())}
     checks.check(texts == errors | {"OK"}, f"error_texts.c and the headers have different errors: {sorted(texts ^ (errors | {'OK'}))}")
 
 
 def check_packages(checks, errors):
-    """The lists of the packages match those of the calls."""
+    """Checks that the packages document the errors that the calls return."""
     in_c = {name.replace("_", "").lower(): name for name in errors}
     misuses = {number.name for number in header.misuses()} | {"OUT_OF_MEMORY"}
 
     def check_text(place, text, word, calls):
         found = {in_c[each.replace("_", "").lower()] for each in re.findall(word, text) if each.replace("_", "").lower() in in_c}
-        found = found.union(*(returned_errors(call) for words, call in IN_WORDS.items() if words in text)) - misuses
+        found = found.union(*(returned_errors(call) for words, call in PHRASES.items() if words in text)) - misuses
         expected = set().union(*map(returned_errors, calls)) - misuses
         checks.check(found == expected, f"{place} wrongly names {sorted(found - expected)}, and does not name {sorted(expected - found)}")
 
@@ -240,11 +246,13 @@ def check_packages(checks, errors):
 
 
 def declaration_of(call):
+    """Returns the declaration of a call on one line."""
     return f"{call.answer} {call.name}({', '.join(parameter.text for parameter in call.parameters) or 'void'})"
 
 
 def release_text(version, calls, errors):
-    """Returns the text of last_release.txt: each call with its version and its errors."""
+    """Returns the content of last_release.txt: two lines for each call, with its declaration, and with its version
+    and its errors."""
     lines = [f"# The calls of {version}, each with the version after \"Since\" and its errors: made by tests/c/error_lists.py --released\n"]
     for name, call in calls.items():
         lines.append(f"{declaration_of(call)}\n    {' '.join([f'{since_of(call)[0]}:', *sorted(stated_errors(calls, name, errors))])}\n")
@@ -252,27 +260,29 @@ def release_text(version, calls, errors):
 
 
 def since_of(call):
+    """Returns the versions after "Since" in the comment of a call. There should be one."""
     return re.findall(r"Since (\d+\.\d+)\.", call.comment)
 
 
 def check_since(checks, calls, errors, version):
-    """Checks the "Since" of each call."""
+    """Checks the version after "Since" in the comment of each call."""
     _, *lines = read(HERE, "last_release.txt").decode().split("\n")
     rows = ((line, *more.split()) for line, more in zip(lines[::2], lines[1::2]))
-    then = {re.search(r"(minisign_\w+)\(", line)[1]: (since.rstrip(":"), line, {*named_then}) for line, since, *named_then in rows}
-    checks.check(len(then) > 20, "last_release.txt has no calls")
+    released = {re.search(r"(minisign_\w+)\(", line)[1]: (since.rstrip(":"), line, {*its_errors}) for line, since, *its_errors in rows}
+    checks.check(len(released) > 20, "last_release.txt has no calls")
     for name, call in calls.items():
-        since, last = since_of(call), then.get(name, ("missing",))
-        is_right = since == [version] or (len(since) == 1 and last == (since[0], declaration_of(call), stated_errors(calls, name, errors)))
-        checks.check(is_right,
-                     f"{name}: the comment says since {since}, expected {version} if the call is not that of the last release: {last}")
+        since, in_release = since_of(call), released.get(name, ("missing",))
+        is_unchanged = len(since) == 1 and in_release == (since[0], declaration_of(call), stated_errors(calls, name, errors))
+        checks.check(since == [version] or is_unchanged,
+                     f"{name}: the comment says since {since}, expected {version}, because the call differs from the last release: {in_release}")
 
 
 def all_of_headers():
-    """Returns the calls, the names of the errors, and the version of both headers."""
-    both = c_header.every()
-    numbers = dict(both.numbers)
-    return {call.name: call for call in both.calls}, {error.name for error in both.errors}, f"{numbers['VERSION_MAJOR']}.{numbers['VERSION_MINOR']}"
+    """Returns the calls of all headers by name, the names of the errors, and the version."""
+    headers = c_header.every()
+    numbers = dict(headers.numbers)
+    version = f"{numbers['VERSION_MAJOR']}.{numbers['VERSION_MINOR']}"
+    return {call.name: call for call in headers.calls}, {error.name for error in headers.errors}, version
 
 
 def run_all(checks, _):
@@ -285,8 +295,8 @@ def run_all(checks, _):
 
 if __name__ == "__main__":
     if sys.argv[1:] == ["--released"]:
-        headers, names, of = all_of_headers()
+        header_calls, error_names, header_version = all_of_headers()
         with open(RELEASE, "w", encoding="utf-8") as file:
-            file.write(release_text(of, headers, names))
+            file.write(release_text(header_version, header_calls, error_names))
         sys.exit()
-    sys.exit(ending.check("error_lists", run_all))
+    sys.exit(test_script.run_checks("error_lists", run_all))

@@ -1,13 +1,12 @@
 /*
- * Checks the text and the kind of each error of minisign.h: errors of the published list have its texts, API misuse has the
- * library's own. A text is complete in MINISIGN_ERROR_TEXT_BYTES, truncated in a smaller buffer, and never written
- * beyond it.
+ * Checks the message and the kind of each error in minisign.h. A buffer of MINISIGN_ERROR_TEXT_BYTES must be large enough
+ * for each message. In a smaller buffer, a message must be truncated, and nothing may be written beyond the buffer.
  */
 #include "texts_for_tests.h"
 
-#define GREATEST 95
+#define MAX_ERROR 95
 
-static const char *const texts[GREATEST + 1] = {
+static const char *const texts[MAX_ERROR + 1] = {
     [MINISIGN_OK] = "no error",
     [MINISIGN_NOT_BEGUN] = "the state is not initialized, or its verdict was already returned: call minisign_init first",
     [MINISIGN_ALREADY_ASKED] = "this call comes too late: minisign_ask or minisign_digest was already called for this state",
@@ -91,8 +90,8 @@ static const char *const texts[GREATEST + 1] = {
     [MINISIGN_DIGEST_MISMATCH] = "the data does not have the listed digest",
 };
 
-/* The kinds of the named errors, which are those of the Rust crate minisign, and of the errors of lists. */
-static const enum minisign_kind kinds[GREATEST + 1] = {
+/* The kinds of the named errors, which are those in the Rust crate minisign, and of the errors for lists. */
+static const enum minisign_kind kinds[MAX_ERROR + 1] = {
     [7] = MINISIGN_KIND_OUT_OF_MEMORY,
     [8] = MINISIGN_KIND_IO, [16] = MINISIGN_KIND_IO, [17] = MINISIGN_KIND_IO, [18] = MINISIGN_KIND_IO,
     [19] = MINISIGN_KIND_IO, [20] = MINISIGN_KIND_IO, [21] = MINISIGN_KIND_IO, [22] = MINISIGN_KIND_IO,
@@ -115,10 +114,10 @@ static const enum minisign_kind kinds[GREATEST + 1] = {
     [71] = MINISIGN_KIND_ENCRYPTED_KEY,
 };
 
-/* API misuse. */
+/* The errors that are API misuse. */
 static const uint32_t misuses[] = { 1, 2, 3, 4, 5, 6, 9, 10, 11, 12, 13, 14, 15, 61, 62, 63, 82, 83, 84, 85, 86, 87, 88 };
 
-/* Returns the kind that a number has to have. */
+/* Returns the kind that minisign.h documents for an error number. */
 static enum minisign_kind expected_kind(uint32_t number)
 {
     for (size_t i = 0; i < LENGTH(misuses); i++) {
@@ -126,16 +125,16 @@ static enum minisign_kind expected_kind(uint32_t number)
             return MINISIGN_KIND_MISUSE;
         }
     }
-    return number <= GREATEST ? kinds[number] : MINISIGN_KIND_NONE;
+    return number <= MAX_ERROR ? kinds[number] : MINISIGN_KIND_NONE;
 }
 
 int main(void)
 {
     char whole[MINISIGN_ERROR_TEXT_BYTES], cut[MINISIGN_ERROR_TEXT_BYTES];
 
-    for (uint32_t number = 0; number <= GREATEST; number++) {
+    for (uint32_t number = 0; number <= MAX_ERROR; number++) {
         if (texts[number] == NULL && number > 63) {
-            continue; /* errors that no call returns */
+            continue; /* These numbers belong to errors that no call returns. */
         }
         const char *text = texts[number] != NULL ? texts[number] : "unknown error";
         size_t len = strlen(text);

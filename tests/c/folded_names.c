@@ -1,10 +1,11 @@
 /* SPDX-License-Identifier: MIT */
-/* Folds the last part of each path as a file system of macOS does: characters are decomposed, and letters are made lower case. So
- * k.KEY and k.key are one name, and so are an e with an acute accent (U+00E9) and an e followed by the accent (U+0301). It is
- * loaded before the C library; tests/c/macos.py runs the program minisign with it, and writes decompositions.h.
+/* A library for LD_PRELOAD that makes file names equivalent as on a file system of macOS: characters in the last component of
+ * a path are decomposed, and letters are converted to lower case. Therefore k.KEY and k.key are the same file, and so are an e
+ * with an acute accent (U+00E9) and an e that is followed by the accent (U+0301). tests/c/macos.py runs minisign with this
+ * library, and writes decompositions.h.
  *
- * If OTHER_NUMBER is set, the file system is like one in user space: the file has another inode number under the name in
- * OTHER_NUMBER, and names cannot be exchanged. */
+ * If OTHER_NUMBER is set, the file system behaves like some file systems in user space: a file has a different inode number
+ * when the name in OTHER_NUMBER is used for it, and two names cannot be exchanged. */
 #define _GNU_SOURCE
 
 #include <ctype.h>
@@ -24,12 +25,12 @@
 
 enum { MAX_DESCRIPTORS = 1024 };
 
-/* Characters and their decompositions, as UTF-8. */
+/* Characters and their decompositions, in UTF-8. */
 static const char *const decompositions[][2] = {
 #include "decompositions.h"
 };
 
-/* The descriptors of files that were opened by the name in OTHER_NUMBER. */
+/* True for each file descriptor that was opened with the name in OTHER_NUMBER. */
 static bool is_by_other_name[MAX_DESCRIPTORS];
 
 struct path {
@@ -43,7 +44,7 @@ static const char *last_part(const char *path)
     return slash == NULL ? path : slash + 1;
 }
 
-/* Returns how many bytes the first character has. */
+/* Returns the number of bytes of the first character. */
 static size_t length_of_character(const char *text)
 {
     size_t len = 1;
@@ -78,7 +79,7 @@ static struct path folded(const char *path)
 
 /* ---- Inode numbers ---- */
 
-/* Returns true if this is the name in OTHER_NUMBER, or the path in /proc of a descriptor that was opened by it. */
+/* Returns true if the path is the name in OTHER_NUMBER, or the path in /proc of a descriptor that was opened with this name. */
 static bool is_other_name(const char *path)
 {
     const char *other = getenv("OTHER_NUMBER");

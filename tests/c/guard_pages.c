@@ -1,6 +1,6 @@
 /*
- * Checks that no call reads or writes beyond its buffers: each buffer lies directly before an inaccessible page, and
- * then directly after one. A bad access ends the program.
+ * Checks that no call reads or writes beyond its buffers. Each buffer is placed directly before an inaccessible page, and
+ * in a second run directly after one. An access beyond a buffer crashes the program.
  */
 #define _DEFAULT_SOURCE
 
@@ -11,17 +11,18 @@
 #include "minisign_install.h"
 #include "texts_for_tests.h"
 
-/* BYTES is a multiple of all page sizes, up to 64 KiB. BESIDE bytes on the other side of a buffer are overwritten. */
-enum { BYTES = 2 << 16, REGIONS = 16, BESIDE = 256 };
+/* BYTES is a multiple of all page sizes up to 64 KiB. A buffer, and MARGIN bytes on its accessible side, are filled with 0xaa
+ * when the buffer is created. */
+enum { BYTES = 2 << 16, REGIONS = 16, MARGIN = 256 };
 
 static uint8_t *regions[REGIONS];
 static int used, at_end;
 
-/* Returns a new buffer of this length beside a page without access. */
+/* Returns a new buffer next to an inaccessible page. */
 static uint8_t *buffer(size_t len)
 {
     uint8_t *region = regions[used++];
-    size_t blank = len + BESIDE < BYTES ? len + BESIDE : BYTES;
+    size_t blank = len + MARGIN < BYTES ? len + MARGIN : BYTES;
 
     memset(at_end ? region + BYTES - blank : region, 0xaa, blank);
     return at_end ? region + BYTES - len : region;
@@ -32,13 +33,13 @@ static uint8_t *copied(const void *bytes, size_t len)
     return memcpy(buffer(len), bytes, len);
 }
 
-/* A buffer for a value of a type, and a copy of such a value in its own buffer. */
+/* Returns such a buffer for a value of a type, and a copy of a value in such a buffer. */
 #define NEW(type) ((type *) (void *) buffer(sizeof(type)))
 #define ALONE(type, value) ((type *) (void *) copied((type[1]) { value }, sizeof(type)))
 #define PUBLIC_KEY() ALONE(minisign_public_key, key_of(KEY))
 #define SIGNATURE_READ() ALONE(minisign_signature, signature_of(SIGNATURE))
 
-/* Returns this many bytes of one value. */
+/* Returns a buffer of `len` bytes, all with the same value. */
 static uint8_t *filled(size_t len, int letter)
 {
     return memset(buffer(len), letter, len);
@@ -74,13 +75,13 @@ static void feeds_data(void)
     }
 }
 
-/* Asks with the first bytes of a signature file, and a message buffer of this size. */
+/* Calls minisign_ask with the first `len` bytes of a signature file, and with a message buffer of this size. */
 static enum minisign_error ask_with(minisign_state *state, const minisign_signature *read, size_t len, size_t room)
 {
     return minisign_ask(state, PUBLIC_KEY(), read, copied(SIGNATURE, len), len, 0, NEW(minisign_questions), buffer(room), room);
 }
 
-/* Asks about a signature with this offset and length of the comment. Nothing beyond the text is read. */
+/* Calls minisign_ask for a signature with this offset and length of the comment. Nothing beyond the text may be read. */
 static void ask_about_place(uint64_t offset, uint64_t len)
 {
     used = 0;
@@ -92,7 +93,7 @@ static void ask_about_place(uint64_t offset, uint64_t len)
                                                                                  : error == MINISIGN_OTHER_SIGNATURE_TEXT);
 }
 
-/* Key and signature files cut at each length, and message buffers of each size. */
+/* Reads key and signature files truncated at each length, with message buffers of each size. */
 static void asks_with_cut_texts(void)
 {
     static const uint64_t places[] = { 0, 1, sizeof SIGNATURE - 2, sizeof SIGNATURE - 1, sizeof SIGNATURE, BYTES, UINT32_MAX,
@@ -173,7 +174,7 @@ static void signs_with_cut_keys(void)
     }
 }
 
-/* New keys, their public keys, and buffers of each size for key files. */
+/* Writes new keys and their public keys to buffers of each size. */
 static void writes_keys(void)
 {
     static const minisign_new_key new_key = { "1234567", { 1 } };
@@ -194,7 +195,8 @@ static void writes_keys(void)
     }
 }
 
-/* Records of exactly their sizes and of a byte less, and buffers of each size for the files of keys that were only read. */
+/* Reads records of exactly the right size and of a byte less, and writes the files of keys that were only read to buffers of
+ * each size. */
 static void reads_and_writes_records(void)
 {
     const minisign_public_key public_key = key_of(KEY);
@@ -233,7 +235,7 @@ static void reads_and_writes_records(void)
     }
 }
 
-/* Opens a key in memory of exactly the size that is needed, and of a word or a byte less. The memory is cleared. */
+/* Opens a key in memory of exactly the required size, and of a word or a byte less. The memory must be cleared. */
 static void opens_in_place(uint64_t p)
 {
     static const uint8_t secret[64] = { 1 };
@@ -268,14 +270,14 @@ static void opens_in_place(uint64_t p)
     }
 }
 
-/* Passes on the signature. */
+/* Passes the signature file to the installation. */
 static enum minisign_error pass_signature(minisign_installation *i)
 {
     return minisign_install_signature(i, bytes_of(SIGNATURE), sizeof SIGNATURE - 1, copied("test", 4), 4, 0, buffer(MESSAGE_LEN),
                                       MESSAGE_LEN, NEW(size_t));
 }
 
-/* Returns an installation at which this is due. */
+/* Returns an installation at which this operation is due. */
 static minisign_installation *installing(uint32_t due)
 {
     static const minisign_install_options options = { .numbering = MINISIGN_NUMBERING_TIMESTAMP };
@@ -296,7 +298,7 @@ static minisign_installation *installing(uint32_t due)
     return i;
 }
 
-/* Passes on the first bytes of a signature file, with a message buffer of this size. */
+/* Passes the first `len` bytes of a signature file to an installation, with a message buffer of this size. */
 static enum minisign_error pass_to_install(size_t len, size_t room)
 {
     used = 0;
@@ -305,7 +307,8 @@ static enum minisign_error pass_to_install(size_t len, size_t room)
     return minisign_install_signature(i, copied(SIGNATURE, len), len, copied("test", 4), 4, 0, buffer(room), room, NEW(size_t));
 }
 
-/* Records, names and comments of each length, and buffers of each size for the message and the record. */
+/* Makes the calls of an installation with records, names and comments of each length, and with buffers of each size for the
+ * message and the record. */
 static void installs(void)
 {
     static const char comment[] = COMMENT;
@@ -323,7 +326,7 @@ static void installs(void)
         minisign_signature read;
         enum minisign_error error = minisign_read_signature(bytes_of(SIGNATURE), size, &read);
 
-        /* A comment signature that is cut off can be read, but is too short. */
+        /* A truncated comment signature can be read, but it is too short to be valid. */
         CHECK(pass_to_install(size, MESSAGE_LEN) == (error == MINISIGN_OK ? MINISIGN_COMMENT_SIGNATURE_REFUSED : error));
     }
     used = 0;

@@ -1,7 +1,8 @@
 /*
- * Checks installations with the calls of minisign_install.h. At each operation that is due it makes each call of the
- * header, and compares the next operation with a table. API misuse changes no byte of the struct. Further checks: valid
- * and invalid records and trusted comments, the questions for Ed25519, and the new record. Nothing allocates.
+ * Checks installations with the calls of minisign_install.h. In each state of an installation, it makes each call of the
+ * header, and compares the operation that is then due with a table. API misuse must not change the struct. Further checks
+ * are about valid and invalid records and trusted comments, the questions for Ed25519, and the new record. No call may
+ * allocate memory.
  *
  * Linked with -Wl,--wrap=malloc -Wl,--wrap=realloc -Wl,--wrap=free.
  */
@@ -14,15 +15,16 @@
 #define CHECK_AT(due, condition) check((condition), "while %u is due: %s", (due), #condition)
 
 #define NUMBER 1556193335
-/* The key, and the record of this timestamp for the data `abc`: the key, and the digest. */
+/* The key, and the record of a timestamp for the data `abc`. The record also has the key and the digest. */
 #define OWN_KEY "79a561e70ee08cd3e754c63e9bd6b9c3520a1d4204cd104da2e7ef763b1853b7"
 #define OWN_NUMBER "timestamp:1556193335"
 #define OWN_RECORD OWN_NUMBER "\n" OWN_KEY "\n" HEX_OF_ABC
-/* A later timestamp, and a key that has not signed. */
+/* A later timestamp, and a key that has not signed the update. */
 #define LATER_NUMBER "timestamp:1556193336"
 #define THIRD_KEY "5b5a5a5a5a5a5a5a5a5a5a5a5a5a5a5a5a5a5a5a5a5a5a5a5a5a5a5a5a5a5a5a"
 
-/* What is due next after minisign_install_done (0 if that is not allowed), and after minisign_install_failed. */
+/* For each operation, the operations that are due after minisign_install_done and after minisign_install_failed. 0 means that
+ * minisign_install_done is not allowed. */
 static const struct row {
     uint32_t due, done, failed;
 } table[] = {
@@ -58,17 +60,17 @@ static const struct row {
 
 #define ROWS LENGTH(table)
 
-/* The current time of the calls. The signature of these tests never expires. */
+/* The current time that is passed. The signature of these tests never expires. */
 #define NOW 1000
 
 static uint8_t message[4096], key_asked[32], signature_asked[64], digest_asked[64];
 static size_t message_len;
 
-/* The signature file, the file name and the time of `pass_signature`. */
+/* The signature file, the file name and the time that `pass_signature` passes. */
 static const char *passed_text = SIGNATURE, *passed_name = "test";
 static int64_t passed_time = NOW;
 
-/* Passes on a signature file. */
+/* Passes a signature file to the installation. */
 static enum minisign_error pass_text(minisign_installation *i, const char *sig_text, const char *file, size_t room)
 {
     return minisign_install_signature(i, bytes_of(sig_text), strlen(sig_text), bytes_of(file), strlen(file), passed_time,
@@ -95,7 +97,7 @@ static enum minisign_error piece(minisign_installation *i, const char *data)
     return minisign_install_piece(i, bytes_of(data), strlen(data));
 }
 
-/* Passes `abc` and the end of the data. */
+/* Passes the data `abc` and the end of the data. */
 static enum minisign_error pieces(minisign_installation *i)
 {
     enum minisign_error error = piece(i, "abc");
@@ -103,7 +105,7 @@ static enum minisign_error pieces(minisign_installation *i)
     return error == MINISIGN_OK ? piece(i, "") : error;
 }
 
-/* Answers about the trusted comment. The key is passed twice, so it is asked twice. */
+/* Passes the result of Ed25519 for the trusted comment. The same key was passed twice, so there are two questions. */
 static enum minisign_error answer_comment(minisign_installation *i, enum minisign_answer answer)
 {
     enum minisign_error error = minisign_install_answer(i, answer);
@@ -111,7 +113,7 @@ static enum minisign_error answer_comment(minisign_installation *i, enum minisig
     return error == MINISIGN_OK && answer == NO ? minisign_install_answer(i, answer) : error;
 }
 
-/* Begins an installation under the published key. */
+/* Begins an installation with the published key. */
 static enum minisign_error begin(minisign_installation *i, minisign_install_options options)
 {
     const minisign_public_key key = key_of(KEY);
@@ -121,7 +123,7 @@ static enum minisign_error begin(minisign_installation *i, minisign_install_opti
 
 #define BEGIN(i, ...) begin((i), (minisign_install_options) { __VA_ARGS__ })
 
-/* Performs the operation that is due, successfully. The record has this text. */
+/* Reports that the operation that is due succeeded. `record_text` is the record. */
 static void step(minisign_installation *i, const char *record_text)
 {
     enum minisign_error error;
@@ -143,7 +145,7 @@ static void step(minisign_installation *i, const char *record_text)
     }
 }
 
-/* Performs operations until this one is due. The record has this text. */
+/* Reports successful operations until `due` is due. `record_text` is the record. */
 static void go_to(minisign_installation *i, uint32_t due, const char *record_text)
 {
     for (int calls = 0; minisign_install_due(i) != due; calls++) {
@@ -155,8 +157,8 @@ static void go_to(minisign_installation *i, uint32_t due, const char *record_tex
     }
 }
 
-/* Returns an installation at which this is due. The recorded version is older, unless the installed file is to be
- * read. */
+/* Returns an installation at which this operation is due. The recorded version is older, except if the installed file must
+ * be read. */
 static minisign_installation at(uint32_t due)
 {
     int reads_target = (due >= MINISIGN_DUE_CHECK_RECORD && due <= MINISIGN_DUE_SYNC_TARGET_NAME)
@@ -178,8 +180,8 @@ static int same(const minisign_installation *one, const minisign_installation *o
     return memcmp(one, other, sizeof *one) == 0;
 }
 
-/* Checks that a call returns this error and what is due next (`to`), or with `to` 0 that it returns MINISIGN_NOT_DUE and
- * changes nothing. */
+/* Checks that a call returns the error `why`, and that `to` is then due. If `to` is 0, checks that the call returns
+ * MINISIGN_NOT_DUE and changes nothing. */
 #define ENDS(due, call, to, why)                                                                                        \
     do {                                                                                                                \
         const minisign_installation before = at(due);                                                                   \
@@ -204,7 +206,7 @@ static int syncs_installed(uint32_t due)
     return due == MINISIGN_DUE_SYNC_TARGET || due == MINISIGN_DUE_SYNC_TARGET_NAME || due == MINISIGN_DUE_SYNC_FILE_NAME;
 }
 
-/* Returns what is due after the answer yes, or 0. */
+/* Returns the operation that is due after a valid signature was reported, or 0 if no answer is expected. */
 static uint32_t after_yes(uint32_t due)
 {
     switch (due) {
@@ -216,7 +218,7 @@ static uint32_t after_yes(uint32_t due)
     }
 }
 
-/* Makes each call at each operation. The record text is available when it is to be written. */
+/* Makes each call at each operation. The text of the new record is available when it must be written. */
 static void makes_each_call_at_each_operation(void)
 {
     for (size_t row = 0; row < ROWS; row++) {
@@ -254,7 +256,7 @@ static void makes_each_call_at_each_operation(void)
     }
 }
 
-/* The error of an installation is its first failure, whatever happens to the removal after it. */
+/* The error of an installation is its first failure, even if removing the temporary files fails afterwards. */
 static void keeps_first_failure(void)
 {
     static const enum minisign_error reasons[] = { MINISIGN_OUT_OF_MEMORY, MINISIGN_READING_FAILED, MINISIGN_WRITING_FAILED,
@@ -288,7 +290,7 @@ static void keeps_first_failure(void)
     }
 }
 
-/* Structs that were not initialized, and invalid options. */
+/* Checks structs that were not initialized, and invalid options. */
 static void rejects_bad_beginnings(void)
 {
     minisign_installation i, before;
@@ -322,7 +324,7 @@ static void rejects_bad_beginnings(void)
     }
 }
 
-/* Checks the error of a record with these options. A NULL text is a missing record. */
+/* Checks the error for a record with these options. If text is NULL, there is no record. */
 static void check_record(const uint8_t *text, size_t len, minisign_install_options options, enum minisign_error rejected)
 {
     minisign_installation i;
@@ -337,7 +339,7 @@ static void check_record(const uint8_t *text, size_t len, minisign_install_optio
 #define CHECK_RECORD(text, len, rejected, ...) \
     check_record((text), (len), (minisign_install_options) { __VA_ARGS__ }, (rejected))
 
-/* Checks the errors of a record for each field, with and without is_first. */
+/* Checks the errors for a record with each version field, with and without is_first. */
 static void check_record_text(const char *text, enum minisign_error by_time, enum minisign_error by_version)
 {
     CHECK_RECORD(bytes_of(text), strlen(text), by_time, .new_key = 0);
@@ -349,7 +351,7 @@ static void check_record_text(const char *text, enum minisign_error by_time, enu
 
 static void reads_records(void)
 {
-    /* A record of a number only is valid for both fields. */
+    /* A record with a number only is valid for both version fields. */
     static const char *const numbers[] = { "0", "5", "5\n", "18446744073709551615",
                                            "0000000000000000000000000000000000000000000000000000000000000005",
                                            "000000000000000000000000000000000000000000000000000000000000005\n" };
@@ -390,11 +392,11 @@ static void reads_records(void)
     }
 }
 
-/* The option must_expire of check_comment. */
+/* The option must_expire that check_comment uses. */
 static uint32_t must_expire;
 
-/* Checks the error and the version number of a trusted comment over a record, if this is the result for the comment
- * signature. */
+/* Checks the error and the version number for a trusted comment and a record. `answer` is the result of Ed25519 for the
+ * comment signature. */
 static void check_comment(const char *record_text, uint32_t is_first, const char *signature, const char *file, uint32_t numbering,
                           enum minisign_answer answer, enum minisign_error rejected, uint64_t number)
 {
@@ -427,15 +429,15 @@ static void judges_comments(void)
     check_comment("1556193336", 0, SIGNATURE, "test", by_time, YES, MINISIGN_OLDER_UPDATE, NUMBER);
     check_comment("timestamp:1556193336", 0, SIGNATURE, "test", by_time, YES, MINISIGN_OLDER_UPDATE, NUMBER);
     check_comment("timestamp:1556193336\n" HEX_OF_ABC, 1, SIGNATURE, "test", by_time, YES, MINISIGN_OK, NUMBER);
-    /* With is_first a recorded number of the other field is ignored. One of the same field, or without a field, is
-     * not. */
+    /* With is_first, a recorded number of the other field is ignored. A number of the same field, or without a field, is not
+     * ignored. */
     check_comment("version:1556193336", 1, SIGNATURE, "test", by_time, YES, MINISIGN_OK, NUMBER);
     check_comment("timestamp:1556193336", 1, SIGNATURE, "test", by_time, YES, MINISIGN_OLDER_UPDATE, NUMBER);
     check_comment("1556193336", 1, SIGNATURE, "test", by_time, YES, MINISIGN_OLDER_UPDATE, NUMBER);
     check_comment("0", 0, SIGNATURE, "tes", by_time, YES, MINISIGN_OTHER_FILE, NUMBER);
     check_comment("0", 0, SIGNATURE, "", by_time, YES, MINISIGN_OTHER_FILE, NUMBER);
     check_comment("0", 0, SIGNATURE, "test", by_version, YES, MINISIGN_NO_NUMBER, 0);
-    /* The verdict on the comment signature comes before errors of the comment. */
+    /* An invalid comment signature is reported before errors in the comment. */
     check_comment("1556193336", 0, SIGNATURE, "tes", by_version, NO, MINISIGN_COMMENT_SIGNATURE_REFUSED, 0);
     check_comment("0", 0, LEGACY_SIGNATURE, "test", by_time, YES, MINISIGN_LEGACY_NOT_ACCEPTED, 0);
     check_comment("0", 0, OTHER_SIGNATURE, "test", by_time, YES, MINISIGN_DIFFERENT_KEY_IDS, 0);
@@ -443,7 +445,7 @@ static void judges_comments(void)
     check_comment("0", 0, "untrusted comment: none", "test", by_time, YES, MINISIGN_MISSING_SIGNATURE, 0);
 }
 
-/* The data that was read back must have the signature. */
+/* The signature must be valid for the data that was read back. */
 static void judges_data(void)
 {
     minisign_installation i = at(MINISIGN_DUE_CHECK_DATA);
@@ -462,8 +464,8 @@ static const char *with_comment(const char *comment)
     return text;
 }
 
-/* Checks the error and the version number of a signed trusted comment, in the format of printf with one argument,
- * over the recorded version 2. */
+/* Checks the error and the version number for a signed trusted comment, if version 2 is recorded. The comment is the
+ * printf format `form` with one argument. */
 static void check_signed_comment(const char *form, const char *part, uint32_t is_first, enum minisign_error rejected, uint64_t number)
 {
     char comment[256];
@@ -472,7 +474,7 @@ static void check_signed_comment(const char *form, const char *part, uint32_t is
     check_comment("2", is_first, with_comment(comment), "a", MINISIGN_NUMBERING_VERSION, YES, rejected, number);
 }
 
-/* The fields expires: and size:. */
+/* Checks the fields expires: and size:. */
 static void reads_expiry_and_size(void)
 {
     static const char *const loose[] = { "Expires:2000", "EXPIRES:2000", "ex pires: 2000", "expires :2000", "expires\f:2000" };
@@ -505,7 +507,7 @@ static void reads_expiry_and_size(void)
     }
     must_expire = 0;
     for (size_t n = 0; n < LENGTH(sizes); n++) {
-        /* The expiry is checked before the size, and the version after it. */
+        /* The expiry date is checked before the size, and the version after the size. */
         check_signed_comment("file:a\tversion:1\t%s", sizes[n], 0, MINISIGN_BAD_SIZE, 1);
         check_signed_comment("file:a\tversion:3\texpires:1000\t%s", sizes[n], 0, MINISIGN_EXPIRED, 3);
     }
@@ -516,7 +518,7 @@ static void reads_expiry_and_size(void)
     }
 }
 
-/* Before 1970 every update that expires has expired. No time is too late for one that does not expire. */
+/* At a time before 1970, every update with an expiry date has expired. An update without one never expires. */
 static void judges_times(void)
 {
     static const int64_t times[] = { INT64_MIN, -1, 0, 1999, 2000, INT64_MAX };
@@ -530,7 +532,8 @@ static void judges_times(void)
     passed_time = NOW;
 }
 
-/* Returns an installation of version 3 over version 2 at which this is due. The trusted comment has this field. */
+/* Returns an installation of version 3, with version 2 recorded, at which this operation is due. The trusted comment has this
+ * field. */
 static minisign_installation sized(const char *field, uint32_t due)
 {
     static char comment[128];
@@ -546,7 +549,8 @@ static minisign_installation sized(const char *field, uint32_t due)
     return i;
 }
 
-/* Passes the sizes of two pieces, and the end. The call with the number `rejected` fails, or with 3 none. */
+/* Reports two copied pieces of these sizes, and the end. The call number `rejected`, counted from 0, must fail; 3 means that none
+ * does. */
 static void check_pieces(const char *field, size_t one, size_t two, int rejected)
 {
     minisign_installation i = sized(field, MINISIGN_DUE_COPY_DATA);
@@ -565,7 +569,7 @@ static void check_pieces(const char *field, size_t one, size_t two, int rejected
     }
 }
 
-/* The data has to have the signed size, if there is one. */
+/* The data must have the signed size, if there is one. */
 static void checks_size_of_data(void)
 {
     static const char *const fields[] = { "size:5", "size:0", "size:18446744073709551615" };
@@ -592,8 +596,8 @@ static void checks_size_of_data(void)
     check_pieces("size", SIZE_MAX, SIZE_MAX, 3);
 }
 
-/* Checks the error over a record under this key. With is_first or new_key a record under neither of the two keys is
- * ignored, whatever its number. */
+/* Checks the error for a record that was made under this key. With is_first or new_key, a record under neither of the two
+ * keys is ignored, whatever its version number is. */
 static void check_key_of_record(const char *digits, uint32_t is_first, uint32_t new_key, enum minisign_error rejected)
 {
     const minisign_public_key key = key_of(KEY);
@@ -623,7 +627,7 @@ static void compares_key_of_record(void)
     }
 }
 
-/* The questions, their keys and messages. API misuse changes nothing. */
+/* Checks the questions for Ed25519, with their keys and messages. API misuse must change nothing. */
 static void asks_about_each_signature(void)
 {
     static const uint32_t checks[] = { MINISIGN_DUE_CHECK_COMMENT, MINISIGN_DUE_CHECK_RECORD, MINISIGN_DUE_CHECK_TARGET,
@@ -643,7 +647,7 @@ static void asks_about_each_signature(void)
         i = before = at(checks[n]);
         CHECK_AT(checks[n], ask(&i) == MINISIGN_OK && memcmp(key_asked, key.key, sizeof key.key) == 0);
         CHECK_AT(checks[n], is_comment ? memcmp(signature_asked, signature.comment_signature, 64) == 0 && is_zeros(digest_asked, 64)
-                                       : memcmp(signature_asked, signature.signature, 64) == 0 && is_hex(digest_asked, HEX_OF_ABC));
+                                       : memcmp(signature_asked, signature.signature, 64) == 0 && equals_hex(digest_asked, HEX_OF_ABC));
         CHECK_AT(checks[n], minisign_install_answer(&i, (enum minisign_answer) 1) == MINISIGN_BAD_ANSWER && same(&i, &before));
         CHECK_AT(checks[n], minisign_install_answer(&i, (enum minisign_answer) 0) == MINISIGN_BAD_ANSWER && same(&i, &before));
     }
@@ -652,7 +656,7 @@ static void asks_about_each_signature(void)
     CHECK(ask(&i) == MINISIGN_NOT_DUE && key_asked[0] == 0xaa && key_asked[31] == 0xaa);
 }
 
-/* Either of two keys may have signed. The key ID selects it, and if both have this ID, both are asked. */
+/* Either of two keys may have signed. The key ID selects the key; if both keys have this key ID, there are questions for both. */
 static void asks_selected_keys(void)
 {
     static const minisign_install_options options;
@@ -684,8 +688,8 @@ static void asks_selected_keys(void)
     }
 }
 
-/* Checks what is due and the error for an update of the recorded version, with the answers about the record's digest
- * (`own`) and about the installed file (`installed`). */
+/* Checks the operation that is due and the error for an update of the recorded version. `own` and `installed` are the answers
+ * about the digest in the record and about the installed file. */
 static void check_recorded(const char *record_text, uint32_t again, uint32_t is_check, enum minisign_answer own,
                            enum minisign_answer installed, uint32_t due, enum minisign_error rejected)
 {
@@ -720,8 +724,8 @@ static void judges_recorded_version(void)
     check_recorded("1556193335", 0, 1, YES, NO, MINISIGN_DUE_REJECTED, MINISIGN_SAME_NUMBER);
 }
 
-/* Checks what is due after the trusted comment of a roll-back over this record is found to be signed, and the new record
- * if the update is then installed. */
+/* Checks the operation that is due in a roll-back with this record, after its trusted comment was verified, and the new
+ * record if the update is then installed. */
 static void check_roll_back(const char *record_text, uint32_t due, const char *new_record)
 {
     minisign_installation i;
@@ -738,7 +742,7 @@ static void check_roll_back(const char *record_text, uint32_t due, const char *n
     CHECK(memcmp(message, new_record, strlen(new_record)) == 0);
 }
 
-/* A roll-back keeps version and key of the record. */
+/* A roll-back keeps the version and the key in the record. */
 static void rolls_back(void)
 {
     minisign_installation i;
@@ -750,7 +754,7 @@ static void rolls_back(void)
         const char *text = n ? LATER_NUMBER "\n" OWN_KEY "\n" HEX_OF_ABC : LATER_NUMBER "\n" THIRD_KEY "\n" HEX_OF_ABC;
 
         check_roll_back(text, MINISIGN_DUE_CHECK_RECORD, text);
-        /* The update is the one that is recorded, so it may be installed already. */
+        /* The update has the recorded version, so it may already be installed. */
         CHECK(BEGIN(&i, .roll_back = 1) == MINISIGN_OK);
         go_to(&i, MINISIGN_DUE_CHECK_TARGET, text);
         CHECK(minisign_install_answer(&i, n ? YES : NO) == MINISIGN_OK);
@@ -797,7 +801,7 @@ static void judges_plain_comments(void)
     check_judged_comment("\xff", "test", by_time, 0, MINISIGN_NOT_UTF8, 0);
     check_judged_comment(COMMENT, "\xff", by_time, 0, MINISIGN_NOT_UTF8, 0);
 
-    /* The update expires later, or has expired, or its expiry date is invalid. */
+    /* The update expires later, has expired, or has an invalid expiry date. */
     check_judged_comment("file:a\tversion:1\texpires:1001", "a", by_version, 0, MINISIGN_OK, 1);
     check_judged_comment("expires:18446744073709551615\tfile:a\tversion:1", "a", by_version, 0, MINISIGN_OK, 1);
     check_judged_comment("file:a\tversion:1\texpires:1000", "a", by_version, 0, MINISIGN_EXPIRED, 0);
@@ -811,14 +815,14 @@ static void judges_plain_comments(void)
     check_judged_comment("expires:2000\texpires:x\tfile:a\tversion:1", "a", by_version, 0, MINISIGN_BAD_EXPIRY, 0);
     check_judged_comment("file:a\tversion:1\texpire:1\tEXPIRES:1\t expires:1", "a", by_version, 0, MINISIGN_OK, 1);
     check_judged_comment("file:a\tversion:1\tsize:x\tsize:5", "a", by_version, 0, MINISIGN_OK, 1);
-    /* File name and version number are checked first, and an older version last. */
+    /* The file name and the form of the version number are checked first, and an older version last. */
     check_judged_comment("file:a\tversion:1\texpires:1", "b", by_version, 0, MINISIGN_OTHER_FILE, 0);
     check_judged_comment("file:a\tversion:x\texpires:1", "a", by_version, 0, MINISIGN_NO_NUMBER, 0);
     check_judged_comment("file:a\tversion:1\texpires:1", "a", by_version, 2, MINISIGN_EXPIRED, 0);
     check_judged_comment("file:a\tversion:1\texpires:2000", "a", by_version, 2, MINISIGN_OLDER_UPDATE, 0);
 }
 
-/* NULL for no bytes. */
+/* NULL is allowed if the length is 0. */
 static void takes_null_for_no_bytes(void)
 {
     minisign_installation i = at(MINISIGN_DUE_READ_RECORD);
@@ -853,6 +857,6 @@ int main(void)
     rolls_back();
     judges_plain_comments();
     takes_null_for_no_bytes();
-    CHECK(requests == 0 && held == 0);
+    CHECK(requests == 0 && allocated_blocks == 0);
     return ended();
 }

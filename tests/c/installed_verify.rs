@@ -105,15 +105,15 @@ fn accepts(signature: &[u8; 64], message: &[u8], public_key: &[u8; 32]) -> u32 {
     if rejected == 0 { minisign::ANSWER_YES } else { minisign::ANSWER_NO }
 }
 
-/// Why verification failed: an error of the library, or of reading the data.
+/// The reason why verification failed: an error number of the library, or an error when reading the data.
 enum Rejection {
-    Number(u32),
-    Unread(io::Error),
+    Library(u32),
+    Reading(io::Error),
 }
 
 /// Converts the result of a call.
 fn expect(error: u32) -> Result<(), Rejection> {
-    if error == minisign::OK { Ok(()) } else { Err(Rejection::Number(error)) }
+    if error == minisign::OK { Ok(()) } else { Err(Rejection::Library(error)) }
 }
 
 /// Verifies the data, and returns the trusted comment. Errors of the key and the signature are
@@ -137,7 +137,7 @@ fn verify(pk_text: &[u8], sig_text: &[u8], data: &mut impl Read) -> Result<Vec<u
             message.as_mut_ptr(), message.len(),
         )
     })?;
-    io::copy(data, &mut state).map_err(Rejection::Unread)?;
+    io::copy(data, &mut state).map_err(Rejection::Reading)?;
     expect(unsafe { minisign::minisign_digest(&mut state, questions.digest.as_mut_ptr()) })?;
     let first = accepts(&questions.signature, &questions.digest, &questions.public_key);
     let second = accepts(&questions.comment_signature, &message, &questions.public_key);
@@ -166,11 +166,11 @@ fn run(arguments: &[String]) -> io::Result<ExitCode> {
             io::stdout().write_all(&[&trusted_comment[..], b"\n"].concat())?;
             Ok(ExitCode::SUCCESS)
         }
-        Err(Rejection::Number(error)) => {
+        Err(Rejection::Library(error)) => {
             eprintln!("{}", error_text(error));
             Ok(ExitCode::from(1))
         }
-        Err(Rejection::Unread(error)) => Err(error),
+        Err(Rejection::Reading(error)) => Err(error),
     }
 }
 

@@ -1,5 +1,5 @@
 /*
- * Makes and opens keys with the calls of minisign.h, for made_keys.py.
+ * Writes and opens key files with the calls of minisign.h. made_keys.py runs this program.
  *
  *     keys secret KEY_ID SECRET SALT OPERATIONS MEMORY EVERY COMMENT [PASSWORD]
  *     keys public KEY_ID SECRET COMMENT
@@ -7,10 +7,12 @@
  *     keys place EVERY ROWS TEXT [PASSWORD]
  *     keys memory EVERY TEXT
  *
- * EVERY is keep_every and ROWS the most rows, as in the header. KEY_ID, SECRET and SALT are in hexadecimal; TEXT is a
- * secret key file. `place` opens the key in memory of exactly the size that `memory` prints, in words and bytes: the
- * memory is filled before, and has to be zero afterwards. Prints the key file, or the key ID and the secret in
- * hexadecimal, or the error number with exit status 1.
+ * `secret` and `public` print a key file. `open` and `place` print the key ID and the secret in hexadecimal. `place` opens
+ * the key in memory of exactly the size that `memory` prints, as numbers of words and bytes. This memory is filled before,
+ * and must consist of zeros afterwards. After an error, the program prints its number and exits with status 1.
+ *
+ * EVERY and ROWS are the arguments keep_every and most_rows in the header. KEY_ID, SECRET and SALT are in hexadecimal. TEXT
+ * is the content of a secret key file.
  */
 #include <inttypes.h>
 #include <stdlib.h>
@@ -48,7 +50,7 @@ static int status_of(uint32_t error)
     return error != MINISIGN_OK;
 }
 
-/* Writes the secret key file, encrypted if there is a password, or the public key file. */
+/* Prints a secret key file, which is encrypted if there is a password, or a public key file. */
 static int make(int argc, char **argv, int is_secret)
 {
     static uint8_t text[4096];
@@ -79,7 +81,7 @@ static int make(int argc, char **argv, int is_secret)
     return status_of(error);
 }
 
-/* Allocates and fills memory of this size. */
+/* Allocates `len` bytes and fills them with a value other than 0. */
 static void *filled(uint64_t len)
 {
     void *at = malloc((size_t) len);

@@ -1,7 +1,7 @@
-"""Translates functions of clang's LLVM IR into terms of z3. An instruction or a flag that this module does not know is
-an error.
+"""Translates functions in clang's LLVM IR to terms of z3. An instruction or flag that this module does not support
+is an error.
 
-Needs z3 for Python (Debian's python3-z3), so Debian's own Python.
+Needs z3 for Python, which is Debian's package python3-z3, and so Debian's Python.
 """
 
 import re
@@ -9,8 +9,8 @@ from collections import namedtuple
 
 import z3
 
-# The effect of a function: the value it returns (None if it returns nothing), the memory after it, the condition under
-# which it calls abort, and the condition under which its behaviour is undefined.
+# The effect of a function: the value that it returns, or None, the memory afterwards, the condition under which it
+# calls abort, and the condition under which its behaviour is undefined.
 Outcome = namedtuple("Outcome", "result memory ends undefined")
 Function = namedtuple("Function", "parameters blocks")
 
@@ -19,17 +19,17 @@ NEVER, ALWAYS = z3.BoolVal(False), z3.BoolVal(True)
 POINTER = r"(?:ptr|i\d+\*)"
 
 
-class Unknown(Exception):
-    """Something in the IR that this module cannot read."""
+class Unsupported(Exception):
+    """The IR contains something that this module does not support."""
 
 
 def memory():
-    """Returns a memory of unknown bytes."""
+    """Returns a memory with unknown content."""
     return z3.Array("memory", z3.BitVecSort(ADDRESS_BITS), z3.BitVecSort(8))
 
 
 def load(contents, address, size):
-    """Returns the little-endian number of this many bytes at an address."""
+    """Returns the little-endian number of `size` bytes at an address."""
     return z3.simplify(z3.Concat([contents[address + at] for at in reversed(range(size))]) if size > 1 else contents[address])
 
 
@@ -40,7 +40,7 @@ def store(contents, address, value):
     return contents
 
 
-# ---- Operations that z3 does not have, or for which its own are too slow ----
+# ---- Operations that z3 does not have, or that are too slow in z3 ----
 
 
 def count_ones(x):
@@ -48,11 +48,11 @@ def count_ones(x):
 
 
 def zeros(x, positions):
-    """Returns the number of zeros before the first one, in the order of these positions."""
-    found = z3.BitVecVal(x.size(), x.size())
+    """Returns the number of zero bits before the first one bit, in the order of these positions."""
+    match = z3.BitVecVal(x.size(), x.size())
     for count, at in reversed([*enumerate(positions)]):
-        found = z3.If(z3.Extract(at, at, x) == 1, z3.BitVecVal(count, x.size()), found)
-    return found
+        match = z3.If(z3.Extract(at, at, x) == 1, z3.BitVecVal(count, x.size()), match)
+    return match
 
 
 def leading_zeros(x):
@@ -63,22 +63,22 @@ def trailing_zeros(x):
     return zeros(x, range(x.size()))
 
 
-# Unsigned division is an uninterpreted function: what is proved holds for every function of two 64-bit numbers, so also
-# for division. Division of 32-bit numbers is division of the same numbers with 64 bits.
+# Unsigned division is an uninterpreted function: a proof holds for every function of two 64-bit numbers, and so for
+# division. 32-bit numbers are divided as 64-bit numbers.
 QUOTIENT, REMAINDER = (z3.Function(name, *[z3.BitVecSort(64)] * 3) for name in ("quotient", "remainder"))
 
 
-def divided(function, a, b):
+def divide(function, a, b):
     more = 64 - a.size()
     return function(a, b) if more == 0 else z3.Extract(a.size() - 1, 0, function(z3.ZeroExt(more, a), z3.ZeroExt(more, b)))
 
 
 def quotient(a, b):
-    return divided(QUOTIENT, a, b)
+    return divide(QUOTIENT, a, b)
 
 
 def remainder(a, b):
-    return divided(REMAINDER, a, b)
+    return divide(REMAINDER, a, b)
 
 
 BINARY = {
@@ -87,8 +87,9 @@ BINARY = {
     "shl": lambda a, b: a << b, "lshr": z3.LShR, "ashr": lambda a, b: a >> b,
     "udiv": quotient, "urem": remainder,
 }
-# The condition under which an operation with a flag gives poison. Any use of it counts as undefined here.
-POISON = {
+# For each flag of an operation, the condition under which the result is poison. Here, this counts as undefined
+# behaviour.
+POISON_CONDITIONS = {
     ("add", "nuw"): lambda a, b: z3.Not(z3.BVAddNoOverflow(a, b, False)),
     ("add", "nsw"): lambda a, b: z3.Not(z3.And(z3.BVAddNoOverflow(a, b, True), z3.BVAddNoUnderflow(a, b))),
     ("sub", "nuw"): z3.ULT,
@@ -98,7 +99,7 @@ POISON = {
     ("lshr", "exact"): lambda a, b: z3.LShR(a, b) << b != a,
     ("ashr", "exact"): lambda a, b: (a >> b) << b != a,
 }
-COMPARED = {
+COMPARISONS = {
     "eq": lambda a, b: a == b, "ne": lambda a, b: a != b, "ult": z3.ULT, "ule": z3.ULE, "ugt": z3.UGT, "uge": z3.UGE,
     "slt": lambda a, b: a < b, "sle": lambda a, b: a <= b, "sgt": lambda a, b: a > b, "sge": lambda a, b: a >= b,
 }
@@ -119,29 +120,29 @@ INTRINSICS = {
     "ctlz": lambda a, _: leading_zeros(a),
     "cttz": lambda a, _: trailing_zeros(a),
 }
-# If the second argument of these intrinsics is 1, this input gives poison.
-POISONED = {"ctlz": lambda bits: 0, "cttz": lambda bits: 0, "abs": lambda bits: 1 << bits - 1}
+# For each of these intrinsics, the input for which the result is poison if the second argument is 1.
+POISON_INPUTS = {"ctlz": lambda bits: 0, "cttz": lambda bits: 0, "abs": lambda bits: 1 << bits - 1}
 
 
 def functions_of(text):
-    """Returns the functions of a module, by name."""
-    found = {}
+    """Maps the names of the functions of a module to their parsed text."""
+    match = {}
     for name, parameters, body in re.findall(r"^define [^@]*@(\w+)\(([^)]*)\)[^{]*\{\n(.*?)\n\}", text, re.S | re.M):
         blocks, block = {}, "entry"
         for line in body.split("\n"):
-            # (without metadata, comments and attribute numbers)
+            # Metadata, comments and attribute numbers are removed.
             line = re.sub(r", !.*|\s+;.*| #\d+$", "", line)
             label = re.match(r"([\w.]+):", line)
             if label:
                 block = label[1]
             elif line.strip():
                 blocks.setdefault(block, []).append(line.strip())
-        found[name] = Function(re.findall(r"i\d+ [^%,]*%([\w.]+)", parameters), blocks)
-    return found
+        match[name] = Function(re.findall(r"i\d+ [^%,]*%([\w.]+)", parameters), blocks)
+    return match
 
 
 class Execution:
-    """Executes a function on terms, along every path. A loop is an error."""
+    """Executes a function symbolically, along every path. A loop is an error."""
 
     def __init__(self, function, arguments, contents):
         self.function, self.undefined = function, []
@@ -150,10 +151,10 @@ class Execution:
         self.outcome = Outcome(result, contents, ends, z3.Or(NEVER, *self.undefined))
 
     def block(self, name, before, values, contents, reached, above):
-        """Executes a block and all that follow. Returns the result, the memory, and the condition under which the
-        program ends."""
+        """Executes a block and the blocks that follow it. Returns the result, the memory, and the condition under
+        which the program ends."""
         if name in above:
-            raise Unknown(f"a loop at {name}")
+            raise Unsupported(f"a loop at {name}")
         values, above = dict(values), (*above, name)
         for line in self.function.blocks[name]:
             target, _, text = line.rpartition(" = ") if line.startswith("%") else ("", "", line)
@@ -161,112 +162,118 @@ class Execution:
             if word == "br":
                 return self.branch(text, name, values, contents, reached, above)
             if word == "ret":
-                found = re.fullmatch(r"ret i(\d+) (\S+)", text)
-                if not found and text != "ret void":
-                    raise Unknown(text)
-                return self.value(values, found[2], int(found[1])) if found else None, contents, NEVER
+                match = re.fullmatch(r"ret i(\d+) (\S+)", text)
+                if not match and text != "ret void":
+                    raise Unsupported(text)
+                return self.value(values, match[2], int(match[1])) if match else None, contents, NEVER
             if word == "unreachable":
                 return None, contents, ALWAYS
             if word == "store":
-                contents = self.stored(text, values, contents)
+                contents = self.store_term(text, values, contents)
             elif target:
                 values[target[1:]] = self.term(text, before, values, contents, reached)
             elif text != "tail call void @abort()":
-                raise Unknown(line)
-        raise Unknown(f"the block {name} has no terminator")
+                raise Unsupported(line)
+        raise Unsupported(f"the block {name} has no terminator")
 
     def branch(self, text, name, values, contents, reached, above):
-        found = re.fullmatch(r"br label %([\w.]+)", text)
-        if found:
-            return self.block(found[1], name, values, contents, reached, above)
-        found = re.fullmatch(r"br i1 (\S+), label %([\w.]+), label %([\w.]+)", text)
-        if not found:
-            raise Unknown(text)
-        condition = self.value(values, found[1], 1) == 1
-        yes = self.block(found[2], name, values, contents, z3.And(reached, condition), above)
-        no = self.block(found[3], name, values, contents, z3.And(reached, z3.Not(condition)), above)
+        """Executes a branch instruction at the end of a block, like `block`."""
+        match = re.fullmatch(r"br label %([\w.]+)", text)
+        if match:
+            return self.block(match[1], name, values, contents, reached, above)
+        match = re.fullmatch(r"br i1 (\S+), label %([\w.]+), label %([\w.]+)", text)
+        if not match:
+            raise Unsupported(text)
+        condition = self.value(values, match[1], 1) == 1
+        yes = self.block(match[2], name, values, contents, z3.And(reached, condition), above)
+        no = self.block(match[3], name, values, contents, z3.And(reached, z3.Not(condition)), above)
         result = no[0] if yes[0] is None else yes[0] if no[0] is None else z3.If(condition, yes[0], no[0])
         return result, z3.If(condition, yes[1], no[1]), z3.If(condition, yes[2], no[2])
 
     @staticmethod
     def value(values, word, bits):
+        """Returns the term for an operand: a local value, or a constant of this many bits."""
         if word.startswith("%"):
             return values[word[1:]]
         return z3.BitVecVal({"true": 1, "false": 0}.get(word) if word in ("true", "false") else int(word), bits)
 
-    def stored(self, text, values, contents):
-        found = re.fullmatch(rf"store i(8|16|32|64) (\S+), {POINTER} (\S+), align 1", text)
-        if not found:
-            raise Unknown(text)
-        return store(contents, self.value(values, found[3], ADDRESS_BITS), self.value(values, found[2], int(found[1])))
+    def store_term(self, text, values, contents):
+        """Returns the memory after a store instruction."""
+        match = re.fullmatch(rf"store i(8|16|32|64) (\S+), {POINTER} (\S+), align 1", text)
+        if not match:
+            raise Unsupported(text)
+        return store(contents, self.value(values, match[3], ADDRESS_BITS), self.value(values, match[2], int(match[1])))
 
     def term(self, text, before, values, contents, reached):
         """Returns the value of an instruction."""
-        for pattern, how in self.FORMS:
-            found = re.fullmatch(pattern, text)
-            if found:
-                return how(self, found, values, reached, before, contents)
-        raise Unknown(text)
+        for pattern, translate in self.FORMS:
+            match = re.fullmatch(pattern, text)
+            if match:
+                return translate(self, match, values, reached, before, contents)
+        raise Unsupported(text)
 
-    def binary(self, found, values, reached, *_):
-        operation, flags, bits = found[1], found[2].split(), int(found[3])
-        a, b = (self.value(values, word, bits) for word in found.group(4, 5))
+    # Each of the following methods returns the value of an instruction of one of the FORMS. `match` is the match of
+    # its pattern.
+
+    def binary_term(self, match, values, reached, *_):
+        operation, flags, bits = match[1], match[2].split(), int(match[3])
+        a, b = (self.value(values, word, bits) for word in match.group(4, 5))
         for flag in flags:
-            if (operation, flag) not in POISON:
-                raise Unknown(found[0])
-            self.undefined.append(z3.And(reached, POISON[operation, flag](a, b)))
+            if (operation, flag) not in POISON_CONDITIONS:
+                raise Unsupported(match[0])
+            self.undefined.append(z3.And(reached, POISON_CONDITIONS[operation, flag](a, b)))
         if operation in ("shl", "lshr", "ashr"):
             self.undefined.append(z3.And(reached, z3.UGE(b, bits)))
         if operation in ("udiv", "urem"):
             self.undefined.append(z3.And(reached, b == 0))
         return BINARY[operation](a, b)
 
-    def compared(self, found, values, *_):
-        a, b = (self.value(values, word, int(found[2])) for word in found.group(3, 4))
-        return z3.If(COMPARED[found[1]](a, b), z3.BitVecVal(1, 1), z3.BitVecVal(0, 1))
+    def comparison_term(self, match, values, *_):
+        a, b = (self.value(values, word, int(match[2])) for word in match.group(3, 4))
+        return z3.If(COMPARISONS[match[1]](a, b), z3.BitVecVal(1, 1), z3.BitVecVal(0, 1))
 
-    def cast(self, found, values, *_):
-        bits, more = int(found[2]), int(found[4]) - int(found[2])
-        value = self.value(values, found[3], bits)
+    def cast_term(self, match, values, *_):
+        bits, more = int(match[2]), int(match[4]) - int(match[2])
+        value = self.value(values, match[3], bits)
         return {"zext": lambda: z3.ZeroExt(more, value), "sext": lambda: z3.SignExt(more, value),
-                "trunc": lambda: z3.Extract(int(found[4]) - 1, 0, value)}[found[1]]()
+                "trunc": lambda: z3.Extract(int(match[4]) - 1, 0, value)}[match[1]]()
 
-    def selected(self, found, values, *_):
-        a, b = (self.value(values, word, int(found[2])) for word in found.group(3, 4))
-        return z3.If(self.value(values, found[1], 1) == 1, a, b)
+    def select_term(self, match, values, *_):
+        a, b = (self.value(values, word, int(match[2])) for word in match.group(3, 4))
+        return z3.If(self.value(values, match[1], 1) == 1, a, b)
 
-    def called(self, found, values, reached, *_):
-        bits, name = int(found[1]), found[2]
+    def call_term(self, match, values, reached, *_):
+        bits, name = int(match[1]), match[2]
         if name not in INTRINSICS:
-            raise Unknown(found[0])
-        given = [self.value(values, word, int(kind)) for kind, word in re.findall(r"i(\d+) (?:noundef )?(\S+?)(?:,|$)", found[3])]
-        if name in POISONED:
-            self.undefined.append(z3.And(reached, given[0] == POISONED[name](bits), given[1] == 1))
-        return INTRINSICS[name](*given)
+            raise Unsupported(match[0])
+        arguments = [self.value(values, word, int(kind)) for kind, word in re.findall(r"i(\d+) (?:noundef )?(\S+?)(?:,|$)", match[3])]
+        if name in POISON_INPUTS:
+            self.undefined.append(z3.And(reached, arguments[0] == POISON_INPUTS[name](bits), arguments[1] == 1))
+        return INTRINSICS[name](*arguments)
 
-    def joined(self, found, values, _, before, *__):
-        words = dict((block, word) for word, block in re.findall(r"\[ (\S+), %([\w.]+) \]", found[2]))
-        return self.value(values, words[before], int(found[1]))
+    def phi_term(self, match, values, _, before, *__):
+        values_by_block = dict((block, word) for word, block in re.findall(r"\[ (\S+), %([\w.]+) \]", match[2]))
+        return self.value(values, values_by_block[before], int(match[1]))
 
-    def loaded(self, found, values, _, __, contents):
-        return load(contents, self.value(values, found[2], ADDRESS_BITS), int(found[1]) // 8)
+    def load_term(self, match, values, _, __, contents):
+        return load(contents, self.value(values, match[2], ADDRESS_BITS), int(match[1]) // 8)
 
-    def copied(self, found, values, *_):
-        return self.value(values, found[1], ADDRESS_BITS)
+    def pointer_term(self, match, values, *_):
+        return self.value(values, match[1], ADDRESS_BITS)
 
     FORMS = [
-        (rf"({'|'.join(BINARY)})((?: nuw| nsw| exact)*) i(\d+) (\S+), (\S+)", binary),
-        (r"icmp (\w+) i(\d+) (\S+), (\S+)", compared),
-        (r"(zext|sext|trunc) i(\d+) (\S+) to i(\d+)", cast),
-        (r"select i1 (\S+), i(\d+) (\S+), i\d+ (\S+)", selected),
-        (r"(?:tail )?call (?:noundef )?i(\d+) @llvm\.(\w+)\.i\d+\((.*)\)", called),
-        (r"phi i(\d+) (.*)", joined),
-        (rf"load i(8|16|32|64), {POINTER} (\S+), align 1", loaded),
-        (rf"inttoptr i64 (\S+) to {POINTER}", copied),
-        (rf"bitcast {POINTER} (\S+) to {POINTER}", copied),
+        (rf"({'|'.join(BINARY)})((?: nuw| nsw| exact)*) i(\d+) (\S+), (\S+)", binary_term),
+        (r"icmp (\w+) i(\d+) (\S+), (\S+)", comparison_term),
+        (r"(zext|sext|trunc) i(\d+) (\S+) to i(\d+)", cast_term),
+        (r"select i1 (\S+), i(\d+) (\S+), i\d+ (\S+)", select_term),
+        (r"(?:tail )?call (?:noundef )?i(\d+) @llvm\.(\w+)\.i\d+\((.*)\)", call_term),
+        (r"phi i(\d+) (.*)", phi_term),
+        (rf"load i(8|16|32|64), {POINTER} (\S+), align 1", load_term),
+        (rf"inttoptr i64 (\S+) to {POINTER}", pointer_term),
+        (rf"bitcast {POINTER} (\S+) to {POINTER}", pointer_term),
     ]
 
 
 def execute(function, arguments, contents):
-    """Returns the effect of a function on these arguments and this memory."""
+    """Returns the effect of a function with these arguments and this memory."""
     return Execution(function, arguments, contents).outcome

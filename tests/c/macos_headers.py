@@ -1,8 +1,9 @@
-"""Writes headers that stand in for those of macOS, made from Rust's `libc` crate, which describes the system.
+"""Writes C headers that replace those of macOS, from Rust's crate `libc`, which describes the system.
 
-Apple's headers cannot be had without macOS, and those of another C library say nothing about macOS: its types have other sizes, and
-some functions of POSIX are missing. Debian's package librust-libc-dev has the types, constants and functions of macOS in Rust, and
-`write` translates those that some C sources use. What ISO C has, and what `libc` lacks, is in BY_HAND and UNCHECKED below.
+Apple's headers are not available without macOS, and the headers of another C library are no replacement: the types
+of macOS have other sizes, and it lacks some functions of POSIX. Debian's package librust-libc-dev has the types,
+constants and functions of macOS in Rust. `write` translates to C those that some C sources use. Declarations of ISO
+C, and those that `libc` does not have, are in BY_HAND and UNCHECKED.
 """
 
 import os
@@ -14,14 +15,14 @@ FILES = ("unix/mod.rs", "unix/bsd/mod.rs", "unix/bsd/apple/mod.rs", "unix/bsd/ap
 HEADERS = ("dirent", "errno", "fcntl", "inttypes", "poll", "signal", "stdio", "stdlib", "string", "strings", "sys/acl", "sys/file",
            "sys/random", "sys/resource", "sys/select", "sys/stat", "sys/statvfs", "sys/types", "termios", "time", "unistd", "pthread",
            "ctype", "sys/time", "sys/mman", "sys/ioctl", "pwd", "grp")
-# The names that C has for types of Rust.
-PLAIN = {"c_int": "int", "c_uint": "unsigned", "c_char": "char", "c_schar": "signed char", "c_uchar": "unsigned char",
+# The C names of Rust types.
+C_NAMES = {"c_int": "int", "c_uint": "unsigned", "c_char": "char", "c_schar": "signed char", "c_uchar": "unsigned char",
          "c_short": "short", "c_ushort": "unsigned short", "c_long": "long", "c_ulong": "unsigned long", "c_longlong": "long long",
          "c_ulonglong": "unsigned long long", "c_void": "void", "i8": "signed char", "u8": "unsigned char", "i16": "short",
          "u16": "unsigned short", "i32": "int", "u32": "unsigned", "i64": "long long", "u64": "unsigned long long", "usize": "size_t",
          "isize": "long", "size_t": "size_t", "c_double": "double", "c_float": "float", "uintptr_t": "unsigned long",
          "intptr_t": "long", "ssize_t": "ssize_t", "va_list": "va_list", "()": "void", "!": "_Noreturn void"}
-# What `libc` has in no form that C takes, as ISO C and POSIX have it.
+# Declarations of ISO C and POSIX that this module cannot translate from `libc`.
 BY_HAND = """
 #include <stdarg.h>
 #include <stdbool.h>
@@ -60,7 +61,8 @@ int FD_ISSET(int, const fd_set *);
 extern char *optarg;
 extern int optind, opterr, optopt;
 """
-# Functions that the crate lacks, of ISO C or of macOS's manual pages. Nothing here compares them with Apple's headers.
+# Functions of ISO C, and of macOS's manual pages, that the crate does not have. They are not compared with Apple's
+# headers.
 UNCHECKED = {"putc": "int putc(int, FILE *);", "putchar": "int putchar(int);",
              "strftime": "size_t strftime(char *, size_t, const char *, const struct tm *);",
              "strsep": "char *strsep(char **, const char *);", "vfprintf": "int vfprintf(FILE *, const char *, va_list);",
@@ -73,10 +75,10 @@ UNCHECKED = {"putc": "int putc(int, FILE *);", "putchar": "int putchar(int);",
              "qsort": "void qsort(void *, size_t, size_t, int (*)(const void *, const void *));"}
 
 
-# What compilers call, and data.
-OF_COMPILERS = ("memcpy", "memmove", "memset", "__bzero", "bzero", "__stack_chk_fail", "__stack_chk_guard", "__stdinp", "__stdoutp",
+# Functions that compilers call by themselves, and variables.
+COMPILER_SYMBOLS = ("memcpy", "memmove", "memset", "__bzero", "bzero", "__stack_chk_fail", "__stack_chk_guard", "__stdinp", "__stdoutp",
                 "__stderrp", "__error", "fputc", "fwrite", "puts", "optarg", "optind", "opterr", "optopt", "_DefaultRuneLocale")
-# A library with these symbols, for a linker.
+# A stub of the system library, with the symbols that a linker needs.
 STUB = """--- !tapi-tbd
 tbd-version: 4
 targets: [ x86_64-macos, arm64-macos ]
@@ -88,12 +90,12 @@ exports:
 """
 
 
-class NotKnown(Exception):
-    """The crate has no such form as this translates."""
+class Untranslatable(Exception):
+    """The crate does not have an item, or has it in a form that this module cannot translate."""
 
 
 class Crate:
-    """The items of the crate for 64-bit macOS, by their names."""
+    """The items of the crate for 64-bit macOS."""
 
     def __init__(self, crates, go):
         place = next((f"{crates}/{name}/src" for name in sorted(os.listdir(crates)) if re.fullmatch(r"libc-\d.*", name)), None)
@@ -101,103 +103,112 @@ class Crate:
         self.version = os.path.basename(os.path.dirname(place))
         self.types = dict(re.findall(r"pub type (\w+) =\s*([^;]+);", text))
         self.constants = {name: (kind, value) for name, kind, value in re.findall(r"pub const (\w+): ([\w:]+) =\s*([^;]+);", text)}
-        self.functions = {name: given for name, *given in re.findall(r"pub fn (\w+)\(([^)]*)\)(?:\s*->\s*([^;{]+))?\s*[;{]", text)}
+        self.functions = {name: parameters_text for name, *parameters_text in re.findall(r"pub fn (\w+)\(([^)]*)\)(?:\s*->\s*([^;{]+))?\s*[;{]", text)}
         self.structs = dict(re.findall(r"pub struct (\w+) \{([^}]*)\}", text))
         self.structs["FILE"] = self.structs["DIR"] = ""
-        self.of_go = dict(re.findall(r"(?m)^\t(\w+) +=\s(?:syscall\.\w+\()?(0x[0-9a-f]+)\)?$", read_text(go)))
-        self.made, self.lines = {"struct FILE", "struct DIR", "sighandler_t", "FD_ZERO", "FD_SET", "FD_ISSET"}, []
-        # How many constants were compared with those of Go's package.
+        self.go_constants = dict(re.findall(r"(?m)^\t(\w+) +=\s(?:syscall\.\w+\()?(0x[0-9a-f]+)\)?$", read_text(go)))
+        self.written, self.lines = {"struct FILE", "struct DIR", "sighandler_t", "FD_ZERO", "FD_SET", "FD_ISSET"}, []
+        # The number of constants that were compared with Go's package.
         self.compared = 0
 
     def type(self, text, name=""):
-        """Returns a declaration of a name, or a type, in C. Adds the types that it needs."""
+        """Translates a Rust type to a C type or, with a name, to a declaration of this name. Adds the types on
+        which it depends."""
         text = text.strip().replace("::", "").replace("extern \"C\" ", "")
         if found := re.fullmatch(r"\*(const|mut) (.+)", text):
-            # (C has no const after which a pointer follows in these functions)
+            # No function has a const pointer to a pointer.
             of = self.type(found[2])
             return f"{'const ' if found[1] == 'const' and not found[2].startswith('*') else ''}{of} *{name}"
         if found := re.fullmatch(r"\[(.+); ([^;]+)\]", text):
             return self.type(found[1], f"{name}[{self.value(found[2])}]")
         if re.match(r"(Option<)?(unsafe )?fn\(|Option<", text):
             return f"void *{name}"
-        if text in PLAIN:
-            return f"{PLAIN[text]} {name}".rstrip()
+        if text in C_NAMES:
+            return f"{C_NAMES[text]} {name}".rstrip()
         if text in self.structs:
-            self.struct(text)
+            self.add_struct(text)
             return f"{'' if text in ('FILE', 'DIR') else 'struct '}{text} {name}".rstrip()
         if text in self.types or text == "sighandler_t":
-            self.alias(text)
+            self.add_alias(text)
             return f"{text} {name}".rstrip()
-        raise NotKnown(f"libc's type {text!r}")
+        raise Untranslatable(f"libc's type {text!r}")
 
-    def alias(self, name):
-        if name not in self.made:
-            self.made.add(name)
+    def add_alias(self, name):
+        """Adds the typedef of a type, unless it was added before."""
+        if name not in self.written:
+            self.written.add(name)
             self.lines.append(f"typedef {self.type(self.types[name], name)};")
 
-    def struct(self, name):
-        if f"struct {name}" in self.made:
+    def add_struct(self, name):
+        """Adds the declaration of a struct, unless it was added before."""
+        if f"struct {name}" in self.written:
             return
-        self.made.add(f"struct {name}")
+        self.written.add(f"struct {name}")
         fields = re.findall(r"(?:pub )?(\w+):\s*([^\n]+?),?[ ]*\n", self.structs[name] + "\n")
-        # For a union of two handlers, Rust has the name of the other one. If a field depends on the target, macOS has the last form.
+        # C has a union of two signal handlers here, of which Rust names the other one. If a field depends on the
+        # target, the last form is that of macOS.
         fields = {"sa_handler" if field == "sa_sigaction" else field: kind for field, kind in fields}
         self.lines.append(f"struct {name} {{ {' '.join(self.type(kind, field) + ';' for field, kind in fields.items())} }};")
 
-    def constant(self, name):
-        if name not in self.made:
-            self.made.add(name)
-            kind, value = self.constants.get(name) or ("c_int", self.of_go[name])
+    def add_constant(self, name):
+        """Adds the definition of a constant, unless it was added before. If Go's package has the constant too, also
+        adds an assertion that both have the same value."""
+        if name not in self.written:
+            self.written.add(name)
+            kind, value = self.constants.get(name) or ("c_int", self.go_constants[name])
             self.lines.append(f"#define {name} (({self.type(kind)}) ({self.value(value)}))")
-            if name in self.of_go:
-                self.lines.append(f'_Static_assert({name} == {self.of_go[name]}, "{name} of Go");')
+            if name in self.go_constants:
+                self.lines.append(f'_Static_assert({name} == {self.go_constants[name]}, "{name} of Go");')
                 self.compared += 1
 
     def value(self, text):
-        """Returns an expression in C. Adds the constants that it uses."""
+        """Translates a Rust expression to C. Adds the constants on which it depends."""
         text = re.sub(r"\bas [\w:]+", "", text.replace("::", "").replace("!", "~"))
         text = re.sub(r"\b(?:0x[0-9a-fA-F_]+|[0-9][0-9_]*)", lambda number: number[0].replace("_", ""), text)
         for used in re.findall(r"\b[A-Z_]\w*\b", text):
-            self.constant(used)
+            self.add_constant(used)
         return text.strip()
 
-    def function(self, name):
-        if name not in self.made:
-            self.made.add(name)
-            given, result = self.functions[name]
-            words = [part.strip() for part in given.replace("\n", " ").split(",") if part.strip()]
-            kinds = [word if word == "..." else self.type(word.partition(":")[2]) for word in words]
+    def add_function(self, name):
+        """Adds the declaration of a function, unless it was added before."""
+        if name not in self.written:
+            self.written.add(name)
+            parameters_text, result = self.functions[name]
+            parameters = [part.strip() for part in parameters_text.replace("\n", " ").split(",") if part.strip()]
+            kinds = [word if word == "..." else self.type(word.partition(":")[2]) for word in parameters]
             self.lines.append(f"{self.type(result.strip() or '()')} {name}({', '.join(kinds) or 'void'});")
 
 
 def read_text(path):
+    """Returns the content of a text file."""
     with open(path, encoding="utf-8") as file:
         return file.read()
 
 
 def write(place, sources, crates=CRATES, go=GO):
-    """Writes the headers into a directory: what these C sources use of the crate, and BY_HAND. Returns how many constants have the same
-    value in Go's package, and the names of the functions that nothing compares with macOS."""
+    """Writes the headers to a directory: BY_HAND, and the items of the crate that these C sources use. Returns the
+    number of constants that have the same value in Go's package, and the names of the functions in UNCHECKED that
+    the sources use."""
     crate, unchecked = Crate(crates, go), []
     code = "".join(re.sub(r'(?s)/\*.*?\*/|"(?:\\.|[^"\\])*"', "", read_text(source)) for source in sources)
     called, structs = {*re.findall(r"\b([a-z_]\w*)(?:\(|$)", code, re.M)}, {*re.findall(r"\bstruct (\w+)", code)}
     own = {*re.findall(r"(?m)^ *# *define (\w+)", code), *re.findall(r"[{,]\s*([A-Z_]\w*)", "".join(re.findall(r"\benum \w* ?(\{[^}]*\})", code)))}
     for word in sorted({*re.findall(r"[A-Za-z_]\w*", code + BY_HAND)} - own):
         if word in crate.structs and word in {*structs, "fd_set", "pthread_mutex_t", "pthread_cond_t"}:
-            crate.struct(word)
+            crate.add_struct(word)
         if word in UNCHECKED:
             unchecked.append(word)
         elif word in crate.functions and word in called:
-            crate.function(word)
-        elif word in crate.constants or word in crate.of_go:
-            crate.constant(word)
+            crate.add_function(word)
+        elif word in crate.constants or word in crate.go_constants:
+            crate.add_constant(word)
         elif word in crate.types:
-            crate.alias(word)
+            crate.add_alias(word)
     late = [UNCHECKED[word] for word in unchecked]
     os.makedirs(os.path.join(place, "sys"), exist_ok=True)
-    functions = sorted({*crate.functions, *UNCHECKED} & {*crate.made, *unchecked})
+    functions = sorted({*crate.functions, *UNCHECKED} & {*crate.written, *unchecked})
     with open(os.path.join(place, "libSystem.tbd"), "w", encoding="utf-8") as file:
-        file.write(STUB.format(symbols=", ".join(f"_{name}" for name in (*functions, *OF_COMPILERS))))
+        file.write(STUB.format(symbols=", ".join(f"_{name}" for name in (*functions, *COMPILER_SYMBOLS))))
     text = "\n".join(["#ifndef MACOS_H", "#define MACOS_H", BY_HAND, *crate.lines, *late, "#endif", ""])
     for name in ("macos", *HEADERS):
         with open(os.path.join(place, f"{name}.h"), "w", encoding="utf-8") as file:

@@ -1,9 +1,9 @@
-/* Makes random calls of all functions of minisign.h, and prints a checksum of every byte that they return: see
- * call_checksums.h. It begins with calls for each error number, each point that Ed25519 has to reject, and files, limits and
- * comments that are rejected. */
+/* Makes random calls to all functions of minisign.h, and prints checksums of all bytes that they return (call_checksums.h). The
+ * first calls cover all error numbers, all points that Ed25519 must reject, and files, limits and comments that must be
+ * rejected. */
 #include "call_checksums.h"
 
-/* Points that Ed25519 has to reject, and the least S that it has to reject. */
+/* The points that Ed25519 must reject, and the smallest S that it must reject. */
 #define POINT(first, middle, last) { first, middle, middle, middle, middle, middle, middle, middle, middle, middle, middle, \
                                      middle, middle, middle, middle, middle, middle, middle, middle, middle, middle, middle, \
                                      middle, middle, middle, middle, middle, middle, middle, middle, middle, last }
@@ -18,16 +18,16 @@ static const uint8_t weak_points[][32] = {
 static const uint8_t group_order[32] = { 0xed, 0xd3, 0xf5, 0x5c, 0x1a, 0x63, 0x12, 0x58, 0xd6, 0x9c, 0xf7,
                                          0xa2, 0xde, 0xf9, 0xde, 0x14, [31] = 0x10 };
 
-/* The most rows that a sealed key may take. Each takes longer under an emulator. */
-enum { MOST_ROWS = 2048, WORDS = (MOST_ROWS + 8) * 256, BYTES = 1 << 21 };
+/* The maximum number of scrypt rows for encrypted keys. Under an emulator, rows are slow. */
+enum { MAX_ROWS = 2048, WORDS = (MAX_ROWS + 8) * 256, BYTES = 1 << 21 };
 
-/* ---- What the calls work on ---- */
+/* ---- The objects on which the calls work ---- */
 
 static minisign_state states[COPIES];
 static minisign_public_key public_keys[COPIES];
 static minisign_signature signatures[COPIES];
-/* The file that each signature was read from. */
-static struct text signed_by[COPIES];
+/* The file from which each signature was read. */
+static struct text signature_texts[COPIES];
 static minisign_questions questions[COPIES];
 static minisign_unopened_key unopened_keys[COPIES];
 static minisign_secret_key secret_keys[COPIES];
@@ -85,7 +85,7 @@ static void add_secret_key(const minisign_secret_key *key)
     add_bytes(key->secret, sizeof key->secret);
 }
 
-/* Adds the whole output buffer, and keeps what was written. */
+/* Adds the whole output buffer to the checksum, and stores the written text. */
 static void add_output(struct text *text, uint32_t error, size_t len)
 {
     add_bytes(output, sizeof output);
@@ -97,14 +97,14 @@ static void add_output(struct text *text, uint32_t error, size_t len)
 
 /* ---- Random arguments ---- */
 
-/* Overwrites the output, and returns the size that is passed for it. */
-static size_t any_room(void)
+/* Overwrites the output buffer, and returns the size to pass for it. */
+static size_t any_output_size(void)
 {
     memset(output, 0x5a, sizeof output);
     return one_in(50) ? 0 : one_in(9) ? random_below(500) : sizeof output;
 }
 
-/* Returns the pointer that is passed for the output, which may be NULL if the size is 0. */
+/* Returns the pointer to pass for the output buffer. It may be NULL if the size is 0. */
 static uint8_t *output_or_null(size_t room)
 {
     return room == 0 ? NULL : output;
@@ -134,7 +134,7 @@ static void any_key_id(uint8_t key_id[8])
     }
 }
 
-/* A point that is rarely weak. */
+/* Writes a point, which is rarely a weak one. */
 static void any_point(uint8_t point[32])
 {
     fill(point, 32);
@@ -154,7 +154,7 @@ static void any_ed25519_signature(uint8_t signature[64])
     }
 }
 
-/* Returns an unopened key, mostly a sealed one if there is one. */
+/* Returns an unopened key. It is mostly an encrypted one, if there is one. */
 static const minisign_unopened_key *any_unopened_key(void)
 {
     int i = any_copy();
@@ -165,17 +165,17 @@ static const minisign_unopened_key *any_unopened_key(void)
     return &unopened_keys[i];
 }
 
-/* How many rows may be computed for a key: sometimes all that it takes, if these are few. Otherwise the key is not derived, which
- * takes most of the time. */
+/* Returns the maximum number of rows to compute for a key. If the key needs few rows, this is sometimes enough. Otherwise the
+ * key is not derived, because that would take most of the time. */
 static uint64_t any_rows(const minisign_unopened_key *key)
 {
     uint64_t taken = key->log2_rows > 20 ? UINT64_MAX : (UINT64_C(1) << key->log2_rows) * key->work;
-    uint64_t edge = edge_number(), rows = one_in(16) ? MINISIGN_ANY_ROWS : one_in(2) ? taken - 1 : edge % MOST_ROWS;
+    uint64_t edge = edge_number(), rows = one_in(16) ? MINISIGN_ANY_ROWS : one_in(2) ? taken - 1 : edge % MAX_ROWS;
 
-    return taken > MOST_ROWS && rows >= taken ? MOST_ROWS : rows;
+    return taken > MAX_ROWS && rows >= taken ? MAX_ROWS : rows;
 }
 
-/* Mostly small, because the rows that are not kept are computed again. */
+/* Returns a value for keep_every. It is mostly small, because rows that are not stored are computed again. */
 static uint64_t any_keep_every(void)
 {
     static const uint64_t rare[] = { 3, 7, 16, UINT64_C(1) << 32, UINT64_MAX };
@@ -184,12 +184,11 @@ static uint64_t any_keep_every(void)
     return one_in(8) ? number : usual;
 }
 
-/* A limit of operations with which nothing can be computed, because the low 32 bits of the work are 0, and a limit of memory that
- * is too high. */
+/* An opslimit with which nothing can be computed, because the low 32 bits of the work are 0, and a memlimit that is too high. */
 static const uint64_t impossible_limits[2] = { UINT64_C(1) << 63, (UINT64_C(1) << 30) + 1 };
 
-/* Limits that take few rows, or that are rejected. Rarely limits that minisign_secret_key_text accepts, which take 16384
- * rows. */
+/* Returns limits that need few rows or are rejected. Rarely returns limits that minisign_secret_key_text accepts, which need
+ * 16384 rows. */
 static minisign_sealing any_sealing(int is_strong)
 {
     minisign_sealing sealing = { .operations_limit = 32768, .memory_limit = UINT64_C(65536) << random_below(5) };
@@ -252,7 +251,7 @@ static void call_digest(void)
     add_state(state);
 }
 
-/* Clears, copies or damages an object. */
+/* Clears, copies or damages an object, as a caller might. */
 static void call_clear(void)
 {
     minisign_state *state = &states[any_copy()], *other = &states[any_copy()];
@@ -312,7 +311,7 @@ static void call_public_key_record(void)
     const minisign_public_key *key = &public_keys[any_copy()];
     struct text *record = &public_key_records[any_copy()];
 
-    any_room();
+    any_output_size();
     CALL(minisign_public_key_record, key, output);
     add_output(record, last_result, MINISIGN_PUBLIC_KEY_RECORD_BYTES);
 }
@@ -323,7 +322,7 @@ static void call_read_signature(void)
     int i = any_copy();
 
     if (CALL(minisign_read_signature, bytes_or_null(&text), text.len, &signatures[i]) == MINISIGN_OK) {
-        signed_by[i] = text;
+        signature_texts[i] = text;
     }
     add_signature(&signatures[i]);
 }
@@ -347,7 +346,7 @@ static void call_signature_record(void)
     const minisign_signature *signature = &signatures[any_copy()];
     struct text *record = &signature_records[any_copy()];
 
-    any_room();
+    any_output_size();
     CALL(minisign_signature_record, signature, output);
     add_output(record, last_result, MINISIGN_SIGNATURE_RECORD_BYTES);
 }
@@ -359,7 +358,7 @@ static uint32_t any_legacy(void)
     return one_in(20) ? rare : !one_in(3);
 }
 
-/* Returns a key, mostly one with the key ID of this signature if there is one. */
+/* Returns a key. It mostly has the key ID of this signature, if there is such a key. */
 static const minisign_public_key *any_key_for(const minisign_signature *signature)
 {
     int i = any_copy();
@@ -376,9 +375,9 @@ static void call_ask(void)
     int i = any_copy();
     const minisign_public_key *key = any_key_for(&signatures[i]);
     minisign_questions *asked = &questions[any_copy()];
-    struct text text = one_in(16) ? any_text(signature_files) : signed_by[i];
+    struct text text = one_in(16) ? any_text(signature_files) : signature_texts[i];
     uint32_t legacy = any_legacy();
-    size_t room = any_room();
+    size_t room = any_output_size();
 
     CALL(minisign_ask, state, key, &signatures[i], bytes_or_null(&text), text.len, legacy, asked, output_or_null(room), room);
     add_questions(asked);
@@ -412,7 +411,7 @@ static void call_verdicts(void)
     add_state(state);
 }
 
-/* Verifies a signature in a row. It succeeds if the key IDs are equal and the answers are yes. */
+/* Makes all calls that verify a signature. Verifying succeeds if the key IDs are equal and the answers are yes. */
 static void verify(minisign_state *state, const minisign_public_key *key, const minisign_signature *signature, const struct text *file,
                    int is_bare, uint32_t legacy, enum minisign_answer first, enum minisign_answer second)
 {
@@ -448,7 +447,7 @@ static void call_in_a_row(void)
     enum minisign_answer first = any_answer(), second = any_answer();
     uint32_t legacy = any_legacy();
 
-    verify(state, key, &signatures[i], &signed_by[i], is_bare, legacy, first, second);
+    verify(state, key, &signatures[i], &signature_texts[i], is_bare, legacy, first, second);
 }
 
 /* ---- Secret keys ---- */
@@ -462,7 +461,7 @@ static void call_read_secret_key(void)
     add_unopened_key(key);
 }
 
-/* Sometimes the record has other limits, or another key derivation. */
+/* Reads a record, which sometimes has other limits or another key derivation. */
 static void call_read_secret_key_record(void)
 {
     struct text text = any_text(secret_key_records);
@@ -493,7 +492,7 @@ static void call_encode_unopened_key(void)
 {
     const minisign_unopened_key *key = &unopened_keys[any_copy()];
     struct text comment = any_comment(), *file = &secret_key_files[any_copy()];
-    size_t room = any_room(), len = 0;
+    size_t room = any_output_size(), len = 0;
 
     if (CALL(minisign_encode_unopened_key, key, bytes_or_null(&comment), comment.len, output_or_null(room), room, &len) == MINISIGN_OK) {
         set_text(&secret_key_records[any_copy()], key->bytes, sizeof key->bytes);
@@ -529,7 +528,8 @@ static void call_open_sealed_key(void)
     add_secret_key(key);
 }
 
-/* Decrypts a key in place. Passes buffers that are `more_words` and `more_bytes` larger than minisign_opening_memory says, or smaller. */
+/* Decrypts a key in place. The buffers have `more_words` words and `more_bytes` bytes more than minisign_opening_memory says;
+ * these numbers may be negative. */
 static void open_in_place(const minisign_unopened_key *unopened, const struct text *password, uint64_t keep_every, uint64_t rows, int more_words,
                           int more_bytes, minisign_secret_key *key)
 {
@@ -599,7 +599,7 @@ static void call_secret_key_record(void)
     const minisign_secret_key *key = &secret_keys[any_copy()];
     struct text *record = &secret_key_records[any_copy()];
 
-    any_room();
+    any_output_size();
     CALL(minisign_secret_key_record, key, output);
     add_output(record, last_result, MINISIGN_SECRET_KEY_RECORD_BYTES);
 }
@@ -610,7 +610,7 @@ static void call_comment_message(void)
 {
     struct text comment = any_comment();
     uint8_t first[64];
-    size_t room = any_room();
+    size_t room = any_output_size();
 
     fill(first, sizeof first);
     CALL(minisign_comment_message, first, bytes_or_null(&comment), comment.len, output_or_null(room), room);
@@ -621,7 +621,7 @@ static void call_signed_text(void)
 {
     const minisign_public_key *key = &public_keys[any_copy()];
     struct text trusted = any_comment(), untrusted = any_comment(), *file = &signature_files[any_copy()];
-    size_t room = any_room(), len = 0;
+    size_t room = any_output_size(), len = 0;
     minisign_signed_parts parts = { .trusted_comment = bytes_or_null(&trusted), .trusted_comment_len = trusted.len,
                                     .untrusted_comment = bytes_or_null(&untrusted), .untrusted_comment_len = untrusted.len };
 
@@ -639,7 +639,7 @@ static void call_secret_key_text(void)
     minisign_sealing sealing = any_sealing(is_strong);
     uint64_t keep_every = is_strong ? MINISIGN_KEEP_EVERY_ROW : any_keep_every();
     uint32_t rare = (uint32_t) edge_number(), with_password = one_in(10) ? 1 : one_in(6) ? rare : 0;
-    size_t room = any_room(), len = 0;
+    size_t room = any_output_size(), len = 0;
 
     if (is_strong || one_in(3)) {
         CALL(minisign_secret_key_text, key, with_password, bytes_or_null(&password), password.len, &sealing, keep_every,
@@ -651,7 +651,7 @@ static void call_secret_key_text(void)
     add_output(file, last_result, len);
 }
 
-/* Keeps the second line of a public key file. */
+/* Stores the second line of a public key file. */
 static void keep_bare_key(void)
 {
     const struct text *file = &public_key_files[any_copy()];
@@ -668,7 +668,7 @@ static void call_public_key_text(void)
 {
     const minisign_secret_key *key = &secret_keys[any_copy()];
     struct text comment = any_comment(), *file = &public_key_files[any_copy()];
-    size_t room = any_room(), len = 0;
+    size_t room = any_output_size(), len = 0;
 
     CALL(minisign_public_key_text, key, bytes_or_null(&comment), comment.len, output_or_null(room), room, &len);
     add_output(file, last_result, len);
@@ -679,13 +679,13 @@ static void call_encode_public_key(void)
 {
     const minisign_public_key *key = &public_keys[any_copy()];
     struct text comment = any_comment(), *file = &public_key_files[any_copy()];
-    size_t room = any_room(), len = 0;
+    size_t room = any_output_size(), len = 0;
 
     CALL(minisign_encode_public_key, key, bytes_or_null(&comment), comment.len, output_or_null(room), room, &len);
     add_output(file, last_result, len);
 }
 
-/* Calls the functions of an error number, with all numbers that are or may become errors. */
+/* Calls the functions that take an error number, with all numbers that are or may become errors. */
 static void call_with_each_number(void)
 {
     for (uint32_t number = 0; number < MAX_RESULTS; number++) {
@@ -713,7 +713,7 @@ static void call_with_each_flag(void)
     }
 }
 
-/* Verifies signatures by and with each point that Ed25519 has to reject, and with points that differ from them in one bit. */
+/* Verifies signatures whose public key or R is each point that Ed25519 must reject, or differs from it in one bit. */
 static void call_with_each_point(void)
 {
     for (size_t i = 0; i < LENGTH(weak_points); i++) {
@@ -737,17 +737,17 @@ static void call_with_each_point(void)
                 CALL(minisign_public_key_of, &secret_key, key);
                 CALL(minisign_signed_text, key, &parts, output, sizeof output, &len);
                 if (last_result == MINISIGN_OK) {
-                    set_text(&signed_by[0], output, len);
+                    set_text(&signature_texts[0], output, len);
                     CALL(minisign_read_signature, output, len, &signatures[0]);
-                    verify(&states[0], key, &signatures[0], &signed_by[0], place == 2, 1, MINISIGN_ANSWER_YES, MINISIGN_ANSWER_YES);
+                    verify(&states[0], key, &signatures[0], &signature_texts[0], place == 2, 1, MINISIGN_ANSWER_YES, MINISIGN_ANSWER_YES);
                 }
             }
         }
     }
 }
 
-/* Seals a key and opens it: with the memory that it takes and with other memory, by the right and by a wrong password, and with each of
- * many limits. */
+/* Encrypts and opens a key with each of many limits: with the right and with a wrong password, and with the required amount of
+ * memory and with other amounts. */
 static void call_with_each_limit(void)
 {
     static const uint64_t limits[] = { 0, 32768, 65536, UINT64_C(1) << 20, UINT64_C(1) << 24, UINT64_C(1) << 30, (UINT64_C(1) << 30) + 1, UINT64_C(1) << 63 };
@@ -802,7 +802,7 @@ static void call_with_each_limit(void)
     }
 }
 
-/* Reads each file cut off at each length, with one bit changed in each byte, and with padding. */
+/* Reads each file truncated at each length, with one changed bit in each byte, and with padding. */
 static void call_with_each_length(void)
 {
     static const char *const files[] = { KEY, KEY_LINE, SIGNATURE, LEGACY_SIGNATURE, SECRET_KEY };
@@ -833,7 +833,7 @@ static void call_with_each_length(void)
     }
 }
 
-/* Writes each file with each of these comments, most of which are rejected. */
+/* Writes each kind of file with each of these comments, most of which are rejected. */
 static void call_with_each_comment(void)
 {
     static const char *const comments[] = { "", "x", "\n", "\r", "\xff", "\xed\xa0\x80", "\xc0\x80", "\xc3\xa9", "\x7f", "\x1b", "\xe2\x80\xa8", "\xc2\x85" };
@@ -892,7 +892,7 @@ static void call_without_objects(void)
 
 /* ---- Running ---- */
 
-/* Puts published texts where those of this library are. */
+/* Replaces texts that the library wrote by published ones. */
 static void call_nothing(void)
 {
     static const char *const files[] = { SIGNATURE, LEGACY_SIGNATURE, LEGACY_SIGNATURE, OTHER_SIGNATURE };

@@ -1,16 +1,17 @@
-/* Makes random calls of all functions of minisign_install.h, and prints a checksum of every byte that they return: see
- * call_checksums.h. In most installations the call that is due comes next, and what it says is mostly good. Some are whole
- * runs, one after the other at one target. */
+/* Makes random calls to all functions of minisign_install.h, and prints checksums of all bytes that they return
+ * (call_checksums.h). Most calls report the operation that is due, and mostly as successful. Some sequences of calls are
+ * complete runs, which install one update after the other at the same target. */
 #include "call_checksums.h"
 
 #include "minisign_install.h"
 
 static minisign_installation installations[COPIES];
-/* The first and the third have the same key ID. The second is the published one. The last one was not read. */
+/* The first and the third key have the same key ID. The second is the published key. The last one was not read. */
 static minisign_public_key keys[COPIES];
 /* The signature file of each installation, and records. */
 static struct text signature_files[COPIES], records[COPIES];
-/* True while all calls of an installation are made in order, which mostly succeeds, and the record that the last such installation wrote. */
+/* True during a complete run, in which all calls are made in order and mostly succeed; and the record that the last such run
+ * wrote. */
 static int is_whole_run;
 static struct text last_record;
 static uint8_t data[300], output[SIZE];
@@ -21,7 +22,7 @@ static size_t any_room(size_t most)
     return one_in(9) ? random_below(200) : most;
 }
 
-/* Returns a room for a message: mostly enough, and sometimes exactly as much as is needed, or about that. */
+/* Returns a size for the message buffer: mostly a large one, and sometimes about the required size or exactly this size. */
 static size_t any_message_room(void)
 {
     size_t near_needed = 64 + random_below(60);
@@ -54,7 +55,7 @@ static uint64_t any_time(void)
     return one_in(8) ? rare : 5;
 }
 
-/* Returns a time of a clock, which may be before 1970. */
+/* Returns a time, which may be before 1970. */
 static int64_t any_clock(void)
 {
     uint64_t time = any_time();
@@ -78,7 +79,7 @@ static void add_installation(const minisign_installation *installation)
 
 /* ---- Calls ---- */
 
-/* Appends a label and a number: mostly a usual one, and sometimes another number or text. */
+/* Appends a label and a number: mostly `usual`, and sometimes another number or text. */
 static void append_number(struct text *comment, const char *label, uint64_t usual)
 {
     static const char *const others[] = { "", "+7", "x", "7x", " 7", "-1", "007", "18446744073709551615", "18446744073709551616",
@@ -94,7 +95,7 @@ static void append_number(struct text *comment, const char *label, uint64_t usua
     }
 }
 
-/* Returns a trusted comment that is mostly good: fields in some order. */
+/* Returns a trusted comment with fields in random order. It is mostly accepted. */
 static struct text any_fields(void)
 {
     static const char *const others[] = { "hashed", "x", "expires", "Expires:9", "expire:9", "file:ap", "version:6", "timestamp:6", "size:11", "" };
@@ -125,7 +126,7 @@ static struct text any_fields(void)
     return comment;
 }
 
-/* Returns a trusted comment that is good, or rejected for one reason, or any comment. */
+/* Returns a trusted comment that is accepted, or that is rejected for a single reason, or any comment. */
 static struct text any_update(void)
 {
     static const char *const good[] = { "version:7\ttimestamp:7\tfile:app", "version:8\tfile:app\tsize:12\ttimestamp:8",
@@ -166,7 +167,8 @@ static void make_file(const minisign_public_key *key, struct text *file)
     }
 }
 
-/* Half of the pairs of keys are one key twice, or the two with the same key ID. The signature is mostly of the first key. */
+/* Begins an installation. In half of the cases, the two keys are the same key, or have the same key ID. The signature is mostly
+ * made with the first key. */
 static void call_init(void)
 {
     int i = any_copy(), first = (int) random_below(3), second = one_in(2) ? 2 - first : any_copy();
@@ -184,7 +186,7 @@ static void call_init(void)
     CALL(minisign_install_init, &installations[i], key, &keys[second], &options);
 }
 
-/* Keeps the new record, with which another run may begin. */
+/* Writes and stores the new record. Another run may begin with it. */
 static void call_record_text(const minisign_installation *installation)
 {
     size_t room = any_room(MINISIGN_RECORD_TEXT_BYTES), len = minisign_install_record_text(installation, output, room);
@@ -225,7 +227,7 @@ static void call_answer(minisign_installation *installation)
     CALL(minisign_install_answer, installation, answer);
 }
 
-/* Replaces a record by another one. Otherwise more and more records would have late versions. */
+/* Replaces a record by another one, because otherwise the versions in the records would only grow. */
 static void renew_record(void)
 {
     static const char *const texts[] = { "version:7", "7\n", "timestamp:6\n", "version:6", "version:18446744073709551616", "timestamp:7\n", "version:1",
@@ -301,7 +303,7 @@ static void call_no_target(minisign_installation *installation)
     CALL(minisign_install_no_target, installation);
 }
 
-/* Makes a call that is mostly not due. */
+/* Makes any call, which is mostly not due. */
 static void call_anything(minisign_installation *installation)
 {
     switch (random_below(10)) {
@@ -318,7 +320,7 @@ static void call_anything(minisign_installation *installation)
     }
 }
 
-/* Copies the data: mostly as many bytes as the size that one of the comments has, and in several pieces. */
+/* Reports copied data, in several pieces. Their total size is mostly one that a comment has. */
 static void call_copy(minisign_installation *installation)
 {
     size_t first = random_below(13);
@@ -368,7 +370,8 @@ static void call_due(minisign_installation *installation)
     }
 }
 
-/* Makes a whole run: it installs an update over the one that such a run has installed before, or rejects it, or one operation fails. */
+/* Makes a complete run. It installs an update over the one that the previous such run installed, or rejects it, or one of the
+ * operations fails. */
 static void call_whole_run(void)
 {
     minisign_installation *installation = &installations[0];

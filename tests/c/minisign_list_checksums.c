@@ -1,10 +1,10 @@
-/* Makes random calls of all functions of minisign_list.h, and prints a checksum of every byte that they return: see
- * call_checksums.h. Most lists are well-formed, and most are verified before they are used. */
+/* Makes random calls to all functions of minisign_list.h, and prints checksums of all bytes that they return
+ * (call_checksums.h). Most lists are well-formed, and most are verified before they are used. */
 #include "call_checksums.h"
 
 #include "minisign_list.h"
 
-/* The digests in lists: SHA-256, SHA-512 and BLAKE2b of no data, of `abc`, and of the letter a 200 times. */
+/* The digests in lists: SHA-256, SHA-512 and BLAKE2b of empty data, of `abc`, and of 200 letters a. */
 static const char *const digests[][3] = {
     { "e3b0c44298fc1c149afbf4c8996fb92427ae41e4649b934ca495991b7852b855",
       "cf83e1357eefb8bdf1542850d66d8007d620e4050b5715dc83f4a921d36ce9ce47d0d13c5d85f2b0ff8318d2877eec2f63b931bd47417a81a538327af927da3e",
@@ -16,20 +16,20 @@ static const char *const digests[][3] = {
       "4b11459c33f52a22ee8236782714c150a3b2c60994e9acee17fe68947a3e6789f31e7668394592da7bef827cddca88c4e6f86e4df7ed1ae6cba71f3e98faee9f",
       "932355851d75f09c18646a9da87c25e055bc57f113121ad1ec63d45e7a1d62ab9133f8b7d1d7de9e0afa784eb6a8a11d78683013d0a672611f17668d9577d209" },
 };
-/* The data with these digests. NULL is the letter a 200 times. */
+/* The data with these digests. NULL stands for 200 letters a. */
 static const char *const contents[] = { "", "abc", NULL };
 static const char *const hash_names[] = { "SHA256", "SHA512", "BLAKE2b" };
 
 enum { ENTRIES = MINISIGN_LIST_ENTRIES(SIZE) };
 
-/* ---- What the calls work on ---- */
+/* ---- The objects on which the calls work ---- */
 
-/* The first is the published one. The last one was not read. */
+/* The first key is the published one. The last one was not read. */
 static minisign_public_key keys[COPIES];
 static minisign_signature signatures[COPIES];
 static struct text signature_files[COPIES];
 static minisign_list lists[COPIES];
-/* The text that each list was asked about, and texts that are written line by line. */
+/* The text of each list, as it was passed to minisign_list_ask, and texts that are written line by line. */
 static struct text list_texts[COPIES], written_texts[COPIES];
 static minisign_questions questions;
 static minisign_list_entry found[COPIES], entries[ENTRIES];
@@ -135,7 +135,7 @@ static void append_line(struct text *list, int is_good)
     append_string(list, one_in(6) ? "\r\n" : "\n");
 }
 
-/* Returns a list: a written one, one of random lines, or a damaged one. */
+/* Returns the text of a list: one that the library wrote, one with random lines, or a damaged one. */
 static struct text any_list(void)
 {
     struct text list = { .len = 0 };
@@ -184,7 +184,7 @@ static void call_read_signature(void)
     } else if (minisign_signed_text(key, &parts, output, sizeof output, &len) == MINISIGN_OK) {
         set_text(&signature_files[i], output, len);
         if (one_in(12)) {
-            /* The last line is shorter: some bytes of the signature of the comment are missing. */
+            /* The last line is truncated: some bytes of the comment signature are missing. */
             signature_files[i].len -= 9;
         }
     }
@@ -234,7 +234,7 @@ static void call_verdict(void)
     add_list(list);
 }
 
-/* Clears, copies or damages an object. */
+/* Clears, copies or damages an object, as a caller might. */
 static void call_nothing(void)
 {
     int i = any_copy(), other = any_copy();
@@ -315,7 +315,7 @@ static void call_finish(void)
     add_file(file);
 }
 
-/* Checks data that some entries are of, in two pieces. */
+/* Checks data for which some entries have the digest, in two pieces. */
 static void call_whole_file(void)
 {
     const minisign_list_entry *entry = &found[any_copy()];

@@ -1,8 +1,8 @@
 /*
- * Checks calls without memory. Opening a secret key in the caller's memory allocates nothing, starts no thread and
- * calls no madvise. (Verifying does not either: asked_texts.c.) In the other calls each allocation fails in turn, alone
- * or with all later ones: the call returns MINISIGN_OUT_OF_MEMORY, the key is unchanged, and all memory is freed. So it
- * is if the memory of scrypt cannot be allocated for a key of default limits.
+ * Checks calls that get no memory. Opening a secret key in the caller's memory must not allocate memory, start a thread
+ * or call madvise. (asked_texts.c checks this for verifying.) In the other calls, each allocation fails in turn, by itself
+ * and together with all later ones. Then the call must return MINISIGN_OUT_OF_MEMORY, leave the key unchanged, and free
+ * all memory. The same must happen if there is too little memory for scrypt with the default limits.
  *
  * Linked with -Wl,--wrap=malloc -Wl,--wrap=realloc -Wl,--wrap=free -Wl,--wrap=madvise -Wl,--wrap=pthread_create, and
  * built with -DMINISIGN_NO_THREADS if the library is.
@@ -16,7 +16,7 @@
 #include "counted_memory.h"
 #include "texts_for_tests.h"
 
-/* The number of calls of pthread_create and of madvise. */
+/* The numbers of calls to pthread_create and to madvise. */
 static long threads, hints;
 
 int __real_madvise(void *from, size_t len, int hint);
@@ -27,7 +27,7 @@ int __wrap_madvise(void *from, size_t len, int hint)
     return __real_madvise(from, len, hint);
 }
 
-/* No thread can be started (EAGAIN). The library does without. */
+/* Fails with EAGAIN. The library must work without the thread. */
 int __wrap_pthread_create(void *thread, const void *attributes, void *(*begin)(void *), void *with)
 {
     (void) thread, (void) attributes, (void) begin, (void) with;
@@ -35,13 +35,13 @@ int __wrap_pthread_create(void *thread, const void *attributes, void *(*begin)(v
     return 11;
 }
 
-/* Checks a condition after this allocation of a call failed. */
+/* Checks a condition after an allocation in a call has failed. `request` is the number of the allocation. */
 static void check_call(int holds, const char *call, const char *what, long request)
 {
     check(holds, "%s, allocation %ld failed: %s", call, request, what);
 }
 
-/* A secret key for these tests, which Minisign made with -G and the password `pw`. */
+/* A secret key that Minisign generated for these tests with -G and the password `pw`. */
 static const char SEALED[] =
     "untrusted comment: minisign encrypted secret key\n"
     "RWRTY0IyQuX046PjIcXDk/r4CSffEseU3JAL7PlB8O5JOO7pY2sAAAACAAAAAAAAAEAAAAAAytQo"
@@ -87,7 +87,8 @@ static enum minisign_error write_text(void)
     return make_signed_text(&key, first, second, bytes_of("t"), 1, bytes_of("u"), 1, message, sizeof message, &text_len);
 }
 
-/* Makes a call while the allocations from request to last fail. Returns true if it made that many. */
+/* Makes a call in which the allocations from number `request` to number `last` fail. Returns true if the call requested at
+ * least `request` allocations. */
 static int refuse(const char *name, enum minisign_error (*call)(void), const minisign_secret_key *before, long request,
                   long last)
 {
@@ -95,13 +96,13 @@ static int refuse(const char *name, enum minisign_error (*call)(void), const min
     int reached;
 
     key = *before;
-    requests = held = 0;
+    requests = allocated_blocks = 0;
     refused_from = request;
     refused_to = last;
     error = call();
     refused_from = refused_to = 0;
     reached = requests >= request;
-    check_call(held == 0, name, "memory is not freed", request);
+    check_call(allocated_blocks == 0, name, "memory is not freed", request);
     check_call(error == (reached ? MINISIGN_OUT_OF_MEMORY : MINISIGN_OK), name, "wrong error", request);
     check_call(!reached || memcmp(before, &key, sizeof key) == 0, name, "the key has changed", request);
     return reached;
@@ -118,8 +119,8 @@ static void refuse_each(const char *name, enum minisign_error (*call)(void), con
     check_call(1 < request && request < 1000, name, "too few or too many allocations", request);
 }
 
-/* The rows of the encrypted key take 32 MiB, for which the call that allocates them starts a thread. With
- * -DIS_EMULATED they take the least large block, for which it starts none. */
+/* The rows of the encrypted key take 32 MiB. The call that allocates them starts a thread. With -DIS_EMULATED, they take
+ * the smallest large block, for which no thread is started. */
 enum { LARGE_ROWS = IS_EMULATED ? 4096 : 32768 };
 
 static uint32_t words[256 * (LARGE_ROWS + 3)];
@@ -131,8 +132,8 @@ static enum minisign_error open_in_place(const char *password, size_t room)
                                              MINISIGN_USUAL_ROWS, words, room, parts, sizeof parts, &key);
 }
 
-/* Opening in the caller's memory allocates nothing, calls no madvise and starts no thread, also if no allocation
- * would succeed. */
+/* Checks that opening a key in the caller's memory does not allocate memory, call madvise or start a thread, and that it
+ * succeeds even if all allocations would fail. */
 static void open_without_memory(const minisign_secret_key *opened)
 {
     const size_t room = LENGTH(words);
@@ -140,16 +141,16 @@ static void open_without_memory(const minisign_secret_key *opened)
 
     CHECK(seal(opened, "pw", 1024 * LARGE_ROWS, 1, message, sizeof message, &text_len) == MINISIGN_OK);
     CHECK(minisign_read_secret_key(message, text_len, &unopened) == MINISIGN_OK);
-    requests = held = threads = hints = 0;
+    requests = allocated_blocks = threads = hints = 0;
     CHECK(minisign_open_sealed_key(&unopened, bytes_of("pw"), 2, MINISIGN_KEEP_EVERY_ROW, MINISIGN_USUAL_ROWS, &key) == MINISIGN_OK);
-    CHECK(requests > 0 && held == 0);
-    /* (only if the library uses c/library/allocation.c) */
+    CHECK(requests > 0 && allocated_blocks == 0);
+    /* These calls are made only if the library uses c/library/allocation.c. */
 #if defined(__LP64__) && defined(MADV_HUGEPAGE) && defined(MADV_POPULATE_WRITE) && !defined(MINISIGN_NO_THREADS)
     CHECK(threads == !IS_EMULATED && hints > 0);
 #endif
     memset(&key, 0, sizeof key);
     requests = threads = hints = 0;
-    greatest = 0;
+    max_request = 0;
     minisign_opening_memory(&unopened, MINISIGN_KEEP_EVERY_ROW, MINISIGN_USUAL_ROWS, &words_wanted, &bytes_wanted);
     CHECK(words_wanted <= room && bytes_wanted <= sizeof parts);
     CHECK(open_in_place("pw", (size_t) words_wanted - 1) == MINISIGN_NO_ROOM);
@@ -157,8 +158,8 @@ static void open_without_memory(const minisign_secret_key *opened)
     memset(words, 0x5a, sizeof words);
     CHECK(open_in_place("pw", room) == MINISIGN_OK);
     CHECK(memcmp(&key, opened, sizeof key) == 0 && is_zeros(words, sizeof words) && is_zeros(parts, sizeof parts));
-    CHECK(requests == 0 && held == 0 && threads == 0 && hints == 0);
-    greatest = SIZE_MAX;
+    CHECK(requests == 0 && allocated_blocks == 0 && threads == 0 && hints == 0);
+    max_request = SIZE_MAX;
 }
 
 int main(void)
@@ -173,11 +174,11 @@ int main(void)
     refuse_each("minisign_public_key_text", write_public_key, &opened);
     refuse_each("minisign_encode_public_key", encode_public_key, &opened);
     refuse_each("minisign_encode_unopened_key", encode_unopened_key, &opened);
-    greatest = 100000;
-    held = 0;
+    max_request = 100000;
+    allocated_blocks = 0;
     CHECK(read_and_open(SEALED, "pw", &unopened, &key) == MINISIGN_OUT_OF_MEMORY);
-    CHECK(held == 0);
+    CHECK(allocated_blocks == 0);
     CHECK(seal(&opened, "pw", MINISIGN_MEMORY_LIMIT, 1, message, sizeof message, &text_len) == MINISIGN_OUT_OF_MEMORY);
-    CHECK(held == 0);
+    CHECK(allocated_blocks == 0);
     return ended();
 }

@@ -1,12 +1,12 @@
 #!/usr/bin/env python3
-"""Checks that the tests notice each mutant of the programs of `c/`: the test case that a mutant names has to fail.
+"""Checks that the tests notice each mutant of the programs in `c/`: the test case that a mutant names must fail.
 
-    tests/c/program_mutants.py [NAME ..]     tries all mutants, or those of these names
+    tests/c/program_mutants.py [NAME ..]     tries all mutants, or those with these names
 
-The mutants of tests/installer break `minisign-install`, those of tests/check break `minisign-check`, and those of
-tests/command_line remove steps of `minisign` that protect files from other users. Each is built in a copy of the sources over the static library
-(tests/shared/mutants.py). The script prints a line for each mutant that nothing noticed; the last line is `N passed, M
-failed`.
+The mutants in tests/installer are mutants of `minisign-install`, and those in tests/check of `minisign-check`. The
+mutants in tests/command_line remove steps of `minisign` that protect files from other users. Each mutant is built
+in a copy of the sources (tests/shared/mutants.py). The script prints a line for each mutant that its case does not
+notice; the last line is `N passed, M failed`.
 
 Needs what `real_installing.py`, `check_program.py` and `command_line.py` need, and root for the mutants of `minisign`.
 """
@@ -25,102 +25,107 @@ sys.path += [os.path.join(HERE, "..", name) for name in ("shared", "verdicts", "
 
 import check_program
 import check_running
-import ending
 import mutants
 import needs
 import static_library
+import test_script
 from command_cases import keys_of
+from command_other_users import OtherUsers
 from command_places import Places
 from command_running import ProgramPaths
-from command_other_users import OtherUsers
-from installers import NAME, RealInstaller
+from installers import NAME, Signer
 from process import run
 from real_installing import cases_of
-from running import SECONDS, Failure, Skip, build_preload, expect, run_one
-from runs import Installing
+from running import SECONDS, Failure, Skip, build_preload, expect, run_case_named
+from runs import InstallerRunner
 
-# The directory of c/ with the sources that only this program has.
+# The directory in c/ with the sources of each program.
 DIRECTORIES = {"minisign": "minisign", NAME: "install", check_running.NAME: "check"}
 
 
 def build(copy, name):
-    """Builds a program in a copy and returns its path. Only the changed files are compiled."""
-    sources, own = os.path.join(copy, "c"), DIRECTORIES[name]
-    objects = [f"{part}/{source.stem}.o" for part in (own, "shared") for source in sorted(pathlib.Path(sources, part).glob("*.c"))]
-    words = [f"{own.upper()}_PARTS={' '.join(objects)} {'out/clearing.o' * (own == 'minisign')}", f"out/{name}"]
-    # With -o, the library in the copy is not rebuilt from its sources, so it may also be one that UNPROVED=1 has built.
-    status, said = run(["make", "-C", sources, "UNPROVED=", "OUT=out", "-o", "out/libminisign.a", "CFLAGS=-O0 -std=c11 -I. -I../include", *words],
-                       seconds=10 * SECONDS)
-    expect(status == 0, f"the mutant was not built: {said[-500:]}")
+    """Builds a program in a copy of the sources and returns its path. Only changed files are compiled."""
+    sources, directory = os.path.join(copy, "c"), DIRECTORIES[name]
+    objects = [f"{part}/{source.stem}.o" for part in (directory, "shared")
+               for source in sorted(pathlib.Path(sources, part).glob("*.c"))]
+    if directory == "minisign":
+        objects.append("out/clearing.o")
+    # With -o, make does not rebuild the library in the copy, which may have been built with UNPROVED=1.
+    status, output = run(["make", "-C", sources, "UNPROVED=", "OUT=out", "-o", "out/libminisign.a",
+                          "CFLAGS=-O0 -std=c11 -I. -I../include", f"{directory.upper()}_PARTS={' '.join(objects)}", f"out/{name}"],
+                         seconds=10 * SECONDS)
+    expect(status == 0, f"the mutant was not built: {output[-500:]}")
     return os.path.join(sources, "out", name)
 
 
-def failure_of(room, built, name, cases_of, mutant):
-    """Returns why a mutant is a failure of this script, or "" if its case fails. `cases_of` takes the mutant's program
-    and an empty directory."""
+def failure_of(scratch, built, name, cases_of, mutant):
+    """Tries a mutant. Returns an empty string if its case notices it, and otherwise the failure. `built` is a
+    directory with the built unchanged sources. `cases_of` takes the built mutant and an empty directory, and
+    returns the test cases."""
     try:
-        copy, own = shutil.copytree(built, tempfile.mkdtemp(dir=room), dirs_exist_ok=True), tempfile.mkdtemp(dir=room)
+        copy = shutil.copytree(built, tempfile.mkdtemp(dir=scratch), dirs_exist_ok=True)
         mutants.apply(mutant, copy)
         program = build(copy, name)
         try:
-            run_one(cases_of(program, own), mutant.case)
+            run_case_named(cases_of(program, tempfile.mkdtemp(dir=scratch)), mutant.case)
         except Failure:
             return ""
         return f"the case `{mutant.case}` does not notice it"
-    except (Failure, Skip, StopIteration, OSError, subprocess.SubprocessError) as why:
-        return f"{type(why).__name__}: {why}"
+    except (Failure, Skip, StopIteration, OSError, subprocess.SubprocessError) as error:
+        return f"{type(error).__name__}: {error}"
 
 
-def try_mutants(tried, room, name, cases_of):
-    """Tries mutants of a program and returns the failures. Each has its own process, because cases may act as other users."""
-    os.chmod(room, 0o711)
-    built = mutants.copy_sources(room, "include", "c")
+def try_mutants(tried, scratch, name, cases_of):
+    """Tries mutants of a program and returns the failures. Each mutant is tried in a separate process, because
+    cases may change the user of the process."""
+    os.chmod(scratch, 0o711)
+    built = mutants.copy_sources(scratch, "include", "c")
     os.mkdir(os.path.join(built, "c", "out"))
-    shutil.copy(static_library.library(os.path.join(room, "built")), os.path.join(built, "c", "out"))
+    shutil.copy(static_library.library(os.path.join(scratch, "built")), os.path.join(built, "c", "out"))
     build(built, name)
-    try_mutant = partial(failure_of, room, built, name, cases_of)
+    try_mutant = partial(failure_of, scratch, built, name, cases_of)
     with concurrent.futures.ProcessPoolExecutor(os.cpu_count() or 1) as pool:
-        return [f"{mutant.name}: {why}" for mutant, why in zip(tried, pool.map(try_mutant, tried)) if why]
+        return [f"{mutant.name}: {failure}" for mutant, failure in zip(tried, pool.map(try_mutant, tried)) if failure]
 
 
-def cases_of_installer(preload, program, room):
-    """Returns the cases of a minisign-install, with a fresh key."""
-    installing = Installing(program, RealInstaller(room), room)
-    installing.preload = preload
-    return cases_of(installing)
+def cases_of_installer(preload, program, scratch):
+    """Returns the test cases for a build of minisign-install, with a new key."""
+    runner = InstallerRunner(program, Signer(scratch), scratch)
+    runner.preload = preload
+    return cases_of(runner)
 
 
-def cases_of_check(preload, program, room):
-    """Returns the cases of a minisign-check, with a fresh key."""
-    checking = check_running.Checking(program, room)
+def cases_of_check(preload, program, scratch):
+    """Returns the test cases for a build of minisign-check, with a new key."""
+    checking = check_running.Checking(program, scratch)
     checking.preload = preload
     return check_program.cases_of(checking)
 
 
-def cases_of_minisign(whole, keys, program, room):
-    """Yields the cases of a minisign that have mutants."""
+def cases_of_minisign(whole, keys, program, scratch):
+    """Yields the test cases for a build of minisign, for those classes of cases that mutants name."""
     for part in (OtherUsers, Places):
-        yield from part(whole._replace(ours=program), room, keys).cases()
+        yield from part(whole._replace(ours=program), scratch, keys).cases()
 
 
-def run_all(room):
+def run_all(scratch):
     """Tries the mutants. Returns the failures and the number of mutants."""
-    needs.libsodium()
+    needs.compiler_with_libsodium()
     names, failures, count = sys.argv[1:], [], 0
-    preload = build_preload(room, "disturbed_calls")
+    preload = build_preload(scratch, "faulty_calls")
     lists = [(mutants.mutants_of("installer", "mutants"), NAME, partial(cases_of_installer, preload)),
              (mutants.mutants_of("check", "mutants"), check_running.NAME, partial(cases_of_check, preload))]
     if os.geteuid() == 0:
-        whole = ProgramPaths(needs.minisign(), "", build_preload(room, "fixed_sources"))
+        whole = ProgramPaths(needs.minisign(), "", build_preload(scratch, "fixed_random_and_time"))
         lists.append((mutants.mutants_of("command_line", "mutants"), "minisign", partial(cases_of_minisign, whole, keys_of(whole))))
     else:
         print("skipped: only root can make files of other users")
-    for found, *over in lists:
-        tried = [mutant for mutant in found if not names or mutant.name in names]
-        failures += try_mutants(tried, room, *over) if tried else []
+    for all_mutants, program_name, cases_of_program in lists:
+        tried = [mutant for mutant in all_mutants if not names or mutant.name in names]
+        failures += try_mutants(tried, scratch, program_name, cases_of_program) if tried else []
         count += len(tried)
     return failures, count
 
 
 if __name__ == "__main__":
-    sys.exit(ending.main("program-mutants", run_all, Failure, Skip))
+    sys.exit(test_script.run_cases("program-mutants", run_all, Failure, Skip))

@@ -1,17 +1,18 @@
 /*
- * Checks 2,000,000 random calls (with -DIS_EMULATED a twentieth) on a few states, keys and signatures against a model
- * of each: each call returns the model's error, an error changes nothing, and the digest is that of the data that the
- * model was fed.
+ * Makes 2,000,000 random calls, or 100,000 with -DIS_EMULATED, with a few states, keys and signatures, and compares them
+ * with a simple model of each object. Each call must return the error that the model predicts. After an error, nothing
+ * may have changed. The digest must be that of the data that the model has received.
  */
 #include "texts_for_tests.h"
 
 #define CALLS (IS_EMULATED ? 100000 : 2000000)
 
-enum { STATES = 4, KEYS = 3, SIGNATURES = 4, MOST = 300, ROOM = 1024 };
+enum { STATES = 4, KEYS = 3, SIGNATURES = 4, MAX_DATA = 300, BUFFER_SIZE = 1024 };
 
 #define FIRST_LINE "untrusted comment: x\n"
 
-/* Signature files: the error of parsing, or of asking with the key, and what asking returns. */
+/* Signature files. For each, the error of parsing it, the error of minisign_ask with the key, and the values that minisign_ask
+ * returns. */
 static const struct {
     const char *text;
     enum minisign_error wrong;
@@ -32,7 +33,7 @@ static const struct {
 enum { ROWS = LENGTH(rows) };
 enum phase { NONE, FED, FINALIZED };
 
-/* The errors of update and digest in each phase. */
+/* The errors of minisign_update and minisign_digest in each phase. */
 static const enum minisign_error feeding_error[] = { MINISIGN_NOT_BEGUN, MINISIGN_OK, MINISIGN_ALREADY_ASKED };
 
 /* The model of a state. */
@@ -40,7 +41,7 @@ struct model {
     enum phase phase;
     int asked, whole;
     size_t len;
-    uint8_t data[MOST];
+    uint8_t data[MAX_DATA];
 };
 
 static minisign_state states[STATES];
@@ -48,9 +49,9 @@ static struct model models[STATES];
 static minisign_secret_key keys[KEYS];
 static int opened[KEYS];
 static minisign_signature signatures[SIGNATURES];
-/* The row that each signature was read from, or ROWS for none. */
+/* The row from which each signature was read, or ROWS if none was read. */
 static size_t row_of[SIGNATURES];
-/* The marks of an opened key and of a signature that was read. */
+/* The values of the field `mark` in an opened key, and in a signature that was read. */
 static uint64_t mark, signature_mark;
 static minisign_public_key public_key;
 static const uint8_t any_signature[64];
@@ -83,7 +84,7 @@ static void update(int at)
     size_t len = random_below(sizeof data + 1);
     enum minisign_error expected_error = feeding_error[model->phase];
 
-    if (model->len + len > MOST) {
+    if (model->len + len > MAX_DATA) {
         len = 0;
     }
     for (size_t i = 0; i < len; i++) {
@@ -130,7 +131,7 @@ static enum minisign_error asking_error(const struct model *model, size_t read, 
 static void ask(int at)
 {
     static const uint32_t flags[] = { 0, 1, 0, 1, 0, 1, 2, UINT32_MAX };
-    static const size_t rooms[] = { ROOM, ROOM, 64, 63, 66, 67, 68, 0 };
+    static const size_t rooms[] = { BUFFER_SIZE, BUFFER_SIZE, 64, 63, 66, 67, 68, 0 };
     static const uint8_t zeros[64];
     struct model *model = &models[at];
     size_t by = random_below(SIGNATURES);
@@ -139,7 +140,7 @@ static void ask(int at)
     size_t room = rooms[random_below(8)];
     uint32_t legacy = flags[random_below(8)];
     enum minisign_error expected_error = asking_error(model, read, row, legacy, room);
-    uint8_t message[ROOM], before[ROOM];
+    uint8_t message[BUFFER_SIZE], before[BUFFER_SIZE];
     minisign_questions q;
 
     memset(&q, 0xaa, sizeof q);
@@ -154,14 +155,14 @@ static void ask(int at)
         CHECK(memcmp(q.digest, zeros, 64) == 0 && memcmp(q.public_key, public_key.key, 32) == 0);
         CHECK(q.comment_offset == 64 && q.comment_len == rows[row].comment_len);
         CHECK(memcmp(message + 64, "abcd", rows[row].comment_len) == 0);
-        CHECK(memcmp(message + q.message_len, before, ROOM - q.message_len) == 0);
+        CHECK(memcmp(message + q.message_len, before, BUFFER_SIZE - q.message_len) == 0);
         CHECK(q.legacy == (uint32_t) rows[row].legacy && (memcmp(q.comment_signature, zeros, 64) != 0) == rows[row].whole);
     } else {
         CHECK(memcmp(message, before, sizeof message) == 0 && memcmp(&q, before, sizeof q) == 0);
     }
 }
 
-/* The error of a verdict. That of the comment is available before the digest, and does not depend on the first
+/* Returns the error of a verdict. The verdict on the comment is available before the digest, and does not depend on the first
  * answer. */
 static enum minisign_error verdict_error(const struct model *model, int is_due, uint32_t first, uint32_t second)
 {
@@ -194,7 +195,7 @@ static int verdict(int at)
     return ends;
 }
 
-/* Makes one call on a state, which changes only if the model says so. */
+/* Makes a call on a state. The state may change only if the model says so. */
 static void on_state(void)
 {
     int at = (int) random_below(STATES), other = (int) random_below(STATES);
@@ -217,11 +218,11 @@ static void on_state(void)
     }
 }
 
-/* Makes one call on a key, which changes it only if it takes or overwrites the key. */
+/* Makes a call on a key. The key may change only in calls that write it. */
 static void on_key(void)
 {
     static const minisign_sealing none;
-    static uint8_t text[ROOM];
+    static uint8_t text[BUFFER_SIZE];
     static uint32_t words[2];
     int at = (int) random_below(KEYS), bad_flag = random_below(4) == 0, bad_comment = random_below(4) == 0;
     const uint8_t *comment = bad_comment ? bytes_of("\xff") : NULL;
@@ -281,7 +282,7 @@ static void on_key(void)
     CHECK(memcmp(&before, &keys[at], sizeof before) == 0 && (len != 0) <= opened[at]);
 }
 
-/* Reads a signature, whatever it was before, or changes it without the library. */
+/* Reads a signature into any old one, or changes a signature without the library. */
 static void on_signature(void)
 {
     size_t at = random_below(SIGNATURES), row = random_below(ROWS), len = strlen(rows[row].text);

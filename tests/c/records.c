@@ -1,14 +1,15 @@
 /*
- * Checks records of keys and signatures, the key files that are encoded from keys that were only read, the verdict on a
- * bare signature, and the check of a sealed key before the prompt. The expected bytes were decoded by Python's base64,
- * and the checksum is that of its hashlib. Only the two calls that encode key files allocate.
+ * Checks reading and writing records of keys and signatures, writing the files of keys that were read but not opened,
+ * verdicts on bare signatures, which have no comments, and the check of an encrypted ("sealed") key before the password
+ * prompt. The expected bytes were decoded with Python's base64, and the checksum was computed with its hashlib. Only the
+ * two calls that write key files may allocate memory.
  *
  * Linked with -Wl,--wrap=malloc -Wl,--wrap=realloc -Wl,--wrap=free.
  */
 #include "counted_memory.h"
 #include "texts_for_tests.h"
 
-/* The records of KEY, of SIGNATURE, of LEGACY_SIGNATURE and of SECRET_KEY, of which the last has no checksum. */
+/* The records in KEY, SIGNATURE, LEGACY_SIGNATURE and SECRET_KEY. The last one has no checksum. */
 static const char KEY_RECORD[] = "45641fe8b442180f62e779a561e70ee08cd3e754c63e9bd6b9c3520a1d4204cd104da2e7ef763b1853b7";
 static const char SIGNATURE_RECORD[] =
     "45441fe8b442180f62e79f6bde0ed5d6a3722430291a2a7c31fa9c69d2204fd0ae855dc43211e83759864e4522745ff3ed2ae54205ddcbca"
@@ -26,7 +27,7 @@ static const char SECRET_RECORD_WITH_CHECKSUM[] =
 static uint8_t record[MINISIGN_SECRET_KEY_RECORD_BYTES + 1], untouched[MINISIGN_SECRET_KEY_RECORD_BYTES + 1];
 static minisign_questions questions;
 
-/* Fills the buffer of records with bytes that no call writes. */
+/* Fills the buffer for records with bytes that no call writes. */
 static void spoil_record(void)
 {
     memset(record, 0xaa, sizeof record);
@@ -53,13 +54,13 @@ static void reads_and_writes_public_key_records(void)
 
     spoil_record();
     CHECK(minisign_public_key_record(&unread, record) == MINISIGN_PUBLIC_KEY_NOT_READ && is_untouched());
-    CHECK(minisign_public_key_record(&expected, record) == MINISIGN_OK && is_hex(record, KEY_RECORD));
+    CHECK(minisign_public_key_record(&expected, record) == MINISIGN_OK && equals_hex(record, KEY_RECORD));
     CHECK(record[MINISIGN_PUBLIC_KEY_RECORD_BYTES] == 0xaa);
     key = public_key_in(record, MINISIGN_PUBLIC_KEY_RECORD_BYTES);
     CHECK(memcmp(&key, &expected, sizeof key) == 0);
     key = public_key_in(record, MINISIGN_PUBLIC_KEY_RECORD_BYTES + 1);
     CHECK(memcmp(&key, &expected, sizeof key) == 0);
-    record[0] = record[1] = 'x'; /* the algorithm is not checked, and "Ed" is written in its place */
+    record[0] = record[1] = 'x'; /* The algorithm is not checked when a record is read; "Ed" is written. */
     key = public_key_in(record, MINISIGN_PUBLIC_KEY_RECORD_BYTES);
     CHECK(memcmp(&key, &expected, sizeof key) == 0);
     for (size_t len = 0; len < MINISIGN_PUBLIC_KEY_RECORD_BYTES; len++) {
@@ -95,7 +96,7 @@ static void encodes_public_keys(void)
     CHECK(text_len == MINISIGN_PUBLIC_KEY_BYTES(strlen(comment)));
 }
 
-/* Reads the record of a signature file. */
+/* Reads a signature from the record in a signature file. */
 static minisign_signature bare_signature_of(const char *text)
 {
     const minisign_signature whole = signature_of(text);
@@ -113,14 +114,14 @@ static void reads_and_writes_signature_records(void)
 
     spoil_record();
     CHECK(minisign_signature_record(&unread, record) == MINISIGN_SIGNATURE_NOT_READ && is_untouched());
-    CHECK(minisign_signature_record(&whole, record) == MINISIGN_OK && is_hex(record, SIGNATURE_RECORD));
+    CHECK(minisign_signature_record(&whole, record) == MINISIGN_OK && equals_hex(record, SIGNATURE_RECORD));
     CHECK(record[MINISIGN_SIGNATURE_RECORD_BYTES] == 0xaa);
     CHECK(minisign_read_signature_record(record, MINISIGN_SIGNATURE_RECORD_BYTES + 1, &bare) == MINISIGN_OK);
     CHECK(memcmp(bare.key_id, whole.key_id, 8) == 0 && memcmp(bare.signature, whole.signature, 64) == 0);
     CHECK(memcmp(bare.algorithm, "ED", 2) == 0 && bare.legacy == 0 && bare.whole == 0 && bare.reserved == 0);
     CHECK(is_zeros(bare.comment_signature, 64) && is_zeros(bare.text_digest, 32) && bare.comment_offset == 0 && bare.comment_len == 0);
     spoil_record();
-    CHECK(minisign_signature_record(&bare, record) == MINISIGN_OK && is_hex(record, SIGNATURE_RECORD));
+    CHECK(minisign_signature_record(&bare, record) == MINISIGN_OK && equals_hex(record, SIGNATURE_RECORD));
     record[0] = 'e';
     CHECK(minisign_read_signature_record(record, MINISIGN_SIGNATURE_RECORD_BYTES, &unread) == MINISIGN_UNSUPPORTED_ALGORITHM);
     CHECK(minisign_read_signature_record(record, MINISIGN_SIGNATURE_RECORD_BYTES - 1, &unread) == MINISIGN_RECORD_TOO_SHORT);
@@ -130,7 +131,7 @@ static void reads_and_writes_signature_records(void)
     CHECK(bare.legacy == 1 && memcmp(bare.algorithm, "Ed", 2) == 0);
 }
 
-/* Asks about a bare signature, and checks that an error leaves the state and the questions unchanged. */
+/* Calls minisign_ask_bare, and checks that an error leaves the state and the questions unchanged. */
 static enum minisign_error ask_bare(minisign_state *state, const minisign_public_key *key, const minisign_signature *signature,
                                     uint32_t allow_legacy)
 {
@@ -162,14 +163,14 @@ static void rejects_bare_signatures_before_the_check(void)
     CHECK(ask_bare(&state, &weak, &other, 0) == MINISIGN_DIFFERENT_KEY_IDS);
     CHECK(ask_bare(&state, &weak, &legacy, 0) == MINISIGN_LEGACY_NOT_ACCEPTED);
     CHECK(ask_bare(&state, &weak, &legacy, 1) == MINISIGN_WEAK_ED25519);
-    /* A bare signature has no comments, so it cannot be verified as one that has. */
+    /* A bare signature has no comments, so it cannot be verified like a signature file. */
     CHECK(minisign_ask(&state, &key, &signature, bytes_of(SIGNATURE), strlen(SIGNATURE), 0, &questions, message, sizeof message)
           == MINISIGN_SIGNATURE_NOT_READ);
     CHECK(minisign_digest(&state, digest) == MINISIGN_OK);
     CHECK(ask_bare(&state, &key, &signature, 0) == MINISIGN_ALREADY_ASKED);
 }
 
-/* Feeds the rest of `test`, and asks about the digest. */
+/* Passes the rest of the data `test`, and gets the digest. */
 static void finish_data(minisign_state *state)
 {
     CHECK(minisign_update(state, bytes_of("st"), 2) == MINISIGN_OK);
@@ -178,7 +179,7 @@ static void finish_data(minisign_state *state)
 
 static void gives_verdict_on_bare_signatures(void)
 {
-    /* The Blake2b digest of `test`, by Python's hashlib. */
+    /* The BLAKE2b digest of `test`, computed with Python's hashlib. */
     static const char digest[] = "a71079d42853dea26e453004338670a53814b78137ffbed07603a41d76a483aa"
                                  "9bc33b582f77d30a65e6f29a896c0411f38312e1d66e0bf16386c86a89bea572";
     const minisign_public_key key = key_of(KEY);
@@ -200,7 +201,7 @@ static void gives_verdict_on_bare_signatures(void)
               == MINISIGN_ALREADY_ASKED);
         CHECK(minisign_ask_bare(&state, &key, &signatures[i], 0, &questions) == MINISIGN_ALREADY_ASKED);
         finish_data(&state);
-        CHECK(is_hex(questions.digest, digest));
+        CHECK(equals_hex(questions.digest, digest));
         before = state;
         CHECK(minisign_verdict(&state, YES, YES) == MINISIGN_NOT_ASKED);
         CHECK(minisign_bare_verdict(&state, (enum minisign_answer) 1) == MINISIGN_BAD_ANSWER);
@@ -210,7 +211,7 @@ static void gives_verdict_on_bare_signatures(void)
     }
 }
 
-/* The two ways of verifying exclude each other, so that nobody gets a verdict without the comment by mistake. */
+/* A state can be used for only one way of verifying, so that a caller cannot get a verdict without the comment by mistake. */
 static void gives_no_bare_verdict_after_ask(void)
 {
     const minisign_public_key key = key_of(KEY);
@@ -231,12 +232,12 @@ static void reads_and_writes_secret_key_records(void)
     minisign_unopened_key expected = { 0 }, unopened = { 0 }, unread = { 0 };
     minisign_secret_key key = { 0 }, opened = { 0 }, closed = { 0 };
 
-    CHECK(read_and_open(SECRET_KEY, NULL, &expected, &key) == MINISIGN_OK && is_hex(expected.bytes, SECRET_RECORD));
+    CHECK(read_and_open(SECRET_KEY, NULL, &expected, &key) == MINISIGN_OK && equals_hex(expected.bytes, SECRET_RECORD));
     CHECK(minisign_read_secret_key_record(expected.bytes, sizeof expected.bytes, &unopened) == MINISIGN_OK);
     CHECK(memcmp(&unopened, &expected, sizeof unopened) == 0);
     spoil_record();
     CHECK(minisign_secret_key_record(&closed, record) == MINISIGN_KEY_NOT_OPENED && is_untouched());
-    CHECK(minisign_secret_key_record(&key, record) == MINISIGN_OK && is_hex(record, SECRET_RECORD_WITH_CHECKSUM));
+    CHECK(minisign_secret_key_record(&key, record) == MINISIGN_OK && equals_hex(record, SECRET_RECORD_WITH_CHECKSUM));
     CHECK(record[MINISIGN_SECRET_KEY_RECORD_BYTES] == 0xaa);
     CHECK(minisign_read_secret_key_record(record, sizeof record, &unopened) == MINISIGN_OK);
     CHECK(minisign_open_unsealed_key(&unopened, &opened) == MINISIGN_OK && memcmp(&opened, &key, sizeof key) == 0);
@@ -245,7 +246,7 @@ static void reads_and_writes_secret_key_records(void)
     CHECK(is_zeros(&unread, sizeof unread));
 }
 
-/* Encodes a key, and checks that an error changes nothing. */
+/* Writes the file of a key, and checks that an error changes nothing. */
 static enum minisign_error encode(const minisign_unopened_key *key, const char *comment, uint8_t *text, size_t room, size_t *text_len)
 {
     enum minisign_error error;
@@ -273,7 +274,7 @@ static void encodes_unopened_keys(void)
     CHECK(encode(&key, comment, text, sizeof SECRET_KEY - 2, &text_len) == MINISIGN_NO_ROOM);
     CHECK(encode(&key, comment, text, sizeof SECRET_KEY - 1, &text_len) == MINISIGN_OK);
     CHECK(text_len == sizeof SECRET_KEY - 1 && memcmp(text, SECRET_KEY, text_len) == 0 && text[text_len] == 0xaa);
-    /* A sealed key stays sealed. */
+    /* An encrypted key is written encrypted. */
     memcpy(record, key.bytes, sizeof key.bytes);
     memcpy(record + 2, "Sc", 2);
     CHECK(minisign_read_secret_key_record(record, sizeof key.bytes, &sealed) == MINISIGN_OK && sealed.is_sealed == 1);
@@ -294,7 +295,7 @@ static void tests_sealed_keys_without_a_password(void)
         { "\0\0", 1 << 25, (1 << 30) + 1, 0, MINISIGN_KEY_NOT_SEALED },
         { "Sd", 1 << 25, (1 << 30) + 1, 0, MINISIGN_UNSUPPORTED_KEY_DERIVATION },
         { "Sc", 1 << 25, (1 << 30) + 1, 0, MINISIGN_PARAMETERS_TOO_HIGH },
-        { "Sc", (uint64_t) 1 << 44, 1 << 20, 0, MINISIGN_INVALID_PARAMETERS }, /* p is 0 */
+        { "Sc", (uint64_t) 1 << 44, 1 << 20, 0, MINISIGN_INVALID_PARAMETERS }, /* with these limits, p would be 0 */
         { "Sc", 1 << 25, 1 << 30, MINISIGN_USUAL_ROWS - 1, MINISIGN_WORK_TOO_HIGH },
         { "Sc", 1 << 25, 1 << 30, MINISIGN_USUAL_ROWS, MINISIGN_OK },
         { "Sc", 1 << 25, 1 << 30, MINISIGN_ANY_ROWS, MINISIGN_OK },
@@ -316,7 +317,7 @@ static void tests_sealed_keys_without_a_password(void)
         CHECK(minisign_read_secret_key_record(bytes, sizeof bytes, &sealed) == MINISIGN_OK);
         error = minisign_test_sealed_key(&sealed, cases[i].most_rows);
         check(error == cases[i].error, "case %zu: error %u, expected %u", i, (unsigned) error, (unsigned) cases[i].error);
-        /* Opening returns the same error, because the password does not matter for it. */
+        /* Opening the key returns the same error, because this error does not depend on the password. */
         CHECK(error == MINISIGN_OK
               || minisign_open_sealed_key(&sealed, NULL, 0, 1, cases[i].most_rows, &opened) == cases[i].error);
     }
@@ -334,6 +335,6 @@ int main(void)
     CHECK(requests == 0);
     encodes_public_keys();
     encodes_unopened_keys();
-    CHECK(requests > 0 && held == 0);
+    CHECK(requests > 0 && allocated_blocks == 0);
     return ended();
 }

@@ -1,7 +1,7 @@
 /*
- * Checks files against signed lists: each error of the calls of minisign_list.h in its place, the digests of all three
- * hash functions for data in pieces of any length, the entries of a list, and lists that the library writes. Threads
- * share a verified list. The expected digests are those of FIPS 180-4, of RFC 7693 and of b2sum.
+ * Checks the calls of minisign_list.h, which verify files against signed lists: the order of their errors, the digests of
+ * all three hash functions for data in pieces of different lengths, the entries of a list, and lists that the library
+ * writes. Threads share a verified list. The expected digests are from FIPS 180-4, RFC 7693 and b2sum.
  */
 #define _POSIX_C_SOURCE 200809L
 
@@ -17,7 +17,7 @@
 #define BLAKE2B_OF_ABC \
     "ba80a53f981c4d0d6a2797b69f12f6e94c212f14685ac4b74b12bb6fdbffa2d1" \
     "7d87c5392aab792dc252d5de4533cc9518d38aa8dbf1925ab92386edd4009923"
-/* A million times the letter a. */
+/* The digests of a million letters a. */
 #define SHA256_OF_MILLION "cdc76e5c9914fb9281a1c7e284d73e67f1809a48a497200e046d39ccc7112cd0"
 #define SHA512_OF_MILLION \
     "e718483d0ce769644e2e42c7bc15b4638e1f98b13b2044285632a803afa973eb" \
@@ -43,7 +43,7 @@ static const char LIST[] =
 
 static minisign_public_key key;
 
-/* Asks about a list whose signature file has this text. */
+/* Calls minisign_list_ask for a list with this signature file. */
 static enum minisign_error ask(minisign_list *list, const char *sig_text, const char *name, const char *text,
                                minisign_questions *questions)
 {
@@ -58,7 +58,7 @@ static enum minisign_error ask(minisign_list *list, const char *sig_text, const 
                                             bytes_of(text), strlen(text), questions, message, sizeof message);
 }
 
-/* Verifies a list, and returns the error of the verdict. */
+/* Verifies a list, and returns the verdict. */
 static enum minisign_error verify(minisign_list *list, const char *sig_text, const char *name, const char *text,
                                   enum minisign_answer first, enum minisign_answer second)
 {
@@ -82,7 +82,7 @@ static enum minisign_error find(const minisign_list *list, const char *text, enu
     return minisign_list_find(list, bytes_of(text), strlen(text), long_digest, bytes_of(name), strlen(name), entry, line);
 }
 
-/* Checks data against an entry, in pieces of this length. */
+/* Checks data against an entry. The data is passed in pieces of the length `piece`. */
 static enum minisign_error file_of(const minisign_list_entry *entry, const char *data, size_t len, size_t piece)
 {
     minisign_list_file file;
@@ -98,7 +98,7 @@ static enum minisign_error file_of(const minisign_list_entry *entry, const char 
     return error;
 }
 
-/* The order of the errors of asking and of the verdict, and what they leave unchanged. */
+/* Checks the order of the errors of minisign_list_ask and minisign_list_verdict, and that errors change nothing. */
 static void check_verdicts(void)
 {
     static const struct {
@@ -161,7 +161,7 @@ static void check_verdicts(void)
               == MINISIGN_DIFFERENT_KEY_IDS, "another key ID was accepted");
 }
 
-/* The results of finding a name in LIST and in lists with one bad line. */
+/* Checks the results of finding a name in LIST, and in lists with one malformed line. */
 static void check_finding(void)
 {
     static const struct {
@@ -233,7 +233,7 @@ static void check_finding(void)
     }
 }
 
-/* Calls with another text than the one that was verified. */
+/* Checks that calls with a text other than the verified one are rejected. */
 static void check_other_texts(void)
 {
     char text[sizeof LIST];
@@ -287,7 +287,7 @@ static void check_entries(void)
           "an empty list has %zu entries", count);
 }
 
-/* A million letters in pieces of different lengths, under each hash function. */
+/* Checks a million letters in pieces of different lengths, with each hash function. */
 static void check_long_data(void)
 {
     static const char text[] = SHA256_OF_MILLION "  a\nSHA512 (b) = " SHA512_OF_MILLION "\nBLAKE2b (c) = " BLAKE2B_OF_MILLION "\n";
@@ -312,7 +312,7 @@ static void check_long_data(void)
     }
 }
 
-/* A digest that the caller computed. */
+/* Checks the call that takes a digest that the caller has computed. */
 static void check_trusted_digests(void)
 {
     minisign_list list = verified(LIST);
@@ -335,7 +335,7 @@ static void check_trusted_digests(void)
     }
 }
 
-/* Lists that the library writes. */
+/* Checks lists that the library writes. */
 static void check_writing(void)
 {
     uint8_t digest[64], text[1024];
@@ -382,7 +382,7 @@ enum { THREADS = 8, ROUNDS = 50 };
 
 static minisign_list shared_list;
 
-/* Finds and checks files of the shared list. */
+/* Finds entries in the shared list, and checks their files. */
 static void *run_thread(void *unused)
 {
     size_t good = 0;

@@ -1,9 +1,9 @@
 /*
- * Verifies and signs with the calls of minisign_stream.h, for installed.py:
+ * Verifies and signs with the calls of minisign_stream.h. installed.py runs this program:
  *
  *     stream PUBLIC_KEY DATA SIGNATURE           verifies, and prints the trusted comment
  *     stream SECRET_KEY DATA SIGNATURE COMMENT   signs with an unencrypted key, and writes the signature file
- *     stream misuse PUBLIC_KEY DATA SIGNATURE    makes mistakes with calls and files that are valid
+ *     stream misuse PUBLIC_KEY DATA SIGNATURE    makes wrong calls, and checks their errors; the files are valid
  */
 #include <stdio.h>
 #include <stdlib.h>
@@ -44,7 +44,7 @@ static size_t piece_at(size_t at)
     return lens[1] - at < PIECE ? lens[1] - at : PIECE;
 }
 
-/* Starts and feeds a verification of the three files. */
+/* Starts a verification of the three files, and passes the data. */
 static void feed(minisign_verifier *verifier)
 {
     minisign_verify_start(verifier, texts[0], lens[0], texts[2], lens[2], crypto_sign_verify_detached);
@@ -72,7 +72,7 @@ static int verify(void)
     return 0;
 }
 
-/* Checks the results of finish after each mistake. */
+/* Checks the results of finishing after each mistake. */
 static int misuse(void)
 {
     static minisign_verifier verifier;

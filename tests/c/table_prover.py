@@ -3,12 +3,13 @@
 
     tests/c/table_prover.py MODULE.ll ROWS.json
 
-ROWS.json is a list of [FUNCTION, INSTRUCTION, OFFSET, SECOND]. The function takes the operands of the instruction, and
-returns its result. OFFSET is what a load or store adds to its address. SECOND is null, or the second operand if that is
-a constant, which is then no parameter of the function. For each item this prints the name of the function, a tab, and
-`proved` or the problem: arguments for which the results differ, or why there is no proof.
+ROWS.json is a list of [FUNCTION, INSTRUCTION, OFFSET, SECOND]. The function takes the operands of the instruction
+and returns its result. OFFSET is the constant that a load or store adds to its address. SECOND is the second
+operand if it is a constant, and not a parameter of the function; otherwise it is null. For each function, the
+program prints a line with its name, a tab, and `proved` or the problem: arguments for which the results differ, or
+the reason why there is no proof.
 
-table_proofs.py runs it. Needs z3 for Python (Debian's python3-z3), so Debian's own Python.
+table_proofs.py runs this program. Needs z3 for Python, which is Debian's package python3-z3, and so Debian's Python.
 """
 
 import json
@@ -16,13 +17,15 @@ import re
 import sys
 
 import z3
-from llvm_terms import (ADDRESS_BITS, NEVER, QUOTIENT, REMAINDER, Unknown, count_ones, execute, functions_of, leading_zeros, load, memory, quotient,
-                        remainder, store, trailing_zeros)
+from llvm_terms import (ADDRESS_BITS, NEVER, QUOTIENT, REMAINDER, Unsupported, count_ones, execute, functions_of,
+                        leading_zeros, load, memory, quotient, remainder, store, trailing_zeros)
 
+# The time limit of a proof.
 MILLISECONDS = 200_000
 
 
 def bit(condition):
+    """Returns 1 or 0 as a 32-bit number."""
     return z3.If(condition, z3.BitVecVal(1, 32), z3.BitVecVal(0, 32))
 
 
@@ -31,11 +34,12 @@ def absolute(x):
 
 
 def signed(x, from_bits, bits):
+    """Returns the lowest `from_bits` bits of x, sign-extended to `bits` bits."""
     return z3.SignExt(bits - from_bits, z3.Extract(from_bits - 1, 0, x))
 
 
-# The numeric instructions of the WebAssembly specification (Core Specification, "Numerics"), by the part of the name
-# after the dot. Shifts and rotations take their distance modulo the number of bits.
+# The numeric instructions as the WebAssembly specification defines them (Core Specification, "Numerics"). The keys
+# are the parts of their names after the dot. Shifts and rotations use their distance modulo the number of bits.
 UNARY = {
     "eqz": lambda a: bit(a == 0), "clz": leading_zeros, "ctz": trailing_zeros, "popcnt": count_ones,
     "wrap_i64": lambda a: z3.Extract(31, 0, a),
@@ -69,13 +73,15 @@ def trap(operation, a, b):
 
 
 def division_facts(operation, a, b):
-    """Yields the facts about division that the proofs use, for divisors other than 0. A quotient is at most the
-    dividend; it equals the dividend only if the divisor is 1 or the dividend is 0, and is at most half of it otherwise.
-    A remainder is below the divisor. (Every row traps before it divides by 0, so the result of such a division may be
-    taken as 0.)"""
+    """Yields the facts about division on which the proofs rely.
+
+    For a divisor other than 0: the quotient is at most the dividend. It is equal to the dividend if the divisor is
+    1 or the dividend is 0, and otherwise at most half of the dividend. The remainder is less than the divisor.
+    (Each instruction traps before it divides by 0, so the proofs may assume that the result of such a division is
+    0.)"""
     if operation not in ("div_s", "rem_s"):
         return
-    # (clang divides 32-bit numbers with 32 or with 64 bits)
+    # clang divides 32-bit numbers as 32-bit or as 64-bit numbers.
     wide, more = [z3.SignExt(64 - x.size(), x) if x.size() < 64 else x for x in (a, b)], 64 - a.size()
     narrow = [z3.ZeroExt(more, absolute(x)) if more else absolute(x) for x in (a, b)]
     for x, y in ([*map(absolute, wide)], narrow):
@@ -84,7 +90,7 @@ def division_facts(operation, a, b):
 
 
 def proof_of(claim, *given):
-    """Returns "proved" if z3 proves the claim under the assumptions, otherwise the reason."""
+    """Returns "proved" if z3 proves the claim from these assumptions, and otherwise the reason."""
     solver = z3.Solver()
     solver.set("timeout", MILLISECONDS)
     solver.add(*given, z3.Not(claim))
@@ -117,7 +123,7 @@ def memory_verdict(function, kind, operation, offset):
     what, size, sign = re.fullmatch(r"(load|store)(\d*)_?([us]?)", operation).groups()
     bits, contents, address = int(kind[1:]), memory(), z3.BitVec("a", ADDRESS_BITS)
     narrow, value, extra = int(size or bits), z3.BitVec("b", bits), z3.BitVec("other", ADDRESS_BITS)
-    # (the function of a load has an extra parameter)
+    # translated.py gives the function of a load a second parameter, which is not used.
     outcome = execute(function, [address, value if what == "store" else extra], contents)
     ends = z3.And(z3.Not(outcome.ends), z3.Not(outcome.undefined))
     if what == "store":
@@ -128,13 +134,13 @@ def memory_verdict(function, kind, operation, offset):
 
 
 def verdict(function, instruction, offset, second):
-    """Returns the verdict on a function that has to compute an instruction."""
+    """Returns the verdict on a function that should compute an instruction."""
     kind, operation = instruction.split(".")
     try:
         if operation.startswith(("load", "store")):
             return memory_verdict(function, kind, operation, offset)
         return number_verdict(function, kind, operation, second)
-    except Unknown as why:
+    except Unsupported as why:
         return f"not read: {why}"
 
 

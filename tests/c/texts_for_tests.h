@@ -1,6 +1,6 @@
-/* Keys, signatures and checks that the test programs of this directory share. Each program is one file. It prints a
- * line for each failed check, and a last line `N passed, M failed`. The results of Ed25519 are made up, because no
- * check depends on them. */
+/* Keys, signatures and functions that the test programs in this directory share. Each program is a single C file. It
+ * prints a line for each failed check, and the last line is `N passed, M failed`. The programs do not call Ed25519: they
+ * pass results of their own choice to the library. */
 #ifndef TEXTS_FOR_TESTS_H
 #define TEXTS_FOR_TESTS_H
 
@@ -14,14 +14,14 @@
 #define YES MINISIGN_ANSWER_YES
 #define NO MINISIGN_ANSWER_NO
 
-/* With -DIS_EMULATED=1 programs do less of what takes minutes under an emulator. */
+/* With -DIS_EMULATED=1, programs make fewer of the checks that take minutes under an emulator. */
 #ifndef IS_EMULATED
 #define IS_EMULATED 0
 #endif
 
 static unsigned passed, failed;
 
-/* Counts a check, and prints a message in the format of printf if it failed. */
+/* Counts a check. If it failed, prints a message, whose arguments are those of printf. */
 #ifdef __GNUC__
 __attribute__((format(printf, 2, 3)))
 #endif
@@ -41,7 +41,7 @@ static void check(int holds, const char *what, ...)
 
 #define CHECK(condition) check((condition), "line %d: false: %s", __LINE__, #condition)
 
-/* Prints the last line, and returns the exit status. */
+/* Prints the last line and returns the exit status of the program. */
 static inline int ended(void)
 {
     printf("%u passed, %u failed\n", passed, failed);
@@ -53,7 +53,7 @@ static inline const uint8_t *bytes_of(const char *text)
     return (const uint8_t *) text;
 }
 
-/* Returns true if all of these bytes are zeros. */
+/* Returns true if all bytes are zeros. */
 static inline int is_zeros(const void *at, size_t len)
 {
     const uint8_t *all = at;
@@ -61,8 +61,8 @@ static inline int is_zeros(const void *at, size_t len)
     return len == 0 || (all[0] == 0 && memcmp(all, all + 1, len - 1) == 0);
 }
 
-/* Returns true if bytes are those of these hexadecimal digits. */
-static inline int is_hex(const uint8_t *at, const char *digits)
+/* Returns true if the bytes at `at` are those that the hexadecimal digits encode. */
+static inline int equals_hex(const uint8_t *at, const char *digits)
 {
     char shown[3];
 
@@ -80,7 +80,7 @@ static inline int is_hex(const uint8_t *at, const char *digits)
     "ba80a53f981c4d0d6a2797b69f12f6e94c212f14685ac4b74b12bb6fdbffa2d1" \
     "7d87c5392aab792dc252d5de4533cc9518d38aa8dbf1925ab92386edd4009923"
 
-/* The public key of Minisign's author, and its signature of `test`. */
+/* The public key of Minisign's author, and a signature of the data `test` made with this key. */
 #define KEY_COMMENT "untrusted comment: minisign public key E7620F1842B4E81F\n"
 #define KEY_LINE "RWQf6LRCGA9i53mlYecO4IzT51TGPpvWucNSCh1CBM0QTaLn73Y7GFO3"
 static const char KEY[] = KEY_COMMENT KEY_LINE "\n";
@@ -88,18 +88,19 @@ static const char KEY[] = KEY_COMMENT KEY_LINE "\n";
 #define RECORD "RUQf6LRCGA9i559r3g7V1qNyJDApGip8MfqcadIgT9CuhV3EMhHoN1mGTkUidF/z7SrlQgXdy8ofjb7bNJJylDOocrCo8KLzZwo="
 #define COMMENT_RECORD "y/rUw2y8/hOUYjZU71eHp/Wo1KZ40fGy2VJEDl34XMJM+TX48Ss/17u3IvIfbVR1FkZZSNCisQbuQY+bHwhEBg=="
 #define COMMENT "timestamp:1556193335\tfile:test"
+/* The length of the message of the comment signature: the signature and the trusted comment. */
+#define MESSAGE_LEN (64 + sizeof COMMENT - 1)
 static const char SIGNATURE[] = SIGNATURE_COMMENT RECORD "\ntrusted comment: " COMMENT "\n" COMMENT_RECORD;
-/* Its legacy signature of `test`, which is over the data itself. */
+/* A legacy signature of `test` made with the same key. A legacy signature signs the data itself, not its digest. */
 #define LEGACY_RECORD "RWQf6LRCGA9i59SLOFxz6NxvASXDJeRtuZykwQepbDEGt87ig1BNpWaVWuNrm73YiIiJbq71Wi+dP9eKL8OC351vwIasSSbXxwA="
 static const char LEGACY_SIGNATURE[] =
     SIGNATURE_COMMENT LEGACY_RECORD "\ntrusted comment: timestamp:1555779966\tfile:test\n"
     "QtKMXWyYcwdpZAlPF7tE2ENJkRd1ujvKjlj1m9RtHTBnZPa5WKU5uWRs5GoP5M/VqE81QFuMKI5k/SfNQUaOAA==";
-/* A signature of another key, of `hello` and a line feed. */
+/* A signature of `hello` and a line feed, made with another key. */
 #define OTHER_RECORD "RUS4oO+OTGvmIe/AFUZesFY/ONgyTgR9P0wlXFBD98cDX7Pao0WBeMSBQywks6PdOxlxIHanFJJYpkqO7tBvYfnm/DXVQmwFYQ0="
 static const char OTHER_SIGNATURE[] =
     SIGNATURE_COMMENT OTHER_RECORD "\ntrusted comment: a trusted comment\n"
     "VFXOnLXSP360tFPUt7eqzsSHMo0p1bPS9fRkoO0MOvNy8kHZu0k9okhkkORQyQv79DEl+OdNXurVl1Qt+AMEAQ==\n";
-#define MESSAGE_LEN (64 + sizeof COMMENT - 1)
 
 /* Parses a public key file. */
 static inline minisign_public_key key_of(const char *text)
@@ -121,7 +122,7 @@ static inline minisign_signature signature_of(const char *text)
     return signature;
 }
 
-/* Returns a state that was fed these bytes. */
+/* Returns a state to which this data was passed. */
 static inline minisign_state fed_with(const char *data)
 {
     minisign_state state;
@@ -131,14 +132,14 @@ static inline minisign_state fed_with(const char *data)
     return state;
 }
 
-/* A secret key for these tests, which Minisign made with -G -W. */
+/* A secret key that Minisign generated for these tests with -G -W. */
 static const char SECRET_KEY[] =
     "untrusted comment: minisign encrypted secret key\n"
     "RWQAAEIyAAAAAAAAAAAAAAAAAAAAAAAAAAAAAAAAAAAAAAAAAAAAAAAAAAAAAAAAAAAAAAAAu82A"
     "eu/lPqv5tw414tB2l3S0AV4BthpWrWHyA+ItsehisjsR8AROg+V8Ng82TAEWPpchqblhFFay7/kQ"
     "ioiXfnOLD1OmyTi9AAAAAAAAAAAAAAAAAAAAAAAAAAAAAAAAAAAAAAAAAAA=\n";
 
-/* Reads a secret key file and opens it, with a password or, if that is NULL, without. */
+/* Reads a secret key file and opens it. If password is NULL, the key must not be encrypted. */
 static inline enum minisign_error read_and_open(const char *text, const char *password, minisign_unopened_key *unopened,
                                                 minisign_secret_key *key)
 {
@@ -151,8 +152,8 @@ static inline enum minisign_error read_and_open(const char *text, const char *pa
                                     MINISIGN_USUAL_ROWS, key);
 }
 
-/* Writes a secret key file, encrypted with scrypt with this many bytes of memory (N is the number of KiB) and this
- * p. */
+/* Writes an encrypted secret key file. scrypt uses `memory` bytes. With its parameter r = 8, N is the number of KiB, and
+ * the operations limit is 4 * N * r * p. */
 static inline enum minisign_error seal(const minisign_secret_key *key, const char *password, size_t memory, uint64_t p,
                                        uint8_t *text, size_t room, size_t *text_len)
 {
@@ -162,7 +163,7 @@ static inline enum minisign_error seal(const minisign_secret_key *key, const cha
                                                     MINISIGN_KEEP_EVERY_ROW, bytes_of("c"), 1, text, room, text_len);
 }
 
-/* Takes a new secret key from a key ID and a secret. */
+/* Makes a secret key from a key ID and 64 secret bytes. */
 static inline void take(const uint8_t key_id[8], const uint8_t secret[64], minisign_secret_key *key)
 {
     minisign_new_key new_key;
@@ -172,7 +173,7 @@ static inline void take(const uint8_t key_id[8], const uint8_t secret[64], minis
     minisign_take_secret_key(&new_key, key);
 }
 
-/* Writes a signature file of these signatures and comments, under the key ID of a secret key. */
+/* Writes a signature file with these signatures and comments, and with the key ID of a secret key. */
 static inline enum minisign_error make_signed_text(const minisign_secret_key *key, const uint8_t signature[64],
                                                    const uint8_t comment_signature[64], const uint8_t *trusted,
                                                    size_t trusted_len, const uint8_t *untrusted, size_t untrusted_len,

@@ -1,6 +1,6 @@
 /*
- * Checks that threads with their own states do not disturb each other: each verifies and signs its own data repeatedly,
- * with the same results as a single thread.
+ * Checks that threads can use the library at the same time, each with states of its own: each thread repeatedly verifies
+ * and signs different data, and must get the same results as in a single thread.
  */
 #define _POSIX_C_SOURCE 200809L
 

@@ -1,8 +1,8 @@
 /*
- * Checks API misuse: a signature with another text than its own, keys that were not read or opened, small buffers,
- * comments that Minisign would not read back, and more work than is allowed. Each returns an error and changes nothing;
- * the same calls with valid arguments succeed. (random_calls.c makes calls in the wrong order.) For each pointer of
- * each call, NULL with length 0 acts as a pointer to no bytes.
+ * Checks API misuse and the limits of calls: a signature that is passed with the text of another one, keys that were not
+ * read or opened, buffers that are too small, comments that Minisign could not read, and more work than the caller allows.
+ * Each of these must return an error and change nothing; the same calls with valid arguments must succeed.
+ * (random_calls.c makes calls in the wrong order.) Also checks that each pointer may be NULL if its length is 0.
  */
 #include <minisign_install.h>
 
@@ -11,7 +11,7 @@
 static minisign_questions questions;
 static uint8_t message[1024];
 
-/* Asks about a signature with this text, which may be another one than it was read from. */
+/* Calls minisign_ask for a signature and a text, which may differ from the text from which the signature was read. */
 static enum minisign_error ask_with(minisign_state *state, const minisign_signature *signature, const char *sig_text,
                                     size_t sig_text_len, uint32_t allow_legacy, size_t room)
 {
@@ -20,7 +20,7 @@ static enum minisign_error ask_with(minisign_state *state, const minisign_signat
     return minisign_ask(state, &key, signature, bytes_of(sig_text), sig_text_len, allow_legacy, &questions, message, room);
 }
 
-/* Asks, and checks that the error leaves state, questions and message unchanged. */
+/* Calls minisign_ask, which must fail, and checks that it leaves the state, the questions and the message unchanged. */
 static enum minisign_error ask_and_fail(const minisign_signature *signature, const char *sig_text, size_t sig_text_len,
                                        uint32_t allow_legacy, size_t room)
 {
@@ -37,7 +37,7 @@ static enum minisign_error ask_and_fail(const minisign_signature *signature, con
     return error;
 }
 
-/* The message buffer has to be large enough. */
+/* The message buffer must be large enough. */
 static void rejects_small_message_buffer(void)
 {
     const minisign_signature signature = signature_of(SIGNATURE);
@@ -47,10 +47,10 @@ static void rejects_small_message_buffer(void)
         CHECK(ask_and_fail(&signature, SIGNATURE, sizeof SIGNATURE - 1, 0, room) == MINISIGN_NO_ROOM);
     }
     CHECK(ask_with(&state, &signature, SIGNATURE, sizeof SIGNATURE - 1, 0, MESSAGE_LEN) == MINISIGN_OK);
-    CHECK(minisign_digest(&state, questions.digest) == MINISIGN_OK && is_hex(questions.digest, HEX_OF_ABC));
+    CHECK(minisign_digest(&state, questions.digest) == MINISIGN_OK && equals_hex(questions.digest, HEX_OF_ABC));
 }
 
-/* A signature with another text than the one it was read from is rejected. */
+/* A signature is rejected if the text is not the one from which it was read. */
 static void rejects_another_text(void)
 {
     static const char longer[] = "untrusted comment: x";
@@ -76,7 +76,7 @@ static void rejects_another_text(void)
     CHECK(ask_and_fail(&signature, longer, sizeof longer - 1, 0, sizeof message) == MINISIGN_OTHER_SIGNATURE_TEXT);
     CHECK(ask_and_fail(&signature, NULL, 0, 0, sizeof message) == MINISIGN_OTHER_SIGNATURE_TEXT);
     CHECK(ask_and_fail(&signature, LEGACY_SIGNATURE, sizeof LEGACY_SIGNATURE - 1, 1, sizeof message) == MINISIGN_OTHER_SIGNATURE_TEXT);
-    /* This error comes before those of the key ID, of a legacy signature, and of the buffer. */
+    /* This error is reported before those for the key ID, for a legacy signature, and for the buffer. */
     CHECK(ask_and_fail(&legacy, SIGNATURE, len, 0, 0) == MINISIGN_OTHER_SIGNATURE_TEXT);
     CHECK(ask_and_fail(&other_key, SIGNATURE, len, 0, 0) == MINISIGN_OTHER_SIGNATURE_TEXT);
     CHECK(ask_and_fail(&other_key, OTHER_SIGNATURE, sizeof OTHER_SIGNATURE - 1, 0, 0) == MINISIGN_DIFFERENT_KEY_IDS);
@@ -107,29 +107,29 @@ static void rejects_comment_outside_text(void)
 static minisign_unopened_key unopened;
 static minisign_secret_key key;
 
-/* The greatest p of a key. One row of this many is kept with few rows, and with the fewest. */
-#define MOST_PARTS (IS_EMULATED ? 2 : 32)
-#define FEW_KEPT (IS_EMULATED ? 3 : MINISIGN_KEEP_FEW_ROWS)
-#define FEWEST_KEPT (IS_EMULATED ? 5 : UINT64_MAX)
+/* The maximum p of a key, and two values of keep_every, with which few rows and the fewest rows are stored. */
+#define MAX_P (IS_EMULATED ? 2 : 32)
+#define KEEP_FEW (IS_EMULATED ? 3 : MINISIGN_KEEP_FEW_ROWS)
+#define KEEP_FEWEST (IS_EMULATED ? 5 : UINT64_MAX)
 
-/* Memory for opening keys in place, enough for all rows of a key with N = 1024 and the greatest p. */
+/* Memory for opening keys in place. It is enough for all rows of a key with N = 1024 and the maximum p. */
 static uint32_t words[256 * (1024 + 3)];
-static uint8_t parts[1024 * MOST_PARTS];
+static uint8_t parts[1024 * MAX_P];
 
 static size_t length_of(const char *password)
 {
     return password == NULL ? 0 : strlen(password);
 }
 
-/* Opens in this much of the memory, which is filled before and has to be zero afterwards. */
+/* Opens a key in this amount of the memory. The memory is filled before, and must be zeros afterwards. */
 static enum minisign_error open_in_place(const minisign_unopened_key *from, const char *password, uint64_t keep_every,
-                                         uint64_t most_rows, uint64_t words_len, uint64_t bytes_len, minisign_secret_key *to)
+                                         uint64_t max_rows, uint64_t words_len, uint64_t bytes_len, minisign_secret_key *to)
 {
     enum minisign_error error;
 
     memset(words, 0xa5, sizeof words);
     memset(parts, 0xa5, sizeof parts);
-    error = minisign_open_sealed_key_in_place(from, bytes_of(password), length_of(password), keep_every, most_rows, words,
+    error = minisign_open_sealed_key_in_place(from, bytes_of(password), length_of(password), keep_every, max_rows, words,
                                               (size_t) words_len, parts, (size_t) bytes_len, to);
     CHECK(is_zeros(words, (size_t) words_len * sizeof *words) && is_zeros(parts, (size_t) bytes_len));
     CHECK(words_len == LENGTH(words) || words[words_len] == 0xa5a5a5a5);
@@ -169,7 +169,7 @@ static void rejects_unopened_keys(void)
     text_len = 0;
 }
 
-/* A key that was not read is not opened, whatever its bytes are. A rejected text does not count as read. */
+/* A key that was not read cannot be opened, whatever its bytes are. A key is not read if its text was rejected. */
 static void rejects_unread_secret_keys(void)
 {
     minisign_unopened_key other, before;
@@ -190,7 +190,7 @@ static void rejects_unread_secret_keys(void)
         CHECK(minisign_read_secret_key(bytes_of(SIGNATURE), strlen(SIGNATURE), &other) == MINISIGN_RECORD_TOO_SHORT);
         CHECK(memcmp(&other, &before, sizeof other) == 0);
     }
-    /* Neither is a key with one changed bit in its mark. */
+    /* A key with one changed bit in the field `mark` cannot be opened either. */
     for (int bit = 0; bit < 64; bit++) {
         other = unopened;
         other.mark ^= UINT64_C(1) << bit;
@@ -198,7 +198,7 @@ static void rejects_unread_secret_keys(void)
     }
 }
 
-/* A key that was taken equals the one that its key file is opened to. */
+/* A key that was made from a key ID and a secret is equal to the key that is opened from its key file. */
 static void takes_key(void)
 {
     static const minisign_sealing none;
@@ -220,7 +220,7 @@ static void takes_key(void)
 /* A secret key of zeros. */
 static minisign_secret_key of_zeros;
 
-/* Writes its key file, encrypted with little work (N = 1024 and p = 4) if there is a password. */
+/* Writes the file of the key of zeros. If there is a password, the key is encrypted with N = 1024 and p = 4. */
 static enum minisign_error make_key(uint32_t with_password, uint64_t memory_limit, const char *comment, size_t room)
 {
     const minisign_sealing sealing = { .operations_limit = 4 * 32768, .memory_limit = memory_limit };
@@ -230,22 +230,22 @@ static enum minisign_error make_key(uint32_t with_password, uint64_t memory_limi
                                                     &text_len);
 }
 
-/* Opens the encrypted key, with memory of malloc, or in place in this many words and bytes if there are any. Checks
- * the error, and that the result is the key of zeros or is unchanged. */
-static void check_opening(const char *password, uint64_t keep_every, uint64_t most_rows, uint64_t words_len, uint64_t bytes_len,
+/* Opens the encrypted key. If words_len is not 0, it is opened in place, in this number of words and bytes. Checks the error,
+ * and that the result is the key of zeros or, after an error, unchanged. */
+static void check_opening(const char *password, uint64_t keep_every, uint64_t max_rows, uint64_t words_len, uint64_t bytes_len,
                   enum minisign_error expected)
 {
     minisign_secret_key opened, before;
 
     memset(&before, 0xaa, sizeof before);
     opened = before;
-    CHECK((words_len != 0 ? open_in_place(&unopened, password, keep_every, most_rows, words_len, bytes_len, &opened)
+    CHECK((words_len != 0 ? open_in_place(&unopened, password, keep_every, max_rows, words_len, bytes_len, &opened)
                           : minisign_open_sealed_key(&unopened, bytes_of(password), length_of(password), keep_every,
-                                                     most_rows, &opened)) == expected);
+                                                     max_rows, &opened)) == expected);
     CHECK(memcmp(&opened, expected == MINISIGN_OK ? &of_zeros : &before, sizeof opened) == 0);
 }
 
-/* Key files that are written, their comments, and limits of opening them. */
+/* Checks written key files, their comments, and the limits with which they are opened. */
 static void writes_and_opens_keys(void)
 {
     static char too_long[1005];
@@ -294,16 +294,16 @@ static void writes_and_opens_keys(void)
     check_opening("\xff", 0, 0, 0, 0, MINISIGN_NOT_UTF8);
     check_opening("abc", 0, 4 * 1024 - 1, 0, 0, MINISIGN_WORK_TOO_HIGH);
     check_opening("ab", 1, 4 * 1024, 0, 0, MINISIGN_WRONG_PASSWORD);
-    check_opening("ab", FEW_KEPT, MINISIGN_ANY_ROWS, 0, 0, MINISIGN_WRONG_PASSWORD);
+    check_opening("ab", KEEP_FEW, MINISIGN_ANY_ROWS, 0, 0, MINISIGN_WRONG_PASSWORD);
     unopened.is_sealed = unopened.log2_rows = 0;
     unopened.work = 1;
-    check_opening("abc", FEWEST_KEPT, 4 * 1024, 0, 0, MINISIGN_OK);
+    check_opening("abc", KEEP_FEWEST, 4 * 1024, 0, 0, MINISIGN_OK);
 }
 
-/* The limit of rows, and the memory and errors of opening in place. A row takes 1 KiB. */
+/* Checks the limit on rows, and the memory and the errors of opening in place. A row takes 1 KiB. */
 static void limits_rows(uint64_t p)
 {
-    static const uint64_t kept[] = { FEW_KEPT, 0, 1, FEWEST_KEPT };
+    static const uint64_t kept[] = { KEEP_FEW, 0, 1, KEEP_FEWEST };
     const uint64_t rows = 1024 * p;
 
     CHECK(seal(&of_zeros, "abc", 1 << 20, p, text, sizeof text, &text_len) == MINISIGN_OK);
@@ -311,14 +311,14 @@ static void limits_rows(uint64_t p)
     check_opening("abc", 1, rows - 1, 0, 0, MINISIGN_WORK_TOO_HIGH);
     check_opening("abc", 1, 0, 0, 0, MINISIGN_WORK_TOO_HIGH);
     check_opening("abc", 1, rows, 0, 0, MINISIGN_OK);
-    check_opening("abc", FEW_KEPT, MINISIGN_USUAL_ROWS, 0, 0, MINISIGN_OK);
-    check_opening("abc", FEW_KEPT, MINISIGN_ANY_ROWS, 0, 0, MINISIGN_OK);
-    /* (few rows with a large p take long) */
+    check_opening("abc", KEEP_FEW, MINISIGN_USUAL_ROWS, 0, 0, MINISIGN_OK);
+    check_opening("abc", KEEP_FEW, MINISIGN_ANY_ROWS, 0, 0, MINISIGN_OK);
+    /* With a large p, storing few rows takes too long. */
     for (size_t i = 0; i < (p == 1 ? LENGTH(kept) : 1); i++) {
         const uint64_t every = kept[i] > 1 ? kept[i] : 1, held = 1024 / every + (1024 % every != 0);
         uint64_t words_len = 5, bytes_len = 6;
 
-        /* A key with too many rows needs no memory, and is rejected without any. */
+        /* A key that needs too many rows is rejected without memory, so none is required. */
         minisign_opening_memory(&unopened, kept[i], rows - 1, &words_len, &bytes_len);
         CHECK(words_len == 0 && bytes_len == 0);
         check_opening("abc", kept[i], rows - 1, 1, 0, MINISIGN_WORK_TOO_HIGH);
@@ -344,8 +344,8 @@ static void needs_no_memory_without_password(void)
     CHECK(words_len == 0 && bytes_len == 0);
 }
 
-/* The signatures of a signature file make the file again, with the key ID of the secret key, if the buffer is large
- * enough. (Python encoded the expected second line.) No file is written that minisign -V would not read back. */
+/* Writing the signatures of a signature file gives the same file, with the key ID of the secret key, if the buffer is
+ * large enough. (The expected second line was encoded with Python.) No file is written that minisign -V could not read. */
 static void writes_signatures(void)
 {
     static const char untrusted[] = "signature from minisign secret key";
@@ -393,7 +393,7 @@ static void writes_signatures(void)
     CHECK(memcmp(text, message, MESSAGE_LEN) == 0);
 }
 
-/* NULL for no bytes in calls that verify. */
+/* In calls that verify, NULL is allowed if the length is 0. */
 static void verifies_with_null(void)
 {
     minisign_state empty = fed_with(""), fed = fed_with("abc"), state, never;
@@ -416,7 +416,8 @@ static void verifies_with_null(void)
     CHECK(minisign_error_text(MINISIGN_OK, NULL, 0) == strlen("no error"));
 }
 
-/* NULL for no bytes in calls that read, open and sign with keys, also as the empty password if the caller allows it. */
+/* In calls that read, open and sign with keys, NULL is allowed if the length is 0, also for an empty password if the caller
+ * allows one. */
 static void signs_with_null(void)
 {
     static const uint8_t first[64], second[64];
@@ -447,14 +448,14 @@ static void signs_with_null(void)
           == MINISIGN_NO_ROOM);
 }
 
-/* Encrypts the key of zeros with the call that rejects a weak sealing. */
+/* Encrypts the key of zeros with the call that rejects weak encryption. */
 static enum minisign_error seal_well(uint32_t with_password, const char *password, const minisign_sealing *sealing)
 {
     return minisign_secret_key_text(&of_zeros, with_password, bytes_of(password), strlen(password), sealing, MINISIGN_KEEP_FEW_ROWS,
                                     bytes_of("c"), 1, text, sizeof text, &text_len);
 }
 
-/* A salt of zeros, a limit below the minimum and an empty password are errors, unless the caller allows them. */
+/* A salt of zeros, limits below the minimum, and an empty password are errors unless the caller allows them. */
 static void rejects_weak_sealings(void)
 {
     static const uint8_t salt[32] = { [31] = 1 };
@@ -493,8 +494,8 @@ static void rejects_weak_sealings(void)
     }
 }
 
-/* Each call rejects a public key that was not read, after errors of the state and before errors of the signature and
- * the comments. */
+/* Each call rejects a public key that was not read. This error is reported after errors of the state, and before errors of
+ * the signature and the comments. */
 static void rejects_unread_public_keys(void)
 {
     static const minisign_install_options options;
@@ -533,7 +534,7 @@ static void rejects_unread_public_keys(void)
     CHECK(minisign_install_init(&installation, &good, &good, &options) == MINISIGN_OK);
 }
 
-/* Values that bindings in other languages repeat. */
+/* Checks values that bindings for other languages repeat. */
 static void keeps_numbers(void)
 {
     CHECK(YES == 7955827 && NO == 28271);
@@ -552,7 +553,7 @@ int main(void)
     writes_signatures();
     writes_and_opens_keys();
     limits_rows(1);
-    limits_rows(MOST_PARTS);
+    limits_rows(MAX_P);
     needs_no_memory_without_password();
     rejects_weak_sealings();
     rejects_unread_public_keys();

@@ -1,11 +1,12 @@
 /*
- * Verifies legacy signatures with the Ed25519 of OpenSSL or of libsodium, for ed25519_inputs.py:
+ * Verifies legacy signatures with the library and the Ed25519 implementation of OpenSSL or libsodium. ed25519_inputs.py runs
+ * this program:
  *
  *     verify_over openssl|libsodium
  *
- * Each line of standard input is a case: the public key file, the data and the signature file, in hexadecimal, "-" if
- * empty. For each case it prints the error number of minisign.h, and 1 if the Ed25519 function by itself accepts the
- * data signature, otherwise 0.
+ * Each line of standard input is a case: the public key file, the data and the signature file, in hexadecimal, or "-" if
+ * empty. For each case, the program prints the error number that the library returns, and 1 if the Ed25519 function by itself
+ * accepts the data signature, or 0.
  */
 #include <stdint.h>
 #include <stdio.h>
@@ -57,7 +58,7 @@ static enum minisign_answer answer_of(int status)
     return status == 0 ? MINISIGN_ANSWER_YES : MINISIGN_ANSWER_NO;
 }
 
-/* Verifies the files as an application does. The legacy signature is over the data itself. */
+/* Verifies the files as an application does. A legacy signature signs the data itself. */
 static enum minisign_error judge(const minisign_public_key *key, const minisign_signature *signature, verify_detached *verify)
 {
     uint8_t message[ROOM];
@@ -80,7 +81,7 @@ static enum minisign_error judge(const minisign_public_key *key, const minisign_
                             answer_of(verify(q.comment_signature, message, q.message_len, q.public_key)));
 }
 
-/* Prints the result of a case. Returns 0 if it is not a case of a legacy signature. */
+/* Prints the result for a line. Returns 0 if the line is invalid or the signature is not a legacy one. */
 static int answer_line(char *line, verify_detached *verify)
 {
     minisign_public_key key;

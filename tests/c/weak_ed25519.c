@@ -1,14 +1,14 @@
 /*
- * Checks that minisign_ask rejects weak encodings of Ed25519 with MINISIGN_WEAK_ED25519: a public key, or R of either
- * signature, that has small order or is not canonical, and S that is not below the group order. These are the points
- * that libsodium 1.0.18 rejects. The check comes after all others. After an error, nothing has changed.
+ * Checks that minisign_ask rejects weak and malformed Ed25519 inputs with MINISIGN_WEAK_ED25519: a public key, or an R in
+ * either signature, that is a point of small order or not canonically encoded, and an S that is not below the group order.
+ * libsodium 1.0.18 rejects the same points. This error is reported after all others, and changes nothing.
  */
 #include "texts_for_tests.h"
 
 static minisign_questions questions;
 static uint8_t message[MESSAGE_LEN];
 
-/* The arguments of minisign_ask. Each case starts with those of the published signature, and changes one. */
+/* The arguments of minisign_ask. Each case changes one of the arguments for the published signature. */
 struct arguments {
     minisign_public_key key;
     minisign_signature signature;
@@ -22,7 +22,7 @@ static struct arguments published(void)
     return (struct arguments) { key_of(KEY), signature_of(SIGNATURE), SIGNATURE, 0, sizeof message };
 }
 
-/* Calls minisign_ask with a new state. Checks that an error changes neither the state nor the questions nor the message. */
+/* Calls minisign_ask with a new state. Checks that an error leaves the state, the questions and the message unchanged. */
 static enum minisign_error ask(const struct arguments *arguments)
 {
     minisign_state state = fed_with("test"), before = state;
@@ -52,7 +52,7 @@ static void decode_hex(uint8_t *to, const char *digits)
     }
 }
 
-/* Uses each point as the public key, and as R of each signature. */
+/* Uses each point as the public key, and as the R of each signature. */
 static void rejects_weak_points(void)
 {
     static const struct {
@@ -94,7 +94,7 @@ static void rejects_weak_points(void)
     }
 }
 
-/* Uses each number as S of each signature. */
+/* Uses each number as the S of each signature. */
 static void rejects_large_s(void)
 {
     static const struct {
@@ -121,7 +121,7 @@ static void rejects_large_s(void)
     }
 }
 
-/* With a weak key and another fault, the other fault is reported. */
+/* If a key is weak and there is another error, the other error is reported. */
 static void reports_other_errors_first(void)
 {
     struct arguments weak = published(), changed;
@@ -151,7 +151,7 @@ static void reports_other_errors_first(void)
                        sizeof message) == MINISIGN_ALREADY_ASKED);
 }
 
-/* minisign_ask accepts a comment signature of fewer than 64 bytes, and minisign_verdict rejects it. */
+/* minisign_ask accepts a comment signature with fewer than 64 bytes; minisign_verdict rejects it. */
 static void leaves_short_comment_signature_to_verdict(void)
 {
     static const char cut[] = SIGNATURE_COMMENT RECORD "\ntrusted comment: " COMMENT "\nAAAA\n";

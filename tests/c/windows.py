@@ -1,17 +1,22 @@
 #!/usr/bin/env python3
-"""Checks minisign.exe under wine, that the cases notice its mutants, and what `make install` installs for Windows.
+"""Checks the build for Windows: runs minisign.exe under wine, tries mutants of it, and checks what is installed and
+released.
 
     tests/c/windows.py [WORD ..]
 
-WORD selects the cases and mutants whose name contains it; `mutants` selects all mutants. The program is built with mingw-w64 over libsodium from
-Debian's source package (tools/windows_libsodium.sh), or over the build that the variable SODIUM_PREFIX of the environment
-names. Keys and signatures are exchanged with Minisign's own program and with our program for Linux. For each mutant of
-windows_mutants only the changed file is compiled, and its case ends at the first check that fails.
-Wine shows no access lists, virus scanners, or other file systems than those of Linux: docs/WINDOWS.md says what has to be
+By default, the script runs everything. A WORD selects the cases and mutants whose names contain it; `mutants`
+selects all mutants.
+
+The program is built with mingw-w64 and with libsodium from Debian's source package (tools/windows_libsodium.sh), or
+with the libsodium in the directory that the environment variable SODIUM_PREFIX names. Keys and signatures are
+exchanged with the original Minisign ("theirs") and with this project's program for Linux ("ours"). For each mutant
+in windows_mutants, only the changed file is compiled, and its case ends at the first failing check.
+
+Wine has no access control lists, virus scanners, or file systems of Windows. docs/WINDOWS.md says what must be
 checked on Windows. The script prints a line for each failure; the last line is `N passed, M failed`.
 
-Needs make, gcc, minisign, libsodium with its header, and of Debian wine64, gcc-mingw-w64-x86-64, dpkg-dev, autoconf,
-automake, libtool and zip, and installs what is missing if it may.
+Needs make, gcc, minisign, libsodium with its header, and the Debian packages wine64, gcc-mingw-w64-x86-64,
+dpkg-dev, autoconf, automake, libtool and zip. Missing packages are installed if that is permitted.
 """
 
 import concurrent.futures
@@ -36,53 +41,64 @@ import zipfile
 HERE = os.path.dirname(os.path.realpath(__file__))
 sys.path.append(os.path.join(HERE, "..", "shared"))
 
-import ending
 import mutants
 import needs
 import selected
 import static_library
+import test_script
 from checks import Checks
-from process import Ran, run, run_program
+from process import RunResult, run, run_program
 from running import Failure, expect, read, write
-from texts import Limits, record_of, sealed, text_of
+from texts import Limits, record_of, seal_record, text_of
 
 C = static_library.DIRECTORY
-WINE, COMPILER, TARGET = "/usr/lib/wine", "x86_64-w64-mingw32-gcc", "x86_64-w64-mingw32"
+WINE = "/usr/lib/wine"
+TARGET = "x86_64-w64-mingw32"
+COMPILER = f"{TARGET}-gcc"
+# The time limit of a run.
 SECONDS = 600
-# The only libraries that the program may load. All Windows systems have them.
+# The only libraries that the program may load. They are part of Windows.
 SYSTEM_LIBRARIES = {"ADVAPI32.dll", "KERNEL32.dll", "msvcrt.dll", "SHELL32.dll"}
-INSTALLED = {"bin/minisign.exe", "bin/minisign-check.exe", "bin/minisign.dll", "lib/libminisign.a", "lib/libminisign.dll.a", "lib/pkgconfig/minisign.pc",
-             "include/minisign.h", "include/minisign_install.h", "include/minisign_list.h",
-             "include/minisign_stream.h"}
-ZIPPED = {"minisign.exe", "minisign-check.exe", "minisign.dll", "minisign.html", "lib/libminisign.dll.a", "include/minisign.h", "include/minisign_install.h",
-          "include/minisign_list.h", "include/minisign_stream.h", "licences/libsodium.txt", "licences/mingw-w64.txt", "licences/minisign-in-rattle.txt"}
-# Cheap limits for an encrypted key, and a password with characters of two, three and four bytes.
-CHEAP, PASSWORD = Limits(1 << 24, 1 << 15, 1 << 10, 1), "g\u00e9h\u65e5\U0001f512m".encode()
+# The files that `make install` installs, except manual pages, and the files in the zip file of a release.
+INSTALLED_FILES = {"bin/minisign.exe", "bin/minisign-check.exe", "bin/minisign.dll",
+                   "lib/libminisign.a", "lib/libminisign.dll.a", "lib/pkgconfig/minisign.pc",
+                   "include/minisign.h", "include/minisign_install.h", "include/minisign_list.h", "include/minisign_stream.h"}
+FILES_IN_ZIP = {"minisign.exe", "minisign-check.exe", "minisign.dll", "minisign.html", "lib/libminisign.dll.a",
+                "include/minisign.h", "include/minisign_install.h", "include/minisign_list.h", "include/minisign_stream.h",
+                "licences/libsodium.txt", "licences/mingw-w64.txt", "licences/minisign-in-rattle.txt"}
+# Limits with which a key is encrypted quickly.
+CHEAP_LIMITS = Limits(1 << 24, 1 << 15, 1 << 10, 1)
+# A password with characters of two, three and four bytes.
+PASSWORD = "g\u00e9h\u65e5\U0001f512m".encode()
+# The first line of the output for a valid signature.
 GOOD = b"Signature and comment signature verified\n"
-# The messages for names that are rejected.
-COLON, RESERVED, DROPPED = ("a file name cannot contain a colon on Windows", "Windows reserves this name for a device",
-                            "a file name cannot end with a dot or space on Windows")
-# Names that are rejected, and why.
-REJECTED = {"ab:c": COLON, "data:x": COLON, "c:a:b": COLON, "CON": RESERVED, "con.txt": RESERVED, "Com1": RESERVED, "LPT\u00b9": RESERVED,
+# The messages for file names that are rejected.
+COLON = "a file name cannot contain a colon on Windows"
+RESERVED = "Windows reserves this name for a device"
+DROPPED = "a file name cannot end with a dot or space on Windows"
+# File names that must be rejected, and the message.
+REJECTED_NAMES = {"ab:c": COLON, "data:x": COLON, "c:a:b": COLON, "CON": RESERVED, "con.txt": RESERVED, "Com1": RESERVED, "LPT\u00b9": RESERVED,
             "PRN .x": RESERVED, "AUX": RESERVED, "sub\\NUL": RESERVED, "nul.txt": RESERVED, "CONOUT$": RESERVED, "sub/COM0/x": RESERVED,
             "end.": DROPPED, "end ": DROPPED, "sub \\x": DROPPED, "...": DROPPED, "\\\\.\\COM1": RESERVED}
-# How often a run is killed, at times that cover the whole run.
+# The number of runs that are killed, at times that are spread over the duration of a run.
 KILLS = 14
-FOUR_GIB, HOME = 4 << 30, "h\u00f6me"
-# Messages of wine itself, as when a process of wine crashes on a busy machine.
-OF_WINE = re.compile(rb"(?m)^wine: .*\n")
-# Moves of the cursor by which wine's console draws a space, and all other escape sequences.
+FOUR_GIB = 4 << 30
+# The name of a home directory.
+HOME = "h\u00f6me"
+# Messages that wine itself prints, for example if a process of wine crashes on a busy machine.
+WINE_MESSAGE = re.compile(rb"(?m)^wine: .*\n")
+# Escape sequences of wine's console. It writes a space as a movement of the cursor, which ends with C.
 ESCAPES = re.compile(rb"\x1b\[\??[0-9;]*[A-Za-z]|\x1b\][^\x07]*\x07|\x1b[=>]")
 
 
 class Wine:
-    """Runs Windows programs with wine, with a directory for its settings."""
+    """Runs Windows programs with wine, which stores its settings in a directory in `scratch`."""
 
-    def __init__(self, room):
+    def __init__(self, scratch):
         self.program = needs.need(lambda: needs.which("wine64") or next(iter(glob.glob(f"{WINE}/wine64")), None), "wine64", "wine64")
-        self.variables = {**os.environ, "WINEPREFIX": os.path.join(room, "wine"), "WINEDEBUG": "-all", "HOME": room, "LC_ALL": "C.UTF-8"}
+        self.variables = {**os.environ, "WINEPREFIX": os.path.join(scratch, "wine"), "WINEDEBUG": "-all", "HOME": scratch, "LC_ALL": "C.UTF-8"}
         self.variables.pop("MINISIGN_CONFIG_DIR", None)
-        static_library.run_or_fail([self.program, "cmd", "/c", "exit"], room, **self.variables)
+        static_library.run_or_fail([self.program, "cmd", "/c", "exit"], scratch, **self.variables)
 
     def end(self):
         """Stops wine's server."""
@@ -90,7 +106,8 @@ class Wine:
 
 
 class Console:
-    """A program at a console that wine shows at a pseudoterminal. `shown` is what it has shown, without escape sequences."""
+    """A Windows program at a console of wine, which runs at a pseudoterminal. `shown` is the text that the console
+    has shown so far, without escape sequences."""
 
     def __init__(self, command, directory, environment):
         self.raw, (self.user_end, program_end) = b"", pty.openpty()
@@ -101,10 +118,12 @@ class Console:
 
     @property
     def shown(self):
+        """The text that the console has shown so far, without escape sequences."""
         return ESCAPES.sub(lambda found: b" " if found[0].endswith(b"C") else b"", self.raw)
 
     def wait_for(self, pattern, seconds=SECONDS):
-        """Reads until the pattern is shown. Returns false if the program ends first, or after this time."""
+        """Reads until the pattern is shown, or with None until the program ends. Returns false if the program ends
+        first, or if the time limit is reached."""
         end = time.monotonic() + seconds
         while time.monotonic() < end and not (pattern and re.search(pattern, self.shown)):
             if select.select([self.user_end], [], [], 0.05)[0]:
@@ -117,10 +136,11 @@ class Console:
         return bool(pattern and re.search(pattern, self.shown))
 
     def type(self, line):
+        """Types bytes at the console."""
         os.write(self.user_end, line)
 
     def finish(self, seconds=SECONDS):
-        """Waits for the program, and returns its exit status, or None if it was still running after this time."""
+        """Waits for the program to end and returns its exit status, or None if it was still running at the time limit."""
         self.wait_for(None, seconds)
         try:
             return self.process.wait(10)
@@ -133,174 +153,194 @@ class Console:
 
 
 class Cases:
-    """The cases, each in a directory of its own with a key pair: a.key and a.pub, and closed.key, the same key encrypted."""
+    """The test cases. Each is a method that runs in a new directory with a key pair, a.key and a.pub, and the
+    encrypted key closed.key.
 
-    def __init__(self, programs, checks, room):
+    `exe` is minisign.exe, `ours` this project's program for Linux, `theirs` the original Minisign, and `helper`
+    windows_helper.c."""
+
+    def __init__(self, programs, checks, scratch):
         self.wine, self.exe, self.helper, self.ours, self.theirs = programs
-        self.checks, self.room = checks, tempfile.mkdtemp(dir=room)
+        self.checks, self.scratch = checks, tempfile.mkdtemp(dir=scratch)
         self.put("data", bytes(range(256)) * 99 + b"a\r\nb\n\x1a after ctrl-z\n")
-        self.ended(self.by_theirs("-GW", "-p", "a.pub", "-s", "a.key"), "a pair by Minisign")
-        self.put("closed.key", text_of(sealed(record_of(self.get("a.key")), PASSWORD, CHEAP)))
+        self.ended(self.run_theirs("-GW", "-p", "a.pub", "-s", "a.key"), "a pair by Minisign")
+        self.put("closed.key", text_of(seal_record(record_of(self.get("a.key")), PASSWORD, CHEAP_LIMITS)))
 
     # ---- Runs and files ----
 
     def put(self, name, data):
-        return write(self.room, name, data)
+        """Writes a file in the directory of the case."""
+        return write(self.scratch, name, data)
 
     def get(self, name):
-        return read(self.room, name)
+        """Returns the content of a file."""
+        return read(self.scratch, name)
 
-    def exists(self, *names):
-        return [name for name in names if os.path.lexists(os.path.join(self.room, name))]
+    def existing(self, *names):
+        """Returns those of the names for which a file exists."""
+        return [name for name in names if os.path.lexists(os.path.join(self.scratch, name))]
 
-    def by_exe(self, *words, typed=b"", **how):
+    def run_exe(self, *words, typed=b"", **how):
+        """Runs minisign.exe under wine, without wine's messages on standard error."""
         variables = {**self.wine.variables, **how.pop("variables", {})}
-        ran = run_program([self.wine.program, self.exe, *words], self.room, typed, SECONDS, env=variables, **how)
-        return Ran(ran.status, ran.output, OF_WINE.sub(b"", ran.said))
+        ran = run_program([self.wine.program, self.exe, *words], self.scratch, typed, SECONDS, env=variables, **how)
+        return RunResult(ran.status, ran.stdout, WINE_MESSAGE.sub(b"", ran.stderr))
 
-    def by_theirs(self, *words, typed=b"", program=None):
-        return run_program([program or self.theirs, *words], self.room, typed, SECONDS)
+    def run_on_linux(self, program, *words, typed=b""):
+        """Runs a program for Linux."""
+        return run_program([program, *words], self.scratch, typed, SECONDS)
 
-    def by_all(self, *words, typed=b""):
-        """Runs minisign.exe, Minisign, and our program for Linux."""
-        for program in (None, self.theirs, self.ours):
-            yield program or "minisign.exe", self.by_theirs(*words, typed=typed, program=program) if program else self.by_exe(*words, typed=typed)
+    def run_theirs(self, *words, typed=b""):
+        """Runs the original Minisign."""
+        return self.run_on_linux(self.theirs, *words, typed=typed)
+
+    def run_all_three(self, *words, typed=b""):
+        """Yields the name and the result of minisign.exe, of Minisign, and of our program for Linux."""
+        yield "minisign.exe", self.run_exe(*words, typed=typed)
+        for program in (self.theirs, self.ours):
+            yield program, self.run_on_linux(program, *words, typed=typed)
 
     def console(self, *words):
-        return Console([self.wine.program, self.exe, *words], self.room, self.wine.variables)
+        """Starts minisign.exe at a console."""
+        return Console([self.wine.program, self.exe, *words], self.scratch, self.wine.variables)
 
     def path(self, *names):
-        """Returns a path as Windows writes it. Wine has the root directory as drive Z:."""
-        return "Z:" + os.path.join(self.room, *names).replace("/", "\\")
+        """Returns a path in the form of Windows. For wine, the drive Z: is the root directory."""
+        return "Z:" + os.path.join(self.scratch, *names).replace("/", "\\")
 
     def leftovers(self):
-        return [name for name in os.listdir(self.room) if name.startswith(".minisign-")]
+        """Returns the names of temporary files that were left behind."""
+        return [name for name in os.listdir(self.scratch) if name.startswith(".minisign-")]
 
     def ended(self, ran, what, status=0, says=None):
-        """Checks the exit status and, if `says` is given, the error output."""
-        said = ran.said.decode(errors="replace")
-        holds = ran.status == status and (says is None or says in said)
+        """Checks the exit status of a run and, if `says` is given, that standard error contains it."""
+        errors = ran.stderr.decode(errors="replace")
+        holds = ran.status == status and (says is None or says in errors)
         return self.checks.check(holds, f"{what}: {ran}, expected status {status}{f' and {says!r}' if says else ''}")
 
     def verified(self, what, public, data, *words):
-        """All three programs verify a signature."""
-        for who, ran in self.by_all("-V", "-p", public, "-m", data, *words):
+        """Checks that all three programs accept a signature."""
+        for who, ran in self.run_all_three("-V", "-p", public, "-m", data, *words):
             self.ended(ran, f"{what}: {who} verifies")
 
-    # ---- What every user does ----
+    # ---- Signing, verifying and keys ----
 
     def verifies_and_signs(self):
-        ran = self.by_exe("-S", "-s", "a.key", "-m", "data", "-t", "a comment \u00e9", "-c", "untrusted \u65e5")
+        ran = self.run_exe("-S", "-s", "a.key", "-m", "data", "-t", "a comment \u00e9", "-c", "untrusted \u65e5")
         self.ended(ran, "-S")
-        self.checks.check(b"\r" not in self.get("data.minisig") and "untrusted \u65e5".encode() in self.get("data.minisig"), "the signature has a CR")
-        for who, ran in self.by_all("-V", "-p", "a.pub", "-m", "data"):
-            self.checks.same((ran.status, ran.output), (0, GOOD + "Trusted comment: a comment \u00e9\n".encode()), f"{who} -V")
+        self.checks.check(b"\r" not in self.get("data.minisig") and "untrusted \u65e5".encode() in self.get("data.minisig"),
+                          "the signature has a CR, or another untrusted comment")
+        for who, ran in self.run_all_three("-V", "-p", "a.pub", "-m", "data"):
+            self.checks.same((ran.status, ran.stdout), (0, GOOD + "Trusted comment: a comment \u00e9\n".encode()), f"{who} -V")
         for program in (self.theirs, self.ours):
-            self.ended(self.by_theirs("-S", "-s", "a.key", "-m", "data", "-x", "other.minisig", program=program), f"{program} -S")
+            self.ended(self.run_on_linux(program, "-S", "-s", "a.key", "-m", "data", "-x", "other.minisig"), f"{program} -S")
             self.verified(f"a signature of {program}", "a.pub", "data", "-x", "other.minisig")
         for flags, output, said in ((["-q"], b"", b""), (["-Q"], "a comment \u00e9\n".encode(), b""), (["-o", "-q"], self.get("data"), b""),
                                     (["-o"], self.get("data"), GOOD + "Trusted comment: a comment \u00e9\n".encode())):
-            ran = self.by_exe("-V", "-p", "a.pub", "-m", "data", *flags)
-            self.checks.same((ran.status, ran.output, ran.said), (0, output, said), f"-V {flags}")
+            ran = self.run_exe("-V", "-p", "a.pub", "-m", "data", *flags)
+            self.checks.same((ran.status, ran.stdout, ran.stderr), (0, output, said), f"-V {flags}")
         key = self.get("a.pub").split(b"\n")[1].decode()
-        self.ended(self.by_exe("-V", "-P", key, "-m", "data"), "-P")
+        self.ended(self.run_exe("-V", "-P", key, "-m", "data"), "-P")
         self.put("data", self.get("data") + b"x")
-        self.ended(self.by_exe("-V", "-p", "a.pub", "-m", "data"), "other data", 1, "Signature verification failed")
-        self.ended(self.by_exe("-V", "-p", "a.pub", "-m", "none"), "a missing file", 2, "none.minisig: No such file or directory")
-        self.ended(self.by_exe("-V", "-p", ".", "-m", "data"), "a directory", 2, ".: Is a directory")
+        self.ended(self.run_exe("-V", "-p", "a.pub", "-m", "data"), "other data", 1, "Signature verification failed")
+        self.ended(self.run_exe("-V", "-p", "a.pub", "-m", "none"), "a missing file", 2, "none.minisig: No such file or directory")
+        self.ended(self.run_exe("-V", "-p", ".", "-m", "data"), "a directory", 2, ".: Is a directory")
         names = [self.put(f"f{i}", b"%d" % i) and f"f{i}" for i in range(5)]
-        self.ended(self.by_exe("-S", "-s", "a.key", "-m", *names), "several files")
-        self.ended(self.by_theirs("-V", "-p", "a.pub", "-m", names[-1]), "the last of several files")
+        self.ended(self.run_exe("-S", "-s", "a.key", "-m", *names), "several files")
+        self.ended(self.run_theirs("-V", "-p", "a.pub", "-m", names[-1]), "the last of several files")
 
     def accepts_line_ends_of_windows(self):
-        self.ended(self.by_theirs("-S", "-s", "a.key", "-m", "data"), "a signature by Minisign")
+        self.ended(self.run_theirs("-S", "-s", "a.key", "-m", "data"), "a signature by Minisign")
         for name in ("a.pub", "data.minisig", "a.key"):
             self.put(f"crlf-{name}", self.get(name).replace(b"\n", b"\r\n"))
-        self.ended(self.by_exe("-V", "-p", "crlf-a.pub", "-m", "data", "-x", "crlf-data.minisig"), "files with CR LF")
-        self.ended(self.by_exe("-S", "-s", "crlf-a.key", "-m", "data", "-x", "new.minisig"), "a secret key with CR LF")
-        self.ended(self.by_exe("-S", "-s", "closed.key", "-m", "data", "-x", "new.minisig", typed=PASSWORD + b"\r\n"), "a password with CR LF")
+        self.ended(self.run_exe("-V", "-p", "crlf-a.pub", "-m", "data", "-x", "crlf-data.minisig"), "files with CR LF")
+        self.ended(self.run_exe("-S", "-s", "crlf-a.key", "-m", "data", "-x", "new.minisig"), "a secret key with CR LF")
+        self.ended(self.run_exe("-S", "-s", "closed.key", "-m", "data", "-x", "new.minisig", typed=PASSWORD + b"\r\n"), "a password with CR LF")
 
     def makes_and_changes_keys(self):
-        self.ended(self.by_exe("-G", "-W", "-p", "w.pub", "-s", "w.key"), "-G -W")
+        self.ended(self.run_exe("-G", "-W", "-p", "w.pub", "-s", "w.key"), "-G -W")
         self.checks.check(b"\r" not in self.get("w.pub") + self.get("w.key"), "a new key has a CR")
-        self.ended(self.by_theirs("-S", "-s", "w.key", "-m", "data"), "Minisign signs with a key of minisign.exe")
+        self.ended(self.run_theirs("-S", "-s", "w.key", "-m", "data"), "Minisign signs with a key of minisign.exe")
         self.verified("a new key", "w.pub", "data")
-        self.ended(self.by_exe("-R", "-s", "w.key", "-p", "again.pub"), "-R")
+        self.ended(self.run_exe("-R", "-s", "w.key", "-p", "again.pub"), "-R")
         self.checks.same(self.get("again.pub").split(b"\n")[1], self.get("w.pub").split(b"\n")[1], "the public key that -R writes")
         before = self.get("w.pub"), self.get("w.key")
-        self.ended(self.by_exe("-G", "-W", "-p", "w.pub", "-s", "new.key"), "-G over a public key", 1, "w.pub already exists")
-        self.ended(self.by_exe("-G", "-W", "-p", "new.pub", "-s", "w.key"), "-G over a secret key", 1, "w.key already exists")
-        self.checks.check((self.get("w.pub"), self.get("w.key")) == before and not self.exists("new.key", "new.pub"), "-G without -f changes files")
-        self.ended(self.by_exe("-G", "-W", "-f", "-p", "w.pub", "-s", "w.key"), "-G -f")
+        self.ended(self.run_exe("-G", "-W", "-p", "w.pub", "-s", "new.key"), "-G over a public key", 1, "w.pub already exists")
+        self.ended(self.run_exe("-G", "-W", "-p", "new.pub", "-s", "w.key"), "-G over a secret key", 1, "w.key already exists")
+        self.checks.check((self.get("w.pub"), self.get("w.key")) == before and not self.existing("new.key", "new.pub"), "-G without -f changes files")
+        self.ended(self.run_exe("-G", "-W", "-f", "-p", "w.pub", "-s", "w.key"), "-G -f")
         self.checks.check(self.get("w.pub") != before[0] and self.get("w.key") != before[1], "-G -f leaves the old pair")
         self.checks.check(not self.leftovers(), f"temporary files are left: {self.leftovers()}")
 
     def decrypts_and_encrypts_keys(self):
         for password, status, says in ((PASSWORD, 0, None), (b"wrong", 2, "Wrong password for that key")):
-            ran = self.by_exe("-S", "-s", "closed.key", "-m", "data", typed=password + b"\n")
+            ran = self.run_exe("-S", "-s", "closed.key", "-m", "data", typed=password + b"\n")
             self.ended(ran, f"-S with the password {password}", status, says)
         self.verified("a signature by an encrypted key", "a.pub", "data")
-        self.ended(self.by_exe("-R", "-s", "closed.key", "-p", "again.pub", typed=PASSWORD + b"\n"), "-R of an encrypted key")
+        self.ended(self.run_exe("-R", "-s", "closed.key", "-p", "again.pub", typed=PASSWORD + b"\n"), "-R of an encrypted key")
         self.checks.same(self.get("again.pub").split(b"\n")[1], self.get("a.pub").split(b"\n")[1], "the public key that -R writes")
-        self.ended(self.by_exe("-C", "-s", "closed.key", "-k", "16", typed=PASSWORD + b"\nn\xc3\xa9w\nn\xc3\xa9w\n"), "-C")
+        self.ended(self.run_exe("-C", "-s", "closed.key", "-k", "16", typed=PASSWORD + b"\nn\xc3\xa9w\nn\xc3\xa9w\n"), "-C")
         for program in (self.theirs, self.ours):
-            ran = self.by_theirs("-S", "-s", "closed.key", "-m", "data", typed="n\u00e9w\n".encode(), program=program)
+            ran = self.run_on_linux(program, "-S", "-s", "closed.key", "-m", "data", typed="n\u00e9w\n".encode())
             self.ended(ran, f"{program} decrypts a changed key")
-        self.ended(self.by_exe("-C", "-W", "-s", "closed.key", typed=b"n\xc3\xa9w\n"), "-C -W")
+        self.ended(self.run_exe("-C", "-W", "-s", "closed.key", typed=b"n\xc3\xa9w\n"), "-C -W")
         self.checks.same(record_of(self.get("closed.key"))[54:126], record_of(self.get("a.key"))[54:126], "the decrypted key")
-        self.ended(self.by_exe("-S", "-s", "closed.key", "-m", "data"), "-S with the decrypted key")
+        self.ended(self.run_exe("-S", "-s", "closed.key", "-m", "data"), "-S with the decrypted key")
 
-    def at_home(self, words):
-        """Runs minisign.exe with another home directory. (Wine sets USERPROFILE itself, so a shell has to change it.)"""
+    def run_at_home(self, words):
+        """Runs minisign.exe with the home directory HOME. (Wine sets USERPROFILE itself, so a command line must
+        change it.)"""
         line = f"set USERPROFILE={self.path(HOME)}&&Z:{self.exe} {words}".replace("/", "\\")
-        return run_program([self.wine.program, "cmd", "/c", line], self.room, None, SECONDS, env=self.wine.variables)
+        return run_program([self.wine.program, "cmd", "/c", line], self.scratch, None, SECONDS, env=self.wine.variables)
 
     def uses_default_names(self):
-        os.mkdir(f"{self.room}/{HOME}")
-        ran = self.at_home("-G -W")
+        os.mkdir(f"{self.scratch}/{HOME}")
+        ran = self.run_at_home("-G -W")
         self.ended(ran, "-G with default names")
-        self.checks.check(self.exists("minisign.pub", f"{HOME}/.minisign/minisign.key"), f"the default names are others: {ran}")
-        self.ended(self.at_home("-S -m data"), "-S with the default key")
-        self.ended(self.by_exe("-V", "-m", "data"), "-V with the default key")
-        mode = stat.S_IMODE(os.stat(f"{self.room}/{HOME}/.minisign").st_mode)
+        default_names = ["minisign.pub", f"{HOME}/.minisign/minisign.key"]
+        self.checks.same(self.existing(*default_names), default_names, f"the files with the default names after {ran}")
+        self.ended(self.run_at_home("-S -m data"), "-S with the default key")
+        self.ended(self.run_exe("-V", "-m", "data"), "-V with the default key")
+        mode = stat.S_IMODE(os.stat(f"{self.scratch}/{HOME}/.minisign").st_mode)
         self.checks.check(mode & 0o007 == 0, f"others can use the directory of the secret key: mode {mode:o}")
-        os.makedirs(f"{self.room}/config")
-        self.ended(self.by_exe("-G", "-W", "-p", "c.pub", variables={"MINISIGN_CONFIG_DIR": self.path("config")}), "-G with MINISIGN_CONFIG_DIR")
-        self.checks.check(self.exists("config/minisign.key"), "MINISIGN_CONFIG_DIR is ignored")
+        os.makedirs(f"{self.scratch}/config")
+        self.ended(self.run_exe("-G", "-W", "-p", "c.pub", variables={"MINISIGN_CONFIG_DIR": self.path("config")}), "-G with MINISIGN_CONFIG_DIR")
+        self.checks.check(self.existing("config/minisign.key"), "MINISIGN_CONFIG_DIR is ignored")
 
     # ---- Names ----
 
     def opens_unicode_and_long_names(self):
-        deep = os.path.join(self.room, *(f"{i}" + "e" * 80 for i in range(6)))
+        deep = os.path.join(self.scratch, *(f"{i}" + "e" * 80 for i in range(6)))
         os.makedirs(deep)
-        long_path, relative = os.path.join(deep, "file"), os.path.relpath(os.path.join(deep, "file"), self.room)
+        long_path, relative = os.path.join(deep, "file"), os.path.relpath(os.path.join(deep, "file"), self.scratch)
+        # Maps the names that the program opens to the paths on Linux, or to None for the same name with slashes.
         names = {"\u00fcn\u00ef \u043a\u0438\u0440 \u65e5\u672c \U0001f512": None, "with space": None, "d" * 200: None, "back\\slash": None,
                  "COM10": None, "console": None, "a.b .c": None, self.path("drive"): "drive", "./dot": "dot", "sub/../up": "up",
                  "Z:" + long_path.replace("/", "\\"): long_path, relative: relative, relative.replace("/", "\\"): relative,
                  "\\\\?\\" + self.path("verbatim"): "verbatim"}
-        os.mkdir(f"{self.room}/sub")
-        os.mkdir(f"{self.room}/back")
+        os.mkdir(f"{self.scratch}/sub")
+        os.mkdir(f"{self.scratch}/back")
         for name, real in names.items():
-            real = os.path.join(self.room, real or name.replace("\\", "/"))
+            real = os.path.join(self.scratch, real or name.replace("\\", "/"))
             write("/", real, b"data of " + name.encode())
-            self.ended(self.by_exe("-S", "-s", "a.key", "-m", name), f"-S {name}")
-            ran = self.by_exe("-V", "-p", "a.pub", "-m", name)
+            self.ended(self.run_exe("-S", "-s", "a.key", "-m", name), f"-S {name}")
+            ran = self.run_exe("-V", "-p", "a.pub", "-m", name)
             if self.ended(ran, f"-V {name}"):
                 last = os.path.basename(name.replace("\\", "/")).encode()
-                self.checks.check(b"\tfile:%s\t" % last in ran.output, f"the trusted comment of {name} is {ran.output}")
-            self.ended(self.by_theirs("-V", "-p", "a.pub", "-m", real), f"Minisign verifies {real}")
+                self.checks.check(b"\tfile:%s\t" % last in ran.stdout, f"the trusted comment of {name} is {ran.stdout}")
+            self.ended(self.run_theirs("-V", "-p", "a.pub", "-m", real), f"Minisign verifies {real}")
             os.remove(f"{real}.minisig")
 
     def rejected(self, *words):
-        """Checks that all names that Windows takes for something else are rejected, and that no file is left. The last of
-        the words is before the name."""
-        os.mkdir(f"{self.room}/sub")
-        self.ended(self.by_theirs("-S", "-s", "a.key", "-m", "data"), "a signature by Minisign")
-        before = sorted(os.listdir(self.room))
-        for name, why in REJECTED.items():
-            ran = self.by_exe(*words, name)
-            self.checks.same((ran.status, ran.said.decode()), (2, f"{name}: {why}\n"), f"{words} {name}")
-        self.checks.same(sorted(os.listdir(self.room)), before, "the files after names were rejected")
+        """Checks that all REJECTED_NAMES are rejected as the last argument, after these words, and that no file is
+        created."""
+        os.mkdir(f"{self.scratch}/sub")
+        self.ended(self.run_theirs("-S", "-s", "a.key", "-m", "data"), "a signature by Minisign")
+        before = sorted(os.listdir(self.scratch))
+        for name, why in REJECTED_NAMES.items():
+            ran = self.run_exe(*words, name)
+            self.checks.same((ran.status, ran.stderr.decode()), (2, f"{name}: {why}\n"), f"{words} {name}")
+        self.checks.same(sorted(os.listdir(self.scratch)), before, "the files after names were rejected")
 
     def rejects_names_to_read(self):
         self.rejected("-V", "-p", "a.pub", "-x", "data.minisig", "-m")
@@ -312,67 +352,67 @@ class Cases:
         self.rejected("-G", "-s", "new.key", "-p")
 
     def uses_the_null_device(self):
-        before = sorted(os.listdir(self.room))
-        self.ended(self.by_exe("-S", "-s", "a.key", "-m", "data", "-x", "NUL"), "-x NUL")
-        self.ended(self.by_exe("-V", "-p", "nul", "-m", "data"), "-p nul", 2, "Error while loading the public key file")
-        self.checks.same(sorted(os.listdir(self.room)), before, "the files after -x NUL")
+        before = sorted(os.listdir(self.scratch))
+        self.ended(self.run_exe("-S", "-s", "a.key", "-m", "data", "-x", "NUL"), "-x NUL")
+        self.ended(self.run_exe("-V", "-p", "nul", "-m", "data"), "-p nul", 2, "Error while loading the public key file")
+        self.checks.same(sorted(os.listdir(self.scratch)), before, "the files after -x NUL")
 
     def rejects_arguments_that_are_not_unicode(self):
-        ran = run_program([self.wine.program, self.helper, "lone", self.exe], self.room, None, SECONDS, env=self.wine.variables)
-        self.checks.same((ran.status, ran.said), (2, b"error: an argument is not Unicode\nhint: rename the file, or use another name for it\n"),
+        ran = run_program([self.wine.program, self.helper, "lone", self.exe], self.scratch, None, SECONDS, env=self.wine.variables)
+        self.checks.same((ran.status, ran.stderr), (2, b"error: an argument is not Unicode\nhint: rename the file, or use another name for it\n"),
                          "an argument that is not Unicode")
 
     def knows_two_names_of_one_file(self):
-        """Names that differ only by case are one file, and so are two paths of one directory."""
-        os.mkdir(f"{self.room}/dir")
-        os.symlink("dir", f"{self.room}/link")
+        """Names that differ only in case, and different paths to one directory, must be recognized as the same file."""
+        os.mkdir(f"{self.scratch}/dir")
+        os.symlink("dir", f"{self.scratch}/link")
         for public, secret in (("k.KEY", "k.key"), ("a.pub", "A.PUB"), ("dir\\k", "link\\k"), ("dir\\k", "DIR\\..\\dir\\K")):
-            before = self.get("a.pub"), sorted(os.listdir(self.room))
-            self.ended(self.by_exe("-G", "-W", "-f", "-p", public, "-s", secret), f"-p {public} -s {secret}", 2, "error: ")
-            self.checks.check((self.get("a.pub"), sorted(os.listdir(self.room))) == before and not os.listdir(f"{self.room}/dir"),
-                              f"-p {public} -s {secret} changes files: {sorted(os.listdir(self.room))}")
+            before = self.get("a.pub"), sorted(os.listdir(self.scratch))
+            self.ended(self.run_exe("-G", "-W", "-f", "-p", public, "-s", secret), f"-p {public} -s {secret}", 2, "error: ")
+            self.checks.check((self.get("a.pub"), sorted(os.listdir(self.scratch))) == before and not os.listdir(f"{self.scratch}/dir"),
+                              f"-p {public} -s {secret} changes files: {sorted(os.listdir(self.scratch))}")
         before = self.get("a.key")
         for name in ("a.key", "A.Key", ".\\a.key"):
-            self.ended(self.by_exe("-S", "-s", "a.key", "-m", "data", "-x", name), f"-x {name}", 2, "this is the secret key")
+            self.ended(self.run_exe("-S", "-s", "a.key", "-m", "data", "-x", name), f"-x {name}", 2, "this is the secret key")
         self.checks.check(self.get("a.key") == before, "the secret key was overwritten")
 
     def follows_links(self):
-        os.symlink("real.minisig", f"{self.room}/link.minisig")
+        os.symlink("real.minisig", f"{self.scratch}/link.minisig")
         self.put("real.minisig", b"old")
-        self.ended(self.by_exe("-S", "-s", "a.key", "-m", "data", "-x", "link.minisig"), "-x of a link")
-        self.checks.check(os.path.islink(f"{self.room}/link.minisig"), "a link was replaced")
-        self.ended(self.by_exe("-V", "-p", "a.pub", "-m", "data", "-x", "real.minisig"), "the target of a link")
+        self.ended(self.run_exe("-S", "-s", "a.key", "-m", "data", "-x", "link.minisig"), "-x of a link")
+        self.checks.check(os.path.islink(f"{self.scratch}/link.minisig"), "a link was replaced")
+        self.ended(self.run_exe("-V", "-p", "a.pub", "-m", "data", "-x", "real.minisig"), "the target of a link")
 
     # ---- Replacing ----
 
-    def keeps_access_lists_small(self):
-        """Wine shows the list of a file as its mode, whose bits for the group mean the system."""
-        self.ended(self.by_exe("-G", "-W", "-p", "m.pub", "-s", "m.key"), "-G -W")
-        os.chmod(f"{self.room}/closed.key", 0o644)
-        self.ended(self.by_exe("-C", "-W", "-s", "closed.key", typed=PASSWORD + b"\n"), "-C -W")
-        os.chmod(f"{self.room}/a.pub", 0o600)
-        self.ended(self.by_exe("-G", "-W", "-f", "-p", "a.pub", "-s", "n.key"), "-G -f over a file for one user")
+    def gives_no_more_access(self):
+        """Other users must get no access to a secret key, and no more access to another new file than to the old one.
+        (Wine stores the access list of a file as its mode.)"""
+        self.ended(self.run_exe("-G", "-W", "-p", "m.pub", "-s", "m.key"), "-G -W")
+        os.chmod(f"{self.scratch}/closed.key", 0o644)
+        self.ended(self.run_exe("-C", "-W", "-s", "closed.key", typed=PASSWORD + b"\n"), "-C -W")
+        os.chmod(f"{self.scratch}/a.pub", 0o600)
+        self.ended(self.run_exe("-G", "-W", "-f", "-p", "a.pub", "-s", "n.key"), "-G -f over a file for one user")
         for name, others in (("m.pub", 0o004), ("m.key", 0), ("closed.key", 0), ("a.pub", 0)):
-            mode = stat.S_IMODE(os.stat(f"{self.room}/{name}").st_mode)
+            mode = stat.S_IMODE(os.stat(f"{self.scratch}/{name}").st_mode)
             self.checks.check(mode & 0o004 == others, f"{name} has the mode {mode:o}, expected {others:o} for others")
 
     def replaces_whole_files(self):
-        """A killed run leaves the old signature or the new one, and its temporary file no longer than until the next run."""
+        """A killed run must leave either the old or the new signature. The next run must remove its temporary file."""
         words = ["-S", "-s", "a.key", "-m", "data"]
-        self.ended(self.by_exe(*words), "-S")
+        self.ended(self.run_exe(*words), "-S")
         begin = time.monotonic()
-        self.ended(self.by_exe(*words), "-S again")
-        whole, results = time.monotonic() - begin, []
+        self.ended(self.run_exe(*words), "-S again")
+        whole = time.monotonic() - begin
         for i in range(KILLS):
-            before = self.get("data.minisig")
             self.kill_after(whole * (0.3 + 0.9 * i / KILLS), *words, "-t", f"run {i}")
-            results.append(self.get("data.minisig") != before)
-            self.ended(self.by_theirs("-V", "-p", "a.pub", "-m", "data"), f"the signature after kill {i}")
-        self.ended(self.by_exe(*words), "-S after the kills")
+            self.ended(self.run_theirs("-V", "-p", "a.pub", "-m", "data"), f"the signature after kill {i}")
+        self.ended(self.run_exe(*words), "-S after the kills")
         self.checks.check(not self.leftovers(), f"a later run leaves {self.leftovers()}")
 
     def kill_after(self, seconds, *words):
-        with subprocess.Popen([self.wine.program, self.exe, *words], cwd=self.room, env=self.wine.variables, stdin=subprocess.DEVNULL,
+        """Starts minisign.exe, and kills it after this time."""
+        with subprocess.Popen([self.wine.program, self.exe, *words], cwd=self.scratch, env=self.wine.variables, stdin=subprocess.DEVNULL,
                               stdout=subprocess.DEVNULL, stderr=subprocess.DEVNULL) as process:
             time.sleep(seconds)
             process.send_signal(signal.SIGKILL)
@@ -380,35 +420,36 @@ class Cases:
 
     def replaces_whole_pairs(self):
         words = ["-G", "-W", "-f", "-p", "m.pub", "-s", "m.key"]
-        self.ended(self.by_exe(*words), "-G")
+        self.ended(self.run_exe(*words), "-G")
         begin = time.monotonic()
-        self.ended(self.by_exe(*words), "-G -f")
+        self.ended(self.run_exe(*words), "-G -f")
         whole = time.monotonic() - begin
         for i in range(KILLS):
             self.kill_after(whole * (0.3 + 0.9 * i / KILLS), *words)
-            ran = self.by_theirs("-R", "-f", "-s", "m.key", "-p", "check.pub")
+            ran = self.run_theirs("-R", "-f", "-s", "m.key", "-p", "check.pub")
             self.ended(ran, f"the secret key after kill {i}")
             self.checks.check(len(record_of(self.get("m.pub"))) == 42, f"the public key after kill {i}: {self.get('m.pub')}")
-        self.ended(self.by_exe(*words), "-G -f after the kills")
+        self.ended(self.run_exe(*words), "-G -f after the kills")
         self.checks.check(not self.leftovers(), f"a later run leaves {self.leftovers()}")
 
     def undoes_half_a_pair(self):
-        """If the second file of a pair cannot be put in place, the first is as before."""
-        os.mkdir(f"{self.room}/dir")
+        """If the second file of a key pair cannot be replaced, the first one must be restored."""
+        os.mkdir(f"{self.scratch}/dir")
         before = self.get("a.pub")
-        self.ended(self.by_exe("-G", "-W", "-f", "-p", "a.pub", "-s", "dir"), "-s of a directory", 2, "dir: Is a directory")
-        self.ended(self.by_exe("-G", "-W", "-p", "n.pub", "-s", "none\\dir\\n.key"), "-s without a directory", 2, "No such file or directory")
+        self.ended(self.run_exe("-G", "-W", "-f", "-p", "a.pub", "-s", "dir"), "-s of a directory", 2, "dir: Is a directory")
+        self.ended(self.run_exe("-G", "-W", "-p", "n.pub", "-s", "none\\dir\\n.key"), "-s without a directory", 2, "No such file or directory")
         with self.holding("a.key", 60000):
             for public in ("a.pub", "n.pub"):
-                ran = self.by_exe("-G", "-W", "-f", "-p", public, "-s", "a.key")
+                ran = self.run_exe("-G", "-W", "-f", "-p", public, "-s", "a.key")
                 self.ended(ran, f"a pair of {public} and a secret key in use", 2, "a.key: another program has this file open")
         self.checks.same(self.get("a.pub"), before, "the public key of a failed pair")
-        self.checks.check(not self.exists("n.pub", "n.key") and not self.leftovers(), f"a failed pair leaves {os.listdir(self.room)}")
+        self.checks.check(not self.existing("n.pub", "n.key") and not self.leftovers(), f"a failed pair leaves {os.listdir(self.scratch)}")
 
     @contextlib.contextmanager
     def holding(self, name, milliseconds, how="hold"):
-        """Has another program open a file meanwhile, as a virus scanner does."""
-        with subprocess.Popen([self.wine.program, self.helper, how, name, str(milliseconds)], cwd=self.room, env=self.wine.variables,
+        """Keeps a file open in another program while the body runs, as a virus scanner might. With how="lock", the file
+        cannot be opened for writing either."""
+        with subprocess.Popen([self.wine.program, self.helper, how, name, str(milliseconds)], cwd=self.scratch, env=self.wine.variables,
                               stdout=subprocess.PIPE) as process:
             self.checks.check(process.stdout.readline().startswith(b"held"), f"{name} was not opened")
             try:
@@ -417,40 +458,41 @@ class Cases:
                 process.kill()
 
     def waits_for_scanners(self):
-        """A file that another program has open is replaced once it is closed, and otherwise after two seconds reported."""
+        """A file that another program has open is replaced if it is closed within two seconds. Otherwise this is reported."""
         for how in ("hold", "lock"):
             self.put("data.minisig", b"old")
             with self.holding("data.minisig", 60000, how):
-                ran = subprocess.Popen([self.wine.program, self.exe, "-S", "-s", "a.key", "-m", "data"], cwd=self.room,
+                ran = subprocess.Popen([self.wine.program, self.exe, "-S", "-s", "a.key", "-m", "data"], cwd=self.scratch,
                                        env=self.wine.variables, stdin=subprocess.DEVNULL, stderr=subprocess.PIPE)
                 # The program creates its temporary file directly before it needs the other one.
                 while not self.leftovers() and ran.poll() is None:
                     time.sleep(0.01)
                 time.sleep(0.3)
             said = ran.communicate(timeout=SECONDS)[1]
-            self.checks.same((ran.returncode, OF_WINE.sub(b"", said)), (0, b""), f"a file that is open for a moment ({how})")
-            self.ended(self.by_theirs("-V", "-p", "a.pub", "-m", "data"), f"the signature after waiting ({how})")
+            self.checks.same((ran.returncode, WINE_MESSAGE.sub(b"", said)), (0, b""), f"a file that is open for a moment ({how})")
+            self.ended(self.run_theirs("-V", "-p", "a.pub", "-m", "data"), f"the signature after waiting ({how})")
             before = self.get("data.minisig")
             with self.holding("data.minisig", 60000, how):
-                self.ended(self.by_exe("-S", "-s", "a.key", "-m", "data"), f"a file that is open ({how})", 2, "another program has this file open")
+                self.ended(self.run_exe("-S", "-s", "a.key", "-m", "data"), f"a file that is open ({how})", 2, "another program has this file open")
             self.checks.check(self.get("data.minisig") == before and not self.leftovers(), f"a failed replacement changes files ({how})")
 
     def removes_leftovers(self):
-        """A temporary file of a killed run is removed, unless a program has it open or it is of another kind."""
+        """A temporary file of a killed run is removed unless a program has it open. A file whose name is not that of a
+        temporary file is kept."""
         stale, held, other = ".minisign-0123456789abcdef", ".minisign-00000000000000ff", ".minisign-0123456789abcdeX"
         for name in (stale, held, other):
             self.put(name, b"stale")
         with self.holding(held, 20000):
-            self.ended(self.by_exe("-S", "-s", "a.key", "-m", "data"), "-S")
+            self.ended(self.run_exe("-S", "-s", "a.key", "-m", "data"), "-S")
             self.checks.same(sorted(self.leftovers()), sorted([held, other]), "temporary files while one is open")
-        self.ended(self.by_exe("-S", "-s", "a.key", "-m", "data"), "-S again")
+        self.ended(self.run_exe("-S", "-s", "a.key", "-m", "data"), "-S again")
         self.checks.same(self.leftovers(), [other], "temporary files after the next run")
 
     def keeps_read_only_files(self):
-        self.ended(self.by_exe("-S", "-s", "a.key", "-m", "data"), "-S")
+        self.ended(self.run_exe("-S", "-s", "a.key", "-m", "data"), "-S")
         before = self.get("data.minisig")
-        os.chmod(f"{self.room}/data.minisig", 0o444)
-        self.ended(self.by_exe("-S", "-s", "a.key", "-m", "data"), "-S over a read-only file", 2, "data.minisig: Permission denied")
+        os.chmod(f"{self.scratch}/data.minisig", 0o444)
+        self.ended(self.run_exe("-S", "-s", "a.key", "-m", "data"), "-S over a read-only file", 2, "data.minisig: Permission denied")
         self.checks.check(self.get("data.minisig") == before and not self.leftovers(), "a read-only file was replaced")
 
     # ---- Consoles and streams ----
@@ -463,15 +505,16 @@ class Cases:
             time.sleep(0.3)
             console.type("gehe\u00efm\u65e5\r".encode())
         status = console.finish()
-        self.checks.check(status == 0 and self.exists("t.key"), f"-G at a console: status {status}, {console.shown[-400:]}")
+        self.checks.check(status == 0 and self.existing("t.key"), f"-G at a console: status {status}, {console.shown[-400:]}")
         self.checks.check(b"gehe" not in console.shown, f"the console shows the password: {console.shown}")
-        ran = self.by_theirs("-S", "-s", "t.key", "-m", "data", typed="gehe\u00efm\u65e5\n".encode())
+        ran = self.run_theirs("-S", "-s", "t.key", "-m", "data", typed="gehe\u00efm\u65e5\n".encode())
         self.ended(ran, "Minisign decrypts a key with the password in UTF-8")
 
     def ends_on_ctrl_c(self):
         self.put("data.minisig", b"old")
         for when, typed in (("at the prompt", b""), ("during the derivation", PASSWORD + b"\r")):
-            self.put("slow.key", text_of(sealed(record_of(self.get("a.key")), None, Limits(1 << 30, 1 << 25))))
+            # No password decrypts a key that is encrypted with None. Ctrl-C ends the program before it would notice.
+            self.put("slow.key", text_of(seal_record(record_of(self.get("a.key")), None, Limits(1 << 30, 1 << 25))))
             console = self.console("-S", "-s", "slow.key", "-k", "256", "-m", "data")
             self.checks.check(console.wait_for(rb"Password: "), f"{when}: the console shows {console.shown[-300:]}")
             time.sleep(0.3)
@@ -487,93 +530,100 @@ class Cases:
         self.checks.check(console.wait_for(rb"Password: "), f"-G shows {console.shown[-300:]}")
         console.type(b"\x03")
         self.checks.check(console.finish(20) not in (0, None), "Ctrl-C does not end -G")
-        self.checks.check(self.get("data.minisig") == b"old" and not self.exists("new.pub", "new.key") and not self.leftovers(),
-                          f"Ctrl-C leaves {os.listdir(self.room)}")
+        self.checks.check(self.get("data.minisig") == b"old" and not self.existing("new.pub", "new.key") and not self.leftovers(),
+                          f"Ctrl-C leaves {os.listdir(self.scratch)}")
 
     def reports_closed_streams(self):
-        self.ended(self.by_theirs("-S", "-s", "a.key", "-m", "data"), "a signature by Minisign")
+        self.ended(self.run_theirs("-S", "-s", "a.key", "-m", "data"), "a signature by Minisign")
         for what in (">&-", ">/dev/full", "-o -q >/dev/full"):
             line = f'exec "$0" "$1" -V -p a.pub -m data {what}'
-            ran = run_program(["sh", "-c", line, self.wine.program, self.exe], self.room, None, SECONDS, env=self.wine.variables)
+            ran = run_program(["sh", "-c", line, self.wine.program, self.exe], self.scratch, None, SECONDS, env=self.wine.variables)
             self.checks.same(ran.status, 2, f"the exit status with standard output {what}")
-        ran = self.by_exe("-S", "-s", "closed.key", "-m", "data")
+
+    def rejects_bad_passwords(self):
+        """A password that is missing or too long is an error."""
+        ran = self.run_exe("-S", "-s", "closed.key", "-m", "data")
         self.ended(ran, "no password", 2, "get_password()")
-        self.ended(self.by_exe("-S", "-s", "closed.key", "-m", "data", typed=b"x" * 1024 + b"\n"), "a long password", 2, "the password is too long")
+        self.ended(self.run_exe("-S", "-s", "closed.key", "-m", "data", typed=b"x" * 1024 + b"\n"), "a long password", 2, "the password is too long")
 
     def reads_more_than_4_gib(self):
-        path = f"{self.room}/big"
+        path = f"{self.scratch}/big"
         with open(path, "wb") as file:
             file.truncate(FOUR_GIB + 12345)
             file.seek(FOUR_GIB + 5)
             file.write(b"beyond")
-        self.ended(self.by_exe("-S", "-s", "a.key", "-m", "big"), "-S of more than 4 GiB")
-        self.ended(self.by_theirs("-V", "-p", "a.pub", "-m", "big", program=self.ours), "our program for Linux verifies it")
+        self.ended(self.run_exe("-S", "-s", "a.key", "-m", "big"), "-S of more than 4 GiB")
+        self.ended(self.run_on_linux(self.ours, "-V", "-p", "a.pub", "-m", "big"), "our program for Linux verifies it")
         with open(path, "r+b") as file:
             file.seek(FOUR_GIB + 5)
             file.write(b"Beyond")
-        self.ended(self.by_exe("-V", "-p", "a.pub", "-m", "big"), "a change beyond 4 GiB", 1)
+        self.ended(self.run_exe("-V", "-p", "a.pub", "-m", "big"), "a change beyond 4 GiB", 1)
         os.remove(path)
 
     # ---- minisign-check.exe ----
 
     def checks_files_of_lists(self):
-        """minisign-check.exe finds files by their names in UTF-8, in parallel and in other directories, and opens no name that leads elsewhere."""
+        """minisign-check.exe finds files by their names in UTF-8, in parallel and in other directories, and opens
+        no name that leads elsewhere."""
         files, cyrillic = {f"f{number}": bytes([number]) * 70_000 for number in range(20)}, "\u0444\u0430\u0439\u043b.txt"
         files |= {cyrillic: b"name", "sub/deep/x": b"below", "empty": b""}
-        os.makedirs(f"{self.room}/files/sub/deep")
+        os.makedirs(f"{self.scratch}/files/sub/deep")
         for name, data in files.items():
             self.put(os.path.join("files", name), data)
 
-        def check(what, lines, status, says="", *words, output=None):
-            """Signs a list with these lines, and checks the files with the program."""
+        def check(what, lines, status, says="", options=(), names=(), output=None):
+            """Signs a list with these lines, and checks these files with the program, or all files if there are no
+            names."""
             self.put("SUMS", "".join(lines).encode())
-            self.ended(self.by_theirs("-S", "-s", "a.key", "-m", "SUMS"), f"{what}: the signature of the list")
+            self.ended(self.run_theirs("-S", "-s", "a.key", "-m", "SUMS"), f"{what}: the signature of the list")
             exe = os.path.join(os.path.dirname(self.exe), "minisign-check.exe")
-            command = [self.wine.program, exe, "-p", "a.pub", "--in", "files", *words[:-1], "SUMS", *words[-1:]]
-            ran = run_program([word for word in command if word], self.room, None, SECONDS, env=self.wine.variables)
+            command = [self.wine.program, exe, "-p", "a.pub", "--in", "files", *options, "SUMS", *names]
+            ran = run_program(command, self.scratch, None, SECONDS, env=self.wine.variables)
             self.ended(ran, f"minisign-check.exe, {what}", status, says)
             if output is not None:
-                self.checks.same(ran.output, output.encode(), f"minisign-check.exe, {what}: the output")
+                self.checks.same(ran.stdout, output.encode(), f"minisign-check.exe, {what}: the output")
 
         line = lambda name, data: f"{hashlib.sha256(data).hexdigest()}  {name}\n"
         lines = [line(name, data) for name, data in files.items()]
         all_good = "".join(f"{name}: OK\n" for name in files)
-        check("all files", lines, 0, "file:SUMS", "--nothing-else", "", output=all_good)
-        check("one file", lines, 0, "", cyrillic, output=f"{cyrillic}: OK\n")
-        check("a copy", lines, 0, "", "-o", "f3", output=files["f3"].decode())
-        check("a file of another digest", [*lines[1:], line("f0", b"x")], 4, "", "", output=all_good.replace("f0: OK\n", "") + "f0: FAILED\n")
-        check("an unlisted file", lines[:-1], 7, "empty: no line of the list has this file", "--nothing-else", "")
-        check("a missing file", [*lines, line("none", b"")], 6, "none: No such file or directory", "")
+        check("all files", lines, 0, "file:SUMS", ["--nothing-else"], output=all_good)
+        check("one file", lines, 0, names=[cyrillic], output=f"{cyrillic}: OK\n")
+        check("a copy", lines, 0, "", ["-o"], ["f3"], output=files["f3"].decode())
+        check("a file of another digest", [*lines[1:], line("f0", b"x")], 4, output=all_good.replace("f0: OK\n", "") + "f0: FAILED\n")
+        check("an unlisted file", lines[:-1], 7, "empty: no line of the list has this file", ["--nothing-else"])
+        check("a missing file", [*lines, line("none", b"")], 6, "none: No such file or directory")
         for name, why in (("C:/windows/system.ini", COLON), ("Z:/etc/passwd", COLON), ("f0:stream", COLON), ("NUL", "not a regular file"),
                           ("aux.txt", RESERVED), ("f0.", DROPPED), ("f0 ", DROPPED), ("sub", "not a regular file")):
-            check(f"the name {name!r}", [line(name, b"")], 1, why, "")
-        check("a backslash", [line("sub\\deep\\x", b"below")], 6, "no file matches it", "")
-        check("a parent directory", [line("../data", b"")], 3, "malformed", "")
+            check(f"the name {name!r}", [line(name, b"")], 1, why)
+        check("a backslash", [line("sub\\deep\\x", b"below")], 6, "no file matches it")
+        check("a parent directory", [line("../data", b"")], 3, "malformed")
         for link, target, status in (("link", "f1", 0), ("dangling", "absent", 6)):
-            os.symlink(target, f"{self.room}/files/{link}")
-            check(f"the link {link}", [line(link, files["f1"])], status, "", "")
-
+            os.symlink(target, f"{self.scratch}/files/{link}")
+            check(f"the link {link}", [line(link, files["f1"])], status)
 
     def describes_the_program(self):
-        """The version resource and `minisign -v` show the version of the header."""
+        """The version resource and `minisign -v` must show the version in the header."""
         header = read(C, "..", "include", "minisign.h").decode()
         version = ".".join(re.search(rf"define MINISIGN_VERSION_{part} (\d+)", header)[1] for part in ("MAJOR", "MINOR", "PATCH"))
-        ran = run_program([self.wine.program, self.helper, "version", self.exe], self.room, None, SECONDS, env=self.wine.variables)
-        self.checks.same(ran.output.decode(), f"{version} {version} minisign.exe", "the version resource")
-        self.checks.same(self.by_exe("-v").output.decode(), f"minisign 0.11\nMinisign in Rattle {version}\n", "-v")
+        ran = run_program([self.wine.program, self.helper, "version", self.exe], self.scratch, None, SECONDS, env=self.wine.variables)
+        self.checks.same(ran.stdout.decode(), f"{version} {version} minisign.exe", "the version resource")
+        self.checks.same(self.run_exe("-v").stdout.decode(), f"minisign 0.11\nMinisign in Rattle {version}\n", "-v")
 
 
+# The methods of Cases with a `_` in their names that are no cases.
+HELPERS = {"run_exe", "run_on_linux", "run_theirs", "run_all_three", "kill_after", "run_at_home"}
+# All other methods with a `_` in their names are cases. So the name of a new helper has no `_`, or HELPERS contains it.
 CASES = [name for name, value in vars(Cases).items() if not name.startswith("_") and callable(value) and "_" in name
-         and name not in ("by_exe", "by_theirs", "by_all", "kill_after", "at_home")]
+         and name not in HELPERS]
 # The slowest cases start first.
 CASES.sort(key=lambda name: name not in ("reads_more_than_4_gib", "hides_passwords", "replaces_whole_pairs"))
 
 
-def run_case(programs, room, name):
+def run_case(programs, scratch, name):
     """Runs a case and returns its checks."""
     checks = Checks()
     try:
-        getattr(Cases(programs, checks, room), name)()
+        getattr(Cases(programs, checks, scratch), name)()
     except (OSError, ValueError, subprocess.SubprocessError) as why:
         checks.check(False, f"{type(why).__name__}: {why}")
     return checks
@@ -583,11 +633,11 @@ def run_case(programs, room, name):
 
 
 class Noticed(Exception):
-    """A check of a mutant failed."""
+    """A check failed with a mutant, as it should."""
 
 
 class MutantChecks(Checks):
-    """Checks that end the case at the first failure."""
+    """Checks that raise `Noticed` at the first failure."""
 
     def check(self, holds, *what):
         if not super().check(holds, *what):
@@ -596,14 +646,14 @@ class MutantChecks(Checks):
 
 
 class Parts:
-    """The compiled parts of minisign.exe, of which a mutant replaces one."""
+    """The object files of minisign.exe. For a mutant, one of them is compiled again."""
 
-    def __init__(self, room):
+    def __init__(self, scratch):
         sodium = os.environ.get("SODIUM_PREFIX") or os.path.join(C, "..", "out", f"libsodium-{TARGET}")
-        self.room, self.copy, self.built = room, mutants.copy_sources(room, "c", "include"), f"{room}/windows"
+        self.scratch, self.copy, self.built = scratch, mutants.copy_sources(scratch, "c", "include"), f"{scratch}/windows"
         self.compile = [COMPILER, "-std=c11", "-pthread", "-I.", "-I../include", "-DSODIUM_STATIC", f"-I{sodium}/include"]
         self.link = [f"{self.built}/libminisign.a", f"{sodium}/lib/libsodium.a", "-static", "-pthread", "-ladvapi32", "-lshell32"]
-        printing = "--eval=parts: ; @echo $(MINISIGN_WINDOWS_PARTS)"
+        printing = "--eval=parts: ; @echo $(MINISIGN_WINDOWS_SOURCES)"
         listed = static_library.run_or_fail(["make", "-s", "-C", C, *settings(), f"OUT={self.built}", printing, "parts"])
         self.sources = [word for word in listed.split() if word.endswith(".c")]
         self.objects = {source: f"{self.copy}/{source.replace('/', '-')}.o" for source in self.sources}
@@ -611,32 +661,35 @@ class Parts:
             static_library.run_or_fail([*self.compile, "-c", "-o", made, source], f"{self.copy}/c")
 
     def mutant(self, mutant):
-        """Builds a mutant, and returns its path."""
-        copy = tempfile.mkdtemp(dir=self.room)
+        """Builds a mutant of minisign.exe, and returns its path."""
+        copy = tempfile.mkdtemp(dir=self.scratch)
         for part in ("c", "include"):
             shutil.copytree(f"{self.copy}/{part}", f"{copy}/{part}")
         mutants.apply(mutant, copy)
         source, program, resource = mutant.file.removeprefix("c/"), f"{copy}/minisign.exe", f"{self.built}/minisign.res"
         objects = {**self.objects, source: f"{copy}/changed.o"}
+        # The changed file is a source of the program or its resource script.
         if source in self.objects:
             static_library.run_or_fail([*self.compile, "-c", "-o", objects[source], source], f"{copy}/c")
         else:
+            expect(source == "windows/minisign.rc", f"{source} is no part of minisign.exe")
             resource = objects.pop(source)
             static_library.run_or_fail(["make", "-s", "-C", f"{copy}/c", *settings(), f"OUT={copy}/c/out", f"{copy}/c/out/minisign.res"])
             shutil.move(f"{copy}/c/out/minisign.res", resource)
+        # (clearing.c has flags of its own, so the makefile's list has its object file.)
         clearing = f"{self.built}/clearing.o"
         static_library.run_or_fail([*self.compile, "-o", program, *objects.values(), clearing, resource, *self.link], f"{copy}/c")
         return program
 
 
-def failure_of(programs, room, parts, mutant):
-    """Returns why a mutant is a failure of this script, or "" if its case notices it."""
+def failure_of(programs, scratch, parts, mutant):
+    """Tries a mutant. Returns an empty string if its case notices it, and otherwise the failure."""
     wine, _, *others = programs
     try:
         expect(mutant.case in CASES, f"there is no case {mutant.case}")
-        cases = Cases((wine, parts.mutant(mutant), *others), MutantChecks(), room)
-    except (Failure, static_library.NotBuilt, OSError) as why:
-        return f"{mutant.name}: {type(why).__name__}: {why}"
+        cases = Cases((wine, parts.mutant(mutant), *others), MutantChecks(), scratch)
+    except (Failure, static_library.NotBuilt, OSError) as error:
+        return f"{mutant.name}: {type(error).__name__}: {error}"
     try:
         getattr(cases, mutant.case)()
     except (Noticed, OSError, ValueError, subprocess.SubprocessError):
@@ -644,76 +697,79 @@ def failure_of(programs, room, parts, mutant):
     return f"{mutant.name}: the case {mutant.case} does not notice it"
 
 
-def check_mutants(checks, pool, programs, room):
-    """Checks that each mutant is noticed by the case that it names."""
-    chosen = [mutant for mutant in mutants.mutants_of("c", "windows_mutants") if selected.is_selected(mutant.name, "mutants")]
-    if chosen:
-        parts = Parts(room)
-        for why in pool.map(lambda mutant: failure_of(programs, room, parts, mutant), chosen):
-            checks.check(not why, why)
+def check_mutants(checks, pool, programs, scratch):
+    """Checks that the case that a mutant names notices it."""
+    tried = [mutant for mutant in mutants.mutants_of("c", "windows_mutants") if selected.is_selected(mutant.name, "mutants")]
+    if tried:
+        parts = Parts(scratch)
+        for failure in pool.map(lambda mutant: failure_of(programs, scratch, parts, mutant), tried):
+            checks.check(not failure, failure)
 
 
-def add(checks, name, found):
-    checks.passed += found.passed
-    checks.failures += [f"{name}: {failure}" for failure in found.failures]
+def add_results(checks, name, results):
+    """Adds the results of a case to the results of the script."""
+    checks.passed += results.passed
+    checks.failures += [f"{name}: {failure}" for failure in results.failures]
 
 
 # ---- Building ----
 
 
 def settings():
-    """Returns the variables of make for this build."""
-    given = os.environ.get("SODIUM_PREFIX")
-    return [f"CC={COMPILER}", *([f"SODIUM_PREFIX={given}"] if given else [])]
+    """Returns the make variables for the build for Windows."""
+    prefix = os.environ.get("SODIUM_PREFIX")
+    return [f"CC={COMPILER}", *([f"SODIUM_PREFIX={prefix}"] if prefix else [])]
 
 
-def build(room):
-    """Builds minisign.exe, the helper and our program for Linux, and returns their paths."""
+def build(scratch):
+    """Builds minisign.exe, windows_helper.c and our program for Linux. Returns their paths."""
     for name, package in (("x86_64-w64-mingw32-gcc", "gcc-mingw-w64-x86-64"), ("dpkg-source", "dpkg-dev"), ("autoreconf", "autoconf"),
                           ("automake", "automake"), ("libtoolize", "libtool"), ("zip", "zip")):
         needs.program(name, package)
-    needs.libsodium()
-    static_library.run_make(*settings(), f"OUT={room}/windows", "-j4", "all")
-    static_library.run_make(f"OUT={room}/linux", "C_CALLS=", f"{room}/linux/minisign")
-    static_library.run_or_fail([COMPILER, "-O1", "-o", f"{room}/helper.exe", f"{HERE}/windows_helper.c", "-lversion"])
-    return f"{room}/windows/minisign.exe", f"{room}/helper.exe", f"{room}/linux/minisign"
+    needs.compiler_with_libsodium()
+    static_library.run_make(*settings(), f"OUT={scratch}/windows", "-j4", "all")
+    static_library.run_make(f"OUT={scratch}/linux", "C_CALLS=", f"{scratch}/linux/minisign")
+    static_library.run_or_fail([COMPILER, "-O1", "-o", f"{scratch}/helper.exe", f"{HERE}/windows_helper.c", "-lversion"])
+    return f"{scratch}/windows/minisign.exe", f"{scratch}/helper.exe", f"{scratch}/linux/minisign"
 
 
 def check_program(checks, programs, _):
-    """The program loads only libraries of Windows, and passes `make test`."""
+    """Checks that minisign.exe loads only libraries of Windows and passes c/check.sh."""
     wine, exe, *_ = programs
-    said = run([f"{TARGET}-objdump", "-p", exe])[1]
-    checks.same({*re.findall(r"DLL Name: (\S+)", said)}, SYSTEM_LIBRARIES, "the libraries that minisign.exe loads")
-    said = checks.ended("check.sh", run(["sh", "check.sh", exe], C, **{**wine.variables, "RUN": wine.program}))
-    checks.check(static_library.TESTS_PASSED.search(said), f"check.sh: {said[-300:]}")
+    output = run([f"{TARGET}-objdump", "-p", exe])[1]
+    checks.same({*re.findall(r"DLL Name: (\S+)", output)}, SYSTEM_LIBRARIES, "the libraries that minisign.exe loads")
+    output = checks.ended("check.sh", run(["sh", "check.sh", exe], C, **{**wine.variables, "RUN": wine.program}))
+    checks.check(static_library.TESTS_PASSED.search(output), f"check.sh: {output[-300:]}")
 
 
-def check_install(checks, programs, room):
-    """`make install` installs the programs, libraries and headers; a program that loads the installed library works; and
-    `make uninstall` removes everything."""
-    place, compiler = f"{room}/dest", settings()
-    static_library.run_make(*compiler, f"OUT={room}/windows", f"DESTDIR={place}", "PREFIX=/usr", "install")
-    found = {os.path.relpath(os.path.join(at, name), f"{place}/usr") for at, _, names in os.walk(place) for name in names}
-    checks.same({name for name in found if "/man/" not in name}, INSTALLED, "the installed files")
-    example = f"{room}/over-dll/version.exe"
+def check_install(checks, programs, scratch):
+    """Checks that `make install` installs the programs, libraries and headers, that a program can be built and run
+    with the installed library, and that `make uninstall` removes everything."""
+    place, compiler = f"{scratch}/dest", settings()
+    static_library.run_make(*compiler, f"OUT={scratch}/windows", f"DESTDIR={place}", "PREFIX=/usr", "install")
+    found = {os.path.relpath(os.path.join(parent, name), f"{place}/usr") for parent, _, names in os.walk(place) for name in names}
+    checks.same({name for name in found if "/man/" not in name}, INSTALLED_FILES, "the installed files")
+    example = f"{scratch}/over-dll/version.exe"
     os.mkdir(os.path.dirname(example))
-    source = write(room, "version.c", b"#include <minisign.h>\n#include <stdio.h>\nint main(void) { char text[128]; "
+    source = write(scratch, "version.c", b"#include <minisign.h>\n#include <stdio.h>\nint main(void) { char text[128]; "
                                       b"minisign_error_text(MINISIGN_WRONG_PASSWORD, text, sizeof text); puts(text); return 0; }\n")
-    checks.ended("a program over the import library", run([COMPILER, "-I", f"{place}/usr/include", "-o", example, source, f"{place}/usr/lib/libminisign.dll.a"]))
+    command = [COMPILER, "-I", f"{place}/usr/include", "-o", example, source, f"{place}/usr/lib/libminisign.dll.a"]
+    checks.ended("a program linked with the import library", run(command))
     shutil.copy(f"{place}/usr/bin/minisign.dll", os.path.dirname(example))
     wine = programs[0]
-    ran = run_program([wine.program, example], room, None, SECONDS, env=wine.variables)
-    checks.check(ran.status == 0 and b"assword" in ran.output, f"a program over minisign.dll: {ran}")
-    static_library.run_make(*compiler, f"OUT={room}/windows", f"DESTDIR={place}", "PREFIX=/usr", "uninstall")
+    ran = run_program([wine.program, example], scratch, None, SECONDS, env=wine.variables)
+    checks.check(ran.status == 0 and b"assword" in ran.stdout, f"a program that loads minisign.dll: {ran}")
+    static_library.run_make(*compiler, f"OUT={scratch}/windows", f"DESTDIR={place}", "PREFIX=/usr", "uninstall")
     left = [name for _, _, names in os.walk(place) for name in names]
     checks.check(not left, f"uninstall leaves {left}")
 
 
-def check_release(checks, programs, room):
-    """A release contains a zip file with the programs for Windows, its signature and its sum. Another build has the same bytes."""
-    out, *words = f"{room}/release", "C_CALLS=", f"RELEASE_KEY={room}/release.key"
-    minisign, key = programs[4], f"{room}/release.pub"
-    checks.ended("a key pair", run([minisign, "-GW", "-p", key, "-s", f"{room}/release.key"]))
+def check_release(checks, programs, scratch):
+    """Checks that a release contains a zip file with the programs for Windows, its signature and its hash, and that
+    a second build gives the same bytes."""
+    out, *words = f"{scratch}/release", "C_CALLS=", f"RELEASE_KEY={scratch}/release.key"
+    minisign, key = programs[4], f"{scratch}/release.pub"
+    checks.ended("a key pair", run([minisign, "-GW", "-p", key, "-s", f"{scratch}/release.key"]))
     make = [needs.program("make", "make"), "-s", "-C", C, f"OUT={out}", f"CC={needs.c_compiler()}"]
     static_library.run_or_fail([*make, *settings()[1:], *words, "release"], PATH=static_library.path_without_kit())
     archives = glob.glob(f"{out}/*.zip")
@@ -726,14 +782,14 @@ def check_release(checks, programs, room):
     with zipfile.ZipFile(archives[0]) as archive:
         top, entries = name.removesuffix(".zip"), archive.infolist()
         names = [entry.filename for entry in entries]
-        checks.same(names, sorted(f"{top}/{file}" for file in ZIPPED), "the files of the zip file, in order")
+        checks.same(names, sorted(f"{top}/{file}" for file in FILES_IN_ZIP), "the files of the zip file, in order")
         release_time = int(static_library.run_or_fail(["sh", "packaging/time.sh"], os.path.join(C, "..")))
-        # (zip files count in steps of two seconds, and zip rounds up)
+        # Times in zip files are multiples of two seconds, and zip rounds up.
         expected = time.gmtime(release_time + release_time % 2)[:6]
         checks.same({entry.date_time for entry in entries}, {expected}, "the times in the zip file")
         checks.check(not any(entry.extra for entry in entries), "the zip file has fields that depend on the system")
         checks.check(archive.read(f"{top}/minisign.exe") == read(programs[1]), "another build of minisign.exe differs")
-        checks.check(archive.read(f"{top}/minisign.dll") == read(room, "windows/minisign.dll"), "another build of minisign.dll differs")
+        checks.check(archive.read(f"{top}/minisign.dll") == read(scratch, "windows/minisign.dll"), "another build of minisign.dll differs")
         checks.check(b"Permission to use, copy, modify" in archive.read(f"{top}/licences/libsodium.txt"), "libsodium's licence is missing")
     first = read(archives[0])
     static_library.run_or_fail(["make", "-s", "-C", C, f"OUT={out}", *settings()[1:], "windows-archive"], TZ="Pacific/Auckland")
@@ -741,7 +797,7 @@ def check_release(checks, programs, room):
 
 
 def check_one_layer(checks):
-    """Only system.h, and the sources in windows/, depend on Windows."""
+    """Checks that only shared/system.h and the sources in windows/ have code that depends on Windows."""
     others = [path for path in glob.glob(f"{C}/**/*.[ch]", recursive=True) if os.path.relpath(path, C).split(os.sep)[0] not in ("windows", "out")]
     checks.check(len(others) > 60, f"c/ has only these sources: {others}")
     for path in sorted(others):
@@ -749,24 +805,24 @@ def check_one_layer(checks):
         checks.same(bool(re.search(r"_WIN(32|64)|__MINGW|__CYGWIN__|\bwindows\b", code)), path.endswith("shared/system.h"), f"{path} depends on Windows")
 
 
-def run_all(checks, room):
-    made = build(room)
-    wine = Wine(room)
-    programs = (wine, *made, needs.minisign())
+def run_all(checks, scratch):
+    built = build(scratch)
+    wine = Wine(scratch)
+    programs = (wine, *built, needs.minisign())
     try:
         with concurrent.futures.ThreadPoolExecutor(os.cpu_count() or 1) as pool:
-            chosen = [name for name in CASES if selected.is_selected(name)]
-            results = pool.map(lambda name: run_case(programs, room, name), chosen)
-            check_mutants(checks, pool, programs, room)
-            for name, found in zip(chosen, results):
-                add(checks, name, found)
+            selected_names = [name for name in CASES if selected.is_selected(name)]
+            results = pool.map(lambda name: run_case(programs, scratch, name), selected_names)
+            check_mutants(checks, pool, programs, scratch)
+            for name, result in zip(selected_names, results):
+                add_results(checks, name, result)
             for check in (check_program, check_install, check_release):
                 if selected.is_selected(check.__name__):
-                    check(checks, programs, room)
+                    check(checks, programs, scratch)
             check_one_layer(checks)
     finally:
         wine.end()
 
 
 if __name__ == "__main__":
-    sys.exit(ending.check("windows", run_all))
+    sys.exit(test_script.run_checks("windows", run_all))

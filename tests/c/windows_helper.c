@@ -1,9 +1,9 @@
 /* SPDX-License-Identifier: MIT */
 /*
- * Does for windows.py what Python on Linux cannot do to a program under wine:
+ * Does things under wine that windows.py, a Python program on Linux, cannot do itself:
  *
- *     windows_helper hold FILE MILLISECONDS    has a file open so that nobody can replace it, and says so once it is open
- *     windows_helper lock FILE MILLISECONDS    does the same so that nobody can open it for writing either
+ *     windows_helper hold FILE MILLISECONDS    keeps a file open, so that it cannot be replaced; prints `held` when it is open
+ *     windows_helper lock FILE MILLISECONDS    does the same, but the file cannot be opened for writing either
  *     windows_helper lone PROGRAM              runs a program with the option -m and an argument that is not Unicode
  *     windows_helper version PROGRAM           prints the version resource of a program
  */

@@ -1,5 +1,8 @@
-"""The cases of `minisign-check` on lists that other programs write, and on random lists, whose results are compared with the rules,
-with those of `sha256sum -c --strict` and with those of `signify -C`."""
+"""Test cases that run `minisign-check` on lists of other programs and on random lists. The results are compared with a model of the
+rules, with `sha256sum -c --strict` and with `signify -C`.
+
+`long_hash` is the hash function of digests with 128 digits on lines that name none: "sha512", or "blake2b" with the option --blake2b.
+"""
 
 import concurrent.futures
 import errno
@@ -12,61 +15,62 @@ import tempfile
 from collections import Counter
 
 import needs
-from check_running import A, DIFFERS, LIST, MISSING, OK, PUBLIC, REJECTED, UNLISTED_NAME, UNUSABLE, entry
+from check_running import A, DIFFERS, LIST, MISSING, OK, PUBLIC_FILE, REJECTED, UNLISTED_NAME, UNUSABLE, entry
 from running import SECONDS, Link, expect
-from signed_lists import (DATA, ESCAPED, H, NAMES, OTHER, OTHER_TOOLS, TAKEN_BY_COREUTILS, TOOLS, expected, fault_of, random_list, without_dot,
-                          written)
+from signed_lists import (DATA, ESCAPED, H, NAMES, OTHER, OTHER_TOOLS, TAKEN_BY_COREUTILS, TOOLS, expected, fault_of,
+                          list_by, random_list, without_dot)
 
-KEY = ("-p", PUBLIC)
+KEY = ("-p", PUBLIC_FILE)
 LISTS, SIGNIFY_LISTS = 2000, 300
 UTF8 = {"LC_ALL": "C.UTF-8"}
 
 
 def shown(results):
+    """Returns the expected output for these pairs of a name and an exit status."""
     return b"".join(name + b": " + (b"OK" if status == OK else b"FAILED") + b"\n" for name, status in results)
 
 
 # ---- Lists of other programs ----
 
 
-def accepts_list_of(checking, tool, long):
+def accepts_list_of(checking, tool, long_hash):
     """A list that the tool writes is accepted with the files that it was written for, all at once and one at a time, and with no other
     content of any file."""
     files = {name: name.encode() * 3 for name in NAMES}
-    directory = checking.fresh({**files, PUBLIC: checking.public_text})
-    checking.put(directory, {LIST: written(tool, [f"./{name}" for name in NAMES], directory)})
+    directory = checking.fresh({**files, PUBLIC_FILE: checking.public_text})
+    checking.put(directory, {LIST: list_by(tool, [f"./{name}" for name in NAMES], directory)})
     checking.sign(directory)
-    flags = ["--blake2b"] if long == "blake2b" else []
+    flags = ["--blake2b"] if long_hash == "blake2b" else []
     names = [name.encode() for name in files]
     checking.expect(directory, [*KEY, *flags, LIST], OK, shown((name, OK) for name in names), b"")
     checking.expect(directory, [*KEY, *flags, "--", LIST, *names], OK, shown((name, OK) for name in names), b"")
     checking.put(directory, {name: data + b"!" for name, data in files.items()})
     ran = checking.run(directory, [*KEY, *flags, LIST])
-    expect((ran.status, ran.output) == (DIFFERS, shown((name, DIFFERS) for name in names)), ran)
+    expect((ran.status, ran.stdout) == (DIFFERS, shown((name, DIFFERS) for name in names)), ran)
 
 
-def handles_escapes_of(checking, tool, long):
+def handles_escapes_of(checking, tool, long_hash):
     """Names that the tool writes with escapes count as missing files. The other names of the list are accepted."""
-    directory = checking.fresh({**dict.fromkeys(ESCAPED, b"data"), "a": A, PUBLIC: checking.public_text})
-    checking.put(directory, {LIST: written(tool, [*ESCAPED, "a"], directory)})
+    directory = checking.fresh({**dict.fromkeys(ESCAPED, b"data"), "a": A, PUBLIC_FILE: checking.public_text})
+    checking.put(directory, {LIST: list_by(tool, [*ESCAPED, "a"], directory)})
     checking.sign(directory)
-    flags = ["--blake2b"] if long == "blake2b" else []
+    flags = ["--blake2b"] if long_hash == "blake2b" else []
     ran = checking.run(directory, [*KEY, *flags, LIST])
-    results = [line.rpartition(b": ")[2] for line in ran.output.splitlines()]
+    results = [line.rpartition(b": ")[2] for line in ran.stdout.splitlines()]
     expect(ran.status == MISSING and results == [b"FAILED"] * len(ESCAPED) + [b"OK"], ran)
     ran = checking.run(directory, [*KEY, *flags, "--listed", LIST])
-    expect((ran.status, ran.output) == (OK, b"a: OK\n"), ran)
+    expect((ran.status, ran.stdout) == (OK, b"a: OK\n"), ran)
     for name in ESCAPED:
         expect(checking.run(directory, [*KEY, *flags, LIST, name]).status == UNLISTED_NAME, f"{name!r} matched")
 
 
 def rejects_list_of(checking, tool):
-    directory = checking.fresh({"a": A, PUBLIC: checking.public_text})
-    checking.put(directory, {LIST: written(tool, ["a"], directory)})
+    directory = checking.fresh({"a": A, PUBLIC_FILE: checking.public_text})
+    checking.put(directory, {LIST: list_by(tool, ["a"], directory)})
     checking.sign(directory)
     for arguments in ([*KEY, LIST], [*KEY, LIST, "a"]):
         ran = checking.run(directory, arguments)
-        expect((ran.status, ran.output) == (REJECTED, b""), ran)
+        expect((ran.status, ran.stdout) == (REJECTED, b""), ran)
 
 
 # ---- Random lists ----
@@ -102,26 +106,28 @@ def result_of_file(directory, name, function, digest):
         return OK if function(file.read()).digest() == digest else DIFFERS
 
 
-def entries_of(text, long):
-    """Returns the hash functions, names and digests of a list, or None if it is rejected."""
+def entries_of(text, long_hash):
+    """Returns the entries of a list, each as its line, hash function, name and digest. Returns None if the list is rejected or has no
+    entry."""
     try:
         text.decode()
     except UnicodeDecodeError:
         return None
     *lines, last = re.split(rb"\r?\n", text)
-    parsed = [(line, fault_of(line, long)) for line in [*lines, *([last] if last else [])]]
+    parsed = [(line, fault_of(line, long_hash)) for line in [*lines, *([last] if last else [])]]
     if any(isinstance(found, str) for _, found in parsed):
         return None
     return [(line, *found) for line, found in parsed if found] or None
 
 
 def never_matches(line, name):
+    """Returns true if no file matches the entry: its line has escapes, or its name contains a backslash."""
     return line.startswith(b"\\") or b"\\" in name
 
 
-def result_of_all(directory, text, long, listed_only):
+def result_of_all(directory, text, long_hash, listed_only):
     """Returns the expected exit status and output of a check of all files."""
-    found = entries_of(text, long)
+    found = entries_of(text, long_hash)
     if found is None:
         return REJECTED, b""
     counts, results = Counter(name for line, _, name, _ in found if not never_matches(line, name)), []
@@ -130,77 +136,82 @@ def result_of_all(directory, text, long, listed_only):
                   else result_of_file(directory, name, function, digest))
         if not (listed_only and result == MISSING):
             results.append((name, result))
-    return first_of([result for _, result in results] if results else [MISSING]), shown(results)
+    return combined_status([result for _, result in results] if results else [MISSING]), shown(results)
 
 
-def first_of(statuses):
-    """Returns the exit status of several results."""
+def combined_status(statuses):
+    """Returns the exit status of a run with these results: the first of the following that occurs, or OK."""
     return next((status for status in (DIFFERS, UNLISTED_NAME, MISSING, UNUSABLE) if status in statuses), OK)
 
 
-def result_of_names(directory, text, long, names):
+def result_of_names(directory, text, long_hash, names):
     """Returns the expected exit status and output of a check of these names."""
-    found, results = entries_of(text, long), []
+    found, results = entries_of(text, long_hash), []
     if found is None:
         return REJECTED, b""
     for name in names:
-        # (the last argument is not compared: only the entry is looked for)
-        answer = expected(long, text, name, DATA)[0].split()
-        lines = [at for at, line in enumerate(re.split(rb"\r?\n", text), 1)]
+        # The response begins with a word, which the line number of an entry may follow. DATA does not matter: `ok` and `mismatch` both
+        # mean that exactly one entry has this name.
+        answer = expected(long_hash, text, name, DATA)[0].split()
+        line_count = len(re.split(rb"\r?\n", text))
         if answer[0] in ("ok", "mismatch"):
             _, function, listed, digest = next(each for each in found if each[2] == without_dot(name) and not each[0].startswith(b"\\"))
             results.append((int(answer[1]), name, result_of_file(directory, listed, function, digest)))
         else:
-            results.append((int(answer[1]) if answer[0] == "twice" else len(lines) + 1, name, UNLISTED_NAME))
+            results.append((int(answer[1]) if answer[0] == "twice" else line_count + 1, name, UNLISTED_NAME))
+    # The results are printed in the order of the lines. Names without an entry come last; a name that is listed twice has the place of
+    # its second line.
     results.sort(key=lambda result: result[0])
-    return first_of([result for _, _, result in results]), shown((name, result) for _, name, result in results)
+    return combined_status([result for _, _, result in results]), shown((name, result) for _, name, result in results)
 
 
 def escaped(output):
-    """Escapes names as `minisign-check` does. Only names that are given contain such characters."""
+    """Escapes control characters in names as `minisign-check` does. Only names in the arguments can contain them."""
     text = output.decode(errors="surrogateescape")
     return re.sub(r"[\x00-\x09\x0b-\x1f\x7f]", lambda found: f"\\u{{{ord(found[0]):x}}}", text).encode(errors="surrogateescape")
 
 
 def compare_random(checking, room, seed):
-    """Compares the results of one random list. Returns our status and that of sha256sum, and why only one of them accepts it."""
+    """Compares the results for one random list. Returns our status, whether sha256sum accepts the list, and the known reason for a
+    difference, or "" if there is none."""
     rng = random.Random(seed)
-    text, long = random_list(rng), rng.choice(["sha512", "blake2b"])
+    text, long_hash = random_list(rng), rng.choice(["sha512", "blake2b"])
     with tempfile.TemporaryDirectory(dir=room) as directory:
         files = os.path.join(directory, "files")
         os.mkdir(files)
-        checking.put(directory, {LIST: text, PUBLIC: checking.public_text})
+        checking.put(directory, {LIST: text, PUBLIC_FILE: checking.public_text})
         checking.put(files, random_files(rng, text))
         checking.sign(directory)
-        flags = [*KEY, "--in", "files", *(["--blake2b"] if long == "blake2b" else [])]
+        flags = [*KEY, "--in", "files", *(["--blake2b"] if long_hash == "blake2b" else [])]
         names = rng.sample([b"a", b"./a", b"a b", b"d/a", b"-", b"*a", b"nope", b"../a", b"a\ta", b"\xc3\xa9", b"././a"], rng.randrange(1, 4))
-        runs = [([*flags, LIST], result_of_all(files, text, long, False)), ([*flags, "--listed", LIST], result_of_all(files, text, long, True)),
-                ([*flags, "--", LIST, *names], result_of_names(files, text, long, names))]
+        runs = [([*flags, LIST], result_of_all(files, text, long_hash, False)), ([*flags, "--listed", LIST], result_of_all(files, text, long_hash, True)),
+                ([*flags, "--", LIST, *names], result_of_names(files, text, long_hash, names))]
         for arguments, (status, output) in runs:
             ran = checking.run(directory, arguments)
-            expect((ran.status, ran.output) == (status, escaped(output)), f"seed {seed}, {text!r}, {arguments[3:]}: {ran}",
+            expect((ran.status, ran.stdout) == (status, escaped(output)), f"seed {seed}, {text!r}, {arguments[3:]}: {ran}",
                    f"expected status {status} and {output!r}")
         theirs = subprocess.run(["sha256sum", "--strict", "-c", f"../{LIST}"], cwd=files, stdin=subprocess.DEVNULL, stdout=subprocess.PIPE,
                                 stderr=subprocess.STDOUT, env={**os.environ, **UTF8}, timeout=SECONDS)
-    return runs[0][1][0], theirs.returncode == 0, reason_of(text, long, runs[0][1][0], theirs.stdout)
+    return runs[0][1][0], theirs.returncode == 0, reason_of(text, long_hash, runs[0][1][0], theirs.stdout)
 
 
-def reason_of(text, long, ours, theirs):
-    """Returns why the result differs from that of sha256sum, or "" if there is no known reason."""
+def reason_of(text, long_hash, ours, their_output):
+    """Returns why our result differs, or may differ, from that of sha256sum, or "" if there is no known reason."""
     if ours == OK:
-        return "a listed - is a file for us" if re.search(rb"(?m)[ (*]\./?-(?:\)|$)|[ (*]-(?:\)|$)", text) and b"-" in theirs else ""
+        # For the name -, also as ./-, sha256sum reads standard input.
+        return "a listed - is a file for us" if re.search(rb"(?m)[ (*](?:\./)?-(?:\)|$)", text) and b"-" in their_output else ""
     if ours == MISSING:
         return "a name with a backslash" if b"\\" in text else ""
     if ours == UNLISTED_NAME:
         return "a name that is listed twice"
     if ours == REJECTED:
-        why = expected(long, text, b"a", DATA)
+        why = expected(long_hash, text, b"a", DATA)
         return why[1] if why[1] in TAKEN_BY_COREUTILS["malformed"] else "not UTF-8" if why[0] == "not_utf8" else ""
     return ""
 
 
 def agrees_on_random_lists(checking, first, count):
-    """The results for random lists are those of the rules. Each difference to sha256sum has a known reason."""
+    """The results for random lists follow the rules. Each difference from sha256sum has a known reason."""
     with tempfile.TemporaryDirectory(dir=checking.runs) as room, concurrent.futures.ThreadPoolExecutor(os.cpu_count()) as pool:
         found = Counter(pool.map(lambda seed: compare_random(checking, room, seed), range(first, first + count)))
     for (ours, theirs, reason), times in found.items():
@@ -210,20 +221,21 @@ def agrees_on_random_lists(checking, first, count):
 
 
 def compare_signify(checking, signify, keys, room, seed):
-    """Compares the result for a random list in BSD form with that of `signify -C`. Returns both, and why they differ."""
+    """Compares the result for a random list in BSD form with that of `signify -C`. Returns our status, and whether signify accepts the
+    list. Fails if they differ for an unknown reason."""
     rng, lines = random.Random(seed), []
     for _ in range(rng.choice([1, 1, 2, 2, 3])):
         name, digits = rng.choice([b"a", b"a", b"a", b"b", b"a b"]), rng.choice([H, H, H, OTHER, H.upper(), H[:-1]])
         line = b"SHA256 (" + name + b") = " + digits
         lines.append(line if rng.random() < 0.93 else rng.choice([b"# a", b"x", digits + b"  " + name]))
     with tempfile.TemporaryDirectory(dir=room) as directory:
-        checking.put(directory, {LIST: b"\n".join(lines) + b"\n", "a": DATA, PUBLIC: checking.public_text})
+        checking.put(directory, {LIST: b"\n".join(lines) + b"\n", "a": DATA, PUBLIC_FILE: checking.public_text})
         checking.sign(directory)
         ours = checking.run(directory, [*KEY, LIST, "a"]).status
         subprocess.run([signify, "-S", "-e", "-s", f"{keys}/k.sec", "-m", LIST, "-x", "L.sig"], cwd=directory, check=True)
         theirs = subprocess.run([signify, "-C", "-q", "-p", f"{keys}/k.pub", "-x", "L.sig", "a"], cwd=directory, stdout=subprocess.DEVNULL,
                                 stderr=subprocess.DEVNULL, timeout=SECONDS).returncode == 0
-    # signify accepts neither untagged lines nor comments nor upper-case digits, but a name that is listed twice, and the lines before one
+    # signify rejects untagged lines, comments and upper-case digits. It accepts a name that is listed twice, and uses the lines before one
     # that it cannot parse.
     if ours == OK and not theirs:
         is_known = any(not re.fullmatch(rb"SHA256 \(.*\) = [0-9a-f]{64}", line) for line in lines)
@@ -243,9 +255,11 @@ def agrees_with_signify(checking):
 
 
 def differs_as_documented(checking):
-    """The rows of the table in docs/LISTS.md on `sha256sum -c` and `signify -C`."""
+    """Checks the rows of the table in docs/LISTS.md on `sha256sum -c` and `signify -C`."""
     signify = needs.program("signify-openbsd", "signify-openbsd")
     good, bad = b"SHA256 (a) = " + H + b"\n", b"SHA256 (a) = " + OTHER + b"\n"
+    # The difference; the list; the names in the arguments; whether sha256sum accepts the list, and whether signify does (None: not
+    # tried); and our status.
     rows = (("a malformed line", b"hello\n" + entry("a", DATA), [], True, None, REJECTED),
             ("two lines for a name", bad + good, ["a"], False, True, UNLISTED_NAME),
             ("the name ../a", b"SHA256 (../a) = " + H + b"\n", [], True, True, REJECTED),
@@ -271,10 +285,10 @@ def compared_cases(checking):
     """Yields the names of the cases, with their functions and arguments."""
     for tool, package in (("openssl", "openssl"), ("shasum", "perl")):
         needs.program(tool, package)
-    for tool, long in TOOLS:
-        yield f"accepts a list of {' '.join(tool)}", accepts_list_of, checking, tool, long
+    for tool, long_hash in TOOLS:
+        yield f"accepts a list of {' '.join(tool)}", accepts_list_of, checking, tool, long_hash
         if tool[0] not in ("openssl", "shasum"):
-            yield f"handles escapes of {' '.join(tool)}", handles_escapes_of, checking, tool, long
+            yield f"handles escapes of {' '.join(tool)}", handles_escapes_of, checking, tool, long_hash
     for tool in OTHER_TOOLS:
         yield f"rejects a list of {' '.join(tool)}", rejects_list_of, checking, tool
     yield "agrees with the rules and with sha256sum on random lists", agrees_on_random_lists, checking, 0, LISTS

@@ -1,5 +1,6 @@
-"""The cases of `minisign-check` in which system calls and allocations fail, others own or change files, the output
-cannot be written, or the program is at a terminal."""
+"""Checks `minisign-check` if system calls or allocations fail, other users own or change files, or the output cannot
+be written, and at a terminal.
+"""
 
 import concurrent.futures
 import errno
@@ -10,11 +11,11 @@ import subprocess
 import time
 
 from at_terminal import AtTerminal
-from check_running import (A, B, C, DIFFERS, DOWNLOAD, LIST, MISMATCH, MISSING, NAME, NOT_REGULAR, OK, PIPE, PUBLIC, UNUSABLE, comment_of,
-                           entries, entry, errors, shown_comment)
-from running import AS_NOBODY, NOBODY, SECONDS, Link, expect, only_root, read, write
+from check_running import (A, B, C, DIFFERS, DOWNLOAD, LIST, MISMATCH, MISSING, NAME, NOT_REGULAR, OK, PIPE,
+                           PUBLIC_FILE, UNUSABLE, comment_of, entries, entry, errors, shown_comment)
+from running import AS_NOBODY, NOBODY, SECONDS, Link, expect, read, require_root, write
 
-KEY, FILES = ("-p", PUBLIC), {"a": A, "b": B}
+KEY, FILES = ("-p", PUBLIC_FILE), {"a": A, "b": B}
 BOTH = entries(a=A, b=B)
 ALL, COPY = [*KEY, LIST], [*KEY, "-o", LIST, "a"]
 COMMENT = shown_comment(comment_of())
@@ -33,17 +34,17 @@ def fails_in_turn(checking, arguments, calls, number, output, minimum):
     complete = set()
 
     def prepare(directory):
-        checking.put(directory, {LIST: BOTH, PUBLIC: checking.public_text, **FILES})
+        checking.put(directory, {LIST: BOTH, PUBLIC_FILE: checking.public_text, **FILES})
         checking.sign(directory)
         return arguments
 
     def judge(ran, _):
         if ran.status == OK:
-            expect(ran.output == output, ran, f"expected {output}")
+            expect(ran.stdout == output, ran, f"expected {output}")
             complete.add(ran.reached)
         else:
-            expect(ran.reached and ran.status in (UNUSABLE, MISSING) and b"error: " in ran.said, ran)
-            expect(all(line in output or line.endswith(b": FAILED\n") for line in ran.output.splitlines(True)), ran)
+            expect(ran.reached and ran.status in (UNUSABLE, MISSING) and b"error: " in ran.stderr, ran)
+            expect(all(line in output or line.endswith(b": FAILED\n") for line in ran.stdout.splitlines(True)), ran)
 
     made = checking.break_each(prepare, judge, CALLS=calls, ERRNO=number)
     expect(made >= minimum and False in complete, f"the program made {made} calls, expected at least {minimum}")
@@ -55,7 +56,7 @@ def reads_in_small_pieces(checking):
         for arguments, output in ((ALL, b"a: OK\nb: OK\n"), (COPY, A)):
             directory = checking.signed(BOTH, FILES)
             ran = checking.run_broken(directory, arguments, {"AT": 1, "CALLS": "read", **how})
-            expect(ran.reached and (ran.status, ran.output) == (OK, output), how, ran)
+            expect(ran.reached and (ran.status, ran.stdout) == (OK, output), how, ran)
 
 
 def reports_failing_read(checking):
@@ -68,28 +69,28 @@ def reports_failing_read(checking):
         if not ran.reached:
             break
     said = COMMENT + errors(("a", "Input/output error"))
-    expect(any((ran.status, ran.output, ran.said) == (UNUSABLE, b"a: FAILED\nb: OK\n", said) for ran in calls), *calls)
+    expect(any((ran.status, ran.stdout, ran.stderr) == (UNUSABLE, b"a: FAILED\nb: OK\n", said) for ran in calls), *calls)
 
 
 def works_without_threads(checking):
     directory = checking.signed(BOTH, FILES)
     ran = checking.run_broken(directory, ALL, {"AT": 1, "REST": 1, "CALLS": "pthread_create", "ERRNO": errno.EAGAIN})
-    expect(ran.reached and (ran.status, ran.output) == (OK, b"a: OK\nb: OK\n"), ran)
+    expect(ran.reached and (ran.status, ran.stdout) == (OK, b"a: OK\nb: OK\n"), ran)
     ran = checking.run_broken(directory, ALL, {"AT": 2, "REST": 1, "CALLS": "pthread_create", "ERRNO": errno.EAGAIN})
-    expect(ran.reached and (ran.status, ran.output) == (OK, b"a: OK\nb: OK\n"), ran)
+    expect(ran.reached and (ran.status, ran.stdout) == (OK, b"a: OK\nb: OK\n"), ran)
 
 
 def reports_failing_directory(checking):
     """A directory that cannot be read to its end is an error of --nothing-else."""
     directory = checking.signed(BOTH, FILES)
     ran = checking.run_broken(directory, [*ALL, "--nothing-else"], {"AT": 3, "CALLS": "readdir", "ERRNO": errno.EIO})
-    expect(ran.reached and ran.status == UNUSABLE and ran.said.endswith(errors((".", "Input/output error"))), ran)
+    expect(ran.reached and ran.status == UNUSABLE and ran.stderr.endswith(errors((".", "Input/output error"))), ran)
 
 
 def reports_failing_libsodium(checking):
     directory = checking.signed(BOTH, FILES)
     ran = checking.run_broken(directory, ALL, {"AT": 1, "CALLS": "sodium_init", "ERRNO": errno.EIO})
-    expect((ran.status, ran.output, ran.said) == (UNUSABLE, b"", b"error: libsodium could not be initialized\n"), ran)
+    expect((ran.status, ran.stdout, ran.stderr) == (UNUSABLE, b"", b"error: libsodium could not be initialized\n"), ran)
 
 
 def reports_memory_limit(checking):
@@ -98,7 +99,7 @@ def reports_memory_limit(checking):
     with open(f"{directory}/large", "wb") as file:
         file.truncate(1 << 30)
     ran = checking.run(directory, [*KEY, "-x", f"{LIST}.minisig", "large"], preexec_fn=lambda: resource.setrlimit(resource.RLIMIT_AS, bound))
-    expect((ran.status, ran.output, ran.said) == (UNUSABLE, b"", errors(("large", "out of memory"))), ran)
+    expect((ran.status, ran.stdout, ran.stderr) == (UNUSABLE, b"", errors(("large", "out of memory"))), ran)
 
 
 # ---- Output ----
@@ -109,7 +110,7 @@ def reports_full_output(checking, arguments):
     directory = checking.signed(BOTH, FILES)
     with open("/dev/full", "wb") as full:
         ran = checking.run(directory, arguments, stdout=full)
-    expect(ran.status == UNUSABLE and ran.said.endswith(errors(("standard output", "No space left on device"))), ran)
+    expect(ran.status == UNUSABLE and ran.stderr.endswith(errors(("standard output", "No space left on device"))), ran)
 
 
 def keeps_status_of_full_output(checking):
@@ -125,7 +126,7 @@ def works_with_closed_streams(checking):
     for closed in (0, 1, 2):
         ran = checking.run(directory, ALL, preexec_fn=lambda closed=closed: os.close(closed))
         status, output = (UNUSABLE, b"") if closed == 1 else (OK, b"a: OK\nb: OK\n")
-        expect((ran.status, ran.output) == (status, output), f"without stream {closed}", ran)
+        expect((ran.status, ran.stdout) == (status, output), f"without stream {closed}", ran)
 
 
 # ---- Other users ----
@@ -138,35 +139,35 @@ def by_nobody(checking, directory, arguments):
 
 def reports_unreadable_files(checking):
     """A file that the user may not read is an error of that file, and not a missing one."""
-    only_root("make files of other users")
+    require_root("make files of other users")
     directory = checking.signed(entries(a=A, b=B) + entry("d/c", C), {**FILES, "d/c": C})
     os.chmod(f"{directory}/a", 0o600)
     os.chmod(f"{directory}/d", 0o700)
     ran = by_nobody(checking, directory, ALL)
-    expect((ran.status, ran.output) == (UNUSABLE, b"a: FAILED\nb: OK\nd/c: FAILED\n"), ran)
-    expect(ran.said == COMMENT + errors(("a", DENIED), ("d/c", DENIED)), ran)
+    expect((ran.status, ran.stdout) == (UNUSABLE, b"a: FAILED\nb: OK\nd/c: FAILED\n"), ran)
+    expect(ran.stderr == COMMENT + errors(("a", DENIED), ("d/c", DENIED)), ran)
     ran = by_nobody(checking, directory, [*KEY, "--listed", LIST])
-    expect((ran.status, ran.output) == (UNUSABLE, b"a: FAILED\nb: OK\nd/c: FAILED\n"), ran)
+    expect((ran.status, ran.stdout) == (UNUSABLE, b"a: FAILED\nb: OK\nd/c: FAILED\n"), ran)
 
 
 def reports_unreadable_directory(checking):
     """A directory that the user may not search through is an error of --nothing-else, or of --in."""
-    only_root("make directories of other users")
+    require_root("make directories of other users")
     directory = checking.signed(BOTH, {"d/a": A, "d/b": B})
     os.chmod(f"{directory}/d", 0o711)
     ran = by_nobody(checking, directory, ["--in", "d", *ALL])
-    expect((ran.status, ran.output, ran.said) == (OK, b"a: OK\nb: OK\n", COMMENT), ran)
+    expect((ran.status, ran.stdout, ran.stderr) == (OK, b"a: OK\nb: OK\n", COMMENT), ran)
     ran = by_nobody(checking, directory, ["--in", "d", "--nothing-else", *ALL])
-    expect((ran.status, ran.output) == (UNUSABLE, b"a: OK\nb: OK\n") and ran.said == COMMENT + errors((".", DENIED)), ran)
+    expect((ran.status, ran.stdout) == (UNUSABLE, b"a: OK\nb: OK\n") and ran.stderr == COMMENT + errors((".", DENIED)), ran)
     os.chmod(f"{directory}/d", 0o700)
     ran = by_nobody(checking, directory, ["--in", "d", *ALL])
-    expect((ran.status, ran.output, ran.said) == (UNUSABLE, b"", COMMENT + errors(("d", DENIED))), ran)
+    expect((ran.status, ran.stdout, ran.stderr) == (UNUSABLE, b"", COMMENT + errors(("d", DENIED))), ran)
 
 
 def opens_no_pipe_of_others(checking):
     """In a directory that others can write to, a user puts a named pipe in place of a file. Nobody writes to it. The program does not
     wait, and does not open it."""
-    only_root("make files of other users")
+    require_root("make files of other users")
     directory = checking.signed(BOTH, {"b": B, "a": PIPE})
     os.chmod(directory, 0o1777)
     os.chown(f"{directory}/a", NOBODY, NOBODY)
@@ -174,12 +175,12 @@ def opens_no_pipe_of_others(checking):
     reader = os.open(f"{directory}/a", os.O_RDONLY | os.O_NONBLOCK)
     ran = checking.run(directory, ALL, seconds=10)
     os.close(reader)
-    expect((ran.status, ran.output, ran.said) == (UNUSABLE, b"a: FAILED\nb: OK\n", COMMENT + errors(("a", NOT_REGULAR))), ran)
+    expect((ran.status, ran.stdout, ran.stderr) == (UNUSABLE, b"a: FAILED\nb: OK\n", COMMENT + errors(("a", NOT_REGULAR))), ran)
 
 
 def follows_links_of_others(checking):
     """A link of another user is followed to a file with the right content, as sha256sum follows it. The content decides."""
-    only_root("make links of other users")
+    require_root("make links of other users")
     directory = checking.signed(BOTH, {"b": B, "other/a": A, "a": Link("other/a")})
     os.lchown(f"{directory}/a", NOBODY, NOBODY)
     checking.expect(directory, ALL, OK, b"a: OK\nb: OK\n", b"")
@@ -226,9 +227,9 @@ def copies_what_was_verified(checking, at, written, length=LARGE):
             if not written:
                 file.truncate()
 
-    output = write(checking.room, "copied", b"")
+    output = write(checking.work_directory, "copied", b"")
     with open(output, "wb") as file:
-        stopping = checking.breaking(SIGNAL=int(signal.SIGSTOP), GOES_ON=1, AT=1, CALLS="lseek")
+        stopping = checking.fault_environment(SIGNAL=int(signal.SIGSTOP), GOES_ON=1, AT=1, CALLS="lseek")
         process = subprocess.Popen([checking.program, *COPY], cwd=directory, env=stopping, stdin=subprocess.DEVNULL, stdout=file,
                                    stderr=subprocess.PIPE)
         came = os.waitid(os.P_PID, process.pid, os.WSTOPPED | os.WEXITED | os.WNOWAIT).si_code == os.CLD_STOPPED
@@ -263,7 +264,7 @@ def takes_little_memory(checking):
     with open(f"{directory}/a", "wb") as file:
         file.truncate(1 << 26)
     ran = checking.run(directory, ALL, preexec_fn=lambda: resource.setrlimit(resource.RLIMIT_DATA, (48 << 20,) * 2))
-    expect((ran.status, ran.output) == (DIFFERS, b"a: FAILED\nb: OK\n"), ran)
+    expect((ran.status, ran.stdout) == (DIFFERS, b"a: FAILED\nb: OK\n"), ran)
 
 
 def shows_progress(checking):
@@ -309,7 +310,7 @@ def runs_at_once(checking):
     directory = checking.signed(BOTH, FILES)
     with concurrent.futures.ThreadPoolExecutor(8) as pool:
         for ran in pool.map(lambda _: checking.run(directory, ALL), range(16)):
-            expect((ran.status, ran.output) == (OK, b"a: OK\nb: OK\n"), ran)
+            expect((ran.status, ran.stdout) == (OK, b"a: OK\nb: OK\n"), ran)
 
 
 def disturbed_cases(checking):

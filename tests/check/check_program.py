@@ -1,10 +1,10 @@
 #!/usr/bin/env python3
-"""Checks that `minisign-check` accepts exactly the files that a signed list has.
+"""Checks that `minisign-check` accepts exactly the files that a signed list contains.
 
     tests/check/check_program.py [PROGRAM] [WORD ..]
 
-PROGRAM is a build of minisign-check; by default it is built. WORD selects the cases whose name contains it. Keys and
-signatures are made by Minisign's own program.
+PROGRAM is a build of minisign-check. Without it, the script builds the program. WORD selects the cases whose name
+contains it. Minisign's own program makes keys and signatures.
 
 - check_words.py: command lines, and keys, signatures and lists that are rejected;
 - check_results.py: the results of each mode, option and kind of file;
@@ -15,7 +15,7 @@ with `signify -C`.
 Prints a line for each failure; the last line is `N passed, M failed`.
 
 Needs Python 3.9 or later, make, binutils, a C compiler, libsodium with its header, minisign 0.11, openssl, shasum and
-signify-openbsd. It installs what is missing if it may.
+signify-openbsd. It installs missing packages if it has permission.
 """
 
 import os
@@ -25,10 +25,10 @@ import tempfile
 HERE = os.path.dirname(os.path.realpath(__file__))
 sys.path += [os.path.join(HERE, "..", name) for name in ("shared", "lists")]
 
-import ending
 import needs
 import selected
 import static_library
+import test_script
 from check_compared import compared_cases
 from check_disturbed import disturbed_cases
 from check_results import result_cases
@@ -46,9 +46,9 @@ def cases_of(checking):
 def run_all(room):
     """Runs all cases. Returns the failures and the number of cases."""
     os.chmod(room, 0o711)
-    program = selected.file() or os.path.join(room, "out", NAME)
-    if not selected.file():
-        needs.libsodium()
+    program = selected.file_argument() or os.path.join(room, "out", NAME)
+    if not selected.file_argument():
+        needs.compiler_with_libsodium()
         static_library.run_make(f"OUT={room}/out", program)
     checking = Checking(program, tempfile.mkdtemp(dir=room))
     with checking.directories:
@@ -56,4 +56,4 @@ def run_all(room):
 
 
 if __name__ == "__main__":
-    sys.exit(ending.main("check-program", run_all))
+    sys.exit(test_script.run_cases("check-program", run_all))

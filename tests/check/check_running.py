@@ -1,4 +1,4 @@
-"""Names and texts that the tests of `minisign-check` share, and its runs on lists that Minisign's own program signs."""
+"""Constants that the tests of `minisign-check` share, and a class that runs it on lists signed by Minisign."""
 
 import hashlib
 import os
@@ -7,23 +7,25 @@ import subprocess
 import tempfile
 
 import needs
-from disturbed import Disturbing
+from faults import FaultRunner
 from running import SECONDS, Failure, Link, expect, read
 
 NAME = "minisign-check"
-PUBLIC, SECRET, OTHER_PUBLIC, OTHER_SECRET = "key.pub", "key.key", "other.pub", "other.key"
+PUBLIC_FILE, SECRET_FILE, OTHER_PUBLIC_FILE, OTHER_SECRET_FILE = "key.pub", "key.key", "other.pub", "other.key"
 LIST = "SHA256SUMS"
 A, B, C = b"data of a\n", b"data of b\n", b"data of c\n"
+# Stands for a named pipe in the files of `Checking.put`.
+PIPE = object()
 
 # The exit statuses of `minisign-check`.
-OK, UNUSABLE, MISUSED, REJECTED, DIFFERS, UNLISTED_NAME, MISSING, NOTHING_ELSE = range(8)
+OK, UNUSABLE, MISUSED, REJECTED, DIFFERS, UNLISTED_NAME, MISSING, HAS_UNLISTED = range(8)
 
 # Errors of the library.
 MISMATCH = "the data does not have the listed digest"
-NOT_LISTED = "no line of the list has this name"
+NAME_NOT_LISTED = "no line of the list has this name"
 TWICE = "two lines of the list have this name"
 BAD_NAME = "no list can contain this name"
-NO_FILE = "No such file or directory"
+NO_SUCH_FILE = "No such file or directory"
 # Errors and hints of the program.
 NOT_REGULAR, ESCAPED = "this is not a regular file", "the list has this name with a backslash, so no file matches it"
 DOWNLOAD = "download the file again, or the list if it is older than the file"
@@ -32,7 +34,7 @@ LIST_ONCE = "have the signer list each file once"
 USE_LISTED = "use --listed to check only the files that exist"
 USE_IN = "use --in DIR if the files are in another directory"
 REMOVE = "remove the files that are not listed, or omit --nothing-else"
-NO_LINE = "no line of the list has this file"
+FILE_NOT_LISTED = "no line of the list has this file"
 
 
 def digest(data, function=hashlib.sha256):
@@ -50,7 +52,7 @@ def entries(**files):
 
 
 def errors(*lines):
-    """Returns the output of errors: each is a file and a text, or a hint."""
+    """Returns what the program prints for these errors and hints. A tuple (file, text) is an error, and a string is a hint."""
     return b"".join((f"error: {': '.join(line)}\n" if isinstance(line, tuple) else f"hint: {line}\n").encode() for line in lines)
 
 
@@ -62,33 +64,33 @@ def shown_comment(comment):
     return f"Trusted comment: {comment}\n".encode()
 
 
-class Checking(Disturbing):
+class Checking(FaultRunner):
     """Runs `minisign-check` in fresh directories. The keys are in the directory `room`."""
 
     seconds = SECONDS
 
     def __init__(self, program, room):
-        # (ordinary users run the program too)
+        # Some tests run the program as an unprivileged user, who must be able to enter this directory.
         super().__init__(shutil.copy(program, room), room)
         os.chmod(room, 0o711)
         self.minisign = needs.minisign()
-        self.directories = tempfile.TemporaryDirectory(prefix="minisign-check-", dir=self.place)
+        self.directories = tempfile.TemporaryDirectory(prefix="minisign-check-", dir=self.parent)
         self.runs = self.directories.name
         os.chmod(self.runs, 0o755)
-        for public, secret in ((PUBLIC, SECRET), (OTHER_PUBLIC, OTHER_SECRET)):
-            self.call(room, "-G", "-W", "-p", public, "-s", secret)
-        self.public_text = read(room, PUBLIC)
+        for public, secret in ((PUBLIC_FILE, SECRET_FILE), (OTHER_PUBLIC_FILE, OTHER_SECRET_FILE)):
+            self.run_minisign(room, "-G", "-W", "-p", public, "-s", secret)
+        self.public_text = read(room, PUBLIC_FILE)
         self.key = self.public_text.split()[-1].decode()
 
-    def call(self, directory, *arguments):
+    def run_minisign(self, directory, *arguments):
         """Runs Minisign's own program."""
         subprocess.run([self.minisign, *arguments], cwd=directory, stdin=subprocess.DEVNULL, stdout=subprocess.DEVNULL, check=True,
                        timeout=SECONDS)
 
-    def sign(self, directory, name=LIST, comment=None, flags=(), secret=SECRET):
+    def sign(self, directory, name=LIST, comment=None, flags=(), secret=SECRET_FILE):
         """Signs a list."""
         comment = comment_of(os.path.basename(name)) if comment is None else comment
-        self.call(directory, "-S", *flags, "-s", os.path.join(self.room, secret), "-m", name, "-t", comment)
+        self.run_minisign(directory, "-S", *flags, "-s", os.path.join(self.work_directory, secret), "-m", name, "-t", comment)
 
     def put(self, directory, files):
         """Makes files with these contents, directories (None), links (`Link`), and named pipes (`PIPE`)."""
@@ -110,27 +112,23 @@ class Checking(Disturbing):
         self.put(directory, files)
         return directory
 
-    def signed(self, text, files, **how):
+    def signed(self, text, files, **options):
         """Returns a new directory with a signed list and these files."""
-        directory = self.fresh({LIST: text, PUBLIC: self.public_text, **files})
-        self.sign(directory, **how)
+        directory = self.fresh({LIST: text, PUBLIC_FILE: self.public_text, **files})
+        self.sign(directory, **options)
         return directory
 
-    def run(self, directory, arguments, *given, **how):
+    def run(self, directory, arguments, *given, **options):
         """Runs the program. A run that exceeds the time limit fails."""
         try:
-            return super().run(directory, arguments, *given, **how)
+            return super().run(directory, arguments, *given, **options)
         except subprocess.TimeoutExpired as why:
             raise Failure(f"still running after {why.timeout} seconds") from why
 
-    def expect(self, directory, arguments, status, output, said, **how):
-        """Runs the program in a directory, and compares everything that it writes. `said` is the standard error after the trusted
+    def expect(self, directory, arguments, status, output, stderr, **options):
+        """Runs the program in a directory, and compares everything that it writes. `stderr` is the standard error after the trusted
         comment, or all of it if the list is rejected."""
-        ran = self.run(directory, arguments, **how)
+        ran = self.run(directory, arguments, **options)
         comment = b"" if status in (REJECTED, MISUSED) else shown_comment(comment_of())
-        expect((ran.status, ran.output, ran.said) == (status, output, comment + said), ran,
-               f"expected status {status}, {output} and {comment + said}")
-
-
-# A named pipe.
-PIPE = object()
+        expect((ran.status, ran.stdout, ran.stderr) == (status, output, comment + stderr), ran,
+               f"expected status {status}, {output} and {comment + stderr}")

@@ -2,12 +2,12 @@
 
 import os
 
-from check_running import (A, B, LIST, MISUSED, NO_FILE, OK, OTHER_SECRET, PUBLIC, REJECTED, UNUSABLE, comment_of, entries, entry, errors,
-                           shown_comment)
+from check_running import (A, B, LIST, MISUSED, NO_SUCH_FILE, OK, OTHER_SECRET_FILE, PUBLIC_FILE, REJECTED, UNUSABLE,
+                           comment_of, entries, entry, errors, shown_comment)
 from running import expect, read, write
 
 USAGE = b"usage: minisign-check -p PUBKEY [OPTION ..] LIST [FILE ..]\n"
-KEY = ("-p", PUBLIC)
+KEY = ("-p", PUBLIC_FILE)
 ONCE, NEEDS_VALUE, UNKNOWN = "this option can be given only once", "this option needs a value", "unknown option"
 KEY_HINT = "use -p PUBKEY to name the public key file, or -P KEY to give the key itself"
 SIGNATURE_HINT = "use -x SIG to name the signature of the list"
@@ -28,7 +28,7 @@ MISUSES = (
       for option, *value in (("-p", "k"), ("-x", "s"), ("--in", "."), ("--listed",), ("--nothing-else",), ("--any-list",), ("--blake2b",),
                              ("-o",)) if option != "-p"),
     misuse("-p twice", [*KEY, LIST, *KEY], "-p", ONCE),
-    misuse("an attached -p twice", [f"-p{PUBLIC}", LIST, *KEY], "-p", ONCE),
+    misuse("an attached -p twice", [f"-p{PUBLIC_FILE}", LIST, *KEY], "-p", ONCE),
     *(misuse(f"{option} without a value", [LIST, option], option, NEEDS_VALUE) for option in ("-p", "-P", "-x", "--in")),
     *(misuse(f"the unknown option {option}", [*KEY, option, LIST], option, UNKNOWN)
       for option in ("--list", "--in=dir", "-h", "-q", "--help", "--version", "-ox", "--Listed", "-V")),
@@ -46,7 +46,7 @@ def rejects_usage(checking, arguments, said):
 
 def prints_help(checking, option, begins):
     ran = checking.run(checking.runs, [option])
-    expect(ran.status == OK and ran.output.startswith(begins) and not ran.said, ran)
+    expect(ran.status == OK and ran.stdout.startswith(begins) and not ran.stderr, ran)
     with open("/dev/full", "wb") as full:
         ran = checking.run(checking.runs, [option], stdout=full)
     expect(ran.status == UNUSABLE, ran)
@@ -55,7 +55,7 @@ def prints_help(checking, option, begins):
 ACCEPTED_ARGUMENTS = (
     ("-p before the list", [*KEY, LIST, "a"]),
     ("-p after the files", [LIST, "a", *KEY]),
-    ("an attached -p", [f"-p{PUBLIC}", LIST, "a"]),
+    ("an attached -p", [f"-p{PUBLIC_FILE}", LIST, "a"]),
     ("-P", ["-P", "KEY", LIST, "a"]),
     ("an attached -P", ["-PKEY", LIST, "a"]),
     ("-x", [*KEY, "-x", "moved.sig", LIST, "a"]),
@@ -87,7 +87,7 @@ def rejects_files(checking, change, arguments, status, said):
     if change:
         change(checking, directory)
     ran = checking.run(directory, arguments)
-    expect(ran.status == status and ran.said == said and not ran.output, ran, f"expected status {status} and {said}")
+    expect(ran.status == status and ran.stderr == said and not ran.stdout, ran, f"expected status {status} and {said}")
 
 
 # Each of the following functions returns a function that changes a directory with a signed list.
@@ -161,16 +161,16 @@ MALFORMED = (
     ("a space before an entry", b" " + entries(a=A), 1),
 )
 FILES = (
-    ("a missing list", removed(LIST), PLAIN, UNUSABLE, errors((LIST, NO_FILE))),
-    ("a missing signature", removed(SIG), PLAIN, UNUSABLE, errors((SIG, NO_FILE), SIGNATURE_HINT)),
-    ("a missing key file", removed(PUBLIC), PLAIN, UNUSABLE, errors((PUBLIC, NO_FILE), KEY_HINT)),
+    ("a missing list", removed(LIST), PLAIN, UNUSABLE, errors((LIST, NO_SUCH_FILE))),
+    ("a missing signature", removed(SIG), PLAIN, UNUSABLE, errors((SIG, NO_SUCH_FILE), SIGNATURE_HINT)),
+    ("a missing key file", removed(PUBLIC_FILE), PLAIN, UNUSABLE, errors((PUBLIC_FILE, NO_SUCH_FILE), KEY_HINT)),
     ("a directory as the list", None, [*KEY, "-x", SIG, ".", "a"], UNUSABLE, errors((".", "Is a directory"))),
     ("a missing directory", None, [*KEY, "--in", "none", LIST],
-     UNUSABLE, shown_comment(comment_of()) + errors(("none", NO_FILE))),
+     UNUSABLE, shown_comment(comment_of()) + errors(("none", NO_SUCH_FILE))),
     ("a changed list", with_byte(LIST, 0), PLAIN, REJECTED, errors((LIST, "Signature verification failed"), AGAIN)),
     ("a list with a line added", replaced(LIST, entries(a=A, b=B)), PLAIN, REJECTED, errors((LIST, "Signature verification failed"), AGAIN)),
     ("a changed trusted comment", changed_signature(2), PLAIN, REJECTED, errors((SIG, "Comment signature verification failed"))),
-    ("a list of another signer", resigned(secret=OTHER_SECRET), PLAIN, REJECTED,
+    ("a list of another signer", resigned(secret=OTHER_SECRET_FILE), PLAIN, REJECTED,
      errors((SIG, OTHER_KEY), "use the public key of the signer")),
     ("a legacy signature", resigned(flags=("-l",)), PLAIN, REJECTED, errors((SIG, LEGACY), "have the list signed again, without -l")),
     ("a comment without file:", resigned(comment="timestamp:1"), PLAIN, REJECTED, errors((SIG, OTHER_LIST), ANY_LIST)),
@@ -179,17 +179,17 @@ FILES = (
     ("a comment with the name in another field", resigned(comment=f"name:{LIST}"), PLAIN, REJECTED, errors((SIG, OTHER_LIST), ANY_LIST)),
     ("a changed list with --any-list", with_byte(LIST, 0), [*PLAIN, "--any-list"], REJECTED,
      errors((LIST, "Signature verification failed"), AGAIN)),
-    ("an unnamed list signed with another key with --any-list", resigned(secret=OTHER_SECRET, comment="x"), [*PLAIN, "--any-list"], REJECTED,
+    ("an unnamed list signed with another key with --any-list", resigned(secret=OTHER_SECRET_FILE, comment="x"), [*PLAIN, "--any-list"], REJECTED,
      errors((SIG, OTHER_KEY), "use the public key of the signer")),
-    ("a key file as the signature", None, [*KEY, "-x", PUBLIC, LIST], REJECTED,
-     errors((PUBLIC, "this is a public key, not a signature"), SIGNATURE_HINT)),
+    ("a key file as the signature", None, [*KEY, "-x", PUBLIC_FILE, LIST], REJECTED,
+     errors((PUBLIC_FILE, "this is a public key, not a signature"), SIGNATURE_HINT)),
     ("a signature as the key file", None, ["-p", SIG, LIST], REJECTED, errors((SIG, "this is a signature, not a public key"), KEY_HINT)),
     ("a short key", None, ["-P", "RWQ", LIST], REJECTED,
      errors(("-P", "a public key has 56 characters, but this has 3"), "give the second line of the public key file")),
     ("a signature of more than 1 MiB", replaced(SIG, bytes(1 << 20) + b"x"), PLAIN, REJECTED,
      errors((SIG, "this file is larger than 1 MiB"), SIGNATURE_HINT)),
-    ("a key file of more than 1 MiB", replaced(PUBLIC, bytes(1 << 20) + b"x"), PLAIN, REJECTED,
-     errors((PUBLIC, "this file is larger than 1 MiB"), KEY_HINT)),
+    ("a key file of more than 1 MiB", replaced(PUBLIC_FILE, bytes(1 << 20) + b"x"), PLAIN, REJECTED,
+     errors((PUBLIC_FILE, "this file is larger than 1 MiB"), KEY_HINT)),
     *((f"a list with {what}", listing(text), arguments, REJECTED,
        shown_comment(comment_of()) + errors((LIST, f"line {line} is malformed"), LINE_HINT))
       for what, text, line in MALFORMED for arguments in (PLAIN, ALL)),
@@ -206,13 +206,13 @@ def accepts_any_list(checking):
     for comment, said in (("timestamp:1", warning), (comment_of(), b"")):
         directory = checking.signed(entries(a=A), {"a": A}, comment=comment)
         ran = checking.run(directory, [*PLAIN, "--any-list"])
-        expect((ran.status, ran.output, ran.said) == (OK, b"a: OK\n", said + shown_comment(comment)), ran)
+        expect((ran.status, ran.stdout, ran.stderr) == (OK, b"a: OK\n", said + shown_comment(comment)), ran)
 
 
 def escapes_trusted_comment(checking):
     directory = checking.signed(entries(a=A), {"a": A}, comment=f"file:{LIST}\t\x1b[31mred")
     ran = checking.run(directory, PLAIN)
-    expect(ran.status == OK and ran.said == shown_comment(f"file:{LIST}\t\\u{{1b}}[31mred"), ran)
+    expect(ran.status == OK and ran.stderr == shown_comment(f"file:{LIST}\t\\u{{1b}}[31mred"), ran)
 
 
 def word_cases(checking):

@@ -1,9 +1,9 @@
-"""The cases of `c/minisign` in directories that other users can write to. In a sticky directory it uses no file, pipe
-or link of another user. It writes no secret key to another user in any directory. It never waits for another user's
-pipe, and without -f it writes to nothing that exists.
+"""Checks `c/minisign` in directories that other users can write to. In a sticky directory, it uses no file, pipe or link of another
+user. In no directory, it writes a secret key to a file or pipe of another user. It never waits for another user's pipe, and without
+-f it does not write to an existing file.
 
-The cases need root, to make files of other users and to run the program as another user. They expect the same results
-under each of the system's settings (`fs.protected_regular`, `fs.protected_fifos`, `fs.protected_symlinks`).
+The cases need root, to make files of other users and to run the program as another user. The results must not depend on the
+settings `fs.protected_regular`, `fs.protected_fifos` and `fs.protected_symlinks` of the system.
 """
 
 import contextlib
@@ -17,37 +17,44 @@ import subprocess
 import tempfile
 from collections import namedtuple
 
-from disturbed import in_memory
-from permissions import list_of
-from process import run_program
-from running import NOBODY, Failure, expect, files_in, read, run_one, set_list
 from command_breaking import is_public, is_secret, is_signature
-from command_running import CLOSED, OPEN, PARENT_MODE, PASSWORD, PUBLIC, Programs, case, expect_end, expect_prompt, put_files
+from command_running import (ENCRYPTED_KEY, PARENT_MODE, PASSWORD, PLAIN_KEY, PUBLIC_KEY, Programs, case, expect_end,
+                             expect_prompt, put_files)
+from faults import mounted_in_memory
+from permissions import acl_of
+from process import run_program
+from running import NOBODY, Failure, expect, files_in, read, run_case_named, set_access_list
 
-# A run that takes longer than this many seconds waits for another user.
+# A run that takes longer than this many seconds is considered to wait for another user.
 SECONDS = 20
 
-# The other user, the user who runs the program, and the owner of some directories, who is neither.
-ROOT, OTHER, USER, OWNER = 0, NOBODY, 12345, 23456
-WHO = {ROOT: "root", USER: "the user"}
-WHOSE = {ROOT: "root's", OTHER: "another user's", USER: "the user's", OWNER: "the directory owner's"}
+# User IDs: the program is run by root or by RUNNING_USER; files belong to them, to OTHER_USER, or to THIRD_USER, who owns some
+# directories.
+ROOT = 0
+OTHER_USER = NOBODY
+RUNNING_USER = 12345
+THIRD_USER = 23456
+# The names of users in the names of cases.
+USER_NAMES = {ROOT: "root", RUNNING_USER: "the user"}
+POSSESSIVES = {ROOT: "root's", OTHER_USER: "another user's", RUNNING_USER: "the user's", THIRD_USER: "the directory owner's"}
 
-# The directory of a file: its owner and mode, and how the names of cases call it. SHARED is like `/tmp`.
+# The directory of a file: its description in the names of cases, its owner and its mode.
 Parent = namedtuple("Parent", "name owner mode")
-SHARED = Parent("", ROOT, 0o1777)
-OWNERS, GROUPS = Parent(" in a third user's sticky directory", OWNER, 0o1777), Parent(" in a group-writable sticky directory", ROOT, 0o1775)
+LIKE_TMP = Parent("", ROOT, 0o1777)
+OWNED_BY_THIRD = Parent(" in a third user's sticky directory", THIRD_USER, 0o1777)
+GROUP_WRITABLE = Parent(" in a group-writable sticky directory", ROOT, 0o1775)
 NOT_STICKY = Parent(" in a directory without sticky bit", ROOT, 0o777)
-# Directories that are not both sticky and writable for others. Files of other users are not rejected there.
-UNGUARDED = (NOT_STICKY, Parent(" in a private sticky directory", ROOT, 0o1755), Parent(" in that user's own directory", OTHER, 0o755))
+# Directories that are not sticky, or not writable for others. Files of other users are not rejected there.
+UNGUARDED = (NOT_STICKY, Parent(" in a private sticky directory", ROOT, 0o1755), Parent(" in that user's own directory", OTHER_USER, 0o755))
 
-# Ends of errors after the name of the file, with the hint.
+# The errors after the name of the file, with the hint.
 OTHER_DIRECTORY = "\nhint: use a directory that only you can write to"
-IN_SHARED = "this file belongs to another user, and others can write to its directory" + OTHER_DIRECTORY
-BY_LINK = "this path goes through another user's symbolic link in a directory that others can write to" + OTHER_DIRECTORY
-TO_ANOTHER = "this belongs to another user, so no secret key was written to it\nhint: use a file of your own"
+IN_SHARED_DIRECTORY = "this file belongs to another user, and others can write to its directory" + OTHER_DIRECTORY
+THROUGH_LINK = "this path goes through another user's symbolic link in a directory that others can write to" + OTHER_DIRECTORY
+SECRET_TO_OTHER_USER = "this belongs to another user, so no secret key was written to it\nhint: use a file of your own"
 NOT_PERMITTED = os.strerror(errno.EPERM)
 
-# Rows of docs/DIFFERENCES.md, with a case of each that Minisign's own program fails.
+# Rows of docs/DIFFERENCES.md. For each, the name of a case that Minisign's own program fails.
 ROWS = {
     "another user's file or pipe": "rejects a signature by root over another user's file",
     "a secret key written to a pipe or device":
@@ -57,10 +64,10 @@ ROWS = {
     "a key replaced while its password is typed": "keeps a file that another user swaps in for a key changed by -CW",
 }
 
-FILE, PIPE, UNREAD = "file", "pipe", "pipe that nobody reads"
-OLDER = b"older"
-# The target of the link in the shared directory, and the path that the program is given. Two links of the user are
-# there too.
+FILE, PIPE, UNREAD_PIPE = "file", "pipe", "pipe that nobody reads"
+OLDER_DATA = b"older"
+# Symbolic links of another user at shared/link: the target of the link, and the path that is passed to the program. OWN_LINKS are
+# links of the user who runs the program, which exist, too.
 LINKS = {
     "to a missing file": ("made", "shared/link"),
     "to an own file": ("../own/kept", "shared/link"),
@@ -74,19 +81,20 @@ LINKS = {
 OWN_LINKS = {"own/mine": "../shared/link/made", "own/next": "sub/"}
 
 
-class Command(namedtuple("Command", "name arguments check is_secret older", defaults=(None, False, OLDER))):
-    """A run that writes a file (`it` in the arguments), a function that checks the file, whether it is secret, and the
-    older file, which may be a key that is read first."""
+class Command(namedtuple("Command", "name arguments check is_secret older", defaults=(None, False, OLDER_DATA))):
+    """A run that writes a file, which is named `it` in the arguments; a function that checks the file; true if it is secret; and the
+    content of an existing file, which may be a key that the run changes."""
 
     def at(self, path):
+        """Returns the arguments with this path of the file."""
         return [path if word == "it" else word for word in self.arguments]
 
 
-class Existing(namedtuple("Existing", "kind owner parent", defaults=(SHARED,))):
-    """A file or pipe that exists at the path: its kind, its owner, and the directory."""
+class Existing(namedtuple("Existing", "kind owner parent", defaults=(LIKE_TMP,))):
+    """A file or pipe that exists before the run: its kind, its owner, and its directory."""
 
     def make(self, path, data):
-        """Makes it, readable and writable for all users. Returns a descriptor from which the owner of a pipe reads."""
+        """Creates the file or pipe, readable and writable for all users. If the owner of the pipe reads it, returns the descriptor."""
         if self.kind == FILE:
             with open(path, "xb") as file:
                 file.write(data)
@@ -98,17 +106,17 @@ class Existing(namedtuple("Existing", "kind owner parent", defaults=(SHARED,))):
 
 
 class OtherUsers(Programs):
-    """Runs in fresh directories that have the user's own files, and files of other users."""
+    """Runs the program in new directories with the user's own files and with files of other users."""
 
-    def __init__(self, whole, room, keys):
-        super().__init__(whole, room, keys)
+    def __init__(self, programs, room, keys):
+        super().__init__(programs, room, keys)
         own = ("-s", "own/k.key")
         self.commands = [
             Command("a new secret key", ("-GWf", "-p", "own/a.pub", "-s", "it"), is_secret, True),
             Command("a new public key", ("-GWf", "-p", "it", "-s", "own/a.key"), is_public),
             Command("a signature", ("-Sm", "own/data", "-x", "it", *own), is_signature),
             Command("a recreated public key", ("-Rf", "-p", "it", *own), is_public),
-            Command("a changed key", ("-CW", "-s", "it"), is_secret, True, keys[OPEN]),
+            Command("a changed key", ("-CW", "-s", "it"), is_secret, True, keys[PLAIN_KEY]),
         ]
         self.secret, _, self.signature, *_ = self.commands
 
@@ -122,32 +130,32 @@ class OtherUsers(Programs):
         failures, count = super().run_all()
         return passes + failures, len(ROWS) + count
 
-    def make_directories(self, user=ROOT, parent=SHARED):
-        """Makes a directory with `own`, which belongs to the user, and `shared`. Also returns the path of the file or
-        pipe in `shared` that a command writes."""
-        made = self.fresh({"own/data": b"some data\n", "own/k.key": self.keys[OPEN], "own/k.pub": self.keys[PUBLIC],
-                           "own/closed.key": self.keys[CLOSED], "shared": None})
-        os.chmod(made, PARENT_MODE)
-        for path in ("own", *(f"own/{name}" for name in os.listdir(f"{made}/own"))):
-            os.chown(f"{made}/{path}", user, user)
-        os.chown(f"{made}/shared", parent.owner, parent.owner)
-        os.chmod(f"{made}/shared", parent.mode)
-        return made, f"{made}/shared/it"
+    def make_directories(self, user=ROOT, parent=LIKE_TMP):
+        """Makes a directory with the subdirectories `own`, which belongs to the user, and `shared`. Returns its path, and the path of the
+        file in `shared` that a command writes."""
+        path = self.new_directory({"own/data": b"some data\n", "own/k.key": self.keys[PLAIN_KEY],
+                                   "own/k.pub": self.keys[PUBLIC_KEY], "own/closed.key": self.keys[ENCRYPTED_KEY], "shared": None})
+        os.chmod(path, PARENT_MODE)
+        for name in ("own", *(f"own/{name}" for name in os.listdir(f"{path}/own"))):
+            os.chown(f"{path}/{name}", user, user)
+        os.chown(f"{path}/shared", parent.owner, parent.owner)
+        os.chmod(f"{path}/shared", parent.mode)
+        return path, f"{path}/shared/it"
 
-    def run_as(self, user, directory, arguments, **how):
+    def run_as(self, user, directory, arguments, **options):
         """Runs the program as a user in a directory, without input."""
         try:
-            who = {"user": user, "group": user, "extra_groups": []}
-            return run_program([self.program, *arguments], directory, seconds=SECONDS, **who, **how)
-        except subprocess.TimeoutExpired as why:
-            raise Failure(f"it ran for more than {SECONDS} seconds: it waits for another user") from why
+            ids = {"user": user, "group": user, "extra_groups": []}
+            return run_program([self.program, *arguments], directory, seconds=SECONDS, **ids, **options)
+        except subprocess.TimeoutExpired as error:
+            raise Failure(f"it ran for more than {SECONDS} seconds, so it waits for another user") from error
 
     # ---- Files and pipes ----
 
     def write_over(self, user, command, existing, end):
-        """A user runs a command over an existing file or pipe. If `end` is a text, the command is rejected with this
-        error: it asks nothing, no user gets anything, and the file is unchanged. Otherwise it writes into the pipe, or
-        over the file, which then belongs to the user `end`."""
+        """A user runs a command while its output file exists as a file or pipe. If `end` is a string, the command must be rejected with
+        this error: it asks for no password, no data reaches the pipe, and the file is unchanged. Otherwise it must write into the pipe,
+        or replace the file, which then belongs to the user `end`."""
         directory, path = self.make_directories(user, existing.parent)
         reader, before = existing.make(path, command.older), snapshot(directory)
         ran, received = self.run_as(user, directory, command.at("shared/it")), read_pending(reader)
@@ -156,65 +164,69 @@ class OtherUsers(Programs):
             return
         expect(ran.status == 0, ran)
         command.check(received if existing.kind == PIPE else read(path))
-        found = os.stat(path)
-        is_right = found.st_uid == end and (not command.is_secret or stat.S_IMODE(found.st_mode) == 0o600)
-        expect(existing.kind == PIPE or is_right, f"it belongs to {found.st_uid}, expected {end}, with the mode {found.st_mode:o}")
+        status = os.stat(path)
+        is_expected = status.st_uid == end and (not command.is_secret or stat.S_IMODE(status.st_mode) == 0o600)
+        expect(existing.kind == PIPE or is_expected,
+               f"it belongs to {status.st_uid}, expected {end}, with the mode {status.st_mode:o}")
 
     # ---- Files that appear while a password is typed ----
 
-    def keeps_new_file(self, arguments, typed, existing, status, said):
-        """Without -f, a file that appears while the password is typed is not written to. Without a password, it appears
-        while the key is generated."""
-        (directory, path), found = self.make_directories(), []
-        make = lambda: found.extend((existing.make(path, OLDER), snapshot(directory)))
+    def keeps_new_file(self, arguments, typed, existing, status, error_output):
+        """Without -f, the program does not write to a file that appears while the password is typed, or if there is no password, while the
+        key is generated."""
+        (directory, path), made = self.make_directories(), []
+
+        def make():
+            made.extend((existing.make(path, OLDER_DATA), snapshot(directory)))
+
         if typed:
-            terminal = self.asked(directory, *arguments)
+            terminal = self.start_at_prompt(directory, *arguments)
             make()
-            expect_answered(terminal, typed, status, said)
+            expect_answered(terminal, typed, status, error_output)
         else:
-            # (libsodium generates other random bytes before the key)
+            # The first two calls of getrandom are not for the key.
             ran = self.run_stopped(directory, arguments, make, AT=3, CALLS="getrandom")
-            expect(ran.reached and ran.status == status and said.encode() in ran.said, ran)
-        reader, before = found
-        expect(not read_pending(reader) and snapshot(directory) == before, "something was made or changed")
+            expect(ran.reached and ran.status == status and error_output.encode() in ran.stderr, ran)
+        reader, before = made
+        expect(not read_pending(reader) and snapshot(directory) == before, "a file was created, written or changed")
 
     @case("keeps a file that another user swaps in for a key changed by {0}", ("-CW", PASSWORD + b"\n"),
           ("-C", PASSWORD + b"\n", b"p\n", b"p\n"))
     def keeps_swapped_file(self, flags, *typed):
-        """In a directory without sticky bit, another user replaces root's key while its password is typed. The key does
-        not become theirs: it is written into no file. A write would kill the program."""
+        """In a directory without sticky bit, another user replaces root's key while its password is typed. The key must not be given to
+        that user, so it is not written to any file. A call of write would kill the program here."""
         directory, path = self.make_directories(parent=NOT_STICKY)
-        put_files(directory, {"shared/it": self.keys[CLOSED]})
+        put_files(directory, {"shared/it": self.keys[ENCRYPTED_KEY]})
         os.chmod(path, 0o600)
-        terminal = self.asked(directory, flags, "-s", "shared/it", **self.breaking(AT=1, CALLS="write"))
+        terminal = self.start_at_prompt(directory, flags, "-s", "shared/it", **self.fault_environment(AT=1, CALLS="write"))
         os.rename(path, path + ".older")
-        Existing(FILE, OTHER).make(path, b"swapped in")
+        Existing(FILE, OTHER_USER).make(path, b"swapped in")
         expect_answered(terminal, typed, 2, "error: shared/it: another user replaced this file after the key was read\n"
                                       "hint: check who can write to its directory, then try again\n")
         expect(read(path) == b"swapped in", "the other user's file was changed")
 
-    @case("writes no key into another user's {1} that replaces root's {0}", (PIPE, PIPE), (FILE, UNREAD))
+    @case("writes no key into another user's {1} that replaces root's {0}", (PIPE, PIPE), (FILE, UNREAD_PIPE))
     def writes_no_key_into_swapped_file(self, own, swapped):
-        """In a directory without sticky bit, another user's pipe or file replaces root's before each call that opens a
-        file, while root writes a new secret key. The program does not wait for the pipe, and writes no key into it."""
+        """Root writes a new secret key in a directory without sticky bit. Before each call in turn that opens a file, another user's pipe
+        replaces root's file or pipe. The program does not wait for the pipe, and writes no key into it."""
         for number in range(1, 60):
             directory, path = self.make_directories(parent=NOT_STICKY)
-            readers = [Existing(own, ROOT).make(path, OLDER)]
+            readers = [Existing(own, ROOT).make(path, OLDER_DATA)]
 
             def swap_in():
                 os.rename(path, path + ".own")
-                readers.append(Existing(swapped, OTHER).make(path, OLDER))
+                readers.append(Existing(swapped, OTHER_USER).make(path, OLDER_DATA))
 
             ran = self.run_stopped(directory, self.secret.at("shared/it"), swap_in, AT=number, CALLS="open openat")
             written, *got = map(read_pending, readers)
             if own == FILE:
-                # (the key may have been renamed to its path before the pipe appeared)
-                written = read(path + ".own" if stat.S_ISFIFO(os.lstat(path).st_mode) else path).replace(OLDER, b"")
+                # If the pipe appeared after the key was renamed to its path, the key now has the name with `.own`.
+                written = read(path + ".own" if stat.S_ISFIFO(os.lstat(path).st_mode) else path).replace(OLDER_DATA, b"")
             expect(not any(got), f"another user got {got!r}", ran)
             if ran.status == 0 and written:
                 is_secret(written)
             else:
-                expect_rejected(ran, written, "shared/it", TO_ANOTHER)
+                expect_rejected(ran, written, "shared/it", SECRET_TO_OTHER_USER)
             if not ran.reached:
                 expect(number >= 3 and ran.status == 0, f"it opened {number - 1} files, expected at least 2", ran)
                 return
@@ -223,8 +235,8 @@ class OtherUsers(Programs):
     # ---- Links ----
 
     def write_through_link(self, user, command, whose, what, parent, why):
-        """A command writes through a link of the user `whose`. With `why` it is rejected with this error, and nothing
-        is made or changed. Otherwise the file is written."""
+        """A user runs a command that writes through a link of LINKS, which belongs to the user `whose`. If `why` is not empty, it must be
+        rejected with this error, and no file created or changed. Otherwise it must write the file."""
         directory, _ = self.make_directories(user, parent)
         put_files(directory, {"own/sub": None, "own/kept": b"precious", "shared/older": b"older"})
         for path in ("own/sub", "own/kept"):
@@ -239,45 +251,46 @@ class OtherUsers(Programs):
             expect_rejected(ran, b"", name, why, directory, before)
             return
         expect(ran.status == 0, ran)
-        # (a link may lead through the working directory of a process, and the system may let only its owner follow it)
-        command.check(run_program(["cat", name], directory, user=user, group=user).output)
+        # The file is read as this user, because the system may let only the owner of a link follow it.
+        command.check(run_program(["cat", name], directory, user=user, group=user).stdout)
 
     # ---- Standard streams, and unnamed files and directories ----
 
     def secret_into(self, stream, directory, name="/dev/stdout"):
-        """Root writes a secret key to a descriptor: it is the standard output, or `name` leads to it."""
-        how = {"stdout": stream} if name == "/dev/stdout" else {"pass_fds": [stream]}
-        return self.run_as(ROOT, directory, ("-GWf", "-p", "own/a.pub", "-s", name), **how)
+        """Root writes a secret key to the open file `stream`, which is its standard output or another descriptor. `name` is the path of
+        the key."""
+        options = {"stdout": stream} if name == "/dev/stdout" else {"pass_fds": [stream]}
+        return self.run_as(ROOT, directory, ("-GWf", "-p", "own/a.pub", "-s", name), **options)
 
     @case("writes a secret key to another user's {0} only as standard output: {1}", ("pipe", "as standard output"),
           ("pipe", "by its descriptor"), ("terminal", "as standard output"), ("terminal", "by its name"), ("terminal", "by a link"))
-    def secret_into_stream_of_other(self, what, how):
-        """Root's secret key is written to another user's pipe or terminal if that is the standard output, otherwise
-        not. The link is in a directory without sticky bit."""
+    def secret_into_stream_of_other(self, what, way):
+        """Root's secret key is written to another user's pipe or terminal only if that is the standard output. The link is in a directory
+        without sticky bit."""
         directory, _ = self.make_directories(parent=NOT_STICKY)
         reader, side = pty.openpty() if what == "terminal" else os.pipe()
-        os.fchown(side, OTHER, OTHER)
+        os.fchown(side, OTHER_USER, OTHER_USER)
         os.set_blocking(reader, False)
         own_name = f"/dev/fd/{side}" if what == "pipe" else os.ttyname(side)
         os.symlink(own_name, os.path.join(directory, "shared", "link"))
-        name = {"as standard output": "/dev/stdout", "by a link": "shared/link"}.get(how, own_name)
+        name = {"as standard output": "/dev/stdout", "by a link": "shared/link"}.get(way, own_name)
         ran = self.secret_into(side, directory, name)
         received = read_pending(reader).replace(b"\r", b"")
         os.close(side)
-        if how != "as standard output":
-            expect_rejected(ran, received, name, TO_ANOTHER)
+        if way != "as standard output":
+            expect_rejected(ran, received, name, SECRET_TO_OTHER_USER)
             return
         expect(ran.status == 0, ran)
-        # (messages come after the key)
+        # The key has two lines. Messages follow.
         is_secret(b"".join(received.splitlines(True)[:2]))
 
     @case("rejects another user's named pipe as standard output")
     def rejects_named_pipe_as_output(self):
         directory, path = self.make_directories()
-        reader = Existing(PIPE, OTHER).make(path, b"")
+        reader = Existing(PIPE, OTHER_USER).make(path, b"")
         with open(path, "wb") as writer:
             ran = self.secret_into(writer, directory)
-        expect_rejected(ran, read_pending(reader), "/dev/stdout", IN_SHARED)
+        expect_rejected(ran, read_pending(reader), "/dev/stdout", IN_SHARED_DIRECTORY)
 
     @case("writes to a renamed pipe as standard output")
     def writes_to_renamed_pipe(self):
@@ -293,9 +306,10 @@ class OtherUsers(Programs):
 
     @case("writes into a directory without a name")
     def writes_into_unnamed_directory(self):
-        """The directory is open, and is reached through its link in /proc. The text of that link is no path to it."""
+        """The directory is open, and the path leads through its link in /proc. The text of that link is not a path of the directory,
+        because it is unmounted."""
         directory, _ = self.make_directories()
-        with in_memory(os.path.join(directory, "shared"), "mode=755", lazily=True):
+        with mounted_in_memory(os.path.join(directory, "shared"), "mode=755", lazily=True):
             opened = os.open(os.path.join(directory, "shared"), os.O_RDONLY)
         os.mkdir("made", 0o755, dir_fd=opened)
         ran = self.run_as(ROOT, directory, self.signature.at(f"/dev/fd/{opened}/made/it"), pass_fds=[opened])
@@ -305,9 +319,9 @@ class OtherUsers(Programs):
 
     @case("copies verified data into another user's file as standard output")
     def copies_into_file_of_other(self):
-        """The caller of the program has opened the file."""
+        """The program may write there, because its caller has opened the file."""
         directory, path = self.make_directories()
-        Existing(FILE, OTHER).make(path, b"")
+        Existing(FILE, OTHER_USER).make(path, b"")
         self.run_as(ROOT, directory, ("-Sm", "own/data", "-s", "own/k.key"))
         with open(path, "r+b") as output:
             ran = self.run_as(ROOT, directory, ("-Vom", "own/data", "-p", "own/k.pub"), stdout=output)
@@ -316,61 +330,63 @@ class OtherUsers(Programs):
     # ---- Keys whose password is removed ----
 
     @case("makes a key private when it removes its password: owner {0}, mode {1:o} {2}", (ROOT, 0o644, ""), (ROOT, 0o660, ""),
-          (OWNER, 0o640, ""), (OWNER, 0o604, ""), (OWNER, 0o400, ""), (ROOT, 0o440, ""), (ROOT, 0o600, f"u:{OTHER}:r"))
+          (THIRD_USER, 0o640, ""), (THIRD_USER, 0o604, ""), (THIRD_USER, 0o400, ""), (ROOT, 0o440, ""), (ROOT, 0o600, f"u:{OTHER_USER}:r"))
     def makes_key_private(self, owner, mode, entries):
-        """Only the owner can access the new key file, whatever the mode and the access control list were."""
+        """Only the owner can access the changed key, whatever the mode and the access control list of the old one were."""
         directory, _ = self.make_directories()
         path = os.path.join(directory, "own", "k.key")
-        os.chown(path, owner, OWNER)
+        os.chown(path, owner, THIRD_USER)
         os.chmod(path, mode)
         if entries:
-            set_list(path, entries)
+            set_access_list(path, entries)
         ran = self.run_as(ROOT, directory, ("-CW", "-s", "own/k.key"))
-        found = os.stat(path)
-        expect(ran.status == 0 and (found.st_uid, found.st_gid) == (owner, OWNER) and stat.S_IMODE(found.st_mode) == mode & 0o700
-               and list_of(path) is None, ran, f"it left the owner {found.st_uid}:{found.st_gid} and the mode {found.st_mode:o}")
+        status = os.stat(path)
+        is_expected = (status.st_uid, status.st_gid, stat.S_IMODE(status.st_mode)) == (owner, THIRD_USER, mode & 0o700)
+        expect(ran.status == 0 and is_expected and acl_of(path) is None, ran,
+               f"it left the owner {status.st_uid}:{status.st_gid} and the mode {status.st_mode:o}")
         is_secret(read(path))
 
     # ---- The cases ----
 
     def cases(self):
-        for some in (super().cases, self.files_and_pipes, self.appearing_files, self.links_of_users):
-            yield from some()
+        for cases in (super().cases, self.files_and_pipes, self.appearing_files, self.links_of_users):
+            yield from cases()
 
     def files_and_pipes(self):
-        """Yields commands by users over existing files and pipes, of owners and in directories. `end` is as in write_over."""
+        """Yields cases in which users run commands while the output file exists, for each combination of the lists in a row. `end` is that of
+        `write_over`."""
         secret, public, signature, again, changed = every = self.commands
-        # (a changed key is read first, which a pipe would have to deliver)
+        # Without `changed`, which reads the file first.
         writing = (secret, public, signature, again)
         for commands, kinds, whose, places, users, end in (
-            (every, (FILE, PIPE, UNREAD), OTHER, [SHARED], (ROOT, USER), IN_SHARED),
-            (every, (FILE, PIPE, UNREAD), OTHER, (OWNERS, GROUPS), [ROOT], IN_SHARED),
-            (every, [FILE], ROOT, [SHARED], [ROOT], ROOT),
-            (every, [FILE], USER, [SHARED], [USER], USER),
-            (writing, [PIPE], ROOT, [SHARED], (ROOT, USER), None),
-            (writing, [PIPE], USER, [SHARED], [USER], None),
-            ((secret, signature), [PIPE], ROOT, [OWNERS], [USER], None),
-            ((secret, changed), (FILE, PIPE), OWNER, [OWNERS], [ROOT], IN_SHARED),
-            ((public, signature, again), (FILE, PIPE), OWNER, [OWNERS], [ROOT], OWNER),
-            ([signature], (FILE, PIPE), OTHER, UNGUARDED, [ROOT], OTHER),
-            ([secret], [FILE], OTHER, UNGUARDED, [ROOT], ROOT),
-            ([secret], [PIPE], OTHER, UNGUARDED, [ROOT], TO_ANOTHER),
-            # (the user may write to it, but not replace it)
-            ([secret], [FILE], ROOT, [SHARED], [USER], NOT_PERMITTED),
+            (every, (FILE, PIPE, UNREAD_PIPE), OTHER_USER, [LIKE_TMP], (ROOT, RUNNING_USER), IN_SHARED_DIRECTORY),
+            (every, (FILE, PIPE, UNREAD_PIPE), OTHER_USER, (OWNED_BY_THIRD, GROUP_WRITABLE), [ROOT], IN_SHARED_DIRECTORY),
+            (every, [FILE], ROOT, [LIKE_TMP], [ROOT], ROOT),
+            (every, [FILE], RUNNING_USER, [LIKE_TMP], [RUNNING_USER], RUNNING_USER),
+            (writing, [PIPE], ROOT, [LIKE_TMP], (ROOT, RUNNING_USER), None),
+            (writing, [PIPE], RUNNING_USER, [LIKE_TMP], [RUNNING_USER], None),
+            ((secret, signature), [PIPE], ROOT, [OWNED_BY_THIRD], [RUNNING_USER], None),
+            ((secret, changed), (FILE, PIPE), THIRD_USER, [OWNED_BY_THIRD], [ROOT], IN_SHARED_DIRECTORY),
+            ((public, signature, again), (FILE, PIPE), THIRD_USER, [OWNED_BY_THIRD], [ROOT], THIRD_USER),
+            ([signature], (FILE, PIPE), OTHER_USER, UNGUARDED, [ROOT], OTHER_USER),
+            ([secret], [FILE], OTHER_USER, UNGUARDED, [ROOT], ROOT),
+            ([secret], [PIPE], OTHER_USER, UNGUARDED, [ROOT], SECRET_TO_OTHER_USER),
+            # The user may write to root's file, but not replace it.
+            ([secret], [FILE], ROOT, [LIKE_TMP], [RUNNING_USER], NOT_PERMITTED),
         ):
             for command, kind, parent, user in itertools.product(commands, kinds, places, users):
-                yield (f"{'rejects' if isinstance(end, str) else 'writes'} {command.name} by {WHO[user]} over "
-                       f"{WHOSE[whose]} {kind}{parent.name}",
+                yield (f"{'rejects' if isinstance(end, str) else 'writes'} {command.name} by {USER_NAMES[user]} over "
+                       f"{POSSESSIVES[whose]} {kind}{parent.name}",
                        self.write_over, user, command, Existing(kind, whose, parent), end)
         for name, *arguments in (("a new secret key", "-Gf", "-p", "own/a.pub", "-s", "it"),
                                  ("a new public key", "-Gf", "-p", "it", "-s", "own/a.key"),
                                  ("a recreated public key", "-Rf", "-p", "it", "-s", "own/closed.key")):
             yield (f"rejects {name} before it asks for a password",
-                   self.write_over, ROOT, Command(name, arguments), Existing(FILE, OTHER), IN_SHARED)
+                   self.write_over, ROOT, Command(name, arguments), Existing(FILE, OTHER_USER), IN_SHARED_DIRECTORY)
 
     def appearing_files(self):
-        """Yields files and pipes that appear while a password is typed or a key is generated, without -f. (Encrypting a
-        new key takes seconds.)"""
+        """Yields cases in which a file or pipe appears while a password is typed or a key is generated. There are few cases with a new
+        encrypted key, which takes seconds."""
         pair = ("-p", "own/a.pub", "-s", "shared/it")
         for name, kinds, arguments, *typed in (
             ("new secret key", (FILE, PIPE), ("-GW", *pair)),
@@ -378,29 +394,29 @@ class OtherUsers(Programs):
             ("recreated public key", (FILE, PIPE), ("-R", "-p", "shared/it", "-s", "own/closed.key"), PASSWORD + b"\n"),
         ):
             for what in kinds:
-                for whose, owner, *ends in (("another user's", OTHER, 2, f"error: shared/it: {IN_SHARED}"),
+                for whose, owner, *ends in (("another user's", OTHER_USER, 2, f"error: shared/it: {IN_SHARED_DIRECTORY}"),
                                             ("an own", ROOT, 1, "shared/it already exists.")):
                     yield (f"writes no {name} to {whose} {what} that appears",
                            self.keeps_new_file, arguments, typed, Existing(what, owner), *ends)
 
     def links_of_users(self):
-        """Yields links of users in directories, and the error."""
+        """Yields cases in which users run a command that writes through a link of the user `whose`. `why` is the error, or empty."""
         for command, whose, parent, users, why in (
-            (self.signature, OTHER, SHARED, (ROOT, USER), BY_LINK),
-            (self.signature, ROOT, SHARED, [ROOT], ""),
-            (self.signature, USER, SHARED, [USER], ""),
-            (self.signature, OWNER, OWNERS, [ROOT], ""),
-            (self.secret, OWNER, OWNERS, [ROOT], BY_LINK),
-            (self.signature, OTHER, NOT_STICKY, [ROOT], ""),
-            (self.signature, OTHER, GROUPS, [ROOT], ""),
+            (self.signature, OTHER_USER, LIKE_TMP, (ROOT, RUNNING_USER), THROUGH_LINK),
+            (self.signature, ROOT, LIKE_TMP, [ROOT], ""),
+            (self.signature, RUNNING_USER, LIKE_TMP, [RUNNING_USER], ""),
+            (self.signature, THIRD_USER, OWNED_BY_THIRD, [ROOT], ""),
+            (self.secret, THIRD_USER, OWNED_BY_THIRD, [ROOT], THROUGH_LINK),
+            (self.signature, OTHER_USER, NOT_STICKY, [ROOT], ""),
+            (self.signature, OTHER_USER, GROUP_WRITABLE, [ROOT], ""),
         ):
             for what, user in itertools.product(LINKS, users):
-                yield (f"{'rejects' if why else 'writes'} {command.name} by {WHO[user]} through {WHOSE[whose]} link {what}{parent.name}",
+                yield (f"{'rejects' if why else 'writes'} {command.name} by {USER_NAMES[user]} through {POSSESSIVES[whose]} link {what}{parent.name}",
                        self.write_through_link, user, command, whose, what, parent, why)
 
 
 def read_pending(reader):
-    """Returns all that was written into a pipe or shown at a terminal, after the writer has exited."""
+    """Returns the data that was written to a pipe or a terminal, after the writer has exited, and closes the reading end."""
     if reader is None:
         return b""
     try:
@@ -413,36 +429,37 @@ def read_pending(reader):
 
 def snapshot(directory):
     """Returns the names, modes, contents, inodes and owners of all files in a directory."""
-    states = ((name, held, os.lstat(os.path.join(directory, name))) for name, held in files_in(directory).items())
-    return [(name, *held, state.st_ino, state.st_uid) for name, held, state in states]
+    files = ((name, mode_and_content, os.lstat(os.path.join(directory, name)))
+             for name, mode_and_content in files_in(directory).items())
+    return [(name, *mode_and_content, status.st_ino, status.st_uid) for name, mode_and_content, status in files]
 
 
-def expect_answered(terminal, typed, status, said):
-    """Types a line at each prompt, of which the first one is already shown. The program exits with this status and this
-    error."""
+def expect_answered(terminal, typed, status, error_output):
+    """Types a line at each password prompt; the first prompt is already shown. Expects that the program then exits with this status and
+    this error."""
     for number, line in enumerate(typed):
         if number > 0:
             expect_prompt(terminal)
         terminal.type(line)
-    # (a terminal ends lines with a carriage return and a line feed)
-    expect_end(terminal, status, rb"\s+".join(map(re.escape, said.encode().splitlines())))
+    # At a terminal, lines end with a carriage return and a line feed.
+    expect_end(terminal, status, rb"\s+".join(map(re.escape, error_output.encode().splitlines())))
 
 
 def expect_rejected(ran, received, name, why, directory=None, before=None):
-    """The run was rejected with this error, and nothing came out of a pipe. Its output has at most the line about what
-    it was to do, and no prompt. The directory is unchanged."""
-    said = f"{'' if why == NOT_PERMITTED else 'error: '}{name}: {why}\n"
-    expect((ran.status, ran.said, received) == (2, said.encode(), b""), ran, received, f"expected status 2 and {said!r}")
-    expect(ran.output in (b"", f"Key encryption for [{name}] is going to be removed.\n".encode()), ran)
-    expect(directory is None or snapshot(directory) == before, "something was made or changed")
+    """Expects that a run was rejected with this error, wrote nothing to the pipe, and asked for no password. Its output may have the
+    line that announces the change of a key. The directory must be as `before`, if it is given."""
+    error_output = f"{'' if why == NOT_PERMITTED else 'error: '}{name}: {why}\n"
+    expect((ran.status, ran.stderr, received) == (2, error_output.encode(), b""), ran, received, f"expected status 2 and {error_output!r}")
+    expect(ran.stdout in (b"", f"Key encryption for [{name}] is going to be removed.\n".encode()), ran)
+    expect(directory is None or snapshot(directory) == before, "a file was created or changed")
 
 
 def cases_that_minisign_passes(cases):
-    """Yields the rows whose case Minisign's own program passes, although the row says that it differs."""
-    theirs = cases.whole._replace(ours=cases.whole.theirs)
-    minisign = OtherUsers(theirs, tempfile.mkdtemp(dir=cases.room), cases.keys)
+    """Yields an error for each of ROWS whose case Minisign's own program passes, because the row says that it fails."""
+    theirs = cases.programs._replace(ours=cases.programs.theirs)
+    minisign = OtherUsers(theirs, tempfile.mkdtemp(dir=cases.work_directory), cases.keys)
     with minisign.directories:
         for row, name in ROWS.items():
             with contextlib.suppress(Failure):
-                run_one(minisign.cases(), name)
+                run_case_named(minisign.cases(), name)
                 yield f"Minisign passes the case `{name}`, but docs/DIFFERENCES.md has the row: {row}"

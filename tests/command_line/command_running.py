@@ -1,5 +1,5 @@
-"""Runs the program of Minisign and `c/minisign` to compare them: each in its own directory with the same files, with the same
-random bytes and the same current time, with pipes or at a terminal.
+"""Runs Minisign's own program and `c/minisign`, each in its own directory with the same files, random bytes and current time, with
+pipes or at a terminal, so that their results can be compared.
 """
 
 import os
@@ -11,18 +11,23 @@ from collections import namedtuple
 
 import texts
 from at_terminal import AtTerminal
-from disturbed import Disturbing
-from process import Ran, run_program
+from faults import FaultRunner
+from process import RunResult, run_program
 from running import IN_MEMORY, Link, expect, files_in, run_cases, wait_until, write
 from texts import record_of
 
 HOME = "home"
-# The names of key files. Minisign generates the key pair OPEN and PUBLIC from the fixed random bytes. CLOSED is OPEN, encrypted
-# with PASSWORD. OTHER is the public key of another pair. DATA has the data files.
-OPEN, PUBLIC, CLOSED, OTHER = "first.key", "first.pub", "closed.key", "other.pub"
+# The names of key files. PLAIN_KEY is an unencrypted secret key that Minisign generates from the fixed random bytes, and PUBLIC_KEY its
+# public key. ENCRYPTED_KEY is PLAIN_KEY encrypted with PASSWORD. OTHER_PUBLIC_KEY belongs to another secret key.
+PLAIN_KEY = "first.key"
+PUBLIC_KEY = "first.pub"
+ENCRYPTED_KEY = "closed.key"
+OTHER_PUBLIC_KEY = "other.pub"
 PASSWORD = b"correct horse"
+# The names and contents of data files.
 DATA = {"data": b"some data\n", "more": b"more data\n", "empty": b""}
-# The mode of directories above the test directories, for runs of other users. A program built with -DPOSIX_ONLY has to read them.
+# The mode of the directories above the test directories, which other users must be able to pass through. A program built with -DPOSIX_ONLY
+# must also be able to read them.
 PARENT_MODE = 0o755 if "--posix-only" in sys.argv else 0o711
 # The output at a terminal while a key is derived (a dot each second), and while a large file is read. It depends on time, so it is
 # removed before outputs are compared.
@@ -34,7 +39,7 @@ PROGRESS = re.compile(rb"\r[^\r\n]*\r\x1b\[K|\r\x1b\[K")
 Step = namedtuple("Step", "arguments typed variables at_terminal", defaults=(b"", {}, False))
 # The paths of the program of Minisign and of c/minisign, and of the library that is preloaded into both.
 ProgramPaths = namedtuple("ProgramPaths", "theirs ours preload")
-# The results of a program's runs, and the modes and contents of the files that it left.
+# The results of a program's runs in one directory, and the modes and contents of the files that it left, by name.
 RunResults = namedtuple("RunResults", "ran files")
 
 
@@ -48,9 +53,9 @@ def run_step(program, preload, directory, step):
         for line in step.typed.splitlines(True):
             if not terminal.expect(rb"Password(?: \(one more time\))?: "):
                 break
-            terminal.wait_for_hiding()
+            terminal.wait_for_echo_off()
             terminal.type(line)
-        return Ran(terminal.finish(), PROGRESS.sub(b"", DOTS.sub(rb"\1", terminal.shown)), b"")
+        return RunResult(terminal.finish(), PROGRESS.sub(b"", DOTS.sub(rb"\1", terminal.shown)), b"")
     return run_program(command, directory, step.typed, executable=program, env=environment)
 
 
@@ -67,6 +72,7 @@ def put_files(directory, files):
 
 
 def run_steps(program, preload, files, steps):
+    """Runs the steps in a new directory with these files. Returns the `RunResults`."""
     with tempfile.TemporaryDirectory(prefix="whole-", dir=IN_MEMORY) as directory:
         put_files(directory, {HOME: None, **files})
         ran = [run_step(program, preload, directory, step) for step in steps]
@@ -74,61 +80,64 @@ def run_steps(program, preload, files, steps):
 
 
 def case(name, *rows):
-    """Marks a method as a test case with this name. With `rows`, it is one case for each row of arguments, which are inserted into the
-    name."""
+    """Marks a method as a test case with this name. With `rows`, there is a case for each row of arguments. The name is a format string
+    for the arguments."""
 
     def mark(method):
-        method.named = [(name.format(*row).strip(), *row) for row in (row if isinstance(row, tuple) else (row,) for row in rows or [()])]
+        argument_lists = [row if isinstance(row, tuple) else (row,) for row in rows or [()]]
+        method.cases = [(name.format(*arguments).strip(), *arguments) for arguments in argument_lists]
         return method
 
     return mark
 
 
-class Programs(Disturbing):
+class Programs(FaultRunner):
     """Runs the programs in new directories that other users can reach. Subclasses have the test cases."""
 
-    def __init__(self, whole, room, keys):
-        super().__init__(shutil.copy(whole.ours, room), room)
-        self.whole, self.keys = whole, keys
-        self.directories = tempfile.TemporaryDirectory(dir=self.place)
+    def __init__(self, programs, room, keys):
+        super().__init__(shutil.copy(programs.ours, room), room)
+        self.programs, self.keys = programs, keys
+        self.directories = tempfile.TemporaryDirectory(dir=self.parent)
         for path in (room, self.directories.name):
             os.chmod(path, PARENT_MODE)
 
     def cases(self):
-        """Yields the names of all cases, with their functions and arguments."""
+        """Yields all test cases: tuples of a name, a function, and its arguments."""
         for method in vars(type(self)).values():
-            for name, *row in getattr(method, "named", ()):
-                yield name, method, self, *row
+            for name, *arguments in getattr(method, "cases", ()):
+                yield name, method, self, *arguments
 
     def run_all(self):
         """Runs all cases. Returns the failures and the number of cases."""
         with self.directories:
             return run_cases(self.cases())
 
-    def fresh(self, files):
+    def new_directory(self, files):
         """Creates a directory with these files."""
-        made = tempfile.mkdtemp(dir=self.directories.name)
-        put_files(made, files)
-        return made
+        path = tempfile.mkdtemp(dir=self.directories.name)
+        put_files(path, files)
+        return path
 
     def directory(self, **files):
         """Creates a directory with the keys, the data files and these files."""
-        return self.fresh({HOME: None, **self.keys, **DATA, **files})
+        return self.new_directory({HOME: None, **self.keys, **DATA, **files})
 
     def signed(self, *flags, **files):
-        """Creates a directory as `directory` does, and signs the file `data`."""
+        """Creates a directory like `directory`, and signs the file `data` in it with these flags."""
         directory = self.directory(**files)
         self.sign(directory, *flags)
         return directory
 
-    def ours(self, directory, *arguments, **how):
-        return self.run(directory, arguments, {"HOME": HOME}, **how)
+    def ours(self, directory, *arguments, **options):
+        """Runs c/minisign."""
+        return self.run(directory, arguments, {"HOME": HOME}, **options)
 
-    def theirs(self, directory, *arguments, **how):
-        return self.run(directory, arguments, {"HOME": HOME}, self.whole.theirs, **how)
+    def theirs(self, directory, *arguments, **options):
+        """Runs Minisign's own program."""
+        return self.run(directory, arguments, {"HOME": HOME}, self.programs.theirs, **options)
 
-    def sign(self, directory, *flags, **how):
-        return self.ours(directory, "-Sm", "data", "-s", OPEN, *flags, **how)
+    def sign(self, directory, *flags, **options):
+        return self.ours(directory, "-Sm", "data", "-s", PLAIN_KEY, *flags, **options)
 
     def expect_accepted(self, directory, public):
         """Checks that both programs accept the signature of the file `data`."""
@@ -136,19 +145,19 @@ class Programs(Disturbing):
             ran = run(directory, "-Vm", "data", "-p", public)
             expect(ran.status == 0, f"{run.__name__} rejects the signature under {public}", ran)
 
-    def expect_rejected(self, said, *arguments, files=None, status=2, **how):
+    def expect_rejected(self, error_output, *arguments, files=None, status=2, **options):
         """Runs c/minisign in a directory with these files. Checks that it exits with this status, that its error output ends with
-        `said`, and that it changes no file."""
+        `error_output`, and that it changes no file."""
         directory = self.directory(**(files or {}))
         before = files_in(directory)
-        ran = self.ours(directory, *arguments, **how)
-        expect(ran.status == status and ran.said.endswith(said), ran, f"expected status {status} and {said}")
-        expect(files_in(directory) == before, "a file was made or changed", ran)
+        ran = self.ours(directory, *arguments, **options)
+        expect(ran.status == status and ran.stderr.endswith(error_output), ran, f"expected status {status} and {error_output}")
+        expect(files_in(directory) == before, "a file was created or changed", ran)
 
     def at_terminal(self, directory, *arguments, **environment):
         return AtTerminal(["minisign", *arguments], self.program, directory, {"HOME": HOME, **environment})
 
-    def asked(self, directory, *arguments, **environment):
+    def start_at_prompt(self, directory, *arguments, **environment):
         """Starts a run of c/minisign at a terminal, and waits until it asks for a password."""
         terminal = self.at_terminal(directory, *arguments, **environment)
         expect_prompt(terminal)
@@ -158,7 +167,7 @@ class Programs(Disturbing):
 def expect_prompt(terminal):
     """Checks that the next password prompt appears and that the terminal hides typed text."""
     expect(terminal.expect(rb"Password[^:\n]*: $"), f"no password prompt: {terminal.shown!r}")
-    wait_until(lambda: not terminal.shows_typed(), "the terminal shows typed text")
+    wait_until(lambda: not terminal.is_echoing(), "the terminal shows typed text")
 
 
 def expect_end(terminal, status, shown, typed=b""):
@@ -168,14 +177,15 @@ def expect_end(terminal, status, shown, typed=b""):
            f"status {actual} and the output {terminal.shown!r}, expected status {status} and {shown!r}")
 
 
-# The least N that Minisign accepts, for fast tests.
-FEW_ROWS = 1024
-# With at least this product of N and p, `sealed` does not derive a key, to save time. No password decrypts such a key.
-MUCH_WORK = 1 << 22
+# The minimum of scrypt's N that Minisign accepts, for fast tests.
+MIN_ROWS = 1024
+# If the product of N and p is not below this limit, `sealed` saves the time for deriving a key. No password decrypts the result.
+MAX_DERIVED_WORK = 1 << 22
 
 
-def sealed(text, password, memory=1 << 24, rows=FEW_ROWS, times=1):
-    """Encrypts an unencrypted key with limits from which Minisign computes N = `rows` and p = `times` of scrypt. The operations limit
-    determines N, unless the memory limit is that of N rows. Then the memory limit determines N, and the operations limit p."""
+def sealed(text, password, memory=1 << 24, rows=MIN_ROWS, times=1):
+    """Encrypts an unencrypted secret key file. The operations limit and the memory limit are those from which Minisign computes
+    N = `rows` and p = `times` for scrypt. Usually the operations limit determines N. If `memory` is the memory of `rows` rows, the
+    memory limit determines N, and the operations limit p."""
     limits = texts.Limits(memory, times * 8 * 4 * rows, rows, times)
-    return texts.text_of(texts.sealed(record_of(text), password if times * rows < MUCH_WORK else None, limits))
+    return texts.text_of(texts.seal_record(record_of(text), password if times * rows < MAX_DERIVED_WORK else None, limits))

@@ -1,6 +1,6 @@
-"""The cases of what `c/minisign` does more safely than Minisign's own program: it restores the terminal after a signal,
-uses no terminal or timer in the background or with -q and -Q, locks secrets in memory, escapes comments at a terminal,
-copies only verified data with -o, and decrypts keys in little memory.
+"""Checks what `c/minisign` does more safely than Minisign's own program. It restores the terminal after a signal, does not use the
+terminal in the background, locks secrets in memory and clears them, escapes comments at a terminal, copies only verified data
+with -o, and can decrypt keys in little memory.
 """
 
 import concurrent.futures
@@ -18,21 +18,25 @@ import needles
 import needs
 import static_library
 from at_terminal import SECONDS, AtTerminal
-from process import run_measured, run_program
-from running import expect, feed, read, wait_until, write
-from texts import record_of, text_of
 from command_breaking import is_signature
-from command_running import CLOSED, DATA, HOME, OPEN, PASSWORD, PUBLIC, Programs, case, expect_end, expect_prompt, sealed
+from command_running import (DATA, ENCRYPTED_KEY, HOME, PASSWORD, PLAIN_KEY, PUBLIC_KEY, Programs, case, expect_end,
+                             expect_prompt, sealed)
+from process import run_measured, run_program
+from running import expect, read, wait_until, write, write_and_close
+from texts import record_of, text_of
 
 HERE = os.path.dirname(os.path.realpath(__file__))
-# The length of data that changes between two reads: its last piece and its last block are not full.
-LARGE, BLOCK = 2000003, 4096
-NEW_PAIR, SEALED = ("-G", "-p", "a.pub", "-s", "a.key"), ("-Sm", "data", "-s", CLOSED)
+# The block size of the tags that compare two reads (c/shared/piece_tags.c).
+BLOCK_SIZE = 4096
+# The length of data that changes between two reads. Its last piece and its last block are not full.
+LARGE_SIZE = 2000003
+# Command lines.
+NEW_PAIR = ("-G", "-p", "a.pub", "-s", "a.key")
+SIGN_WITH_PASSWORD = ("-Sm", "data", "-s", ENCRYPTED_KEY)
 
-# A shell that starts a program in the foreground or in the background of its terminal. If the program is stopped, the
-# shell prints by which signal and whether the terminal shows typed text, and then continues the program in the
-# foreground.
-SHELL = """
+# A program that acts as a shell: it starts another program in the foreground or in the background of its terminal. If that program is
+# stopped, the shell prints the signal, and if the terminal shows typed text. Then it continues the program in the foreground.
+JOB_CONTROL_SHELL = """
 import os, signal, sys, termios, time
 how, program, *arguments = sys.argv[1:]
 signal.signal(signal.SIGTTOU, signal.SIG_IGN)
@@ -57,51 +61,51 @@ sys.exit(os.waitstatus_to_exitcode(status) & 255)
 
 def block(number):
     """Returns a different block for each number."""
-    return number.to_bytes(4, "little") * (BLOCK // 4)
+    return number.to_bytes(4, "little") * (BLOCK_SIZE // 4)
 
 
 class Safety(Programs):
     def costly(self):
-        """Returns the encrypted key with the limits of a default key. It takes seconds to find that a password is wrong."""
-        record = record_of(self.keys[CLOSED])
+        """Returns the encrypted key with the limits of a default key. Deriving its key takes seconds. Every password is wrong."""
+        record = record_of(self.keys[ENCRYPTED_KEY])
         return text_of(record[:38] + struct.pack("<QQ", 33554432, 1 << 30) + record[54:])
 
-    def run_by_shell(self, how, directory):
-        """Signs with a program that SHELL starts at a terminal."""
-        return AtTerminal(["python", "-c", SHELL, how, self.program, *SEALED], sys.executable, directory, {"HOME": HOME})
+    def run_by_shell(self, ground, directory):
+        """Starts JOB_CONTROL_SHELL at a terminal, which signs in the "foreground" or in the "background"."""
+        return AtTerminal(["python", "-c", JOB_CONTROL_SHELL, ground, self.program, *SIGN_WITH_PASSWORD], sys.executable, directory,
+                          {"HOME": HOME})
 
     # ---- Passwords ----
 
     @case("restores the terminal after {0.name} {1!r}", (signal.SIGINT, b"\x03"),
           *((number, b"") for number in (signal.SIGINT, signal.SIGTERM, signal.SIGHUP, signal.SIGQUIT)))
     def restores_terminal(self, number, key):
-        """A signal, or the key for it, while a password is typed ends the program, and the terminal shows typed text
-        again."""
-        for arguments in (SEALED, NEW_PAIR):
-            terminal = self.asked(self.directory(), *arguments)
+        """While a password is typed, a signal, or the key that sends it, ends the program. The terminal shows typed text again."""
+        for arguments in (SIGN_WITH_PASSWORD, NEW_PAIR):
+            terminal = self.start_at_prompt(self.directory(), *arguments)
             terminal.type(b"half" + key)
             if not key:
                 terminal.process.send_signal(number)
             terminal.process.wait(SECONDS)
-            shows, status = terminal.shows_typed(), terminal.end()
-            expect(status == -number and shows,
-                   f"it exited with status {status}, expected {-number}, and the terminal shows typed text: {shows}")
+            is_echoing, status = terminal.is_echoing(), terminal.end()
+            expect(status == -number and is_echoing,
+                   f"it exited with status {status}, expected {-number}; the terminal shows typed text: {is_echoing}, expected True")
 
     @case("asks again after it was stopped")
     def asks_again_after_stop(self):
-        """While the program is stopped, the terminal shows typed text. When it continues, it asks again."""
+        """While the program is stopped, the terminal shows typed text. When the program continues, it asks for the password again."""
         directory = self.directory()
         terminal = self.run_by_shell("foreground", directory)
         expect_prompt(terminal)
         terminal.type(b"half\x1a")
-        wait_until(terminal.shows_typed, "the terminal does not show typed text")
+        wait_until(terminal.is_echoing, "the terminal does not show typed text")
         expect_prompt(terminal)
         expect_end(terminal, 0, b"", PASSWORD + b"\n")
         is_signature(read(directory, "data.minisig"))
 
     @case("asks only in the foreground")
     def asks_in_foreground(self):
-        """In the background the program is stopped, and the terminal shows typed text. In the foreground it asks."""
+        """In the background, the program is stopped before it asks, and the terminal shows typed text. In the foreground, it asks."""
         terminal = self.run_by_shell("background", self.directory())
         expect(terminal.expect(rb"stopped by SIGTTOU and it shows"), f"it showed {terminal.shown!r}, expected a stop by SIGTTOU")
         expect_prompt(terminal)
@@ -109,8 +113,7 @@ class Safety(Programs):
 
     @case("an inherited timer ends the program, at a terminal: {0}", False, True)
     def inherits_timer(self, at_terminal):
-        """A timer that was set before the program started ends key derivation. No dots are written into a stream that
-        is no terminal."""
+        """A timer that was set before the program started ends it during key derivation. The program writes dots only to a terminal."""
         directory = self.directory(**{"costly.key": self.costly()})
         arguments, set_timer = ("-Sm", "data", "-s", "costly.key", "-k", "64"), lambda: signal.setitimer(signal.ITIMER_REAL, 0.4)
         if at_terminal:
@@ -119,11 +122,11 @@ class Safety(Programs):
             expect_end(terminal, -signal.SIGALRM, b"", b"wrong\n")
         else:
             ran = self.ours(directory, *arguments, typed=b"wrong\n", preexec_fn=set_timer)
-            expect(ran.status == -signal.SIGALRM and b"." not in ran.said, ran)
+            expect(ran.status == -signal.SIGALRM and b"." not in ran.stderr, ran)
 
     @case("locks secrets in memory and writes no core file")
     def locks_secrets(self):
-        terminal = self.asked(self.directory(), *SEALED)
+        terminal = self.start_at_prompt(self.directory(), *SIGN_WITH_PASSWORD)
         process = f"/proc/{terminal.process.pid}"
         kibibytes = int(re.search(rb"VmLck:\s+(\d+) kB", read(process, "status"))[1])
         core = re.search(rb"Max core file size\s+(\d+)", read(process, "limits"))
@@ -134,72 +137,73 @@ class Safety(Programs):
 
     @case("clears secrets after {0.name}", signal.SIGINT, signal.SIGTERM, signal.SIGHUP)
     def clears_secrets(self, number):
-        """A signal comes at the second prompt for a new key pair. The typed password and the new secret key were in
-        memory, and are cleared when the program ends."""
-        # (the first key was made of the same random bytes)
-        secrets = {"password": b"a long password", "seed": record_of(self.keys[OPEN])[62:94]}
-        finder, directory = needles.build_finder(self.room, secrets), self.directory()
-        terminal = self.asked(directory, *NEW_PAIR, LD_PRELOAD=f"{finder} {self.whole.preload}", SEARCH_SAYS=f"{directory}/found")
+        """The program gets a signal at the second password prompt for a new key pair. At that time, the typed password and the new secret
+        key are in memory. They are cleared before the program ends."""
+        # With the same fixed random bytes, the program generates the same key as PLAIN_KEY.
+        secrets = {"password": b"a long password", "seed": record_of(self.keys[PLAIN_KEY])[62:94]}
+        finder, directory = needles.build_memory_search(self.work_directory, secrets), self.directory()
+        terminal = self.start_at_prompt(directory, *NEW_PAIR, LD_PRELOAD=f"{finder} {self.programs.preload}",
+                                        SEARCH_SAYS=f"{directory}/found")
         terminal.type(b"a long password\n")
         expect_prompt(terminal)
         terminal.type(b"a long p")
         terminal.process.send_signal(number)
         terminal.process.wait(SECONDS)
-        status, lines = terminal.end(), needles.found_by(directory)
+        status, lines = terminal.end(), needles.read_results(directory)
         for secret in secrets:
             found = [(doing, any(counts)) for (doing, needle), counts in lines if needle == secret and doing in ("wait", "raise")]
             expect(status == -number and found[-3:] == [("wait", True), ("raise", True), ("raise", False)],
-                   f"it exited with status {status}, and the {secret} was found at: {found}")
+                   f"it exited with status {status}, expected {-number}; the {secret} was found at {found}")
 
     @case("reads no more than a line for a password")
     def reads_one_line(self):
         reader, writer = os.pipe()
-        feed(writer, PASSWORD + b"\nleft over")
+        write_and_close(writer, PASSWORD + b"\nleft over")
         with open(reader, "rb", buffering=0) as pipe:
-            ran = self.ours(self.directory(), *SEALED, stdin=pipe)
+            ran = self.ours(self.directory(), *SIGN_WITH_PASSWORD, stdin=pipe)
             expect(ran.status == 0 and pipe.read() == b"left over", ran)
 
     # ---- Memory ----
 
     @functools.cached_property
     def large(self):
-        """An encrypted key that takes 256 MiB to decrypt, a quarter of what a default key takes. (It is made in another
-        process, because the memory of this one would count as that of the programs that it starts.)"""
+        """An encrypted key that takes 256 MiB to decrypt, a quarter of the memory for a default key. It is made in another process,
+        because the peak memory of this process would count as that of the programs that it starts."""
         with concurrent.futures.ProcessPoolExecutor(1) as pool:
-            return pool.submit(sealed, self.keys[OPEN], PASSWORD, 1 << 28, 1 << 18).result()
+            return pool.submit(sealed, self.keys[PLAIN_KEY], PASSWORD, 1 << 28, 1 << 18).result()
 
     @case("-k decrypts and encrypts keys in 68 MiB")
     def uses_little_memory(self):
-        """In 68 MiB, all of the program's memory, a key that takes 256 MiB is decrypted with -k 4 and signs the same.
-        With -k 16 a key is encrypted with default limits, which take 1 GiB, and Minisign decrypts it."""
+        """The program uses at most 68 MiB in total. With -k 4, it decrypts a key that otherwise takes 256 MiB, and makes a valid
+        signature. With -k 16, it encrypts a key with default limits, which otherwise take 1 GiB, and Minisign decrypts this key."""
         directory = self.directory(**{"large.key": self.large})
-        for arguments in (("-Sm", "data", "-s", "large.key", "-k", "4"), ("-C", "-s", CLOSED, "-k", "16")):
+        for arguments in (("-Sm", "data", "-s", "large.key", "-k", "4"), ("-C", "-s", ENCRYPTED_KEY, "-k", "16")):
             command = [self.program, *arguments]
-            status, said, kibibytes = run_measured(command, directory, PASSWORD + b"\nq\nq\n", stderr=subprocess.STDOUT)
+            status, error_output, kibibytes = run_measured(command, directory, PASSWORD + b"\nq\nq\n", stderr=subprocess.STDOUT)
             expect(status == 0 and kibibytes <= 68 << 10, arguments,
-                   f"it exited with status {status} and took {kibibytes} KiB, expected at most {68 << 10}: {said!r}")
-        self.expect_accepted(directory, PUBLIC)
-        ran = self.theirs(directory, "-Sm", "more", "-s", CLOSED, typed=b"q\n")
+                   f"it exited with status {status} and took {kibibytes} KiB, expected at most {68 << 10}: {error_output!r}")
+        self.expect_accepted(directory, PUBLIC_KEY)
+        ran = self.theirs(directory, "-Sm", "more", "-s", ENCRYPTED_KEY, typed=b"q\n")
         expect(ran.status == 0, "Minisign does not decrypt the changed key", ran)
 
     @case("decrypts a key if memory is short")
     def decrypts_in_less_memory(self):
-        """If the rows of a key do not fit into memory, fewer are kept."""
-        directory, bound = self.directory(**{"large.key": self.large}), (100 << 20,) * 2
+        """If not all scrypt rows of a key fit into memory, the program keeps fewer rows."""
+        directory, limits = self.directory(**{"large.key": self.large}), (100 << 20,) * 2
         ran = self.ours(directory, "-Sm", "data", "-s", "large.key", typed=PASSWORD + b"\n",
-                        preexec_fn=lambda: resource.setrlimit(resource.RLIMIT_AS, bound))
+                        preexec_fn=lambda: resource.setrlimit(resource.RLIMIT_AS, limits))
         expect(ran.status == 0, ran)
-        self.expect_accepted(directory, PUBLIC)
+        self.expect_accepted(directory, PUBLIC_KEY)
 
     # ---- Output ----
 
     @case("progress at a terminal is {0}", ("shown",), ("not shown with -q", "-q"),
           ("not shown with -Q", "-Q"))
     def shows_progress(self, _, *flags):
-        """Key derivation shows a dot each second. Reading a slow file shows its name, with control characters escaped,
-        and how much was read, and removes this at the end."""
+        """During key derivation, the program shows a dot each second. While it reads a slow file, it shows the name of the file, with
+        control characters escaped, and how much it has read, and removes this line at the end."""
         directory, name = self.signed(**{"costly.key": self.costly()}), "s\x1blow"
-        terminal = self.asked(directory, "-Sm", "data", "-s", "costly.key", "-k", "2", *flags)
+        terminal = self.start_at_prompt(directory, "-Sm", "data", "-s", "costly.key", "-k", "2", *flags)
         dots = b"" if flags else rb"\.+"
         expect_end(terminal, 2, rb"secret key\.\.\. " + dots + rb"done\r\n\r\nWrong password", b"wrong\n")
         path = os.path.join(directory, name)
@@ -213,58 +217,60 @@ class Safety(Programs):
 
         with concurrent.futures.ThreadPoolExecutor() as pool:
             pool.submit(write_slowly)
-            terminal = self.at_terminal(directory, "-Vm", name, "-x", "data.minisig", "-p", PUBLIC, *flags)
+            terminal = self.at_terminal(directory, "-Vm", name, "-x", "data.minisig", "-p", PUBLIC_KEY, *flags)
             status = terminal.finish()
-            # (otherwise the writer waits forever for a program that never opens the pipe)
+            # If the program did not open the pipe, this ends the wait of the writer.
             os.close(os.open(path, os.O_RDONLY | os.O_NONBLOCK))
         progress = rb"\rs\\u\{1b\}low 0 MiB\r\x1b\[KSignature and"
-        is_right = not re.search(rb"MiB|\x1b", terminal.shown) if flags else re.search(progress, terminal.shown)
-        expect(status == 0 and is_right, f"it exited with status {status} and showed {terminal.shown!r}")
+        is_expected = not re.search(rb"MiB|\x1b", terminal.shown) if flags else re.search(progress, terminal.shown)
+        expect(status == 0 and is_expected, f"it exited with status {status} and showed {terminal.shown!r}")
 
-    @case("writes no control sequence at a terminal: {0}", ("-Vm", "data", "-p", PUBLIC), ("-Sm", "data", "-s", OPEN))
+    @case("writes no control sequence at a terminal: {0}", ("-Vm", "data", "-p", PUBLIC_KEY), ("-Sm", "data", "-s", PLAIN_KEY))
     def writes_no_control_sequence(self, *arguments):
         expect_end(self.at_terminal(self.signed(), *arguments), 0, rb"\A[^\x1b]*\Z")
 
     @case("escapes control and direction characters of comments only at a terminal")
     def escapes_comments_at_terminal(self):
         comment = "tab\there \x1b[31mred\x07 \x7f \u0085 \u009b2J \u202egnp\u202c \u2066x\u2069 \u00e9\u20ac\U0001f511"
-        # (a terminal may show a tab as spaces)
+        # A terminal may replace a tab by spaces.
         shown = (rb"tab[\t ]+here " + re.escape(br"\u{1b}[31mred\u{7} \u{7f} \u{85} \u{9b}2J \u{202e}gnp\u{202c} \u{2066}x\u{2069} ")
                   + "\u00e9\u20ac\U0001f511\r\n$".encode())
         directory = self.signed("-t", comment)
-        piped = self.ours(directory, "-Vm", "data", "-p", PUBLIC)
-        expect(piped.output.endswith(f"Trusted comment: {comment}\n".encode()), f"into a pipe: {piped}")
+        piped = self.ours(directory, "-Vm", "data", "-p", PUBLIC_KEY)
+        expect(piped.stdout.endswith(f"Trusted comment: {comment}\n".encode()), f"into a pipe: {piped}")
         for flags in ((), ("-Q",)):
-            expect_end(self.at_terminal(directory, "-Vm", "data", "-p", PUBLIC, *flags), 0, shown)
+            expect_end(self.at_terminal(directory, "-Vm", "data", "-p", PUBLIC_KEY, *flags), 0, shown)
 
     @case("-o copies data from a pipe only after it is verified")
     def copies_verified_pipe(self):
         directory = self.signed()
         for run, data, expected in ((self.ours, DATA["data"], (0, DATA["data"])), (self.ours, b"other data\n", (1, b"")),
                                   (self.theirs, DATA["data"], (0, b""))):
-            ran = run(directory, "-Vom", "/dev/stdin", "-x", "data.minisig", "-p", PUBLIC, typed=data)
-            expect((ran.status, ran.output) == expected, run.__name__, data, ran, f"expected {expected}")
+            ran = run(directory, "-Vom", "/dev/stdin", "-x", "data.minisig", "-p", PUBLIC_KEY, typed=data)
+            expect((ran.status, ran.stdout) == expected, run.__name__, data, ran, f"expected {expected}")
 
-    def copied(self, program, directory, name, change):
-        """Runs -o on data that is changed after it was verified and before it is copied. Until then the error stream,
-        to which the program writes in between, is a full pipe. Returns the exit status, the output and the errors."""
+    def copy_changed_data(self, program, directory, name, change):
+        """Runs -Vo on the file `name`, which the function `change` changes after it was verified and before it is copied. Between the two,
+        the program writes to standard error. That is a full pipe, so the program waits until the pipe is read. Returns the exit status,
+        the output and the error output."""
         reader, writer = full_pipe()
-        process = subprocess.Popen([program, "-Vom", name, "-p", PUBLIC], cwd=directory, stdin=subprocess.DEVNULL,
+        process = subprocess.Popen([program, "-Vom", name, "-p", PUBLIC_KEY], cwd=directory, stdin=subprocess.DEVNULL,
                                    stdout=subprocess.PIPE, stderr=writer)
         os.close(writer)
         wait_until_asleep(process)
         change(os.path.join(directory, name))
         with concurrent.futures.ThreadPoolExecutor() as pool, open(reader, "rb") as pipe:
-            said = pool.submit(pipe.read)
+            reading = pool.submit(pipe.read)
             output, _ = process.communicate(timeout=SECONDS)
-            return process.returncode, output, said.result()
+            return process.returncode, output, reading.result()
 
-    @case("-o notices data that is {0} before it is copied", ("changed", 1000000, b"changed"), ("changed at its end", LARGE - 1, b"\1"),
-          ("changed in its order", 256 * BLOCK, block(257) + block(256)), ("longer", LARGE, b"\0"), ("cut", 1000000, b""),
-          ("cut at a zero", LARGE - 1, b""), ("emptied", 0, b""))
+    @case("-o notices data that is {0} before it is copied", ("changed", 1000000, b"changed"),
+          ("changed at its end", LARGE_SIZE - 1, b"\1"),
+          ("changed in its order", 256 * BLOCK_SIZE, block(257) + block(256)), ("longer", LARGE_SIZE, b"\0"), ("cut", 1000000, b""),
+          ("cut at a zero", LARGE_SIZE - 1, b""), ("emptied", 0, b""))
     def notices_changed_data(self, _, at, written):
-        """After the data was verified, `written` is written at an offset, or the data is cut there. The output is the
-        beginning of the verified data, and the run fails."""
+        """After the data was verified, the bytes `written` are written at the offset `at`; if they are empty, the data is truncated there.
+        The run fails, and its output is the beginning of the verified data."""
 
         def change(path):
             with open(path, "r+b") as file:
@@ -273,43 +279,44 @@ class Safety(Programs):
                 if not written:
                     file.truncate()
 
-        before = b"".join(map(block, range(LARGE // BLOCK))) + bytes(LARGE % BLOCK)
+        before = b"".join(map(block, range(LARGE_SIZE // BLOCK_SIZE))) + bytes(LARGE_SIZE % BLOCK_SIZE)
         directory = self.directory(large=before)
-        self.ours(directory, "-Sm", "large", "-s", OPEN)
-        status, output, said = self.copied(self.program, directory, "large", change)
+        self.ours(directory, "-Sm", "large", "-s", PLAIN_KEY)
+        status, output, error_output = self.copy_changed_data(self.program, directory, "large", change)
         expect(status == 1 and before.startswith(output) and len(output) < len(before)
-               and said.endswith(b"\nerror: large: Data changed between verification and output\nhint: do not use the output\n"),
-               f"it exited with status {status}, copied {len(output)} bytes, and said {said[-100:]}")
+               and error_output.endswith(b"\nerror: large: Data changed between verification and output\nhint: do not use the output\n"),
+               f"it exited with status {status}, copied {len(output)} bytes, and said {error_output[-100:]}")
 
     @case("-o of {0} exits with status {1} for data that is replaced before it is copied {3}", ("ours", 1, b"", ""),
           ("theirs", 0, DATA["more"], ""), ("ours", 0, DATA["data"], "-l"))
-    def copies_replaced_data(self, which, expected, copied, flags):
+    def copies_replaced_data(self, which, expected, copy_changed_data, flags):
         """With a legacy signature ours copies the verified data. Minisign copies the new data."""
-        program, change = getattr(self.whole, which), lambda path: write("", path, DATA["more"])
-        status, output, _ = self.copied(program, self.signed(*flags.split()), "data", change)
-        expect((status, output) == (expected, copied),
-               f"it exited with status {status} and copied {output!r}, expected {expected} and {copied!r}")
+        program, change = getattr(self.programs, which), lambda path: write("", path, DATA["more"])
+        status, output, _ = self.copy_changed_data(program, self.signed(*flags.split()), "data", change)
+        expect((status, output) == (expected, copy_changed_data),
+               f"it exited with status {status} and copied {output!r}, expected {expected} and {copy_changed_data!r}")
 
     @case("tags of pieces are those of the formula")
     def tags_of_pieces(self):
         """The tags that compare two reads of a piece are those of the formula, also if the compiler has no 128-bit
         integers."""
-        program, key = os.path.join(self.room, "tags"), os.urandom(BLOCK + 512)
+        program, key = os.path.join(self.work_directory, "tags"), os.urandom(BLOCK_SIZE + 512)
         sources = [os.path.join(HERE, "tags.c"), os.path.join(static_library.DIRECTORY, "shared", "piece_tags.c")]
         for flags in ([], ["-U__SIZEOF_INT128__"]):
-            subprocess.run([needs.libsodium(), "-O2", *flags, f"-I{static_library.DIRECTORY}", "-o", program, *sources], check=True)
+            subprocess.run([needs.compiler_with_libsodium(), "-O2", *flags, f"-I{static_library.DIRECTORY}", "-o", program, *sources],
+                           check=True)
             for length in (0, 1, 8, 15, 16, 17, 4095, 4096, 4097, 70000, 131071, 131072):
                 piece = os.urandom(length)
-                ran = run_program([program], self.room, key + piece)
-                expect(ran.status == 0 and int(ran.output, 16) == tag_of(key, piece), flags,
-                       f"the tag of {length} bytes is {ran.output}, expected {tag_of(key, piece):x}")
+                ran = run_program([program], self.work_directory, key + piece)
+                expect(ran.status == 0 and int(ran.stdout, 16) == tag_of(key, piece), flags,
+                       f"the tag of {length} bytes is {ran.stdout}, expected {tag_of(key, piece):x}")
 
     @case("reports a full output")
     def reports_full_output(self):
-        directory, verifying = self.signed(), ("-Vm", "data", "-p", PUBLIC)
+        directory, verifying = self.signed(), ("-Vm", "data", "-p", PUBLIC_KEY)
         with open("/dev/full", "wb") as full:
             for run, status, *arguments in ((self.ours, 2, *verifying), (self.ours, 2, "-v"), (self.ours, 2, "-h"),
-                                            (self.ours, 2, "-CW", "-s", OPEN), (self.theirs, 0, *verifying)):
+                                            (self.ours, 2, "-CW", "-s", PLAIN_KEY), (self.theirs, 0, *verifying)):
                 ran = run(directory, *arguments, stdout=full)
                 expect(ran.status == status, run.__name__, arguments, ran, f"expected status {status}")
 
@@ -324,8 +331,8 @@ def nh(key, message):
 
 def tag_of(key, piece):
     """Returns NH of the NH values of all blocks."""
-    blocks = [piece[at:at + BLOCK] for at in range(0, len(piece), BLOCK)]
-    return nh(key[BLOCK:], b"".join(nh(key, block).to_bytes(16, "little") for block in blocks))
+    blocks = [piece[at:at + BLOCK_SIZE] for at in range(0, len(piece), BLOCK_SIZE)]
+    return nh(key[BLOCK_SIZE:], b"".join(nh(key, block).to_bytes(16, "little") for block in blocks))
 
 
 def full_pipe():
@@ -334,7 +341,7 @@ def full_pipe():
     os.set_blocking(writer, False)
     try:
         while True:
-            os.write(writer, bytes(BLOCK))
+            os.write(writer, bytes(BLOCK_SIZE))
     except BlockingIOError:
         os.set_blocking(writer, True)
     return reader, writer
@@ -342,8 +349,9 @@ def full_pipe():
 
 def wait_until_asleep(process):
     """Waits until a process has slept for half a second."""
-    rested = 0
+    samples = 0
     end = time.monotonic() + SECONDS
-    while rested < 10 and time.monotonic() < end:
-        rested = rested + 1 if read(f"/proc/{process.pid}/stat").rpartition(b")")[2].split()[0] == b"S" else 0
+    while samples < 10 and time.monotonic() < end:
+        state = read(f"/proc/{process.pid}/stat").rpartition(b")")[2].split()[0]
+        samples = samples + 1 if state == b"S" else 0
         time.sleep(0.05)

@@ -1,15 +1,16 @@
-"""The cases of messages: a file of the wrong kind gets an error that names the file and what it is, and a hint; control
-characters in names are escaped. Without a terminal or an input, a command that needs a password fails.
+"""Checks messages of `c/minisign`. If a file is of the wrong kind, the error names the file and its kind, and a hint follows. Control
+characters in file names are escaped. A command that cannot ask for a password fails.
 """
 
 import base64
 import os
 import struct
 
-from minisign_differences import BY_FLAG
+from command_running import (ENCRYPTED_KEY, MIN_ROWS, OTHER_PUBLIC_KEY, PASSWORD, PLAIN_KEY, PUBLIC_KEY, Programs, case,
+                             sealed)
+from minisign_differences import FILE_HINTS
 from running import expect, files_in, read, write
-from texts import record_of, text_of, turned, with_checksum
-from command_running import CLOSED, FEW_ROWS, OPEN, OTHER, PASSWORD, PUBLIC, Programs, case, sealed
+from texts import flip_bit, record_of, text_of, with_checksum
 
 # Files of other programs.
 SSH = b"ssh-ed25519 AAAAC3NzaC1lZDI1NTE5AAAAIK0wmN/Cr3JXqmLW7u+g9pTh+wyqDHpSQEIQczXkVx9q me@home\n"
@@ -25,110 +26,118 @@ SIGNIFY_SECRET = b"untrusted comment: signify secret key\n" + base64.b64encode(b
 HTML = b"\n<!DOCTYPE html>\n<html><head><title>404</title></head></html>\n"
 GZIP = bytes.fromhex("1f8b0800000000000003") + bytes(range(60))
 
-# First lines of Minisign's errors, and those of c/minisign that a row of docs/DIFFERENCES.md allows instead: for files
-# that are not UTF-8, long lines, extra bytes after a record, and another order of checks.
+# First lines of Minisign's errors, and the lines of c/minisign that rows of docs/DIFFERENCES.md allow instead, for files that are not
+# UTF-8, for long lines, for extra bytes after a record, and for another order of the checks.
 NOT_UTF8 = b"error: wrong: stream did not contain valid UTF-8"
 START = b'Untrusted signature comment should start with "untrusted comment: "'
 ALLOWED_FIRST_LINES = {b"Signature too long": (b"Trusted comment not present",), b"Untrusted signature comment too long": (START, NOT_UTF8),
                        START: (b"Error while reading the signature file", NOT_UTF8)}
 
-# A file name with control characters, and the same name escaped.
-ODD, SHOWN = "a\x1b[31m\u202e\u0085\tb.key", rb"a\u{1b}[31m\u{202e}\u{85}\u{9}b.key"
+# A file name with control characters, and its escaped form.
+CONTROL_NAME, ESCAPED_NAME = "a\x1b[31m\u202e\u0085\tb.key", rb"a\u{1b}[31m\u{202e}\u{85}\u{9}b.key"
 
-# The hints for damaged files.
-AGAIN, RESTORE = b"download or copy the file again", b"restore the file from a backup"
+# Hints for damaged files.
+DOWNLOAD_HINT = b"download or copy the file again"
+RESTORE_HINT = b"restore the file from a backup"
 
-# A key of more work than this (N times p of scrypt) is rejected without -K.
+# Without -K, a key with a greater product of scrypt's N and p is rejected.
 MAX_WORK = 16 << 20
 
 
-class Words(Programs):
+class Messages(Programs):
     def cases(self):
-        texts = (*wrong_texts(self.keys, read(self.signed(), "data.minisig")), *damaged_keys(self.keys[OPEN]))
-        for number, (flag, text, said, hint, *first) in enumerate(texts):
-            yield f"names the wrong file {number} for {flag}: {said.decode()}", self.names_wrong_file, flag, text, said, hint, *first
+        texts = (*wrong_texts(self.keys, read(self.signed(), "data.minisig")), *damaged_keys(self.keys[PLAIN_KEY]))
+        for number, (flag, text, message, *more) in enumerate(texts):
+            name = f"names the wrong file {number} for {flag}: {message.decode()}"
+            yield name, self.names_wrong_file, flag, text, message, *more
         yield from super().cases()
 
-    def names_wrong_file(self, flag, text, words, hint, known=None):
-        """Gives a wrong file as the public key, the signature or the secret key. The first line is Minisign's own, or
-        `known`. Then come an error that names the file and says `words`, and a hint. Nothing is written."""
+    def names_wrong_file(self, flag, text, message, hint, first_line=None):
+        """Passes a file with the content `text` as the public key, the signature or the secret key. The first line of the errors must be
+        `first_line`, or if this is None, Minisign's own. Then come an error with the file name and `message`, and a hint. No file is
+        written."""
         directory = self.signed(wrong=text)
-        arguments = {"-p": ("-Vm", "data", "-p", "wrong"), "-x": ("-Vm", "data", "-p", PUBLIC, "-x", "wrong"),
+        arguments = {"-p": ("-Vm", "data", "-p", "wrong"), "-x": ("-Vm", "data", "-p", PUBLIC_KEY, "-x", "wrong"),
                      "-s": ("-Sm", "data", "-s", "wrong", "-x", "made")}[flag]
         before = files_in(directory)
         ours = self.ours(directory, *arguments, typed=b"x\n")
-        lines = ours.said.removeprefix(b"Password: \n").split(b"\n")
-        rest = [b"error: wrong: " + words, *([b"hint: " + hint] if hint else []), b""]
+        lines = ours.stderr.removeprefix(b"Password: \n").split(b"\n")
+        rest = [b"error: wrong: " + message, *([b"hint: " + hint] if hint else []), b""]
         expect(ours.status == 2 and lines[1:] == rest and files_in(directory) == before, ours, f"expected {rest}")
-        if known:
-            expect(lines[0] == known, ours, f"expected the first line {known}")
+        if first_line:
+            expect(lines[0] == first_line, ours, f"expected the first line {first_line}")
             return
         theirs = self.theirs(directory, *arguments)
-        first = theirs.said.split(b"\n")[0]
+        first = theirs.stderr.split(b"\n")[0]
         expect(theirs.status != 2 or first == lines[0] or lines[0] in ALLOWED_FIRST_LINES.get(first, (NOT_UTF8,)),
                f"Minisign {theirs}, ours {ours}")
 
     @case("names a truncated signature")
     def names_truncated_signature(self):
-        """Even if the last line is still valid base64, the signature is called truncated."""
+        """The error says that the signature is truncated, even if the rest of its last line is valid base64."""
         text = read(self.signed(), "data.minisig")
-        said = (b"Comment signature verification failed\nerror: cut: this signature is truncated: its fourth line is too short\n"
+        error_output = (b"Comment signature verification failed\nerror: cut: this signature is truncated: its fourth line is too short\n"
                 b"hint: download or copy the file again\n")
         for end in (-41, -5):
-            self.expect_rejected(said, "-Vm", "data", "-p", PUBLIC, "-x", "cut", files={"cut": text[:end]}, status=1)
+            self.expect_rejected(error_output, "-Vm", "data", "-p", PUBLIC_KEY, "-x", "cut", files={"cut": text[:end]}, status=1)
 
-    @case("limits work: N = {0}, p = {1}, needed -K: {2}", (FEW_ROWS, 32, None),
-          (FEW_ROWS, MAX_WORK // FEW_ROWS + 1, 17), (1 << 20, 17, 17),
-          (1 << 15, 513, 17), (FEW_ROWS, 1025, 2, "-K", "1"), (FEW_ROWS, 1025, None, "-K", "2"))
+    @case("limits the work of a key with N = {0} and p = {1}, hint -K {2}", (MIN_ROWS, 32, None),
+          (MIN_ROWS, MAX_WORK // MIN_ROWS + 1, 17), (1 << 20, 17, 17),
+          (1 << 15, 513, 17), (MIN_ROWS, 1025, 2, "-K", "1"), (MIN_ROWS, 1025, None, "-K", "2"))
     def limits_work(self, rows, times, needed, *flags):
-        """A key of this much work (N times p of scrypt) is decrypted. Or it is rejected at once, if it would take more
-        than twenty seconds, with a hint that names the -K that is needed."""
-        files = {"some.key": sealed(self.keys[OPEN], PASSWORD, rows << 10, rows, times)}
+        """A key with these parameters of scrypt is decrypted if `needed` is None. Otherwise its work, N times p, is above the limit: it is
+        rejected at once, with a hint to use -K with the value `needed`."""
+        files = {"some.key": sealed(self.keys[PLAIN_KEY], PASSWORD, rows << 10, rows, times)}
         signing, typed = ("-Sm", "data", "-s", "some.key", *flags), PASSWORD + b"\n"
         if needed:
-            said = ("\nerror: some.key: scrypt work too high\n"
+            error_output = ("\nerror: some.key: scrypt work too high\n"
                     f"hint: use -K {needed} to decrypt this key, which takes {needed} times the work of a default key\n")
-            self.expect_rejected(said.encode(), *signing, files=files, typed=typed, seconds=10)
+            self.expect_rejected(error_output.encode(), *signing, files=files, typed=typed, seconds=10)
         else:
             directory = self.directory(**files)
             ran = self.ours(directory, *signing, typed=typed)
             expect(ran.status == 0, ran)
-            self.expect_accepted(directory, PUBLIC)
+            self.expect_accepted(directory, PUBLIC_KEY)
 
-    @case("fails without an error stream: {0}", ("-C", "-s", CLOSED), ("-CW", "-s", CLOSED), ("-R", "-p", "made.pub", "-s", CLOSED),
-          ("-Sm", "data", "-s", CLOSED), ("-G", "-p", "made.pub", "-s", "made.key"))
+    @case("fails without an error stream: {0}", ("-C", "-s", ENCRYPTED_KEY), ("-CW", "-s", ENCRYPTED_KEY),
+          ("-R", "-p", "made.pub", "-s", ENCRYPTED_KEY),
+          ("-Sm", "data", "-s", ENCRYPTED_KEY), ("-G", "-p", "made.pub", "-s", "made.key"))
     def fails_without_error_stream(self, *arguments):
         """A command that needs a password cannot ask for it. It fails as Minisign does, and changes no file."""
-        how = {"typed": PASSWORD + b"\nnew\nnew\n", "preexec_fn": lambda: os.close(2)}
-        self.expect_rejected(b"", *arguments, **how)
-        theirs = self.theirs(self.directory(), *arguments, **how)
+        options = {"typed": PASSWORD + b"\nnew\nnew\n", "preexec_fn": lambda: os.close(2)}
+        self.expect_rejected(b"", *arguments, **options)
+        theirs = self.theirs(self.directory(), *arguments, **options)
         expect(theirs.status == 2, f"Minisign {theirs}")
 
-    @case("escapes control characters of a name, {0!r} {1} {2!r}", (None, "-Sm", "data", "-s", ODD), (None, "-Sm", ODD, "-s", OPEN),
-          (None, "-Sm", "data", "-s", OPEN, "-x", f"none/{ODD}"), (None, "-Vm", "data", "-p", ODD),
-          (None, "-Vm", ODD, "-x", "data.minisig", "-p", PUBLIC), (None, "-Vm", "data", "-x", ODD, "-p", PUBLIC),
-          (b"older", "-GW", "-p", ODD, "-s", "b.key"), (None, "-GW", "-p", "a.pub", "-s", ODD), (OPEN, "-CW", "-s", ODD),
-          (b"no key", "-Vm", "data", "-p", ODD), ("data.minisig", "-Vm", "data", "-x", ODD, "-p", OTHER), (None, "-GW", "-p", ODD, "-s", ODD))
+    @case("escapes control characters of a name, {0!r} {1} {2!r}", (None, "-Sm", "data", "-s", CONTROL_NAME),
+          (None, "-Sm", CONTROL_NAME, "-s", PLAIN_KEY),
+          (None, "-Sm", "data", "-s", PLAIN_KEY, "-x", f"none/{CONTROL_NAME}"), (None, "-Vm", "data", "-p", CONTROL_NAME),
+          (None, "-Vm", CONTROL_NAME, "-x", "data.minisig", "-p", PUBLIC_KEY), (None, "-Vm", "data", "-x", CONTROL_NAME, "-p", PUBLIC_KEY),
+          (b"older", "-GW", "-p", CONTROL_NAME, "-s", "b.key"), (None, "-GW", "-p", "a.pub", "-s", CONTROL_NAME),
+          (PLAIN_KEY, "-CW", "-s", CONTROL_NAME),
+          (b"no key", "-Vm", "data", "-p", CONTROL_NAME), ("data.minisig", "-Vm", "data", "-x", CONTROL_NAME, "-p", OTHER_PUBLIC_KEY),
+          (None, "-GW", "-p", CONTROL_NAME, "-s", CONTROL_NAME))
     def escapes_name(self, older, *arguments):
-        """Control characters are escaped wherever the name is shown. `older` is the content of an existing file of this
-        name, or the name of the file to copy."""
+        """Control characters are escaped wherever the name is shown. If `older` is not None, a file of this name exists, with the bytes
+        `older` or the content of the file that `older` names."""
         for at_terminal in (False, True):
             directory = self.signed()
             if older:
-                write(directory, ODD, older if isinstance(older, bytes) else read(directory, older))
+                write(directory, CONTROL_NAME, older if isinstance(older, bytes) else read(directory, older))
             if at_terminal:
                 terminal = self.at_terminal(directory, *arguments)
                 terminal.finish()
-                said = terminal.shown
+                error_output = terminal.shown
             else:
                 ran = self.ours(directory, *arguments)
-                said = ran.output + ran.said
-            expect(SHOWN in said and b"\x1b" not in said and "\u202e".encode() not in said, f"at a terminal {at_terminal}: {said!r}")
+                error_output = ran.stdout + ran.stderr
+            expect(ESCAPED_NAME in error_output and b"\x1b" not in error_output and "\u202e".encode() not in error_output,
+                   f"at a terminal {at_terminal}: {error_output!r}")
 
 
 def wrong_texts(keys, signature):
-    """Yields files of the wrong kind: the flag that names the file, the file, the error after its name, and the hint."""
-    public, secret = keys[PUBLIC], keys[OPEN]
+    """Yields files of the wrong kind, as arguments of `names_wrong_file`."""
+    public, secret = keys[PUBLIC_KEY], keys[PLAIN_KEY]
     first, second, third, fourth, _ = signature.split(b"\n")
     lines = lambda *some: b"\n".join(some) + b"\n"
     damage, cut, utf16 = b"this signature is damaged: ", b"this signature is truncated: it has only ", b"this file is UTF-16"
@@ -136,10 +145,10 @@ def wrong_texts(keys, signature):
     page, save, extract = b"download the file itself, not a page about it", b"save it as UTF-8", b"decompress it first"
     kinds = {"-p": (b"a public key", public), "-x": (b"a signature", signature), "-s": (b"a secret key", secret)}
     for flag, (expected, _) in kinds.items():
-        yield flag, b"", b"this file is empty", AGAIN
+        yield flag, b"", b"this file is empty", DOWNLOAD_HINT
         for found, text in kinds.values():
             if found != expected:
-                yield flag, text, b"this is " + found + b", not " + expected, by_flag(flag)
+                yield flag, text, b"this is " + found + b", not " + expected, file_hint(flag)
     for flag, words, *texts in (
         ("-p", b"this is an SSH public key", SSH, b"sk-" + SSH, b"ecdsa-sha2-nistp256 AAAA\n", b"---- BEGIN SSH2 PUBLIC KEY ----\n"),
         ("-s", b"this is an SSH private key", SSH_SECRET),
@@ -158,7 +167,7 @@ def wrong_texts(keys, signature):
         ("-x", b'this is not a signature: its first line does not begin with "untrusted comment: "', b"some\nother\ntext\nof lines\n"),
     ):
         for text in texts:
-            yield flag, text, words, by_flag(flag)
+            yield flag, text, words, file_hint(flag)
     for flag, words, hint, *texts in (
         ("-x", web, page, HTML), ("-p", web, page, HTML),
         ("-x", b"this is a gzip file", extract, GZIP), ("-p", b"this is a bzip2 file", extract, b"BZh91AY"),
@@ -167,26 +176,28 @@ def wrong_texts(keys, signature):
         ("-p", utf16, save, public.decode().encode("utf-16")), ("-x", utf16, save, signature.decode().encode("utf-16-le")),
         ("-s", utf16, save, secret.decode().encode("utf-16-be")),
         ("-x", b"this file begins with a byte order mark", b"save it as UTF-8 without a byte order mark", b"\xef\xbb\xbf" + signature),
-        ("-p", b"this public key is truncated: it has only 1 of 2 lines", AGAIN, public.split(b"\n")[0] + b"\n"),
-        ("-x", cut + b"2 of 4 lines", AGAIN, lines(first, second)), ("-x", cut + b"3 of 4 lines", AGAIN, lines(first, second, third)),
-        ("-x", damage + b'its third line does not begin with "trusted comment: "', AGAIN, lines(first, second, b"x" + third, fourth)),
-        ("-x", not_base64, AGAIN, lines(first, b"!", third, fourth), lines(first, second, third, b"!")),
-        ("-x", damage + b"its second line is too short", AGAIN, lines(first, second[:-8], third, fourth)),
-        ("-x", damage + b"its signature algorithm is unknown", AGAIN, lines(first, b"WF" + second[2:], third, fourth)),
-        ("-p", b"this public key is damaged: its second line is too short or too long", AGAIN, public[:-8] + b"\n"),
-        ("-s", b"this secret key is damaged: its second line is not base64", RESTORE, text_of(record_of(secret))[:-20]),
+        ("-p", b"this public key is truncated: it has only 1 of 2 lines", DOWNLOAD_HINT, public.split(b"\n")[0] + b"\n"),
+        ("-x", cut + b"2 of 4 lines", DOWNLOAD_HINT, lines(first, second)),
+                                      ("-x", cut + b"3 of 4 lines", DOWNLOAD_HINT, lines(first, second, third)),
+        ("-x", damage + b'its third line does not begin with "trusted comment: "', DOWNLOAD_HINT,
+         lines(first, second, b"x" + third, fourth)),
+        ("-x", not_base64, DOWNLOAD_HINT, lines(first, b"!", third, fourth), lines(first, second, third, b"!")),
+        ("-x", damage + b"its second line is too short", DOWNLOAD_HINT, lines(first, second[:-8], third, fourth)),
+        ("-x", damage + b"its signature algorithm is unknown", DOWNLOAD_HINT, lines(first, b"WF" + second[2:], third, fourth)),
+        ("-p", b"this public key is damaged: its second line is too short or too long", DOWNLOAD_HINT, public[:-8] + b"\n"),
+        ("-s", b"this secret key is damaged: its second line is not base64", RESTORE_HINT, text_of(record_of(secret))[:-20]),
     ):
         for text in texts:
             yield flag, text, words, hint
 
 
-def by_flag(flag):
-    """Returns the hint that names the flag."""
-    return BY_FLAG[flag].removeprefix(b"hint: ")
+def file_hint(flag):
+    """Returns the hint for a missing or wrong file of this flag."""
+    return FILE_HINTS[flag].removeprefix(b"hint: ")
 
 
 def damaged_keys(text):
-    """Yields damaged secret keys in the same form, with the expected first line."""
+    """Yields damaged secret keys, as arguments of `names_wrong_file`."""
     record, loading = with_checksum(record_of(text)), b"Error while loading the secret key file"
     text, damage, closed = text_of(record), b"this secret key is damaged: ", record_of(sealed(text, PASSWORD))
     limited = lambda *limits: text_of(closed[:38] + struct.pack("<QQ", *limits) + closed[54:])
@@ -198,12 +209,13 @@ def damaged_keys(text):
         (damage + b"its second line is too short", no_base64, text_of(record[:-1])),
         (damage + b"it is not UTF-8", NOT_UTF8, b"\xff" + text),
         (damage + b"its checksum is wrong", b"error: wrong: Corrupted key",
-         *(text_of(turned(record, at)) for at in (0, 1, 54, 61, 62, 93, 94, 125, 126, 157))),
+         *(text_of(flip_bit(record, at)) for at in (0, 1, 54, 61, 62, 93, 94, 125, 126, 157))),
         (damage + b"its key derivation function is unknown", b"Unsupported key derivation function",
          text_of(record[:2] + b"XX" + record[4:])),
-        (b"decrypting this key takes more than 1 GiB of memory", b"error: wrong: scrypt parameters too high", limited(1 << 15, (1 << 30) + 1)),
+        (b"decrypting this key takes more than 1 GiB of memory", b"error: wrong: scrypt parameters too high",
+         limited(1 << 15, (1 << 30) + 1)),
         (damage + b"its scrypt parameters are invalid", b"error: wrong: invalid scrypt parameters", limited(1 << 40, 0)),
     ):
-        hint = AGAIN if b"empty" in words else RESTORE if b"GiB" not in words else None
+        hint = DOWNLOAD_HINT if b"empty" in words else RESTORE_HINT if b"GiB" not in words else None
         for wrong in texts:
             yield "-s", wrong, words, hint, first

@@ -17,7 +17,7 @@ void randombytes_buf(void *const bytes, const size_t len)
 
 int main(void)
 {
-    static uint8_t piece[TAGGED_BYTES];
+    static uint8_t piece[MAX_TAGGED_BYTES];
     struct tag tag;
     size_t len;
 

@@ -1,5 +1,5 @@
-"""Events during a run: stalled pipes, files, temporary files, directories and locks that others change, and concurrent
-runs.
+"""Checks what happens if something changes during a run: a pipe stalls, another process changes the data, the target, the
+temporary file, the directory or the lock, or another run installs an update at the same time.
 """
 
 import concurrent.futures
@@ -13,164 +13,173 @@ import termios
 import time
 import tty
 
-from disturbed import in_turn
-from installers import (ALREADY, CHECK, FAILED, IN_USE, LATER, LIBC_CALLS, LOCK, NEW, OLD, OLDER, OTHER_SIGNED, PK, RECORD, REJECTED,
-                        SAME_VERSION, TARGET, error)
-from running import NOBODY, SECONDS, expect, wait_until
+from installers import (ALREADY_INSTALLED, CHECK_ARGUMENTS, FAILED, IN_USE, LATER_DATA, LIBC_CALLS, LOCK, NEW_DATA,
+                        OLDER_VERSION, OLD_DATA, PK, RECORD, REJECTED, SAME_VERSION, TARGET, WRONG_SIGNATURE_ERROR,
+                        error_text)
+from running import NOBODY, SECONDS, expect, for_each_call, wait_until
 from runs import Cases, Directory, repeating
-from updates import SIZED, key_words
+from updates import SIZE_FIELD, key_arguments
 
 meanwhile_cases = Cases()
 
-TARGET_IN_USE = error(TARGET, "another installation of this file is running", "use --wait SECONDS to wait for it")
+TARGET_IN_USE = error_text(TARGET, "another installation of this file is running",
+                           "use --wait SECONDS to wait for it")
 
 
 # == Pipes ==
 
 @meanwhile_cases.table(
-    ("a stalled pipe blocks no other run", "later", LATER, 7, OLDER),
-    ("a killed run with a stalled pipe leaves nothing", "later", LATER, 7, -signal.SIGKILL),
-    ("a run with a slow pipe finds the update installed", "same", NEW, 6, ALREADY),
+    ("a stalled pipe blocks no other run", "later", LATER_DATA, 7, OLDER_VERSION),
+    ("a killed run with a stalled pipe leaves nothing", "later", LATER_DATA, 7, -signal.SIGKILL),
+    ("a run with a slow pipe finds the update installed", "same", NEW_DATA, 6, ALREADY_INSTALLED),
 )
 def stalled_pipe(directory, name, data, number, status):
-    """A run that waits for data from a pipe blocks no other run, and leaves nothing if it is killed. After the data has
-    come, the run checks the update again: another run has installed a later update, or the same one, which is kept."""
+    """A run that waits for data from a pipe blocks no other run, and leaves no file if it is killed. Meanwhile, another run installs
+    a later update, or the same one. The first run notices this when it has all data, and keeps what is installed."""
     directory.offer(name, data, number)
     directory.replace("new", os.mkfifo)
     process = directory.start(directory.arguments("new"))
-    # (opened for reading too, so that opening does not wait)
+    # The pipe is opened for reading, too, so that open does not wait for a reader.
     with open(directory.path_of("new"), "r+b", buffering=0) as pipe:
-        pipe.write(NEW[:1000])
+        pipe.write(NEW_DATA[:1000])
         wait_until(lambda: not select.select([pipe], [], [], 0)[0], "the data in the pipe was not read")
         directory.expect_install(name, 0)
         before = os.stat(directory.path_of(TARGET))
         if status < 0:
             process.kill()
         else:
-            pipe.write(NEW[1000:])
-    directory.expect_end_of(process, status, b"" if status == ALREADY else None)
+            pipe.write(NEW_DATA[1000:])
+    directory.expect_process_end(process, status, b"" if status == ALREADY_INSTALLED else None)
     directory.expect_installed(data, str(number).encode())
-    expect(os.stat(directory.path_of(TARGET)).st_ino == before.st_ino, "it was installed once more")
+    expect(os.stat(directory.path_of(TARGET)).st_ino == before.st_ino, "the update was installed a second time")
 
 
 @meanwhile_cases.table("a stalled device blocks no other run")
 def stalled_device(directory):
-    """A run that waits for data from a terminal, which is not a regular file, does not hold the lock."""
-    directory.offer("later", LATER, 7)
-    ours, theirs = os.openpty()
-    tty.setraw(theirs)
-    process = directory.start([PK, os.ttyname(theirs), "new.sig", TARGET])
-    os.write(ours, NEW[:1000])
-    wait_until(lambda: struct.unpack("i", fcntl.ioctl(theirs, termios.FIONREAD, bytes(4)))[0] == 0, "the data was not read")
+    """A run that waits for data from a terminal, as an example of a device, does not hold the lock."""
+    directory.offer("later", LATER_DATA, 7)
+    writing_end, terminal = os.openpty()
+    tty.setraw(terminal)
+
+    def is_read():
+        return struct.unpack("i", fcntl.ioctl(terminal, termios.FIONREAD, bytes(4)))[0] == 0
+
+    process = directory.start([PK, os.ttyname(terminal), "new.sig", TARGET])
+    os.write(writing_end, NEW_DATA[:1000])
+    wait_until(is_read, "the data was not read")
     directory.expect_install("later", 0)
     process.kill()
-    directory.expect_end_of(process, -signal.SIGKILL)
-    os.close(ours)
-    os.close(theirs)
+    directory.expect_process_end(process, -signal.SIGKILL)
+    os.close(writing_end)
+    os.close(terminal)
 
 
 @meanwhile_cases.table(
-    ("reads no more of a pipe than was signed, and one byte", len(NEW) + 1, dict(more=SIZED)),
-    ("reads no more of a pipe than --max-size allows, and one byte", 1001, dict(options=("--max-size", "1000"))),
-    ("reads no more of a pipe than the smaller of both limits, and one byte", 1001, dict(options=("--max-size", "1000"), more=SIZED)),
-    ("reads nothing of a pipe if the update is rejected", 0, dict(number=4)),
+    ("reads one byte more from a pipe than the signed size", len(NEW_DATA) + 1, dict(more=SIZE_FIELD)),
+    ("reads one byte more from a pipe than --max-size allows", 1001, dict(options=("--max-size", "1000"))),
+    ("reads one byte more from a pipe than the smaller of both limits", 1001,
+     dict(options=("--max-size", "1000"), more=SIZE_FIELD)),
+    ("reads nothing from a pipe if the update is rejected", 0, dict(number=4)),
 )
 def reads_no_more(directory, count, options=(), **offered):
-    """A pipe is read only after the comment was accepted. The byte after the signed size shows that the data is too long."""
+    """A pipe is read only if the trusted comment was accepted. The byte after the limit shows that the data is too long."""
     directory.offer(**offered)
-    data = NEW + LATER
+    data = NEW_DATA + LATER_DATA
     reader, writer = os.pipe()
     with open(reader, "rb", buffering=0) as pipe, concurrent.futures.ThreadPoolExecutor(1) as pool:
-        with open(writer, "wb") as fed:
+        with open(writer, "wb") as writing_end:
             process = directory.start([*options, PK, "/dev/stdin", "new.sig", TARGET], stdin=reader)
-            written = pool.submit(lambda: (fed.write(data), fed.close()))
+            writing = pool.submit(lambda: (writing_end.write(data), writing_end.close()))
             process.wait(SECONDS)
-            rest = pipe.readall()
-            written.result()
-    directory.expect_end_of(process, REJECTED if count else OLDER)
-    expect(len(data) - len(rest) == count, f"it read {len(data) - len(rest)} bytes, expected {count}")
-    directory.expect_installed(OLD, b"5")
+            unread = pipe.readall()
+            writing.result()
+    directory.expect_process_end(process, REJECTED if count else OLDER_VERSION)
+    expect(len(data) - len(unread) == count, f"it read {len(data) - len(unread)} bytes, expected {count}")
+    directory.expect_installed(OLD_DATA, b"5")
 
 
-# == Files that others change ==
+# == Files that other processes change ==
 
-def with_swapping(directory, swap, judge):
-    """Runs the installer 40 times while `swap` is called repeatedly. Each call of the installer waits for a short time
-    first."""
+def run_while_swapping(directory, swap, check):
+    """Runs the installer 40 times while `swap` is called repeatedly, and calls `check` with the result of each run. The system calls
+    of the installer are slowed down, so that the swaps happen between them."""
     with repeating(swap, 0.0005):
         for _ in range(40):
-            judge(directory.install(environment=directory.disturbing(SLOW="2000")))
+            check(directory.install(environment=directory.preload_environment(SLOW="2000")))
             expect(not directory.temporary_files(), f"it left {directory.temporary_files()}")
 
 
-@meanwhile_cases.table("installs whole data while the data file is swapped")
+@meanwhile_cases.table("installs complete data while the data file is swapped")
 def swapped_data(directory):
-    """The data is overwritten and replaced while it is copied. The target holds the old or the new update, whole."""
-    at = directory.path_of("new")
+    """The data file is overwritten and replaced while it is copied. The target holds the old or the new update, complete."""
+    path = directory.path_of("new")
 
     def swap(number):
-        data = [NEW, LATER[:len(NEW)], NEW, NEW[:-1]][number % 4]
+        data = [NEW_DATA, LATER_DATA[:len(NEW_DATA)], NEW_DATA, NEW_DATA[:-1]][number % 4]
         if number % 3 == 0:
             directory.put("other", data)
-            os.rename(directory.path_of("other"), at)
+            os.rename(directory.path_of("other"), path)
         else:
-            with open(at, "r+b") as file:
+            with open(path, "r+b") as file:
                 file.write(data)
                 file.truncate()
 
-    def judge(ran):
+    def check(ran):
         state = directory.installed_state()
-        expect(ran.status == 0 and state == (NEW, b"6") or ran.status == REJECTED and state in ((NEW, b"6"), (OLD, b"5")),
-               ran, f"the target holds {str(state[0])[:40]}, and the record {state[1]}")
+        is_installed = ran.status == 0 and state == (NEW_DATA, b"6")
+        is_rejected = ran.status == REJECTED and state in ((NEW_DATA, b"6"), (OLD_DATA, b"5"))
+        expect(is_installed or is_rejected, ran, f"the target holds {str(state[0])[:40]}, and the record {state[1]}")
         directory.put_installed()
 
-    with_swapping(directory, swap, judge)
+    run_while_swapping(directory, swap, check)
 
 
-@meanwhile_cases.table("follows nothing that is swapped in at the target")
+@meanwhile_cases.table("does not follow or open what is swapped in at the target")
 def swapped_target(directory):
-    """Links, directories, pipes and files are swapped in at the target. None is followed, waited for or written to."""
+    """Files, links, directories and pipes replace the target. No link is followed, and no pipe is waited for or written to."""
     directory.put("behind", b"behind")
-    at = directory.path_of(TARGET)
-    makes = [lambda: directory.put("made", OLD), lambda: os.symlink("behind", directory.path_of("made")),
-             lambda: os.mkfifo(directory.path_of("made")), lambda: os.mkdir(directory.path_of("made"))]
+    path, new_path = directory.path_of(TARGET), directory.path_of("made")
+    makers = [lambda: directory.put("made", OLD_DATA), lambda: os.symlink("behind", new_path),
+              lambda: os.mkfifo(new_path), lambda: os.mkdir(new_path)]
 
     def swap(number):
-        if os.path.isdir(at) and not os.path.islink(at):
-            os.rmdir(at)
-        makes[number % 4]()
+        if os.path.isdir(path) and not os.path.islink(path):
+            os.rmdir(path)
+        makers[number % 4]()
         while True:
             try:
-                return os.rename(directory.path_of("made"), at)
+                return os.rename(new_path, path)
             except NotADirectoryError:
-                # (rename replaces no file by a directory, and a run may put a file there at any time)
-                os.remove(at)
+                # rename does not replace a file by a directory, and a run may put a file there at any time.
+                os.remove(path)
 
-    def judge(ran):
-        expect(ran.status in (0, FAILED, SAME_VERSION, ALREADY), ran)
+    def check(ran):
+        expect(ran.status in (0, FAILED, SAME_VERSION, ALREADY_INSTALLED), ran)
         if ran.status in (0, SAME_VERSION):
-            # (with the record of this version, the next runs read the installed file, until one rejects it)
+            # If this version is recorded, the next runs read the target. After one of them rejects it, the older version is
+            # recorded again.
             directory.put(RECORD, b"6" if ran.status == 0 else b"5")
         expect(directory.content("behind") == b"behind" and directory.content(RECORD) in (b"5", b"6"),
                f"the file behind the link holds {directory.content('behind')}, and the record {directory.content(RECORD)}")
 
-    with_swapping(directory, swap, judge)
+    run_while_swapping(directory, swap, check)
 
 
 @meanwhile_cases.table("verifies the temporary file, not the copied data")
 def changed_temporary_file(directory):
+    """Another process changes the temporary file after all data was copied. The update is rejected."""
 
-    def change(at):
-        with open(directory.path_of(at.temporary_files()[0]), "r+b") as file:
+    def change(_):
+        with open(directory.path_of(directory.temporary_files()[0]), "r+b") as file:
             file.write(b"x")
 
-    directory.expect_result(directory.run_stopped_when_staged(change), REJECTED, OTHER_SIGNED)
+    directory.expect_result(directory.run_stopped_when_staged(change), REJECTED, WRONG_SIGNATURE_ERROR)
 
 
 @meanwhile_cases.table("installs into the moved directory")
 def moved_directory(directory):
-    """If the directory is moved during a run, it gets the update, and not the new directory under its path."""
-    sub, moved = (Directory(directory.path_of(name), directory.installing) for name in ("sub", "moved"))
+    """If the directory is moved during a run, the update is installed there, and not in another directory under the old path."""
+    sub, moved = (Directory(directory.path_of(name), directory.runner) for name in ("sub", "moved"))
 
     def make():
         os.mkdir(sub.path)
@@ -182,28 +191,29 @@ def moved_directory(directory):
 
     make()
     directory.expect_end(directory.run_stopped_when_staged(move, "sub"), 0)
-    moved.expect_installed(NEW, b"6")
-    sub.expect_installed(OLD, b"5")
+    moved.expect_installed(NEW_DATA, b"6")
+    sub.expect_installed(OLD_DATA, b"5")
     expect({*os.listdir(sub.path)} == {PK, TARGET, RECORD, "new", "new.sig"}, f"the other directory has {os.listdir(sub.path)}")
 
 
 @meanwhile_cases.table(
-    ("opens a replaced target again, of the same update", True),
-    ("opens a replaced target again, of a newer update", False),
+    ("opens a replaced target again if the update is installed", True),
+    ("opens a replaced target again if an older update is installed", False),
 )
 def replaced_target(directory, is_installed):
-    """Before each call that inspects the target, another file with the same data replaces it. The run opens it again."""
+    """In each run, before another call that inspects the target, another file with the same data replaces the target. The run
+    opens the target again and succeeds."""
 
     def attempt(number, path):
-        fresh = directory.installing.offered(path)
+        fresh = directory.runner.new_directory(path)
         if is_installed:
             fresh.expect_install("new", 0)
         fresh.put("same", fresh.content())
         ran = fresh.run_stopped_before(number, lambda at: os.replace(at.path_of("same"), at.path_of(TARGET)), CALLS="fstat fstatat openat")
-        fresh.expect_result(ran, ALREADY if is_installed else 0, b"")
+        fresh.expect_result(ran, ALREADY_INSTALLED if is_installed else 0, b"")
         return ran.reached
 
-    in_turn(directory.installing.place, attempt)
+    for_each_call(directory.runner.parent, attempt)
 
 
 @meanwhile_cases.table(
@@ -212,24 +222,25 @@ def replaced_target(directory, is_installed):
     ("notices a removed lock file before it renames the target", "sync", 3),
 )
 def notices_lost_lock(directory, call, at):
-    """If the lock file is removed during a run and another run overtakes it, the run changes nothing more."""
-    directory.offer("later", LATER, 7)
+    """The lock file is removed during a run, and another run installs a later update. Then the first run fails, and changes nothing
+    more."""
+    directory.offer("later", LATER_DATA, 7)
 
     def overtake(_):
         os.remove(directory.path_of(LOCK))
         directory.expect_install("later", 0)
 
     ran = directory.run_stopped_before(at, overtake, CALLS=LIBC_CALLS[call])
-    said = f"{LOCK}: another process removed or replaced this lock file\nhint: run the command again\n".encode()
-    expect(ran.reached and ran.status == FAILED and said in ran.said, ran)
-    expect(directory.installed_state() == (LATER, b"7"), f"the record holds {directory.content(RECORD)}")
+    error_output = f"{LOCK}: another process removed or replaced this lock file\nhint: run the command again\n".encode()
+    expect(ran.reached and ran.status == FAILED and error_output in ran.stderr, ran)
+    expect(directory.installed_state() == (LATER_DATA, b"7"), f"the record holds {directory.content(RECORD)}")
 
 
-@meanwhile_cases.table("a run by root holds the lock file that it renews")
-def keeps_renewed_lock(directory):
-    """A run by root replaces a lock file of another user, and locks the new one."""
+@meanwhile_cases.table("a run by root locks the lock file that it replaces")
+def locks_replaced_lock_file(directory):
+    """The target belongs to another user than the lock file. A run by root replaces the lock file, and locks the new one."""
     directory.put(LOCK, b"")
-    directory.give_away(TARGET)
+    directory.change_owner(TARGET)
     before = os.stat(directory.path_of(LOCK))
 
     def run_another(_):
@@ -244,32 +255,32 @@ def keeps_renewed_lock(directory):
 
 @meanwhile_cases.table("four concurrent runs install in order", ("four slow concurrent runs install in order", 8, dict(SLOW="20000")))
 def concurrent_runs(directory, rounds=25, **slow):
-    """Four concurrent runs, one with a bad and one with an older update, and a reader. Calls of slow runs wait for up
-    to 20 milliseconds first. The target holds an update, whole, and the record its number or a greater one, which never
-    decreases."""
-    updates, before = {OLD: 5}, 0
+    """Four runs at the same time: two with newer updates, one with data that was not signed, and one with an older update. Before
+    each call, slow runs wait for up to 20 milliseconds. Meanwhile, a reader checks that the target always holds a complete update,
+    that the record holds the version number of this update or a greater one, and that this number never decreases."""
+    updates, last_recorded = {OLD_DATA: 5}, 0
 
     def read(_):
-        nonlocal before
-        found, recorded = directory.content(), int(directory.content(RECORD))
-        expect(found in updates and recorded >= max(updates[found], before),
-               f"a reader found {str(found)[:40]}, and then {recorded} in the record, which was {before}")
-        before = recorded
+        nonlocal last_recorded
+        data, recorded = directory.content(), int(directory.content(RECORD))
+        expect(data in updates and recorded >= max(updates[data], last_recorded),
+               f"the target held {str(data)[:40]}, and then the record {recorded}, after {last_recorded} before")
+        last_recorded = recorded
 
-    allowed = {"one": (0, OLDER, IN_USE), "two": (0, IN_USE), "bad": (REJECTED, IN_USE), "older": (OLDER, IN_USE)}
-    directory.offer("bad", number=1000, signed=LATER)
-    directory.offer("older", LATER, 4)
+    allowed = {"one": (0, OLDER_VERSION, IN_USE), "two": (0, IN_USE), "bad": (REJECTED, IN_USE), "older": (OLDER_VERSION, IN_USE)}
+    directory.offer("bad", number=1000, signed=LATER_DATA)
+    directory.offer("older", LATER_DATA, 4)
     with repeating(read):
         for number in range(6, 6 + 2 * rounds, 2):
             one, two = (word * 20000 + str(number).encode() for word in (b"one", b"two"))
             updates.update({one: number, two: number + 1})
             directory.offer("one", one, number)
             directory.offer("two", two, number + 1)
-            started = {name: directory.start(directory.arguments(name), directory.disturbing(**slow)) for name in allowed}
+            started = {name: directory.start(directory.arguments(name), directory.preload_environment(**slow)) for name in allowed}
             for name, process in started.items():
-                said = process.communicate(timeout=SECONDS)[1]
+                stderr = process.communicate(timeout=SECONDS)[1]
                 expect(process.returncode in allowed[name],
-                       f"{name} exited with status {process.returncode}, expected one of {allowed[name]}, and said {said}")
+                       f"{name} exited with status {process.returncode}, expected one of {allowed[name]}: {stderr}")
             recorded = int(directory.content(RECORD))
             expect((directory.content() != two or recorded == number + 1) and not directory.temporary_files(),
                    f"the record holds {recorded}, and it left {directory.temporary_files()}")
@@ -278,39 +289,39 @@ def concurrent_runs(directory, rounds=25, **slow):
 # == While another run holds the lock ==
 
 @meanwhile_cases.table(
-    ("reports that another run holds the lock", OLD, b"5", 0),
-    ("reports a held lock before an installed update", NEW, b"6", ALREADY),
+    ("reports that another run holds the lock", OLD_DATA, b"5", 0),
+    ("reports a held lock before an installed update", NEW_DATA, b"6", ALREADY_INSTALLED),
 )
 def reports_held_lock(directory, installed, record, status):
-    """A run fails after the time of --wait, and says nothing about the installed file. A check needs no lock."""
+    """Without --wait, a run fails at once, otherwise after this time. The error is about the lock, even if the update is already
+    installed. --check needs no lock."""
     directory.put_installed(installed, record)
     with directory.locked():
-        directory.expect_install("new", IN_USE, said=TARGET_IN_USE)
+        directory.expect_install("new", IN_USE, error_output=TARGET_IN_USE)
         began = time.monotonic()
-        directory.expect_install("new", IN_USE, "--wait", "1", said=TARGET_IN_USE)
+        directory.expect_install("new", IN_USE, "--wait", "1", error_output=TARGET_IN_USE)
         expect(time.monotonic() - began >= 1, "it did not wait")
-        directory.expect_run(CHECK, status)
+        directory.expect_run(CHECK_ARGUMENTS, status)
         directory.expect_installed(installed, record)
     directory.expect_install("new", status)
 
 
 @meanwhile_cases.table(
     ("waits for the lock", "new"),
-    ("waits with data from a pipe", "/dev/stdin"),
-    ("waits with data of the signed size", "/dev/stdin", NEW, 0, dict(more=SIZED)),
-    ("rejects data of another size after it has waited", "/dev/stdin", NEW + b"x", REJECTED, dict(more=SIZED)),
-    ("waits with two keys of the same key ID", "/dev/stdin", NEW, 0, ["twin", "own"]),
+    ("waits for the lock with data from a pipe", "/dev/stdin"),
+    ("waits for the lock with data of the signed size", "/dev/stdin", NEW_DATA, 0, dict(more=SIZE_FIELD)),
+    ("rejects data of another size after it has waited for the lock", "/dev/stdin", NEW_DATA + b"x", REJECTED, dict(more=SIZE_FIELD)),
+    ("waits for the lock with two keys of the same key ID", "/dev/stdin", NEW_DATA, 0, ["twin", "own"]),
 )
-def waits_for_lock(directory, source, data=NEW, status=0, keys=(), **offered):
-    """With --wait a run waits until the lock is released. Data from a pipe is read first, so the trusted comment is
-    checked later."""
+def waits_for_lock(directory, source, data=NEW_DATA, status=0, keys=(), **offered):
+    """With --wait, a run waits until the lock is released. Data from a pipe is read before."""
     directory.offer(data=data, **offered)
     with directory.locked():
-        process = directory.start(["--wait", "20", *key_words(directory, keys), source, "new.sig", TARGET], stdin=subprocess.PIPE)
+        process = directory.start(["--wait", "20", *key_arguments(directory, keys), source, "new.sig", TARGET], stdin=subprocess.PIPE)
         process.stdin.write(b"" if source == "new" else data)
         process.stdin.close()
         process.stdin = None
         time.sleep(0.5)
-        expect(process.poll() is None and directory.content() == OLD, "it did not wait")
-    directory.expect_end_of(process, status, b"" if status == 0 else None)
-    directory.expect_installed(*((OLD, b"5") if status else (data, b"6")))
+        expect(process.poll() is None and directory.content() == OLD_DATA, "it did not wait")
+    directory.expect_process_end(process, status, b"" if status == 0 else None)
+    directory.expect_installed(*((OLD_DATA, b"5") if status else (data, b"6")))

@@ -1,18 +1,25 @@
 /*
- * Installs an update by `minisign_install_file`, with options and functions that the words choose, and prints what the
- * functions got.
+ * Calls `minisign_install_file` once, with options and functions that the words choose, and prints what it passed to the
+ * functions.
  *
  *     one_call [WORD ..] PK SIG TARGET
  *
- * The words: `data=PATH`, `fd=PATH`, `read=PATH` (a function reads the file in pieces of 1000 bytes), `read=fails`,
- * `read=nothing` (the function writes no length) and `read=too-long` (writes a length above the size); `first`,
- * `again`, `check`, `roll-back`; `other=PK`, a second key; `name=NAME`, `mode=MODE`, `max=BYTES`, `wait=SECONDS`;
- * `now=SECONDS` and `now=none`; `verify=all` and `verify=none`, which accept all signatures or none;
- * `answer=libsodium`, `answer=all`, `answer=none` and `answer=nothing` (writes no answer); `stop=PHASE` and
- * `SIGTERM=PHASE` (sends the signal in this phase); `silent` (no functions); and `without=FIELD`, which leaves out what
- * must be there.
+ * The words:
  *
- * The last line is `result STATUS, error ERROR, N phases:` with each phase once. The exit status is 0.
+ *     data=PATH  fd=PATH  read=PATH        the data: a path, a descriptor, or a function that reads in pieces of 1000 bytes
+ *     read=fails|nothing|too-long          a function that fails, writes no length, or writes a length above the size
+ *     first  again  check  roll-back       options
+ *     other=PK                             a second public key
+ *     name=NAME  mode=MODE  max=BYTES  wait=SECONDS
+ *     now=SECONDS  now=none                a function that shows this time, or writes no time
+ *     verify=all|none                      a function without context that accepts all signatures, or none
+ *     answer=libsodium|all|none|nothing    a function with context that verifies with libsodium, accepts all signatures,
+ *                                          accepts none, or writes no answer
+ *     stop=PHASE  SIGTERM=PHASE            stops the run in this phase, or sends the signal to itself
+ *     silent                               passes no functions for messages, progress and comment
+ *     without=FIELD                        leaves out a required field of the options
+ *
+ * The last line is `result STATUS, error ERROR, phases:` with each phase once. The exit status is 0.
  */
 #include <errno.h>
 #include <fcntl.h>
@@ -29,6 +36,7 @@
 enum { TEXT_BYTES = 1 << 20 };
 
 static uint8_t key_text[TEXT_BYTES], signature[TEXT_BYTES];
+/* The values of the words read, answer, verify and now. */
 static const char *reading, *answering, *verifying, *clock_word;
 static FILE *source;
 static int stop_at, signal_at, last_phase;
@@ -104,7 +112,7 @@ static void show_message(void *context, const minisign_installing_message *messa
            message->text, message->system_error);
 }
 
-static void note(int number)
+static void ignore_signal(int number)
 {
     (void) number;
 }
@@ -141,7 +149,7 @@ static void leave_out(minisign_installing_options *options, const char *field)
     }
 }
 
-static void take_number(minisign_installing_options *options, const char *word)
+static void set_number_option(minisign_installing_options *options, const char *word)
 {
     const char *value;
 
@@ -157,11 +165,11 @@ static void take_number(minisign_installing_options *options, const char *word)
         stop_at = atoi(value);
     } else if ((value = value_of(word, "SIGTERM")) != NULL) {
         signal_at = atoi(value);
-        signal(SIGTERM, note);
+        signal(SIGTERM, ignore_signal);
     }
 }
 
-static void take_function(minisign_installing_options *options, const char *word)
+static void set_function(minisign_installing_options *options, const char *word)
 {
     const char *value;
 
@@ -185,7 +193,7 @@ static void take_function(minisign_installing_options *options, const char *word
     }
 }
 
-static void take(minisign_installing_options *options, const char *word)
+static void apply_word(minisign_installing_options *options, const char *word)
 {
     static minisign_public_key other_key;
     const char *value;
@@ -211,8 +219,8 @@ static void take(minisign_installing_options *options, const char *word)
     } else if ((value = value_of(word, "without")) != NULL) {
         leave_out(options, value);
     }
-    take_number(options, word);
-    take_function(options, word);
+    set_number_option(options, word);
+    set_function(options, word);
 }
 
 int main(int argc, char **argv)
@@ -225,7 +233,7 @@ int main(int argc, char **argv)
     if (argc < 4 || sodium_init() < 0) {
         return 2;
     }
-    /* A key that cannot be read stays zeros, and the call rejects it. */
+    /* If the key cannot be read, it remains zeros, which the function rejects. */
     (void) (minisign_read_public_key(key_text, read_text(argv[argc - 3], key_text), &key) == MINISIGN_OK);
     options.key = &key;
     options.signature = signature;
@@ -237,7 +245,7 @@ int main(int argc, char **argv)
     options.message = show_message;
     options.context = &last_phase;
     for (int i = 1; i < argc - 3; i++) {
-        take(&options, argv[i]);
+        apply_word(&options, argv[i]);
     }
     status = minisign_install_file(&options, &error);
     printf("result %d, error %d, phases:%s\n", (int) status, (int) error, phases);

@@ -1,13 +1,13 @@
 #!/usr/bin/env python3
-"""Checks `minisign_install_file` of minisign_installing.h by itself: its results, its messages, and the functions that its
-caller passes.
+"""Checks the function `minisign_install_file` of minisign_installing.h: its results, its messages, and how it uses the functions that
+its caller passes.
 
     tests/installer/one_call.py [WORD ..]
 
-WORD selects the cases whose name contains it. `real_installing.py` tests the same code through `minisign-install`, and
-tests/bindings/python.py tests it through the package for Python. The program of the cases is one_call.c, which is linked
-with the static libraries. The mutants in one_call_mutants break the code between the caller and the machine; for each,
-one case has to fail. Prints a line for each failure; the last line is `N passed, M failed`.
+WORD selects the cases whose name contains it. The cases run the program one_call.c, which is linked with the static libraries and
+calls the function once. `real_installing.py` tests the same code through `minisign-install`, and tests/bindings/python.py tests it
+through the Python package. The mutants in one_call_mutants break the code of `minisign_install_file`. For each mutant, one case has
+to fail. Prints a line for each failure; the last line is `N passed, M failed`.
 
 Needs Python 3.9 or later, make, a C compiler, libsodium with its header, minisign and git.
 """
@@ -23,50 +23,57 @@ from functools import partial
 HERE = os.path.dirname(os.path.realpath(__file__))
 sys.path += [os.path.join(HERE, "..", "shared"), os.path.join(HERE, "..", "tool")]
 
-import ending
 import mutants
 import needs
 import proved
 import static_library
-from installers import LATER, LOCK, NEW, OLD, PAST, PK, RECORD, TARGET, TEMPORARY, RealInstaller
-from running import Failure, expect, read, run_cases, run_one
-from runs import Cases, Installing
-from updates import OTHER_KEY, SIZED, SOON
+import test_script
+from installers import EXPIRED_FIELD, LATER_DATA, LOCK, NEW_DATA, OLD_DATA, PK, RECORD, TARGET, Signer
+from running import Failure, expect, read, run_case_named, run_cases
+from runs import Cases, InstallerRunner
+from updates import OTHER_KEY, SIZE_FIELD, UNEXPIRED_FIELD
 
 one_call_cases = Cases()
 
 ERRORS = {name: int(number) for name, number in re.findall(r"MINISIGN_(\w+) = (\d+)", read(proved.ROOT, "include", "minisign.h").decode())}
-(INSTALLED, FAILED, MISUSE, REJECTED, OLDER, IN_USE, NOT_SYNCED, UNRECORDED, SAME_VERSION, EXPIRED, ALREADY, TOO_LARGE,
+# The constants of minisign_installing.h: results, phases and kinds of messages.
+(INSTALLED, FAILED, MISUSE, REJECTED, OLDER, IN_USE, NOT_SYNCED, UNRECORDED, SAME_VERSION, EXPIRED, ALREADY_INSTALLED, TOO_LARGE,
  STOPPED) = range(13)
 WAITING, RECEIVING, COMPARING, COPYING, VERIFYING, RENAMING = range(1, 7)
-FROM_FILE, FROM_FUNCTION = (COPYING, VERIFYING, RENAMING), (RECEIVING, COPYING, VERIFYING, RENAMING)
 ERROR, CAUSE, HINT, WARNING = range(1, 5)
-# The signature file and the target, as the messages name them: the program passes no name of the signature file.
-SIGNATURE, DATA = "NULL", "new"
+# The phases of an installation of data from a file, and of data from a function.
+FROM_FILE = (COPYING, VERIFYING, RENAMING)
+FROM_FUNCTION = (RECEIVING, COPYING, VERIFYING, RENAMING)
+# The signature file and the data as messages name them. one_call.c passes no name of the signature file.
+SIGNATURE = "NULL"
+DATA = "new"
 
 
 def lines_of(ran):
-    return ran.output.decode(errors="replace").splitlines()
+    return ran.stdout.decode(errors="replace").splitlines()
 
 
-def call(directory, words, result, error="OK", phases=(), messages=(), shown="", **how):
-    """Calls the function with these words, and checks all that the program prints. `shown` is the number of the update whose trusted
-    comment is passed."""
+def call(directory, words, result, error="OK", phases=(), messages=(), shown="", **options):
+    """Runs one_call.c with these words, and expects that it prints this result, this error, these phases and messages (tuples of kind,
+    file, text and errno), and no others. If `shown` is a version number, the function must also pass this number and the trusted
+    comment to its caller."""
     arguments = [*words, PK, "new.sig", TARGET]
-    ran = directory.run(arguments, **how)
-    comment = [line for line in [directory.content("new.sig").split(b"\n")[2].decode()] if shown]
-    expected = [f"comment {shown} {line.removeprefix('trusted comment: ')}" for line in comment]
+    ran = directory.run(arguments, **options)
+    expected = []
+    if shown:
+        comment = directory.content("new.sig").split(b"\n")[2].decode()
+        expected.append(f"comment {shown} {comment.removeprefix('trusted comment: ')}")
     expected += [f"message {kind}, {file}, {text}, {number}" for kind, file, text, number in messages]
     expected.append(f"result {result}, error {ERRORS[error]}, phases:{''.join(f' {phase}' for phase in phases)}")
     expect(ran.status == 0 and lines_of(ran) == expected, ran, f"expected {expected}")
 
 
-def expect_new(directory, data=NEW, number=b"6"):
+def expect_new(directory, data=NEW_DATA, number=b"6"):
     directory.expect_installed(data, number)
 
 
 def expect_old(directory):
-    directory.expect_installed(OLD, b"5")
+    directory.expect_installed(OLD_DATA, b"5")
 
 
 @one_call_cases.table(
@@ -75,11 +82,11 @@ def expect_old(directory):
     ("installs from a function", ["read=new"], FROM_FUNCTION),
     ("prefers a path to a function", ["data=new", "read=fails"], FROM_FILE),
     ("prefers a function to a descriptor", ["fd=key.pub", "read=new"], FROM_FUNCTION),
-    ("takes the results of a function with a context", ["data=new", "verify=none", "answer=libsodium"], FROM_FILE),
-    ("takes the time of a function", ["data=new", "now=99999999998"], FROM_FILE, dict(more=SOON)),
-    ("installs data that is as large as allowed", ["data=new", f"max={len(NEW)}"], FROM_FILE),
-    ("installs received data that is as large as allowed", ["read=new", f"max={len(NEW)}"], FROM_FUNCTION),
-    ("takes a wait of a day", ["data=new", "wait=86400"], FROM_FILE),
+    ("uses the results of a function with a context", ["data=new", "verify=none", "answer=libsodium"], FROM_FILE),
+    ("uses the time of a function", ["data=new", "now=99999999998"], FROM_FILE, dict(more=UNEXPIRED_FIELD)),
+    ("installs data that is as large as allowed", ["data=new", f"max={len(NEW_DATA)}"], FROM_FILE),
+    ("installs received data that is as large as allowed", ["read=new", f"max={len(NEW_DATA)}"], FROM_FUNCTION),
+    ("accepts a wait of a day", ["data=new", "wait=86400"], FROM_FILE),
 )
 def installs(directory, words, phases, **offered):
     directory.offer(**offered)
@@ -88,7 +95,7 @@ def installs(directory, words, phases, **offered):
     directory.expect_mode(0o751)
 
 
-@one_call_cases.table("installs without functions that show anything")
+@one_call_cases.table("installs without functions for messages, progress and comment")
 def installs_silently(directory):
     call(directory, ["data=new", "silent"], INSTALLED)
     expect_new(directory)
@@ -98,10 +105,10 @@ def installs_silently(directory):
 def sets_mode(directory):
     call(directory, ["data=new", "mode=0640"], INSTALLED, phases=FROM_FILE, shown=6)
     directory.expect_mode(0o640)
-    call(directory, ["data=new", "mode=0640"], ALREADY, phases=[COMPARING], shown=6)
-    call(directory, ["data=new", "mode=0755"], ALREADY, phases=[COMPARING], shown=6, messages=[
+    call(directory, ["data=new", "mode=0640"], ALREADY_INSTALLED, phases=[COMPARING], shown=6)
+    call(directory, ["data=new", "mode=0755"], ALREADY_INSTALLED, phases=[COMPARING], shown=6, messages=[
         (WARNING, TARGET, "already installed, so its permissions are unchanged", 0), (HINT, "NULL", "use chmod to change them", 0)])
-    call(directory, ["check", "mode=0755"], ALREADY, phases=[COMPARING], shown=6)
+    call(directory, ["check", "mode=0755"], ALREADY_INSTALLED, phases=[COMPARING], shown=6)
     directory.expect_mode(0o640)
 
 
@@ -124,17 +131,18 @@ def checks(directory):
     ("rejects other data that was received", ["read=other"], "SIGNATURE_REFUSED", "NULL", "Signature verification failed", 6),
 )
 def rejects(directory, words, error, file, text, shown):
-    directory.put("other", LATER)
+    directory.put("other", LATER_DATA)
     phases = () if not shown else (RECEIVING, COPYING, VERIFYING) if words[0].startswith("read") else (COPYING, VERIFYING)
     call(directory, words, REJECTED, error, phases, [(ERROR, file, text, 0)], shown)
     expect_old(directory)
 
 
 @one_call_cases.table(
-    ("reports an expired update", ["data=new"], EXPIRED, "EXPIRED", SIGNATURE, "the update has expired", dict(more=PAST)),
+    ("reports an expired update", ["data=new"], EXPIRED, "EXPIRED", SIGNATURE, "the update has expired", dict(more=EXPIRED_FIELD)),
     ("reports an update that expires now", ["data=new", "now=99999999999"], EXPIRED, "EXPIRED", SIGNATURE, "the update has expired",
-     dict(more=SOON)),
-    ("reports that there is no time", ["data=new", "now=none"], EXPIRED, "EXPIRED", SIGNATURE, "the update has expired", dict(more=SOON)),
+     dict(more=UNEXPIRED_FIELD)),
+    ("reports that there is no time", ["data=new", "now=none"], EXPIRED, "EXPIRED", SIGNATURE, "the update has expired",
+     dict(more=UNEXPIRED_FIELD)),
     ("reports an older update", ["data=new"], OLDER, "OLDER_UPDATE", DATA, "the update is older than the recorded version", dict(number=4)),
     ("reports other data of the recorded version", ["data=new"], SAME_VERSION, "SAME_NUMBER", TARGET,
      "this version is already recorded, but the installed file is different", dict(number=5)),
@@ -147,7 +155,7 @@ def reports(directory, words, result, error, file, text, record=b"5", **offered)
     is_read = result in (EXPIRED, OLDER, SAME_VERSION)
     call(directory, words, result, error, [COMPARING] * (result == SAME_VERSION), [(ERROR, file, text, 0)],
          offered.get("number", 6) if is_read else "")
-    directory.expect_installed(OLD, record if record == b"5" else record)
+    directory.expect_installed(OLD_DATA, record)
 
 
 @one_call_cases.table("rolls back")
@@ -168,7 +176,8 @@ def reports_lock(directory):
 
 
 @one_call_cases.table(
-    *((f"stops in phase {phase}", word, phase, phases[:phases.index(phase) + 1]) for word, phases in (("data", FROM_FILE), ("read", FROM_FUNCTION))
+    *((f"stops in phase {phase}", word, phase, phases[:phases.index(phase) + 1]) for word,
+      phases in (("data", FROM_FILE), ("read", FROM_FUNCTION))
       for phase in phases if word == "data" or phase == RECEIVING))
 def stops(directory, word, phase, phases):
     """The run removes its temporary files, and target and record are unchanged. The next run installs the update."""
@@ -180,25 +189,25 @@ def stops(directory, word, phase, phases):
 
 @one_call_cases.table("stops while it compares")
 def stops_comparing(directory):
-    directory.put_installed(NEW, b"6")
+    directory.put_installed(NEW_DATA, b"6")
     call(directory, ["data=new", f"stop={COMPARING}"], STOPPED, phases=[COMPARING], shown=6)
-    directory.expect_installed(NEW, b"6")
+    directory.expect_installed(NEW_DATA, b"6")
 
 
 @one_call_cases.table(
     ("reports that a function cannot read", "fails", "Network is down", 100),
     ("fails if a function writes no length", "nothing", "Input/output error", 5),
-    ("fails if a function reads too much", "too-long", "Input/output error", 5),
+    ("fails if a function returns a length above the size", "too-long", "Input/output error", 5),
 )
 def reports_reading(directory, word, text, number):
     call(directory, [f"read={word}"], FAILED, "READING_FAILED", messages=[(CAUSE, "NULL", text, number)], shown=6)
     expect_old(directory)
 
 
-@one_call_cases.table("reads no more of a function than was signed")
+@one_call_cases.table("reads no more data from a function than the signed size")
 def reads_signed_size(directory):
-    directory.offer(more=SIZED)
-    directory.put("new", NEW + b"more")
+    directory.offer(more=SIZE_FIELD)
+    directory.put("new", NEW_DATA + b"more")
     message = [(ERROR, "NULL", "the data does not have the signed size", 0)]
     call(directory, ["read=new"], REJECTED, "OTHER_SIZE", [RECEIVING], message, 6)
     expect_old(directory)
@@ -207,9 +216,10 @@ def reads_signed_size(directory):
 @one_call_cases.table("reads nothing if the update is installed")
 def reads_nothing(directory):
     call(directory, ["data=new"], INSTALLED, phases=FROM_FILE, shown=6)
-    call(directory, ["read=fails"], ALREADY, phases=[COMPARING], shown=6)
+    call(directory, ["read=fails"], ALREADY_INSTALLED, phases=[COMPARING], shown=6)
     directory.offer(number=5)
-    call(directory, ["read=fails"], OLDER, "OLDER_UPDATE", messages=[(ERROR, "NULL", "the update is older than the recorded version", 0)], shown=5)
+    call(directory, ["read=fails"], OLDER, "OLDER_UPDATE",
+         messages=[(ERROR, "NULL", "the update is older than the recorded version", 0)], shown=5)
     expect_new(directory)
 
 
@@ -234,8 +244,8 @@ def reports_files(directory):
 
 @one_call_cases.table("reports an update that cannot be synced, with the cause")
 def reports_unsynced(directory):
-    directory.put_installed(NEW, directory.kind.record(NEW, 6))
-    broken = directory.disturbing(BREAK_CALLS="fsync", BREAK_AT="1", BREAK_ERRNO="5")
+    directory.put_installed(NEW_DATA, directory.signer.version_record(NEW_DATA, 6))
+    broken = directory.preload_environment(BREAK_CALLS="fsync", BREAK_AT="1", BREAK_ERRNO="5")
     call(directory, ["data=new"], NOT_SYNCED, "DIRECTORY_NOT_SYNCED", [COMPARING], [
         (ERROR, TARGET, "the update is installed, but the directory could not be synced to disk", 0),
         (CAUSE, TARGET, "Input/output error", 5)], 6, environment=broken)
@@ -299,7 +309,7 @@ NO_NAME = "this path does not end with a file name"
     ("an empty name", ["name="], "the name in the options is empty"),
     ("first with roll-back", ["first", "roll-back"], None, "BAD_OPTION"),
     ("a choice that is neither 0 nor 1", ["is_check=2"], None, "BAD_OPTION"),
-    ("such a choice with data from a function", ["read=new", "is_check=2"], None, "BAD_OPTION"),
+    ("a choice that is neither 0 nor 1, with data from a function", ["read=new", "is_check=2"], None, "BAD_OPTION"),
     ("an unknown numbering", ["numbering=2"], None, "BAD_NUMBERING"))))
 def rejects_misuse(directory, words, text, error):
     before = directory.snapshot()
@@ -337,33 +347,34 @@ def accepts_two_keys(directory):
 
 
 def build(room, directory, *words):
-    """Builds the program over the library of a copy of the sources, or of the sources themselves."""
+    """Builds the program with the static libraries, and returns its path."""
     program, out = os.path.join(room, "one_call"), os.path.join(room, "out")
     libraries = [f"{out}/libminisign-installing.a", f"{out}/libminisign.a"]
     static_library.run_make(f"OUT={out}", *words, *libraries)
-    static_library.run_or_fail([needs.libsodium(), "-std=c99", "-Wall", "-Wextra", "-Werror", f"-I{proved.ROOT}/include", "-o", program,
+    static_library.run_or_fail([needs.compiler_with_libsodium(), "-std=c99", "-Wall", "-Wextra", "-Werror", f"-I{proved.ROOT}/include",
+                                "-o", program,
                                 f"{HERE}/one_call.c", *libraries, "-lsodium"], directory)
     return program
 
 
-def cases_of(installing):
+def cases_of(runner):
     for name, case, *given in one_call_cases:
-        yield name, installing.run_case, case, *given
+        yield name, runner.run_case, case, *given
 
 
 def failure_of(room, preload, mutant):
-    """Returns why a mutant is a failure of this script, or "" if its case fails."""
+    """Tries a mutant. Returns an error if its case passes, otherwise an empty string."""
     copy, own = mutants.copy_sources(room, "c", "include"), tempfile.mkdtemp(dir=room)
     mutants.apply(mutant, copy)
     program = os.path.join(own, "one_call")
-    sources = [f"{copy}/c/install/{name}.c" for name in ("installing", "endings", "directory")]
+    sources = [f"{copy}/c/install/{name}.c" for name in ("installing", "results", "directory")]
     sources += [f"{copy}/c/shared/{name}.c" for name in ("handles", "permissions", "stages", "streams")]
-    static_library.run_or_fail([needs.libsodium(), "-std=c11", "-pthread", f"-I{copy}/c", f"-I{copy}/include", "-o", program,
+    static_library.run_or_fail([needs.compiler_with_libsodium(), "-std=c11", "-pthread", f"-I{copy}/c", f"-I{copy}/include", "-o", program,
                                 f"{HERE}/one_call.c", *sources, f"{room}/out/libminisign.a", "-lsodium"])
-    installing = Installing(program, RealInstaller(own), own)
-    installing.preload = preload
+    runner = InstallerRunner(program, Signer(own), own)
+    runner.preload = preload
     try:
-        run_one(cases_of(installing), mutant.case)
+        run_case_named(cases_of(runner), mutant.case)
     except Failure:
         return ""
     return f"the case `{mutant.case}` does not notice the mutant {mutant.name}"
@@ -371,16 +382,16 @@ def failure_of(room, preload, mutant):
 
 def run_all(room):
     os.chmod(room, 0o711)
-    installing = Installing(build(room, None), RealInstaller(room), tempfile.mkdtemp(dir=room))
-    failures, count = run_cases(cases_of(installing))
+    runner = InstallerRunner(build(room, None), Signer(room), tempfile.mkdtemp(dir=room))
+    failures, count = run_cases(cases_of(runner))
     if len(sys.argv) < 2:
         found = mutants.mutants_of("installer", "one_call_mutants")
-        # Each mutant has its own process, because cases may act as other users.
+        # Each mutant is tried in a process of its own, because cases may change the user ID of the process.
         with concurrent.futures.ProcessPoolExecutor(os.cpu_count() or 1) as pool:
-            failures += filter(None, pool.map(partial(failure_of, room, installing.preload), found))
+            failures += filter(None, pool.map(partial(failure_of, room, runner.preload), found))
         count += len(found)
     return failures, count
 
 
 if __name__ == "__main__":
-    sys.exit(ending.main("one-call", run_all))
+    sys.exit(test_script.run_cases("one-call", run_all))

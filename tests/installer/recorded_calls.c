@@ -1,22 +1,26 @@
-/* Lets a test follow a run of the installer. Linked with the sources of the installer, with the option --wrap=NAME of the
-   linker for each function NAME that is defined here as __wrap_NAME. recording.py has the names.
+/* Reports the calls of an installer to recording.py, which can let each of them fail. Linked with the sources of the
+   installer, with the linker option --wrap=NAME for each function NAME that is defined here as __wrap_NAME. recording.py
+   has the names.
 
-   The environment variable RECORDER is the descriptor of a socket. Before each call of the installer's machine, and before
-   each system call, the run sends a request and waits for the reply. So the test can look at the files between two calls,
-   and can let a call fail. The run also sends notes, for which there is no reply. Without RECORDER the calls are made as
-   usual.
+   The environment variable RECORDER is the descriptor of a socket. Before each call of the installer's machine (a
+   `minisign_installation`), and before each system call, the run sends a request and waits for the reply, so that the test
+   can inspect the files between two calls. The run also sends notes, to which there is no reply. Without RECORDER, the calls
+   are made as usual.
 
-   A request or note is a line `KIND NAME A B LENGTH`, and as many bytes as LENGTH says:
+   A request or note is a line `KIND NAME A B LENGTH`, followed by LENGTH bytes. The requests:
 
-     call NAME NUMBER DUE          a call of the machine, its number, and the operation that is due
-     due - DUE ERROR               follows: the operation that is now due, and the result of the call
-     part NAME 0 0                 precedes: a parameter of the call that comes next
-     system NAME INODE 0           a system call, and the file that it is about; the bytes are the name of a file
-     end NAME RESULT INODE         follows, for some of them: the result or -errno, and the file
+     call NAME NUMBER DUE          a call of the machine, the number that is passed to it, and the operation that is due
+     system NAME INODE 0           a system call on the file with this inode; the bytes are the name of the file
 
-   A reply is two numbers of 64 bits. The first is 0 to make the call, an errno for which it fails, or SHORT for reading or
-   writing only half of the bytes. The second is the time, for the clock, and otherwise 1 for a call that is made before it
-   fails. */
+   The notes:
+
+     part NAME 0 0                 before a call of the machine: a parameter, whose value is the bytes
+     due - DUE ERROR               after a call of the machine: the operation that is now due, and the result of the call
+     end NAME RESULT INODE         after some system calls: the result or -errno, and the inode of the file
+
+   A reply has two numbers of 64 bits. The first is 0 to make the call, an errno with which it fails, or SHORT to read or
+   write only half of the bytes. The second is the time if the call reads the clock, otherwise 1 if the call is made before
+   it fails. */
 #define _GNU_SOURCE
 #include <dirent.h>
 #include <errno.h>
@@ -66,7 +70,8 @@ static void send_bytes(int to, const void *bytes, size_t len)
     }
 }
 
-static void send_message(const char *kind, const char *name, long long a, unsigned long long b, const void *bytes, size_t len)
+static void send_message(const char *kind, const char *name, long long a, unsigned long long b, const void *bytes,
+                         size_t len)
 {
     char line[200];
     int to = recorder(), saved = errno;
@@ -108,8 +113,8 @@ static unsigned long long inode_of(int fd)
     return is_file ? (unsigned long long) status.st_ino : 0;
 }
 
-/* Asks whether to make a system call. Returns 0, an errno, or SHORT. */
-static int64_t ask(const char *name, int fd, const char *path, int64_t *value)
+/* Sends the request for a system call. Returns the reply: 0, an errno, or SHORT, and the second number in *value. */
+static int64_t request_system_call(const char *name, int fd, const char *path, int64_t *value)
 {
     const char *slash = path == NULL ? NULL : strrchr(path, '/');
     const char *last = slash == NULL ? path : slash + 1;
@@ -118,29 +123,30 @@ static int64_t ask(const char *name, int fd, const char *path, int64_t *value)
     return wait_for_reply(value);
 }
 
-/* How a call has to fail: with this errno, or not if it is 0; and if it is made before. */
+/* A failure to simulate: the errno, or 0 if the call must not fail; and true if the call is made before it fails. */
 struct failure {
     int error;
-    int is_made;
+    int is_executed;
 };
 
 static struct failure failure_of(const char *name, int fd, const char *path)
 {
-    int64_t value, error = ask(name, fd, path, &value);
+    int64_t value, error = request_system_call(name, fd, path, &value);
 
     return (struct failure) { error > 0 ? (int) error : 0, error > 0 && value == 1 };
 }
 
-/* Makes a call, unless it has to fail. */
-#define MADE(type, none, failure, ...)                                                                                     \
+/* Evaluates to the result of a call, or to `none` with errno set if the call has to fail. */
+#define CALL_OR_FAIL(type, none, failure, ...)                                                                             \
     __extension__({                                                                                                        \
-        type made = failure.error == 0 || failure.is_made ? __VA_ARGS__ : none;                                            \
+        type made = failure.error == 0 || failure.is_executed ? __VA_ARGS__ : none;                                        \
                                                                                                                            \
         errno = failure.error > 0 ? failure.error : errno;                                                                 \
         failure.error > 0 ? none : made;                                                                                   \
     })
 
-static int ended(const char *name, int result, int fd, const char *path)
+/* Sends the note `end`, and returns the result. */
+static int note_result(const char *name, int result, int fd, const char *path)
 {
     send_message("end", name, result < 0 ? -errno : result, inode_of(fd), path, path == NULL ? 0 : strlen(path));
     return result;
@@ -148,6 +154,7 @@ static int ended(const char *name, int result, int fd, const char *path)
 
 /* ---- Calls of the machine ---- */
 
+/* Sends the request for a call of the machine, and waits for the reply. */
 static void report(const minisign_installation *installation, const char *name, long long number, const void *bytes, size_t len)
 {
     int64_t value;
@@ -156,7 +163,8 @@ static void report(const minisign_installation *installation, const char *name, 
     wait_for_reply(&value);
 }
 
-static enum minisign_error taken(const minisign_installation *installation, enum minisign_error error)
+/* Sends the note `due`, and returns the error. */
+static enum minisign_error note_due(const minisign_installation *installation, enum minisign_error error)
 {
     send_message("due", "-", (long long) minisign_install_due(installation), error, NULL, 0);
     return error;
@@ -168,7 +176,7 @@ static enum minisign_error taken(const minisign_installation *installation, enum
     enum minisign_error __wrap_minisign_install_##name parameters                                                          \
     {                                                                                                                      \
         report(installation, #name, number, bytes, len);                                                                   \
-        return taken(installation, __real_minisign_install_##name arguments);                                              \
+        return note_due(installation, __real_minisign_install_##name arguments);                                           \
     }
 
 REPORTS(done, (minisign_installation *installation), (installation), 0, NULL, 0)
@@ -192,7 +200,7 @@ enum minisign_error __wrap_minisign_install_signature(
 {
     send_message("part", "name", 0, 0, file, file_len);
     report(installation, "signature", now, text, len);
-    return taken(installation, __real_minisign_install_signature(installation, text, len, file, file_len, now, message, room,
+    return note_due(installation, __real_minisign_install_signature(installation, text, len, file, file_len, now, message, room,
                                                                  message_len));
 }
 
@@ -213,7 +221,7 @@ enum minisign_error __wrap_minisign_install_init(
     send_message("part", "other", 0, 0, other->key_id, sizeof other->key_id);
     send_message("part", "other", 0, 0, other->key, sizeof other->key);
     report(installation, "init", 0, options, sizeof *options);
-    return taken(installation, error);
+    return note_due(installation, error);
 }
 
 /* ---- System calls ---- */
@@ -236,9 +244,9 @@ enum minisign_error __wrap_minisign_install_init(
     {                                                                                                                      \
         mode_t mode = MODE_ARGUMENT(flags);                                                                                \
         struct failure failure = failure_of(#name, -1, path);                                                              \
-        int fd = MADE(int, -1, failure, __real_##name(__VA_ARGS__, mode));                                                 \
+        int fd = CALL_OR_FAIL(int, -1, failure, __real_##name(__VA_ARGS__, mode));                                         \
                                                                                                                            \
-        return ended(#name, fd, fd, path);                                                                                 \
+        return note_result(#name, fd, fd, path);                                                                           \
     }
 
 OPENS(open, (const char *path, int flags, ...), path, flags)
@@ -251,7 +259,7 @@ OPENS(openat, (int directory, const char *path, int flags, ...), directory, path
     {                                                                                                                      \
         struct failure failure = failure_of(#name, fd, path);                                                              \
                                                                                                                            \
-        return MADE(type, none, failure, __real_##name arguments);                                                         \
+        return CALL_OR_FAIL(type, none, failure, __real_##name arguments);                                                 \
     }
 
 FAILS(int, -1, fstat, fd, NULL, (int fd, struct stat *status), (fd, status))
@@ -272,7 +280,7 @@ FAILS(int, -1, fsetxattr, fd, NULL, (int fd, const char *name, const void *bytes
 FAILS(int, -1, fremovexattr, fd, NULL, (int fd, const char *name), (fd, name))
 FAILS(struct dirent *, NULL, readdir, -1, NULL, (DIR *entries), (entries))
 
-/* Their results are noted. */
+/* Calls whose results are sent to recording.py. */
 #define NOTES(name, fd, parameters, arguments)                                                                             \
     int __real_##name parameters;                                                                                          \
     int __wrap_##name parameters;                                                                                          \
@@ -280,23 +288,23 @@ FAILS(struct dirent *, NULL, readdir, -1, NULL, (DIR *entries), (entries))
     {                                                                                                                      \
         struct failure failure = failure_of(#name, fd, NULL);                                                              \
                                                                                                                            \
-        return ended(#name, MADE(int, -1, failure, __real_##name arguments), fd, NULL);                                    \
+        return note_result(#name, CALL_OR_FAIL(int, -1, failure, __real_##name arguments), fd, NULL);                      \
     }
 
 NOTES(fsync, fd, (int fd), (fd))
 NOTES(flock, fd, (int fd, int operation), (fd, operation))
 
-/* They can handle only half of the bytes. */
+/* Calls that can be told to handle only half of the bytes. */
 #define HALVES(name, parameters, ...)                                                                                      \
     ssize_t __real_##name parameters;                                                                                      \
     ssize_t __wrap_##name parameters;                                                                                      \
     ssize_t __wrap_##name parameters                                                                                       \
     {                                                                                                                      \
-        int64_t value, error = ask(#name, fd, NULL, &value);                                                               \
+        int64_t value, error = request_system_call(#name, fd, NULL, &value);                                               \
         struct failure failure = { error > 0 ? (int) error : 0, error > 0 && value == 1 };                                 \
                                                                                                                            \
         size = error == SHORT ? (size + 1) / 2 : size;                                                                     \
-        return MADE(ssize_t, -1, failure, __real_##name(__VA_ARGS__));                                                     \
+        return CALL_OR_FAIL(ssize_t, -1, failure, __real_##name(__VA_ARGS__));                                             \
     }
 
 HALVES(read, (int fd, void *bytes, size_t size), fd, bytes, size)
@@ -310,8 +318,8 @@ int __wrap_close(int fd)
 {
     struct failure failure = failure_of("close", fd, NULL);
 
-    failure.is_made = 1;
-    return MADE(int, -1, failure, __real_close(fd));
+    failure.is_executed = 1;
+    return CALL_OR_FAIL(int, -1, failure, __real_close(fd));
 }
 
 /* The clock shows the time of the reply. */
@@ -324,7 +332,7 @@ int __wrap_clock_gettime(clockid_t clock, struct timespec *found)
     if (clock != CLOCK_REALTIME || recorder() < 0) {
         return __real_clock_gettime(clock, found);
     }
-    error = ask("clock_gettime", -1, NULL, &value);
+    error = request_system_call("clock_gettime", -1, NULL, &value);
     if (error > 0) {
         errno = (int) error;
         return -1;
@@ -333,12 +341,12 @@ int __wrap_clock_gettime(clockid_t clock, struct timespec *found)
     return 0;
 }
 
-/* The test decides how long a run waits. */
+/* Does not wait, because the test decides when the run continues. */
 int __real_nanosleep(const struct timespec *pause, struct timespec *rest);
 int __wrap_nanosleep(const struct timespec *pause, struct timespec *rest);
 int __wrap_nanosleep(const struct timespec *pause, struct timespec *rest)
 {
     struct failure failure = failure_of("nanosleep", -1, NULL);
 
-    return recorder() < 0 ? __real_nanosleep(pause, rest) : MADE(int, -1, failure, 0);
+    return recorder() < 0 ? __real_nanosleep(pause, rest) : CALL_OR_FAIL(int, -1, failure, 0);
 }

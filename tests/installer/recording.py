@@ -1,11 +1,15 @@
-"""Records runs of an installer that is linked with recorded_calls.c, and writes them as the program `trace_reader` reads them.
+"""Records runs of an installer that is linked with recorded_calls.c, as traces that the program `trace_reader` checks.
 
-A run stops before each of its calls. Only one run goes on at a time, so each change of the files has a known cause: a change
-while the run goes on is an effect of the operation that is due, and a change while it waits is one by another process. What an
-operation did is found out from the files and from the results of fsync and flock, and not from what the run reports.
+A run of the installer uses one or two machines, which are `minisign_installation`s of minisign_install.h. A machine names the
+operation that is due, the installer performs the operation, and reports what happened with a call of the machine.
 
-The order of the lines differs from the order of time in one way. While a run reads the installed file or the record, it does
-not look at the name, so a change of the name is written after the reading.
+A run stops before each of its calls, and only one run continues at a time. So each change of the files has a known cause: if it
+happens while the run continues, it is an effect of the operation that is due; if it happens while the run waits, another process
+made it. The effects of an operation are found by looking at the files and at the results of fsync and flock. The reports of the
+run are not trusted.
+
+In one case, the items of a trace are not in the order of time. While a run reads the installed file or the record, replacing the
+file does not change what the run reads. So such a change is added to the trace after the reading.
 """
 
 import errno
@@ -20,60 +24,68 @@ from collections import namedtuple
 from dataclasses import dataclass, field
 
 import proved
-from installers import ALREADY, LOCK, RECORD, TARGET, TEMPORARY
-from running import SECONDS, Failure, expect, read
+from installers import ALREADY_INSTALLED, LOCK, RECORD, TARGET, TEMPORARY_PREFIX
+from running import SECONDS, Failure, read
 
-CALLS = ("init", "done", "copied", "failed", "record", "no_record", "piece", "no_target", "answer", "signature")
+# The functions of minisign_install.h, without the prefix of their names, and the functions of the C library that recorded_calls.c wraps.
+MACHINE_CALLS = ("init", "done", "copied", "failed", "record", "no_record", "piece", "no_target", "answer", "signature")
 SYSTEM_CALLS = ("open", "openat", "fstat", "fstatat", "stat", "statx", "fchmod", "fchown", "renameat", "unlinkat", "lseek", "getrandom",
                 "getxattr", "fgetxattr", "fsetxattr", "fremovexattr", "readdir", "fsync", "flock", "read", "write", "pread", "close",
                 "clock_gettime", "nanosleep")
-# After these the files are looked at, and before each call of the machine. With several runs, they are looked at before each call.
-CHANGING = ("open", "openat", "fchmod", "renameat", "unlinkat", "write")
-# The options of the linker for recorded_calls.c.
-WRAPPED = [f"-Wl,--wrap={name}" for name in (*(f"minisign_install_{call}" for call in CALLS), *SYSTEM_CALLS)]
+# System calls that may change files. The files are inspected after them and before each call of a machine. If several runs are
+# recorded at once, the files are inspected before each call.
+CHANGING_CALLS = ("open", "openat", "fchmod", "renameat", "unlinkat", "write")
+# The linker options for recorded_calls.c.
+WRAP_OPTIONS = [f"-Wl,--wrap={name}" for name in (*(f"minisign_install_{call}" for call in MACHINE_CALLS), *SYSTEM_CALLS)]
+# The names of operations, by number.
 HEADER = read(proved.ROOT, "include", "minisign_install.h").decode()
-DUE = {int(number): name for name, number in re.findall(r"MINISIGN_DUE_(\w+) = (\d+)", HEADER)}
-# The operations with which a machine has ended, and the exit statuses that fit them. A check fails although it would install the update
-# if the target cannot be replaced. Without --check a run does not end like this, unless it cannot receive the data.
-FAILURES = range(1, ALREADY)
-ENDS = {"INSTALLED": (0,), "WOULD_INSTALL": (0, *FAILURES), "ALREADY_INSTALLED": (ALREADY,), "REJECTED": FAILURES}
-NUMBERS = dict(re.findall(r"MINISIGN_(\w+) = (0x[0-9a-f]+|\d+)", read(proved.ROOT, "include", "minisign.h").decode()))
-TARGET_IN_USE = int(NUMBERS["TARGET_IN_USE"])
-ANSWERS = {int(NUMBERS["ANSWER_YES"], 16): "accepted", int(NUMBERS["ANSWER_NO"], 16): "refused"}
-# Effects for which `trace_reader` has no name. No operation has one of them.
-NAMELESS = ("target_changed", "record_changed", "data_overwritten", "another_file_synced")
-# Changes that failed operations may leave in the temporary files. They are not recorded.
-OF_DATA, OF_RECORD = ("data_created", "data_grown", "data_synced"), ("record_created", "record_written", "record_synced")
-LEFT_OUT = {**dict.fromkeys(("CREATE_FILE", "COPY_DATA", "SET_PERMISSIONS", "SYNC_FILE"), OF_DATA),
-            **dict.fromkeys(("CREATE_RECORD", "WRITE_RECORD", "SYNC_RECORD"), OF_RECORD)}
-# The letters of `trace_reader` for options, in the order of minisign_install_options.
-LETTERS = "FACXKB"
-# A reply: read or write only half of the bytes.
+OPERATIONS = {int(number): name for name, number in re.findall(r"MINISIGN_DUE_(\w+) = (\d+)", HEADER)}
+# The final operations of a machine, and the exit statuses of minisign-install that are correct for them. WOULD_INSTALL is the result of a
+# check. --check may still fail then, because the target cannot be replaced. Without --check, a run first checks data from a pipe, and
+# ends with WOULD_INSTALL only if it cannot receive the data.
+FAILURES = range(1, ALREADY_INSTALLED)
+FINAL_STATUSES = {"INSTALLED": (0,), "WOULD_INSTALL": (0, *FAILURES), "ALREADY_INSTALLED": (ALREADY_INSTALLED,), "REJECTED": FAILURES}
+CONSTANTS = dict(re.findall(r"MINISIGN_(\w+) = (0x[0-9a-f]+|\d+)", read(proved.ROOT, "include", "minisign.h").decode()))
+TARGET_IN_USE = int(CONSTANTS["TARGET_IN_USE"])
+ANSWERS = {int(CONSTANTS["ANSWER_YES"], 16): "accepted", int(CONSTANTS["ANSWER_NO"], 16): "refused"}
+# Effects that no operation may have. `trace_reader` has no names for them.
+UNNAMED_EFFECTS = ("target_changed", "record_changed", "data_overwritten", "another_file_synced")
+# Effects on the temporary files that a failed operation may have. They are not recorded.
+DATA_EFFECTS = ("data_created", "data_grown", "data_synced")
+RECORD_EFFECTS = ("record_created", "record_written", "record_synced")
+# By operation, the effects that are not recorded if it fails.
+IGNORED_EFFECTS = {**dict.fromkeys(("CREATE_FILE", "COPY_DATA", "SET_PERMISSIONS", "SYNC_FILE"), DATA_EFFECTS),
+                   **dict.fromkeys(("CREATE_RECORD", "WRITE_RECORD", "SYNC_RECORD"), RECORD_EFFECTS)}
+# The letters of `trace_reader` for the options after `numbering` in minisign_install_options, in this order.
+OPTION_LETTERS = "FACXKB"
+# Faults in place of an errno: the call reads or writes only half of the bytes, or the run is killed before the call.
 SHORT = -1
 KILL = "kill"
-# No installed file has more bytes.
-GREATEST_SIZE = 1 << 40
+# A size that no installed file exceeds.
+MAX_SIZE = 1 << 40
 
 # A file: its inode number and its bytes.
-File = namedtuple("File", "number data")
-Stage = namedtuple("Stage", "name data mode")
-# The content of the directory: the installed file and its mode, the record, the number of the lock file, and the temporary files
-# by number.
-Files = namedtuple("Files", "target mode record lock stages")
-# A call that a run is about to make: of the machine or of the system, its name, and its bytes.
+File = namedtuple("File", "inode data")
+TemporaryFile = namedtuple("TemporaryFile", "name data mode")
+# The files of a directory: the installed file and its mode, the record, the inode of the lock file, and the temporary files by
+# inode.
+Files = namedtuple("Files", "target mode record lock temporary")
+# A call that a run is about to make: true for a call of the machine and false for a system call, its name, and its bytes.
 Request = namedtuple("Request", "is_report name octets")
 
 
-def word(octets):
+def hex_word(octets):
+    """Encodes bytes, or None for a missing file, as a word of a trace."""
     return "-" if octets is None else f"[{octets.hex()}]"
 
 
 def file_words(file):
-    return ["-", "-"] if file is None else [str(file.number), word(file.data)]
+    """Encodes a file, or None, as two words of a trace."""
+    return ["-", "-"] if file is None else [str(file.inode), hex_word(file.data)]
 
 
 def file_at(path):
-    """Returns a regular file and its mode, or None and 0 if there is none."""
+    """Returns a regular file as a `File`, and its mode, or None and 0 if there is none."""
     try:
         fd = os.open(path, os.O_RDONLY | os.O_NOFOLLOW | os.O_NONBLOCK)
     except OSError:
@@ -88,107 +100,134 @@ def file_at(path):
 
 
 def files_at(path):
-    """Returns the files of a directory."""
+    """Returns the `Files` of a directory."""
     (target, mode), (record, _) = (file_at(os.path.join(path, name)) for name in (TARGET, RECORD))
-    stages, lock = {}, None
+    temporary, lock = {}, None
     for name in os.listdir(path):
-        if name.startswith(TEMPORARY):
+        if name.startswith(TEMPORARY_PREFIX):
             file, permissions = file_at(os.path.join(path, name))
             if file:
-                stages[file.number] = Stage(name, file.data, permissions)
+                temporary[file.inode] = TemporaryFile(name, file.data, permissions)
         elif name == LOCK:
             lock = os.stat(os.path.join(path, name), follow_symlinks=False).st_ino
-    return Files(target, mode, record, lock, stages)
+    return Files(target, mode, record, lock, temporary)
 
 
 @dataclass
 class Command:
-    """A command, and what a lawful run of it does: its options, as the letters of `trace_reader`; the keys, each a key ID and a key;
-    the signed file name; the signature file; the data; `signed`, the messages, keys and signatures that Ed25519 accepts; the mode
-    of --mode; and, if the data is in a pipe, how many bytes are received at most."""
+    """A command line, and the same command as `trace_reader` gets it."""
 
-    words: list
+    arguments: list
+    # The options, as letters of `trace_reader`.
     letters: str
+    # The public keys, each a key ID and a key.
     keys: list
+    # The content of the signature file, and the data.
     signature: bytes
     data: bytes
+    # The signatures that Ed25519 accepts: tuples of message, key and signature.
     signed: list
+    # The expected file name in the trusted comment.
     name: bytes = TARGET.encode()
+    # The mode of --mode.
     mode: int = None
+    # True if the data comes from a pipe, and the maximum number of bytes that the run receives from it, if there is a limit.
     is_pipe: bool = False
-    to_receive: int = None
+    max_received: int = None
 
 
 @dataclass
 class Events:
-    """What happens to a run: its call of number `at` fails with the errno `how`, is SHORT, or is preceded by a KILL. Only system calls
-    are counted, and only those named in `calls` if that is given; kills count all calls. With `is_made` the call is made before it
-    fails. `clock` has the times that the clock shows, the last one repeatedly; the clock fails if a time is a negative errno below -1.
-    Before the call of number `changed_at`, of all calls, another process makes the change `change`."""
+    """What happens during a run."""
 
+    # The call of number `at` has this fault: an errno, SHORT or KILL. For KILL all calls are counted, otherwise only system calls, and
+    # if `calls` is not empty, only those of these names.
     at: int = 0
-    how: object = 0
+    fault: object = 0
     calls: tuple = ()
-    is_made: bool = False
+    # True if the call is executed before it fails.
+    is_executed: bool = False
+    # The times that the clock shows one after another; the last one is repeated. A number below -1 is a negative errno with which the
+    # clock fails.
     clock: list = field(default_factory=lambda: [1000])
+    # Before the call of this number (all calls are counted), the function `change` is called, which acts as another process.
     changed_at: int = 0
     change: object = None
 
 
 class Trace:
-    """The trace of one machine: what its files and options were at the beginning, and the items of the trace."""
+    """The trace of one machine: the command and the files at the beginning, and the items, which are lists of words."""
 
     def __init__(self, command, letters, data, files):
-        self.command, self.letters, self.data, self.begun, self.items = command, letters, data, files, []
+        self.command, self.letters, self.data, self.initial_files, self.items = command, letters, data, files, []
         self.recorded = files.record and files.record.data
 
     def request(self):
         """Returns the line for `trace_reader`."""
         command = self.command
         keys = (command.keys * 2)[:2]
-        head = [self.letters or "-", *map(word, keys), word(command.name), word(command.signature), word(self.data), str(GREATEST_SIZE),
-                word(self.recorded), *file_words(self.begun.target), *file_words(self.begun.record)]
-        signed = [["signed", *map(word, each)] for each in command.signed]
+        head = [self.letters or "-", *map(hex_word, keys), hex_word(command.name), hex_word(command.signature),
+                hex_word(self.data), str(MAX_SIZE), hex_word(self.recorded),
+                *file_words(self.initial_files.target), *file_words(self.initial_files.record)]
+        signed = [["signed", *map(hex_word, each)] for each in command.signed]
         return " ".join(each for item in [head, *signed, *self.items] for each in item)
 
 
-class Recorded:
-    """A run that is recorded. `traces` has a trace for each machine, and `offences` what `trace_reader` cannot decide."""
+class RecordedRun:
+    """A run that is recorded. After the run, `traces` has a trace for each machine, and `offences` are the faults that this class
+    itself found."""
 
     def __init__(self, path, command, events=None):
         self.path, self.command, self.events = path, command, events or Events()
-        self.number = os.stat(path).st_ino
+        self.directory_inode = os.stat(path).st_ino
+        self.traces, self.offences = [], []
+        # The number of calls so far; true if the fault of `events` has happened; and the exit status after the run.
+        self.count, self.reached, self.status = 0, False, None
+        # The call before which the run waits, or None after the run.
+        self.pending = None
+        # The operation that is due, and the effects so far: tuples of a name, an inode and bytes.
+        self.due, self.effects = "NOTHING", []
+        # The files when they were last inspected, and changes by other processes that are not yet in the trace.
         self.files = files_at(path)
-        self.traces, self.offences, self.count, self.reached, self.status = [], [], 0, False, None
-        self.due, self.request, self.effects, self.held, self.parts, self.modes = "NOTHING", None, [], [], [], set()
-        self.data_file = self.record_file = self.opened = self.locked = None
-        self.reading, self.is_refused, self.is_busy, self.shown = None, False, False, None
-        self.may_change = self.is_shared = self.has_to_fail = False
+        self.foreign_changes = []
+        # Parameters of the next call of the machine: names and bytes.
+        self.parameters = []
+        # The modes that the new file may get, as the target may be replaced during the operation.
+        self.allowed_modes = set()
+        # Inodes: the temporary files of the data and of the record, the target that the run has opened, the lock file that it has
+        # locked, and the file that it is reading.
+        self.data_file = self.record_file = self.target_inode = self.lock_inode = self.open_inode = None
+        # True if the last flock failed because of another lock, and if the trace says that another process holds the lock.
+        self.lock_failed = self.is_held_by_others = False
+        # The time that the clock last showed, or -1 if it failed.
+        self.clock_time = None
+        # True if the pending call may change files, if several runs are recorded at once, and if the next report has to be a failure.
+        self.may_change = self.has_concurrent_runs = self.has_to_fail = False
 
     # == The process ==
 
     def start(self, start):
-        """Starts the run. `start` starts a program with this descriptor as RECORDER, and returns the process."""
+        """Starts the run. The function `start` gets the arguments and the descriptor for RECORDER, and returns the process."""
         self.socket, end = socket.socketpair()
         self.socket.settimeout(SECONDS)
         with end:
-            self.process = start(self.command.words, end.fileno())
+            self.process = start(self.command.arguments, end.fileno())
         self.stream = self.socket.makefile("rb")
         self.advance()
 
-    def go_on(self):
+    def continue_run(self):
         """Replies to the request of the run, and waits for its next one."""
         self.count += 1
         if self.count == self.events.changed_at:
-            self.take_own()
+            self.find_own_changes()
             self.events.change()
-        if self.count == self.events.changed_at or self.is_shared:
-            self.take_others()
-        request, self.request = self.request, None
-        self.may_change = request.name in CHANGING
-        how = self.fault_of(request)
-        if how != KILL:
-            self.reply(request, how)
+        if self.count == self.events.changed_at or self.has_concurrent_runs:
+            self.find_foreign_changes()
+        request, self.pending = self.pending, None
+        self.may_change = request.name in CHANGING_CALLS
+        fault = self.fault_of(request)
+        if fault != KILL:
+            self.reply(request, fault)
         else:
             if self.is_added:
                 self.traces[-1].items.pop()
@@ -196,28 +235,28 @@ class Recorded:
         self.advance()
 
     def fault_of(self, request):
-        """Returns how a call is to fail, or 0."""
+        """Returns the fault of a call, or 0."""
         events = self.events
-        if events.how == KILL or not request.is_report and (not events.calls or request.name in events.calls):
+        if events.fault == KILL or not request.is_report and (not events.calls or request.name in events.calls):
             events.at -= 1
             if events.at == 0:
                 self.reached = True
-                return events.how
+                return events.fault
         return 0
 
-    def reply(self, request, how):
-        """Lets the run make its call, or not."""
-        value = int(self.events.is_made and how > 0)
+    def reply(self, request, fault):
+        """Tells the run to make its call, or to let it fail."""
+        value = int(self.events.is_executed and fault > 0)
         if not request.is_report and request.name == "clock_gettime":
             value = self.events.clock[0]
             self.events.clock = self.events.clock[1:] or self.events.clock
-            how, value = (-value, 0) if how == 0 and value < -1 else (how, value)
-            self.shown = -1 if how > 0 else value
-        self.socket.sendall(struct.pack("qq", how, value))
+            fault, value = (-value, 0) if fault == 0 and value < -1 else (fault, value)
+            self.clock_time = -1 if fault > 0 else value
+        self.socket.sendall(struct.pack("qq", fault, value))
 
     def advance(self):
-        """Lets the run go on to its next request, or to its end."""
-        while self.request is None:
+        """Reads messages of the run until its next request or its end."""
+        while self.pending is None:
             try:
                 header = self.stream.readline()
             except TimeoutError as why:
@@ -227,108 +266,112 @@ class Recorded:
                 self.end()
                 return
             kind, name, first, second, length = header.decode().split(" ")
-            self.take(kind, name, int(first), int(second), self.stream.read(int(length)))
+            self.handle_message(kind, name, int(first), int(second), self.stream.read(int(length)))
 
     def end(self):
-        """Takes the end of the run, and compares its exit status with the state of the machine."""
+        """Handles the end of the run: compares its exit status with the final operation of the machine."""
         self.stream.close()
         self.socket.close()
         self.status = self.process.wait(SECONDS)
-        self.take_own()
+        self.find_own_changes()
         if self.status >= 0:
             self.expect_no_effects()
-        expected = FAILURES if self.due == "WOULD_INSTALL" and "C" not in self.command.letters else ENDS.get(self.due, ())
+        expected = FINAL_STATUSES.get(self.due, ())
+        if self.due == "WOULD_INSTALL" and "C" not in self.command.letters:
+            expected = FAILURES
         if self.status >= 0 and self.traces and self.status not in expected:
-            self.offend(f"exit status {self.status} after {self.due}")
+            self.add_offence(f"exit status {self.status} after {self.due}, expected one of {[*expected]}")
 
-    def take(self, kind, name, first, second, octets):
-        """Takes a message of recorded_calls.c."""
+    def handle_message(self, kind, name, first, second, octets):
+        """Handles a message of recorded_calls.c, whose head describes the messages."""
         if kind == "part":
-            self.parts.append((name, octets))
+            self.parameters.append((name, octets))
         elif kind == "due":
-            self.take_due(DUE[first])
+            self.set_due(OPERATIONS[first])
         elif kind == "end":
-            self.take_result(name, first, second, octets)
+            self.handle_result(name, first, second, octets)
         else:
-            if kind == "call" or self.may_change or self.is_shared:
-                self.take_own()
-            self.request = Request(kind == "call", name, octets)
-            self.is_added = kind == "call" and name != "init" and self.due not in ENDS
+            if kind == "call" or self.may_change or self.has_concurrent_runs:
+                self.find_own_changes()
+            self.pending = Request(kind == "call", name, octets)
+            self.is_added = kind == "call" and name != "init" and self.due not in FINAL_STATUSES
             if self.is_added:
-                self.take_report(name, first, octets)
+                self.add_report(name, first, octets)
             elif kind == "call" and name == "init":
                 self.begin(octets)
             if kind == "call":
-                self.parts = []
+                self.parameters = []
 
     # == The machine ==
 
-    def offend(self, what):
+    def add_offence(self, what):
         self.offences.append(what)
 
     def begin(self, octets):
-        """Begins the trace of a machine, and compares its options with those of the command."""
+        """Begins the trace of a machine, and compares its options, which are the bytes `octets`, with those of the command."""
         numbering, *flags = struct.unpack("7I", octets)
         command, is_first = self.command, not self.traces
         letters, data = command.letters, command.data
-        given = [letter for letter, flag in zip(LETTERS, flags) if flag] + ["T"] * (numbering == 0)
-        # If the data cannot be opened, it is not known to be a pipe, and this has to be the first report.
+        given = [letter for letter, flag in zip(OPTION_LETTERS, flags) if flag] + ["T"] * (numbering == 0)
+        # The first machine for data from a pipe makes a check. Only if the data cannot be opened, the run does not know that it is a
+        # pipe and makes no check. Then the first report must be a failure.
         self.has_to_fail = command.is_pipe and is_first and "C" not in given
         if command.is_pipe and is_first and not self.has_to_fail:
             letters += "" if "C" in letters else "C"
         elif command.is_pipe:
-            data = b"" if self.due == "ALREADY_INSTALLED" else data[:command.to_receive]
-        keys = [b"".join(part for name, part in self.parts if name == key) for key in ("key", "other")]
+            data = b"" if self.due == "ALREADY_INSTALLED" else data[:command.max_received]
+        keys = [b"".join(part for name, part in self.parameters if name == key) for key in ("key", "other")]
         if {*given} != {*letters} or keys != (command.keys * 2)[:2]:
-            self.offend(f"the options of a machine are {given} and {keys}, expected {letters}")
+            self.add_offence(f"the options of a machine are {given} and {keys}, expected {letters}")
         self.expect_no_effects()
         self.traces.append(Trace(command, letters, data, self.files))
-        self.data_file = self.record_file = self.opened = self.locked = self.reading = None
-        self.effects, self.held, self.is_busy = [], [], False
+        self.data_file = self.record_file = self.target_inode = self.lock_inode = self.open_inode = None
+        self.effects, self.foreign_changes, self.is_held_by_others = [], [], False
 
-    def take_due(self, due):
-        """Takes the next operation, after a call of the machine."""
+    def set_due(self, due):
+        """Sets the operation that is due after a call of the machine."""
         if due != self.due:
-            self.reading = None
-            self.release()
-        self.due, self.leftovers, self.modes = due, {*self.files.stages}, {self.expected_mode()}
+            self.open_inode = None
+            self.add_foreign_changes()
+        self.due, self.leftovers, self.allowed_modes = due, {*self.files.temporary}, {self.expected_mode()}
 
-    def take_result(self, name, result, number, octets):
-        """Takes the result of a system call."""
+    def handle_result(self, name, result, number, octets):
+        """Handles the result of a system call on the file with the inode `number`."""
         path = octets.decode()
         if name == "openat" and result >= 0 and (self.due, path) in (("READ_TARGET", TARGET), ("READ_RECORD", RECORD)):
-            self.release()
-            self.reading = number
-            self.opened = number if path == TARGET else self.opened
+            self.add_foreign_changes()
+            self.open_inode = number
+            self.target_inode = number if path == TARGET else self.target_inode
         elif name == "flock":
             # The name of the lock file must lead to the locked file. Later, another process may remove it.
-            self.locked = number if result == 0 and number == self.files.lock else None
-            self.is_refused = result == -errno.EWOULDBLOCK
+            self.lock_inode = number if result == 0 and number == self.files.lock else None
+            self.lock_failed = result == -errno.EWOULDBLOCK
         elif name == "fsync" and result == 0:
-            synced = {self.data_file: "data_synced", self.record_file: "record_synced", self.opened: "target_synced", self.number: "names_synced"}
+            synced = {self.data_file: "data_synced", self.record_file: "record_synced",
+                      self.target_inode: "target_synced", self.directory_inode: "names_synced"}
             self.add_effect(synced.get(number, "another_file_synced"))
 
-    def take_report(self, name, number, octets):
+    def add_report(self, name, number, octets):
         """Adds a call of the machine to the trace."""
         report, octets, count = self.words_of(name, number, octets)
         if self.has_to_fail and report != "failed":
-            self.offend("an installation from a pipe began without a check")
+            self.add_offence("an installation from a pipe began without a check")
         self.has_to_fail = False
         if name == "signature":
             self.compare_parameters(number)
         if name in ("no_record", "no_target", "failed"):
-            self.release()
+            self.add_foreign_changes()
         if name in ("record", "no_record"):
             self.traces[-1].recorded = self.read_record() and self.read_record().data
         if self.due == "LOCK":
-            self.take_lock(report)
-        effect, made, written = self.effect_of(report)
-        self.add("call", report, word(octets), count, effect, str(made), word(written))
+            self.add_lock_change(report)
+        effect, inode, written = self.effect_of(report)
+        self.add("call", report, hex_word(octets), count, effect, str(inode), hex_word(written))
         self.effects = []
 
     @staticmethod
     def words_of(name, number, octets):
-        """Returns the report of `trace_reader` for a call of the machine, with its bytes and its number."""
+        """Returns the words of `trace_reader` for a call of the machine: the report, its bytes and its number."""
         if name == "signature":
             return name, octets, str(number) if number >= 0 else "-"
         if name == "copied":
@@ -343,27 +386,27 @@ class Recorded:
 
     def compare_parameters(self, time):
         """Compares the file name and the time that the run passes with the signature."""
-        name = dict(self.parts)["name"]
-        if name != self.command.name or time != self.shown:
-            self.offend(f"it passed the name {name} and the time {time}, when the clock showed {self.shown}")
+        name = dict(self.parameters)["name"]
+        if name != self.command.name or time != self.clock_time:
+            self.add_offence(f"it passed the name {name} and the time {time}, expected {self.command.name} and {self.clock_time}")
 
-    def add(self, *words):
-        self.traces[-1].items.append([*words])
+    def add(self, *arguments):
+        self.traces[-1].items.append([*arguments])
 
     def read_record(self):
         """Returns the record as it was when the run opened it."""
-        before = [line for line in self.held if line[0] == "record"]
-        return self.held_record if before else self.files.record
+        is_replaced = any(change[0] == "record" for change in self.foreign_changes)
+        return self.record_at_open if is_replaced else self.files.record
 
-    def take_lock(self, report):
-        """Adds that another run holds the lock, or does not, before this run reports it."""
-        if report == "in_use" and self.is_refused and not self.is_busy:
-            self.is_busy = True
+    def add_lock_change(self, report):
+        """Adds to the trace that another process took or released the lock, before this run reports it."""
+        if report == "in_use" and self.lock_failed and not self.is_held_by_others:
+            self.is_held_by_others = True
             self.add("busy", "1", "-")
-        elif report == "done" and self.is_busy:
-            self.is_busy = False
+        elif report == "done" and self.is_held_by_others:
+            self.is_held_by_others = False
             self.add("busy", "0", "-")
-        self.is_refused = False
+        self.lock_failed = False
 
     # == What this run did to the files ==
 
@@ -377,25 +420,26 @@ class Recorded:
         self.effects = [effect for effect in self.effects if effect[0] != name]
         return dropped[0] if dropped else None
 
-    def take_own(self):
-        """Takes the changes since the run went on."""
+    def find_own_changes(self):
+        """Finds the changes since the run continued. These are effects of this run."""
         before, self.files = self.files, files_at(self.path)
         after = self.files
         for what, old, new, own, renamed in (("target", before.target, after.target, self.data_file, "data_renamed"),
                                              ("record", before.record, after.record, self.record_file, "record_renamed")):
             if new != old:
-                self.add_effect(renamed if new and new.number == own and new.number in before.stages else f"{what}_changed")
-        for number, stage in after.stages.items():
-            self.take_stage(number, before.stages.get(number), stage)
-        gone = before.stages.keys() - after.stages.keys() - {file.number for file in (after.target, after.record) if file}
-        if gone & {self.data_file, self.record_file} and not self.own_stages():
+                self.add_effect(renamed if new and new.inode == own and new.inode in before.temporary else f"{what}_changed")
+        for inode, file in after.temporary.items():
+            self.find_changes_of(inode, before.temporary.get(inode), file)
+        removed = before.temporary.keys() - after.temporary.keys() - {file.inode for file in (after.target, after.record) if file}
+        if removed & {self.data_file, self.record_file} and not self.own_temporary_files():
             self.add_effect("files_removed")
 
-    def own_stages(self):
-        return self.files.stages.keys() & {self.data_file, self.record_file}
+    def own_temporary_files(self):
+        """Returns the inodes of this run's temporary files that still exist."""
+        return self.files.temporary.keys() & {self.data_file, self.record_file}
 
-    def take_stage(self, number, before, after):
-        """Takes the changes of a temporary file."""
+    def find_changes_of(self, number, before, after):
+        """Finds the effects on a temporary file with the inode `number`. `before` is None if the file is new."""
         if before is None:
             if self.due in ("CREATE_FILE", "CREATE_RECORD"):
                 is_data = self.due == "CREATE_FILE"
@@ -416,78 +460,84 @@ class Recorded:
             self.add_effect("data_grown" if is_grown else "data_overwritten", octets=grown + octets[len(before.data):])
 
     def effect_of(self, report):
-        """Returns what the operation that is due did. What a failed operation left in its temporary file is left out."""
+        """Returns the effect of the operation that is due: its name, inode and bytes. For a failed operation, effects on its temporary
+        file are left out."""
         effects = self.effects
         if report == "failed":
-            effects = [effect for effect in effects if not effect[0] in LEFT_OUT.get(self.due, ())]
+            effects = [effect for effect in effects if not effect[0] in IGNORED_EFFECTS.get(self.due, ())]
         elif report == "done":
-            effects = effects + [(name, number, None) for name, number in self.effects_of_state()]
-        if len(effects) > 1 or any(name in NAMELESS for name, *_ in effects):
-            self.offend(f"call {len(self.traces[-1].items)}, {report} of {self.due}, has the effects {[name for name, *_ in effects]}")
+            effects = effects + [(name, number, None) for name, number in self.state_effects()]
+        if len(effects) > 1 or any(name in UNNAMED_EFFECTS for name, *_ in effects):
+            names = [name for name, *_ in effects]
+            self.add_offence(f"call {len(self.traces[-1].items)}, {report} of {self.due}, has the effects {names}")
         return effects[0] if effects else ("-", "-", None)
 
     def expect_no_effects(self):
+        """Adds an offence if there were effects since the last report."""
         if self.effects:
-            self.offend(f"{[name for name, *_ in self.effects]} after {self.due}")
+            self.add_offence(f"effects {[name for name, *_ in self.effects]} after {self.due}, expected none")
 
     def expected_mode(self):
-        """Returns the mode that the update has to get now."""
+        """Returns the mode that the new file has to get if the run sets it now."""
         mode, files = self.command.mode, self.files
         return mode if mode is not None else files.mode & 0o777 if files.target else 0o600
 
-    def effects_of_state(self):
-        """Yields the effects that are seen from the state of the files, and not from a change."""
+    def state_effects(self):
+        """Yields the effects that are found from the state of the files, and not from a change."""
         files = self.files
-        if self.due == "LOCK" and self.locked is not None:
+        if self.due == "LOCK" and self.lock_inode is not None:
             yield "locked", "-"
-        elif self.due == "READ_TARGET" and self.opened is not None:
-            yield "target_opened", self.opened
-        elif self.due == "REMOVE_LEFTOVERS" and not self.leftovers & files.stages.keys():
+        elif self.due == "READ_TARGET" and self.target_inode is not None:
+            yield "target_opened", self.target_inode
+        elif self.due == "REMOVE_LEFTOVERS" and not self.leftovers & files.temporary.keys():
             yield "leftovers_removed", "-"
-        elif self.due == "SET_PERMISSIONS" and self.data_file in files.stages:
-            if files.stages[self.data_file].mode in self.modes:
+        elif self.due == "SET_PERMISSIONS" and self.data_file in files.temporary:
+            if files.temporary[self.data_file].mode in self.allowed_modes:
                 yield "data_permitted", "-"
-        elif self.due == "REMOVE_FILES" and not self.own_stages() and not any(effect[0] == "files_removed" for effect in self.effects):
+        elif self.due == "REMOVE_FILES" and not self.own_temporary_files() and not any(effect[0] == "files_removed" for effect in self.effects):
             yield "files_removed", "-"
 
     # == What other processes did ==
 
-    def take_others(self):
-        """Takes the changes since the run has waited."""
+    def find_foreign_changes(self):
+        """Finds the changes since the run began to wait. These were made by other processes."""
         before, self.files = self.files, files_at(self.path)
         if not self.traces or before == self.files:
             return
-        self.modes.add(self.expected_mode())
+        self.allowed_modes.add(self.expected_mode())
         for name, old, new in (("target", before.target, self.files.target), ("record", before.record, self.files.record)):
             if new != old:
-                if name == "record" and not any(line[0] == "record" for line in self.held):
-                    self.held_record = old
-                self.held.append([name, *file_words(new)])
+                if name == "record" and not any(change[0] == "record" for change in self.foreign_changes):
+                    self.record_at_open = old
+                self.foreign_changes.append([name, *file_words(new)])
         own = {self.data_file, self.record_file}
-        if any(before.stages[number] != self.files.stages.get(number) for number in before.stages.keys() & own):
-            self.offend("another process has changed a temporary file of this run")
-        if self.reading is None:
-            self.release()
+        if any(before.temporary[number] != self.files.temporary.get(number) for number in before.temporary.keys() & own):
+            self.add_offence("another process changed a temporary file of this run")
+        if self.open_inode is None:
+            self.add_foreign_changes()
 
-    def release(self):
-        """Adds the changes that other processes have made."""
+    def add_foreign_changes(self):
+        """Adds the changes by other processes to the trace."""
         if self.traces:
-            self.traces[-1].items += self.held
-        self.held = []
+            self.traces[-1].items += self.foreign_changes
+        self.foreign_changes = []
 
 
 # == Starting programs ==
 
 def start_program(program, path, **streams):
-    """Returns a function that starts a program."""
-    def start(words, descriptor):
-        given = {"stdin": subprocess.DEVNULL, "stdout": subprocess.DEVNULL, "stderr": subprocess.DEVNULL, **streams}
-        return subprocess.Popen([program, *words], cwd=path, env={"RECORDER": str(descriptor)}, pass_fds=[descriptor], umask=0o022, **given)
+    """Returns a function that starts a program in a directory, as `RecordedRun.start` needs it."""
+
+    def start(arguments, descriptor):
+        all_streams = {"stdin": subprocess.DEVNULL, "stdout": subprocess.DEVNULL, "stderr": subprocess.DEVNULL, **streams}
+        return subprocess.Popen([program, *arguments], cwd=path, env={"RECORDER": str(descriptor)}, pass_fds=[descriptor],
+                                umask=0o022, **all_streams)
 
     return start
 
 
-def follow(runs, choose):
-    """Lets started runs go on, one call at a time, until all have ended. `choose` chooses the next one."""
-    while waiting := [run for run in runs if run.request is not None]:
-        choose(waiting).go_on()
+def run_to_end(runs, choose):
+    """Continues started runs, one call at a time, until all have finished. `choose` gets the runs that wait and returns the next one
+    to continue."""
+    while waiting := [run for run in runs if run.pending is not None]:
+        choose(waiting).continue_run()

@@ -11,29 +11,29 @@ import subprocess
 import tempfile
 import threading
 
-from disturbed import Disturbing, content
-from installers import ALREADY, LIBC_CALLS, LOCK, NEW, OLD, PK, RECORD, TARGET, TEMPORARY
-from process import Ran, told
-from running import NOBODY, SECONDS, expect, only_root, read, write
+from faults import FaultRunner, content_or_none
+from installers import ALREADY_INSTALLED, LIBC_CALLS, LOCK, NEW_DATA, OLD_DATA, PK, RECORD, TARGET, TEMPORARY_PREFIX
+from process import RunResult, with_report_pipe
+from running import NOBODY, SECONDS, expect, read, require_root, write
 
 
 class Cases(list):
-    """The cases of a file: their names, functions, and arguments after the directory, of which a last dict holds
-    keyword arguments."""
+    """The test cases of a file: tuples of a name, a function, and the arguments of the function after its first one, which is
+    a `Directory`. If the last argument is a dict, it holds keyword arguments."""
 
     def table(self, *rows):
-        """Decorates a function as the cases of these rows: each is a name, or a name with arguments."""
+        """Decorates a function as test cases, one for each row: a name, or a tuple of a name and arguments."""
 
         def add(function):
-            for name, *given in ([row] if isinstance(row, str) else row for row in rows):
-                self.append((name, function, *given))
+            for name, *arguments in ([row] if isinstance(row, str) else row for row in rows):
+                self.append((name, function, *arguments))
             return function
 
         return add
 
 
 @contextlib.contextmanager
-def unfed_pipe():
+def pipe_without_data():
     """Opens a pipe that nobody writes to."""
     reader, writer = map(os.fdopen, os.pipe(), "rw")
     with reader, writer:
@@ -42,38 +42,40 @@ def unfed_pipe():
 
 @contextlib.contextmanager
 def repeating(act, pause=0.0):
-    """Calls a function repeatedly in another thread, with a number that counts up. Its exceptions become a `Failure`."""
+    """While the `with` block runs, calls `act` again and again in another thread, with the number of the call, from 0 on. An
+    exception of `act` becomes a `Failure`."""
     is_over = threading.Event()
 
-    def go_on():
+    def repeat():
         number = 0
         while not is_over.wait(pause):
             act(number)
             number += 1
 
     with concurrent.futures.ThreadPoolExecutor(1) as pool:
-        repeated = pool.submit(go_on)
+        repetition = pool.submit(repeat)
         try:
             yield
         finally:
             is_over.set()
-    expect(not repeated.exception(), "the repeated function failed", repeated.exception())
+    expect(not repetition.exception(), "the repeated function failed", repetition.exception())
 
 
 class Directory:
     """A directory with a target, and runs of an installer in it."""
 
-    def __init__(self, path, installing):
-        self.path, self.installing, self.kind = path, installing, installing.kind
+    def __init__(self, path, runner):
+        self.path, self.runner, self.signer = path, runner, runner.signer
 
     # == Files ==
 
     def reset(self, **offered):
-        """Replaces all files by the key, an installed update of number 5, and the offered update."""
+        """Removes all files. Then puts a public key and an installed update of version 5 there, and offers an update
+        (`offer`)."""
         for each in os.scandir(self.path):
             if not each.is_dir(follow_symlinks=False):
                 os.remove(each.path)
-        self.put(PK, self.kind.public_text())
+        self.put(PK, self.signer.public_key_file())
         self.put_installed()
         os.chmod(self.path_of(TARGET), 0o751)
         self.offer(**offered)
@@ -85,35 +87,36 @@ class Directory:
     def put(self, name, data):
         write(self.path, name, data)
 
-    def put_installed(self, data=OLD, record=b"5"):
+    def put_installed(self, data=OLD_DATA, record=b"5"):
         """Puts the installed file and its record there, or removes them if they are None."""
-        for name, held in ((TARGET, data), (RECORD, record)):
-            if held is not None:
-                self.put(name, held)
+        for name, new_content in ((TARGET, data), (RECORD, record)):
+            if new_content is not None:
+                self.put(name, new_content)
             elif os.path.exists(self.path_of(name)):
                 os.remove(self.path_of(name))
 
-    def replace(self, name, make, *given):
-        """Replaces a file by what `make` makes at its path."""
+    def replace(self, name, make, *arguments):
+        """Removes a file if it exists, and calls `make` with these arguments and the path, to make another file there."""
         if os.path.lexists(self.path_of(name)):
             os.remove(self.path_of(name))
-        make(*given, self.path_of(name))
+        make(*arguments, self.path_of(name))
 
-    def offer(self, name="new", data=NEW, number=6, signed=None, legacy=False, names=TARGET, label="timestamp", more=""):
-        """Offers an update: its data, and its signature, which is of `signed` if that is given."""
+    def offer(self, name="new", data=NEW_DATA, number=6, signed=None, legacy=False, names=TARGET, label="timestamp", more=""):
+        """Offers an update: writes its data and its signature file. If `signed` is given, these bytes are signed instead of the
+        data. The trusted comment holds the version number in the field `label`, the file name `names`, and the fields `more`."""
         self.put(name, data)
         comment = f"{label}:{number}\tfile:{names}{more}\tprehashed"
-        self.put(name + ".sig", self.kind.signature_text(data if signed is None else signed, comment, legacy))
+        self.put(name + ".sig", self.signer.sign(data if signed is None else signed, comment, legacy))
 
-    def give_away(self, *names, to=(NOBODY, NOBODY)):
-        """Changes the owner and group of files. Skips the case without root."""
-        only_root("give files another owner")
+    def change_owner(self, *names, to=(NOBODY, NOBODY)):
+        """Changes the owner and group of files, by default to the user nobody. Without root, the case is skipped."""
+        require_root("give files another owner")
         for name in names:
             os.chown(self.path_of(name), *to)
 
     @contextlib.contextmanager
     def locked(self):
-        """Holds the lock, as another run does."""
+        """Holds the lock of the target, as another run would."""
         with open(self.path_of(LOCK), "wb") as lock:
             fcntl.flock(lock, fcntl.LOCK_EX)
             yield lock
@@ -122,124 +125,136 @@ class Directory:
         return stat.S_IMODE(os.stat(self.path_of(name)).st_mode)
 
     def content(self, name=TARGET):
-        """Returns the content of a file. Of a complete record with a timestamp it is the number only."""
-        found = content(self.path, name)
-        return found and re.sub(rb"\Atimestamp:(\d+)\n[0-9a-f]{64}\n[0-9a-f]{128}\Z", rb"\1", found)
+        """Returns the content of a file, or None. A complete version record of a timestamp is shortened to the number."""
+        data = content_or_none(self.path, name)
+        return data and re.sub(rb"\Atimestamp:(\d+)\n[0-9a-f]{64}\n[0-9a-f]{128}\Z", rb"\1", data)
 
     def installed_state(self):
         """Returns the contents of the target and of the record."""
         return self.content(), self.content(RECORD)
 
     def temporary_files(self):
-        return [name for name in os.listdir(self.path) if name.startswith(TEMPORARY)]
+        return [name for name in os.listdir(self.path) if name.startswith(TEMPORARY_PREFIX)]
 
     def snapshot(self):
-        """Returns the names, contents, times and inodes of all files, and the time of the directory."""
-        return os.stat(self.path).st_mtime_ns, {
-            each.name: (each.is_file() and read(each.path), each.stat().st_mtime_ns, each.stat().st_ino) for each in os.scandir(self.path)}
+        """Returns the modification time of the directory, and by name the contents, modification times and inodes of all files."""
+        files = {each.name: (each.is_file() and read(each.path), each.stat().st_mtime_ns, each.stat().st_ino)
+                 for each in os.scandir(self.path)}
+        return os.stat(self.path).st_mtime_ns, files
 
     # == Runs ==
 
     def arguments(self, name, *options):
+        """Returns the command line that installs the update of this name."""
         return [*options, PK, name, name + ".sig", TARGET]
 
-    def run(self, words, environment=None, **how):
-        """Runs the program with these arguments."""
-        return self.installing.run(self.path, words, environment, **how)
+    def run(self, arguments, environment=None, **options):
+        """Runs the program with these arguments. `options` are those of `subprocess.run`."""
+        return self.runner.run(self.path, arguments, environment, **options)
 
-    def install(self, name="new", *options, **how):
-        """Runs the program for the update of this name."""
-        return self.run(self.arguments(name, *options), **how)
+    def install(self, name="new", *flags, **options):
+        """Installs the update of this name, with these options of the program."""
+        return self.run(self.arguments(name, *flags), **options)
 
-    def start(self, words, environment=None, **how):
-        """Starts a run, whose error output goes into a pipe."""
-        return subprocess.Popen([self.installing.program, *words], cwd=self.path, env=environment or {},
-                                **{"stdin": subprocess.DEVNULL, "stdout": subprocess.DEVNULL, "stderr": subprocess.PIPE, **how})
+    def start(self, arguments, environment=None, **options):
+        """Starts the program. Its error output goes into a pipe. `options` are those of `subprocess.Popen`."""
+        streams = {"stdin": subprocess.DEVNULL, "stdout": subprocess.DEVNULL, "stderr": subprocess.PIPE}
+        return subprocess.Popen([self.runner.program, *arguments], cwd=self.path, env=environment or {},
+                                **{**streams, **options})
 
-    def install_broken(self, *options, **how):
-        """Runs the program for the update with a broken call, as `disturbed_calls.c` takes it."""
-        return self.installing.run_broken(self.path, self.arguments("new", *options), how)
+    def install_broken(self, *flags, **fault):
+        """Installs the update `new` while a call fails. `fault` has the variables of `faulty_calls.c`, without `BREAK_`."""
+        return self.runner.run_broken(self.path, self.arguments("new", *flags), fault)
 
-    def disturbing(self, **environment):
-        """Returns an environment in which `disturbed_calls.c` does this."""
-        return {"LD_PRELOAD": self.installing.preload, **environment}
+    def preload_environment(self, **variables):
+        """Returns an environment that preloads `faulty_calls.c` and has these variables, which that file describes."""
+        return {"LD_PRELOAD": self.runner.preload, **variables}
 
-    def run_traced(self, words, how=None, **environment):
-        """Runs the program and returns its calls, as `disturbed_calls.c` traces them."""
-        ran, said = told(lambda says: self.run(words, self.disturbing(TRACE_TO=str(says), **environment), pass_fds=[says], **(how or {})))
-        return ran, said.decode().splitlines()
+    def run_traced(self, arguments, options=None, **variables):
+        """Runs the program. Returns the result, and the lines of the trace that `faulty_calls.c` writes."""
+
+        def run(trace):
+            environment = self.preload_environment(TRACE_TO=str(trace), **variables)
+            return self.run(arguments, environment, pass_fds=[trace], **(options or {}))
+
+        ran, trace = with_report_pipe(run)
+        return ran, trace.decode().splitlines()
 
     def run_stopped_before(self, number, meanwhile, where=".", **calls):
-        """Runs the program for the target in a subdirectory. It stops before the call with this number (of the calls
-        CALLS, if given), `meanwhile` runs, and then the program continues."""
-        return self.installing.run_stopped(self.path, [PK, "new", "new.sig", os.path.join(where, TARGET)],
-                                           lambda: meanwhile(Directory(self.path_of(where), self.installing)), AT=number, **calls)
+        """Installs `new` into the subdirectory `where`. Before its call of this number the run is stopped, `meanwhile` is called
+        with the `Directory` of the target, and then the run continues. CALLS=NAMES counts only the calls of these functions."""
+        return self.runner.run_stopped(self.path, [PK, "new", "new.sig", os.path.join(where, TARGET)],
+                                       lambda: meanwhile(Directory(self.path_of(where), self.runner)), AT=number, **calls)
 
     def run_stopped_when_staged(self, meanwhile, where="."):
-        """Does the same when the program has written all of its data into the temporary file."""
+        """Like `run_stopped_before`, at the time when the temporary file is complete and not yet verified."""
         ran = self.run_stopped_before(1, meanwhile, where, CALLS=LIBC_CALLS["read-back"])
         expect(ran.reached, "it wrote no temporary file", ran)
         return ran
 
     # == Results ==
 
-    def expect_end(self, ran, status, said=None):
-        """Raises a `Failure` if a run has another exit status, or its error output does not end with `said`, or is not
-        empty if `said` is."""
-        is_said = said is None or ran.said.endswith(said) and bool(ran.said) == bool(said)
-        expect(ran.status == status and is_said and b"Success" not in ran.said, ran, f"expected status {status} and {said}")
+    def expect_end(self, ran, status, error_output=None):
+        """Raises a `Failure` unless a run had this exit status, and its error output ends with `error_output`. If that is empty,
+        so must be the error output; if it is None, any error output is accepted."""
+        is_expected = error_output is None or ran.stderr.endswith(error_output) and bool(ran.stderr) == bool(error_output)
+        # "Success" is the text for errno 0, so a message with it has no cause.
+        expect(ran.status == status and is_expected and b"Success" not in ran.stderr, ran,
+               f"expected status {status} and {error_output}")
 
-    def expect_result(self, ran, status, said=None):
-        """Does the same, and expects the newer update to be installed after success, otherwise the older one."""
-        self.expect_end(ran, status, said)
-        self.expect_installed(*((NEW, b"6") if status in (0, ALREADY) else (OLD, b"5")))
+    def expect_result(self, ran, status, error_output=None):
+        """Like `expect_end`. Also expects that the update `new` is installed if the run succeeded, otherwise the older one."""
+        self.expect_end(ran, status, error_output)
+        self.expect_installed(*((NEW_DATA, b"6") if status in (0, ALREADY_INSTALLED) else (OLD_DATA, b"5")))
 
-    def expect_install(self, name, status, *options, said=None):
-        """Installs the update of this name, and expects this exit status."""
-        self.expect_end(self.install(name, *options), status, said)
+    def expect_install(self, name, status, *flags, error_output=None):
+        """Installs the update of this name, and expects this end (`expect_end`)."""
+        self.expect_end(self.install(name, *flags), status, error_output)
 
-    def expect_run(self, words, status, said=b"", **how):
+    def expect_run(self, arguments, status, error_output=b"", **options):
         """Runs the program with these arguments, and expects this exit status and exactly this error output."""
-        ran = self.run(words, **how)
-        expect(ran.status == status and ran.said == said, ran, f"expected status {status} and {said}")
+        ran = self.run(arguments, **options)
+        expect(ran.status == status and ran.stderr == error_output, ran, f"expected status {status} and {error_output}")
 
-    def expect_end_of(self, process, status, said=None):
-        """Waits for a started run, and expects this exit status."""
-        text = process.communicate(timeout=SECONDS)[1]
-        self.expect_end(Ran(process.returncode, b"", text), status, said)
+    def expect_process_end(self, process, status, error_output=None):
+        """Waits for a started run, and expects this end (`expect_end`)."""
+        stderr = process.communicate(timeout=SECONDS)[1]
+        self.expect_end(RunResult(process.returncode, b"", stderr), status, error_output)
 
     def expect_installed(self, data, number):
-        """Raises a `Failure` if the target or the record has another content, or a temporary file is left."""
+        """Raises a `Failure` unless the target holds this data and the record this number, and no temporary file is left."""
         expect(self.content() == data, f"the target holds {str(self.content())[:40]}, expected {str(data)[:40]}")
         expect(self.content(RECORD) == number, f"the record holds {self.content(RECORD)}, expected {number}")
         expect(not self.temporary_files(), f"it left {self.temporary_files()}")
 
-    def expect_recorded(self, data, record):
-        """Does the same with the complete content of the record."""
-        found = content(self.path, RECORD)
+    def expect_installed_with_record(self, data, record):
+        """Like `expect_installed`, but compares the whole content of the record."""
+        recorded = content_or_none(self.path, RECORD)
         self.expect_installed(data, self.content(RECORD))
-        expect(found == record, f"the record holds {found}, expected {record}")
+        expect(recorded == record, f"the record holds {recorded}, expected {record}")
 
     def expect_mode(self, mode, name=TARGET):
         expect(self.mode(name) == mode, f"{name} has the mode {self.mode(name):o}, expected {mode:o}")
 
 
-class Installing(Disturbing):
-    """An installer that runs in fresh directories, with keys and signatures of `kind` (installers.py)."""
+class InstallerRunner(FaultRunner):
+    """Runs an installer in fresh directories. `signer` makes the keys and signatures (installers.py)."""
 
     seconds = SECONDS
 
-    def __init__(self, program, kind, room):
+    def __init__(self, program, signer, room):
         super().__init__(shutil.copy(program, os.path.join(room, "program")), room)
-        self.kind = kind
+        self.signer = signer
         os.chmod(room, 0o711)
 
-    def offered(self, path):
+    def new_directory(self, path):
         """Makes a directory in which an older update is installed and a newer one is offered."""
         return Directory(path, self).reset()
 
-    def run_case(self, case, *given):
-        """Runs a case in a fresh directory, with its arguments, of which a last dict holds keyword arguments."""
-        *given, named = given if given and isinstance(given[-1], dict) else (*given, {})
-        with tempfile.TemporaryDirectory(dir=self.place) as path:
-            case(self.offered(path), *given, **named)
+    def run_case(self, case, *arguments):
+        """Runs a test case (`Cases`) in a fresh directory."""
+        keywords = {}
+        if arguments and isinstance(arguments[-1], dict):
+            *arguments, keywords = arguments
+        with tempfile.TemporaryDirectory(dir=self.parent) as path:
+            case(self.new_directory(path), *arguments, **keywords)

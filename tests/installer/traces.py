@@ -1,16 +1,21 @@
 #!/usr/bin/env python3
-"""Checks which recorded runs of an installer the program `trace_reader` finds lawful.
+"""Checks the decisions of the program `trace_reader` on traces of an installer.
 
-    tests/installer/traces.py [--write]
+    tests/installer/traces.py [--write] [--program PROGRAM]
 
-  * Runs of a lawful application, whole or cut off, with failures and other processes, are lawful.
-  * Runs that are changed at one call offend there: a call is left out or exchanged with the next one, its effect is
-    left out, or it has other bytes.
+A trace lists what an installer did and what other processes did meanwhile. `trace_reader` prints `lawful` if the installer followed
+the rules of minisign_install, otherwise the number of the first item that breaks them. The head of
+crates/trace_reader/src/main.rt describes the format.
 
-The signatures are made up: a trace lists those that Ed25519 accepts. With --write, the script writes some of these
-runs to crates/trace_reader/stdin, and the expected decisions to crates/trace_reader/stdout, which `rt ci` compares.
+  * Runs that follow the rules are lawful: complete or cut off, with failed calls, and with changes by other processes.
+  * Runs that differ from a lawful one at one call are rejected at this call. The call is missing or swapped with the next one, it
+    has no effect, or it has other bytes.
 
-It needs the program `trace_reader`, as `rt ci` or `rt run` built it. The last line is `N passed, M failed`.
+The signatures are made up, because a trace lists the signatures that Ed25519 accepts. With --write, the script writes some of the
+cases to crates/trace_reader/stdin, and the expected decisions to crates/trace_reader/stdout, which `rt ci` compares.
+
+PROGRAM is a build of `trace_reader`. By default, it is the program that `rt ci` or `rt run` built. The last line is
+`N passed, M failed`.
 """
 
 import argparse
@@ -31,13 +36,23 @@ PROGRAM = f"{CRATE}/out/trace_reader"
 SECONDS = 60
 
 KEY_ID, KEY = bytes(range(1, 9)), bytes(31) + b"\1"
-OTHER_ID, OTHER_KEY = b"\x09" * 8, b"\x11" * 32
-DATA_SIGNATURE, COMMENT_SIGNATURE = b"\5" * 64, b"\6" * 64
-OLD, NEW = b"old data", b"new data, longer"
-TARGET, RECORD, NEW_FILE, NEW_RECORD = 1, 2, 7, 8
+OTHER_KEY_ID, OTHER_KEY = b"\x09" * 8, b"\x11" * 32
+DATA_SIGNATURE = b"\5" * 64
+COMMENT_SIGNATURE = b"\6" * 64
+OLD_DATA = b"old data"
+NEW_DATA = b"new data, longer"
+# Made-up inode numbers: the target and the record before the run, and the temporary files for the data and for the new record.
+TARGET, RECORD = 1, 2
+NEW_FILE, NEW_RECORD = 7, 8
+# The letters for options of a run.
+FIRST, CHECK, ROLL_BACK, NEW_KEY = "F", "C", "B", "K"
+# The positions of words in an item for a call: what the installer reported, with its bytes, and what the call did to the files, with
+# the bytes that it wrote.
+REPORT, REPORTED_BYTES, EFFECT, WRITTEN_BYTES = 1, 2, 4, 6
 
 
-def word(octets):
+def hex_word(octets):
+    """Encodes bytes, or None for a missing file, as a word of a trace."""
     return "-" if octets is None else f"[{octets.hex()}]"
 
 
@@ -55,38 +70,45 @@ def signature_file(comment):
 
 
 class Run:
-    """A recorded run. Each item is the words of a call or of a change by another process."""
+    """A trace: the words `head` describe the run, and each item has the words of a call or of a change by another process. The methods
+    append items and return the run."""
 
-    def __init__(self, options="-", version=3, update=NEW, record=record_text(2, OLD), target=OLD):
+    def __init__(self, options="-", version=3, update=NEW_DATA, record=record_text(2, OLD_DATA), target=OLD_DATA):
         comment = b"version:%d\tfile:app" % version
-        self.version, self.update, self.record, self.text = version, update, record, signature_file(comment)
-        files = [[str(number), word(data)] if data is not None else ["-", "-"]
+        self.version, self.update, self.record, self.signature = version, update, record, signature_file(comment)
+        files = [[str(number), hex_word(data)] if data is not None else ["-", "-"]
                  for number, data in ((TARGET, target), (RECORD, record))]
-        self.head = [options, word(KEY_ID + KEY), word(OTHER_ID + OTHER_KEY), word(b"app"), word(self.text), word(update),
-                     "100", word(record), *files[0], *files[1]]
+        self.head = [options, hex_word(KEY_ID + KEY), hex_word(OTHER_KEY_ID + OTHER_KEY), hex_word(b"app"), hex_word(self.signature),
+                     hex_word(update),
+                     "100", hex_word(record), *files[0], *files[1]]
         for message, signature in ((DATA_SIGNATURE + comment, COMMENT_SIGNATURE), (digest(update), DATA_SIGNATURE)):
-            self.head += ["signed", word(message), word(KEY), word(signature)]
+            self.head += ["signed", hex_word(message), hex_word(KEY), hex_word(signature)]
         self.items = []
 
-    def call(self, report, octets=None, number="-", effect="-", made="-", written=None):
-        self.items.append(["call", report, word(octets), str(number), effect, str(made), word(written)])
+    def call(self, report, octets=None, number="-", effect="-", inode="-", written=None):
+        """A call: the event that the installer reports, with its bytes and its number, and the effect on the files, with the inode
+        of the file and the bytes written."""
+        self.items.append(["call", report, hex_word(octets), str(number), effect, str(inode), hex_word(written)])
         return self
 
     def done(self, *effects):
+        """Calls that report `done`, one for each effect."""
         for effect in effects:
             self.call("done", effect=effect)
         return self
 
     def other(self, *words):
+        """A change by another process."""
         self.items.append([*words])
         return self
 
     def begin(self):
         """Reads the record and the signature file, and verifies the comment."""
-        return self.call("record", self.record).call("signature", self.text, 100).call("accepted")
+        return self.call("record", self.record).call("signature", self.signature, 100).call("accepted")
 
     def create(self):
-        return self.done("leftovers_removed").call("done", effect="data_created", made=NEW_FILE)
+        """Removes temporary files of other runs and creates one for the data."""
+        return self.done("leftovers_removed").call("done", effect="data_created", inode=NEW_FILE)
 
     def install(self, new_record=None):
         """Copies the data in two pieces and installs it."""
@@ -94,7 +116,7 @@ class Run:
         for piece in (self.update[:5], self.update[5:]):
             self.call("copied", number=len(piece), effect="data_grown", written=piece)
         self.done("-").call("piece", self.update).done("-").call("accepted").done("data_permitted", "data_synced")
-        self.call("done", effect="record_created", made=NEW_RECORD)
+        self.call("done", effect="record_created", inode=NEW_RECORD)
         self.call("done", effect="record_written", written=new_record or record_text(self.version, self.update))
         return self.done("record_synced", "record_renamed", "names_synced", "data_renamed", "names_synced")
 
@@ -107,33 +129,37 @@ def upgrade():
 
 
 def changed(at, position, value):
-    """Returns an upgrade with another word in one call."""
+    """Returns an upgrade in which the word at a position of call `at` is another one."""
     run = upgrade()
     run.items[at][position] = value
     return run
 
 
-def exchanged(at):
+def swapped(at):
+    """Returns an upgrade in which call `at` and the next one are swapped."""
     run = upgrade()
     run.items[at], run.items[at + 1] = run.items[at + 1], run.items[at]
     return run
 
 
 def without(at):
+    """Returns an upgrade without call `at`."""
     run = upgrade()
     del run.items[at]
     return run
 
 
-def unverified(at):
-    """Returns an upgrade of which Ed25519 rejects the signature of the comment (12) or of the data (16)."""
+def without_valid_signature(message):
+    """Returns an upgrade in which Ed25519 rejects the signature of the comment or of the data."""
     run = upgrade()
-    del run.head[at : at + 4]
+    # The words `signed MESSAGE KEY SIGNATURE` for the comment, and then for the data, are at the end of the head.
+    at = {"comment": -8, "data": -4}[message]
+    run.head = run.head[:at] + run.head[at:][4:]
     return run
 
 
-def renaming_failed():
-    """The record is renamed, but the call reports a failure."""
+def failed_renaming():
+    """Returns a run that renames the record although rename reports an error."""
     run = upgrade()
     run.items = run.items[:18]
     run.items[17][1] = "failed"
@@ -141,92 +167,94 @@ def renaming_failed():
 
 
 def lawful_runs():
-    same = Run(version=2, update=OLD).done("locked").begin().call("accepted").call("piece", OLD)
-    same.call("done", effect="target_opened", made=TARGET).call("accepted").done("target_synced", "names_synced")
+    same = Run(version=2, update=OLD_DATA).done("locked").begin().call("accepted").call("piece", OLD_DATA)
+    same.call("done", effect="target_opened", inode=TARGET).call("accepted").done("target_synced", "names_synced")
     return {
         "upgrade": upgrade(),
         "nothing happened": Run(),
         "cut off after the signature file": Run().done("locked").begin(),
-        "first installation": Run("F", record=None, target=None).done("locked").begin().install(),
-        "check": Run("C").begin(),
+        "first installation": Run(FIRST, record=None, target=None).done("locked").begin().install(),
+        "check": Run(CHECK).begin(),
         "lock in use": Run().other("busy", "1", "-").call("in_use"),
-        "another process replaces the target": Run().done("locked").begin().other("target", "9", word(b"other")).install(),
+        "another process replaces the target": Run().done("locked").begin().other("target", "9", hex_word(b"other")).install(),
         "copying failed": Run().done("locked").begin().create().call("failed").done("files_removed"),
-        "renaming the record failed": renaming_failed(),
+        "renaming the record failed": failed_renaming(),
         "already installed": same,
-        "roll-back": Run("B", version=1).done("locked").begin().call("refused").install(record_text(2, NEW)),
+        "roll-back": Run(ROLL_BACK, version=1).done("locked").begin().call("refused").install(record_text(2, NEW_DATA)),
     }
 
 
-def offending_runs():
-    """Returns names, runs, and the numbers of the items that offend. The calls of an upgrade are: 0 lock, 1 record,
-    2 signature file, 3 comment, 4 leftovers, 5 create, 6 and 7 copy, 8 end of copying, 9 and 10 read back, 11 data,
-    12 permissions, 13 sync, 14 to 16 record, 17 rename it, 18 sync, 19 rename the file, 20 sync."""
+def unlawful_runs():
+    """Returns by name runs that break the rules, each with the number of the first item that does. The calls of an upgrade are:
+    0 locks the target, 1 reads the record, 2 reads the signature file, 3 verifies the comment, 4 removes temporary files of other
+    runs, 5 creates one, 6 to 8 copy the data, 9 and 10 read it back, 11 verifies it, 12 sets the permissions, 13 syncs the file,
+    14 to 16 write the new record, 17 renames it, 18 syncs the directory, 19 renames the file, 20 syncs the directory."""
     runs = {
-        "record of another version": (changed(15, 6, word(record_text(4, NEW))), 15),
-        "other data is copied": (changed(6, 6, word(b"other")), 6),
-        "other data is read back": (changed(9, 2, word(b"other")), 9),
-        "another answer about the data": (changed(11, 1, "refused"), 11),
-        "another answer about the comment": (changed(3, 1, "refused"), 3),
-        "signature of the comment is not valid": (unverified(12), 3),
-        "signature of the data is not valid": (unverified(16), 11),
-        "another record is read": (changed(1, 2, word(record_text(1, OLD))), 1),
-        "another signature file is read": (changed(2, 2, word(signature_file(b"version:9\tfile:app"))), 2),
-        "lock that another run holds": (Run().other("busy", "1", "-").done("locked"), 1),
+        "record of another version": (changed(15, WRITTEN_BYTES, hex_word(record_text(4, NEW_DATA))), 15),
+        "other data is copied": (changed(6, WRITTEN_BYTES, hex_word(b"other")), 6),
+        "other data is read back": (changed(9, REPORTED_BYTES, hex_word(b"other")), 9),
+        "valid data signature is reported as invalid": (changed(11, REPORT, "refused"), 11),
+        "valid comment signature is reported as invalid": (changed(3, REPORT, "refused"), 3),
+        "invalid comment signature is reported as valid": (without_valid_signature("comment"), 3),
+        "invalid data signature is reported as valid": (without_valid_signature("data"), 11),
+        "another record is read": (changed(1, REPORTED_BYTES, hex_word(record_text(1, OLD_DATA))), 1),
+        "another signature file is read": (changed(2, REPORTED_BYTES, hex_word(signature_file(b"version:9\tfile:app"))), 2),
+        "lock is taken although another run holds it": (Run().other("busy", "1", "-").done("locked"), 1),
         "another process replaces the record of a locked target":
-            (Run().done("locked").other("record", "9", word(record_text(1, OLD))), 1),
-        "options do not fit together": (Run("FK").done("locked"), 0),
+            (Run().done("locked").other("record", "9", hex_word(record_text(1, OLD_DATA))), 1),
+        "conflicting options": (Run(FIRST + NEW_KEY).done("locked"), 0),
         "same version is installed": (Run(version=2).done("locked").begin().install(), 4),
         "older version is installed": (Run(version=1).done("locked").begin().install(), 4),
-        "roll-back records its own version": (Run("B", version=1).done("locked").begin().call("refused").install(), 16),
-        "check that installs": (Run("C").begin().install(), 3),
+        "roll-back records its own version": (Run(ROLL_BACK, version=1).done("locked").begin().call("refused").install(), 16),
+        "check that installs": (Run(CHECK).begin().install(), 3),
     }
     calls = upgrade().items
     for at, call in enumerate(calls[:-1]):
-        runs[f"call {at} is left out"] = (without(at), at)
+        runs[f"call {at} is missing"] = (without(at), at)
         if call != calls[at + 1]:
-            runs[f"calls {at} and {at + 1} are exchanged"] = (exchanged(at), at)
+            runs[f"calls {at} and {at + 1} are swapped"] = (swapped(at), at)
     for at, call in enumerate(calls):
-        if call[4] != "-":
-            runs[f"call {at} has no effect"] = (changed(at, 4, "-"), at)
+        if call[EFFECT] != "-":
+            runs[f"call {at} has no effect"] = (changed(at, EFFECT, "-"), at)
     return runs
 
 
 # The cases that `rt ci` runs.
-SHOWN = ["upgrade", "check", "lock in use", "roll-back", "record of another version", "call 13 is left out"]
+CI_CASES = ["upgrade", "check", "lock in use", "roll-back", "record of another version", "call 13 is missing"]
 
 
 def cases():
-    """Returns names, requests and expected decisions."""
+    """Yields all cases: a name, the line for `trace_reader`, and the expected decision."""
     yield from ((name, run.request(), "lawful") for name, run in lawful_runs().items())
-    yield from ((name, run.request(), str(at)) for name, (run, at) in offending_runs().items())
+    yield from ((name, run.request(), str(at)) for name, (run, at) in unlawful_runs().items())
 
 
 def write():
-    shown = [case for case in cases() if case[0] in SHOWN]
-    requests, decisions = ([case[part] for case in shown] for part in (1, 2))
+    """Writes the files that `rt ci` compares."""
+    requests, decisions = zip(*(case[1:] for case in cases() if case[0] in CI_CASES))
     for name, lines in (("stdin", requests), ("stdout", decisions)):
-        with open(f"{CRATE}/{name}", "w", encoding="ascii") as it:
-            it.writelines(f"{line}\n" for line in lines)
+        with open(f"{CRATE}/{name}", "w", encoding="ascii") as file:
+            file.writelines(f"{line}\n" for line in lines)
 
 
 def main():
     parser = argparse.ArgumentParser(description=__doc__.splitlines()[0])
     parser.add_argument("--write", action="store_true")
     parser.add_argument("--program", default=PROGRAM)
-    given = parser.parse_args()
-    if given.write:
+    arguments = parser.parse_args()
+    if arguments.write:
         write()
         return 0
     checks = Checks()
     all_cases = list(cases())
     try:
-        if not os.access(given.program, os.X_OK):
-            raise Missing(f"{given.program} is missing: run rt ci")
+        if not os.access(arguments.program, os.X_OK):
+            raise Missing(f"{arguments.program} is missing: run rt ci")
         text = "".join(f"{request}\n" for _, request, _ in all_cases)
-        ran = subprocess.run([given.program], input=text, capture_output=True, text=True, timeout=SECONDS)
+        ran = subprocess.run([arguments.program], input=text, capture_output=True, text=True, timeout=SECONDS)
         decisions = ran.stdout.splitlines()
-        checks.check(ran.returncode == 0 and len(decisions) == len(all_cases), f"status {ran.returncode}: {ran.stderr}")
+        checks.check(ran.returncode == 0 and len(decisions) == len(all_cases),
+                     f"status {ran.returncode} and {len(decisions)} decisions, expected {len(all_cases)}: {ran.stderr}")
         for (name, _, expected), decision in zip(all_cases, decisions):
             checks.same(decision, expected, name)
     except Missing as missing:

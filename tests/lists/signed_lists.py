@@ -1,11 +1,14 @@
 #!/usr/bin/env python3
-"""Checks that checksum lists are read as the programs that write and check such lists read them.
+"""Checks that checksum lists are parsed in the same way as by the programs that write and check such lists.
 
     tests/lists/signed_lists.py [--seed N] [--lists N]
 
+The random lists are made from the seed; --lists is their number.
+
   * Lists written by sha256sum, sha512sum, b2sum, cksum -a, openssl dgst -r and shasum, for files whose names have
-    spaces, parentheses, `#`, stars, UTF-8 and directories: each file is accepted with its data and with no other data.
-  * Names with a line feed or a backslash, which the tools write with escapes: no name matches such a line.
+    spaces, parentheses, `#`, stars, non-ASCII characters and directories: each file is accepted with its data, and
+    rejected with other data.
+  * Lines for names with a line feed or a backslash, which the tools write with escapes: no name matches such a line.
   * Thousands of random lists, compared with the rules as regular expressions, with `sha256sum -c --strict
     --ignore-missing`, and with `signify -C`. A difference without a known reason is a failure.
 
@@ -33,11 +36,12 @@ PROGRAM = os.path.realpath(f"{HERE}/../../crates/list_reader/out/list_reader")
 SECONDS = 300
 
 DATA = b"abc"
+# Names that the tools write unchanged.
 NAMES = ["a", "a b", " a", "*a", "a) = b", "SHA256 (a", "#a", "-", "a ", "é", "d/a", "d/e/f g", "..a", "a(1).tar.gz"]
 # Names that the tools write with escapes.
 ESCAPED = ["x\ny", "x\\y", "x\\ny\n"]
 
-# Each tool, and the function to which untagged lines with 128 digits belong, or `-` if its lists have none.
+# Each tool, and the hash function of lines with 128 digits and no name of a hash function, or `-` if its lists have none.
 TOOLS = [
     (["sha256sum"], "-"), (["sha256sum", "-b"], "-"), (["sha256sum", "--tag"], "-"),
     (["sha512sum"], "sha512"), (["sha512sum", "-b"], "sha512"), (["sha512sum", "--tag"], "-"),
@@ -49,16 +53,18 @@ TOOLS = [
     (["shasum", "-a", "256"], "-"), (["shasum", "-b", "-a", "512"], "sha512"),
     (["shasum", "--tag", "-a", "256"], "-"),
 ]
-# Tools that write lines for other hash functions, for which the whole list is rejected.
+# Tools that write lines for other hash functions. Their lists are rejected.
 OTHER_TOOLS = [["md5sum", "--tag"], ["sha1sum"], ["sha384sum"], ["b2sum", "--tag", "-l", "256"], ["openssl", "dgst", "-sha256"]]
 
 
 def word(octets):
+    """Encodes bytes as a word of a request."""
     return f"[{octets.hex()}]"
 
 
 def answers(requests):
-    """Returns the program's responses to requests. A request is the function for 128 digits, a list, a name and data."""
+    """Returns the responses of `list_reader`. A request is a tuple of the hash function for lines with 128 digits, a
+    list, a file name and the data of the file."""
     lines = "".join(f"{long} {word(text)} {word(name)} {word(data)}\n" for long, text, name, data in requests)
     ran = subprocess.run([PROGRAM], input=lines, stdout=subprocess.PIPE, text=True, timeout=SECONDS)
     responses = ran.stdout.splitlines()
@@ -67,7 +73,7 @@ def answers(requests):
     return responses
 
 
-def written(tool, names, directory):
+def list_by(tool, names, directory):
     """Returns the list that a tool writes for these files."""
     ran = subprocess.run([*tool, "--", *names] if tool[0] != "openssl" else [*tool, *names], cwd=directory,
                          stdout=subprocess.PIPE, check=True, env={**os.environ, "LC_ALL": "C.UTF-8"})
@@ -91,8 +97,8 @@ def check_tools(checks):
         for name in ESCAPED:
             make(directory, name)
         for tool, long in TOOLS:
-            given = [f"./{name}" for name in NAMES]
-            text = written(tool, given, directory)
+            paths = [f"./{name}" for name in NAMES]
+            text = list_by(tool, paths, directory)
             accepted = answers([(long, text, name.encode(), data) for name, data in files.items()])
             for at, (name, answer) in enumerate(zip(files, accepted), 1):
                 checks.same(answer, f"ok {at}", f"{' '.join(tool)}: {name!r}")
@@ -102,7 +108,7 @@ def check_tools(checks):
         for tool, long in TOOLS:
             if tool[0] in ("openssl", "shasum"):
                 continue
-            text = written(tool, [*ESCAPED, "a"], directory)
+            text = list_by(tool, [*ESCAPED, "a"], directory)
             for name in ESCAPED:
                 checks.same(*answers([(long, text, name.encode(), DATA)]), "bad_name", f"{' '.join(tool)}: {name!r}")
             for line in text.split(b"\n"):
@@ -111,7 +117,7 @@ def check_tools(checks):
                     checks.same(*answers([(long, text, name, DATA)]), "bad_name", f"{' '.join(tool)}: {name!r}")
             checks.same(*answers([(long, text, b"a", files["a"])]), f"ok {len(ESCAPED) + 1}", f"{' '.join(tool)}: after escapes")
         for tool in OTHER_TOOLS:
-            text = written(tool, ["a"], directory)
+            text = list_by(tool, ["a"], directory)
             checks.same(*answers([("sha512", text, b"a", files["a"])]), "malformed 1", " ".join(tool))
 
 

@@ -6,13 +6,13 @@ import json
 import os
 import socket
 
-from person import ELSEWHERE, MIN_CONTRAST, SECONDS, Person
+from person import NON_LOCAL_NAME, MIN_CONTRAST, SECONDS, Person
 
 FLAGS = ("--headless=new", "--no-sandbox", "--disable-gpu", "--disable-dev-shm-usage", "--disable-background-networking",
          "--disable-component-update", "--no-first-run", "--force-prefers-reduced-motion", "--window-size=800,1000",
          # All pages share one process. By default each new page would start another one.
          "--renderer-process-limit=1",
-         f"--host-resolver-rules=MAP {ELSEWHERE} 127.0.0.1")
+         f"--host-resolver-rules=MAP {NON_LOCAL_NAME} 127.0.0.1")
 # The paths of the driver's commands.
 PATHS = {"Navigate": "url", "PerformActions": "actions", "SetTimeouts": "timeouts", "Log": "se/log", "Protocol": "goog/cdp/execute"}
 
@@ -32,17 +32,17 @@ class Chromium(Person):
 
     def begin_session(self):
         try:
-            session = self.ask("POST", "/session", capabilities={"alwaysMatch": self.wanted})
+            session = self.send_request("POST", "/session", capabilities={"alwaysMatch": self.wanted})
         except ConnectionRefusedError:
             return None
         self.path = f"/session/{session['sessionId']}"
         return session
 
     def end_session(self):
-        self.ask("DELETE", self.path)
+        self.send_request("DELETE", self.path)
         self.process.terminate()
 
-    def ask(self, method, path, **arguments):
+    def send_request(self, method, path, **arguments):
         """Sends a request to the driver and returns the result."""
         with contextlib.closing(http.client.HTTPConnection("127.0.0.1", self.port, timeout=10 * SECONDS)) as connection:
             connection.request(method, path, json.dumps(arguments).encode(), {"Content-Type": "application/json"})
@@ -52,12 +52,12 @@ class Chromium(Person):
             raise RuntimeError(f"{path}: {value['error']}: {value['message']:.500}")
         return value
 
-    def order(self, name, **arguments):
-        return self.ask("POST", f"{self.path}/{PATHS[name]}", **arguments)
+    def send_command(self, name, **arguments):
+        return self.send_request("POST", f"{self.path}/{PATHS[name]}", **arguments)
 
     def command(self, name, **arguments):
         """Sends a command of Chromium's DevTools protocol and returns the result."""
-        return self.order("Protocol", cmd=name, params=arguments)
+        return self.send_command("Protocol", cmd=name, params=arguments)
 
     def evaluate(self, expression, **how):
         """Evaluates an expression in the page, and returns the protocol's description of the result. (The driver's own command takes twice
@@ -108,13 +108,13 @@ class Chromium(Person):
     def save_into(self, directory):
         self.command("Browser.setDownloadBehavior", behavior="allow", downloadPath=directory)
 
-    def said(self):
+    def console_messages(self):
         """Returns the messages of the browser's console: errors, and violations of the content security policy."""
-        return [entry["message"] for entry in self.order("Log", type="browser")]
+        return [entry["message"] for entry in self.send_command("Log", type="browser")]
 
     def requests(self):
         """Returns the addresses that were requested since the last call."""
-        messages = [json.loads(entry["message"])["message"] for entry in self.order("Log", type="performance")]
+        messages = [json.loads(entry["message"])["message"] for entry in self.send_command("Log", type="performance")]
         return [message["params"]["request"]["url"] for message in messages if message["method"] == "Network.requestWillBeSent"]
 
     def nodes(self):

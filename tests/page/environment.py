@@ -7,7 +7,7 @@ import re
 
 from help_texts import STATES, served
 from project_page import ZIP, Release
-from releases import LINK, built
+from releases import LINK, build_page
 from views import NARROW
 
 
@@ -28,7 +28,7 @@ def check_network(person):
         person.only("served", number=0, comment="t")
         person.same(person.see("fetchFrom", address), [], "the requests that the policy allows")
         person.same(asked, ["/minisign.html"], "the requests of the page from a server")
-    rejections = [line for line in person.said() if "Content Security Policy" in line or "Refused" in line]
+    rejections = [line for line in person.console_messages() if "Content Security Policy" in line or "Refused" in line]
     person.check(len(rejections) >= 2, f"the policy rejected {rejections}, expected two requests")
 
 
@@ -44,7 +44,7 @@ def check_missing_features(person):
             ("WebAssembly.instantiate = async () => { throw new RangeError('memory'); };", "cannot run the proved library", "lacks")):
         number = person.command("Page.addScriptToEvaluateOnNewDocument", source=script)["identifier"]
         person.open()
-        person.says("lacking", f"after {script}", named, lacks=[not_named])
+        person.says("unusable", f"after {script}", named, lacks=[not_named])
         person.same((*map(person.is_shown, STATES), person.rows()), (True, False, []),
                     f"after {script}: True for each of {STATES} that is shown, and the rows")
         person.command("Page.removeScriptToEvaluateOnNewDocument", identifier=number)
@@ -74,14 +74,14 @@ def check_keyboard_and_screen_reader(person):
     """The page can be used by keyboard and with a screen reader. It has both sentences about what it does not show. (views.py checks the
     order in which Tab moves the focus.)"""
     person.open()
-    for name, words in (("of-the-key", "that the key is the right one"), ("of-the-page", "that the page itself is genuine")):
+    for name, words in (("limit-key", "that the key is the right one"), ("limit-page", "that the page itself is genuine")):
         text = person.text_of(name)
         person.check(words in text and text.endswith("."),
                      f"the list of what the page does not show has {text!r}, expected a sentence with {words!r}")
     person.run("document.body.focus()")
     person.same(person.tab(), "key-text", "the element with the focus after the first Tab")
     person.press(person.first.line)
-    person.says("key-said", "a key that is typed", begins="Key ")
+    person.says("key-message", "a key that is typed", begins="Key ")
     person.same(person.tab(), "key-file", "the element with the focus after the second Tab")
     outline = person.run("return getComputedStyle(document.querySelector('#key-file + label')).outlineStyle")
     person.same(outline, "solid", "the outline of the element with the focus")
@@ -110,21 +110,21 @@ def check_keyboard_and_screen_reader(person):
 def check_release_for_screen_readers(person):
     """Screen readers find the files of a release with their states and links, and the name of each field in the form that saves a page."""
     release = Release(person)
-    person.open(built(release, "--name", "Example", "--version", "1.2.3", "--link", f"{ZIP}={LINK}"))
+    person.open(build_page(release, "--name", "Example", "--version", "1.2.3", "--link", f"{ZIP}={LINK}"))
     release.drop(ZIP, None, "screen readers", verdict="good")
     found = {(role, name, properties.get("level")) for role, name, properties in person.nodes()}
     for wanted in (("heading", "Files of Example 1.2.3", 2), ("link", ZIP, None), ("StaticText", "\u2713 Verified", None),
                    ("region", "Files of Example 1.2.3", None)):
         person.check(wanted in found, f"the page of a release: screen readers do not find {wanted}")
     person.open()
-    person.run("document.getElementById('own').open = true")
+    person.run("document.getElementById('project').open = true")
     nodes = person.nodes()
     fields = [name for role, name, properties in nodes if properties.get("focusable") and role in ("textbox", "button", "DisclosureTriangle")]
     for wanted in ("Save as a page for this project", "Title of the page", "Name of the program", "Version of the release", "Signatures of a release",
                    "Links to the files", "Save the page"):
         person.check(any(wanted in name for name in fields), f"the form: screen readers do not find {wanted!r} among {fields}")
-    person.click("own-save")
-    person.wait(lambda: person.text_of("own-said") != "")
+    person.click("project-save")
+    person.wait(lambda: person.text_of("project-message") != "")
     person.check(any(role == "status" and properties.get("live") == "polite" for role, _, properties in person.nodes()),
                  "the form: screen readers do not announce its messages")
 
@@ -135,8 +135,8 @@ def check_dropped_directories(person):
     person.open()
     for place in ("downloads", "downloads", "key"):
         person.drop(place, os.path.dirname(path))
-        person.same((person.text_of("files-said"), person.rows()),
+        person.same((person.text_of("files-message"), person.rows()),
                     ("This page cannot verify a folder. Open the folder, select the files in it, and drop those here.", []),
                     f"a directory that is dropped on {place}")
     person.drop("downloads", path)
-    person.same((person.text_of("files-said"), len(person.rows())), ("", 1), "the message and the number of rows after a file was dropped")
+    person.same((person.text_of("files-message"), len(person.rows())), ("", 1), "the message and the number of rows after a file was dropped")

@@ -34,10 +34,10 @@ class Firefox(Person):
             return None
         self.answers, self.count = self.socket.makefile("rb"), 0
         self.read()
-        return self.order("NewSession")
+        return self.send_command("NewSession")
 
     def end_session(self):
-        self.order("Marionette:Quit", flags=["eForceQuit"])
+        self.send_command("Marionette:Quit", flags=["eForceQuit"])
 
     def read(self):
         """Returns the next message."""
@@ -46,7 +46,7 @@ class Firefox(Person):
             length += digit
         return json.loads(self.answers.read(int(length)))
 
-    def order(self, name, **arguments):
+    def send_command(self, name, **arguments):
         """Sends a command and returns the result."""
         self.count += 1
         name = name if ":" in name else f"WebDriver:{name}"
@@ -59,19 +59,19 @@ class Firefox(Person):
 
     def run(self, script, *arguments):
         # Without a sandbox the script has access to the page's own variables and functions.
-        return self.order("ExecuteScript", script=script, args=arguments, sandbox=None)
+        return self.send_command("ExecuteScript", script=script, args=arguments, sandbox=None)
 
     def send(self, name, *paths):
-        element = self.order("FindElement", using="css selector", value=f"#{name}")
-        self.order("ElementSendKeys", id=next(iter(element.values())), text="\n".join(map(os.path.realpath, paths)))
+        element = self.send_command("FindElement", using="css selector", value=f"#{name}")
+        self.send_command("ElementSendKeys", id=next(iter(element.values())), text="\n".join(map(os.path.realpath, paths)))
 
     def see_in_window(self, what, *arguments):
         """Calls a function of in_page.js in the browser's window, outside of the page, and returns its result."""
-        self.order("Marionette:SetContext", value="chrome")
+        self.send_command("Marionette:SetContext", value="chrome")
         try:
             return self.see(what, *arguments)
         finally:
-            self.order("Marionette:SetContext", value="content")
+            self.send_command("Marionette:SetContext", value="content")
 
     def resize(self, width=None, height=None):
         # The page is resized within the window, because the window cannot be narrower than 500 pixels.

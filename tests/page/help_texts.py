@@ -7,7 +7,7 @@ import http.server
 import os
 import threading
 
-from person import ELSEWHERE
+from person import NON_LOCAL_NAME
 from running import read
 from texts import CORPUS
 
@@ -16,7 +16,7 @@ PGP_KEY = ("-----BEGIN PGP PUBLIC KEY BLOCK-----\n\nmDMEXEcE6RYJKwYBBAHaRw8BAQdA
 PGP_SIGNATURE = "-----BEGIN PGP SIGNATURE-----\n\niHUEABYKAB0WIQQ=\n=abcd\n-----END PGP SIGNATURE-----\n"
 PGP_BYTES = b"\x88\x75\x04\x00\x16"
 # The elements that are shown if the page cannot verify, and if it can.
-STATES = ("lacking", "controls")
+STATES = ("unusable", "controls")
 
 
 @contextlib.contextmanager
@@ -40,7 +40,7 @@ def served(page, **headers):
     with http.server.ThreadingHTTPServer(("127.0.0.1", 0), Handler) as server:
         threading.Thread(target=server.serve_forever, daemon=True).start()
         try:
-            yield (*(f"http://{name}:{server.server_port}/minisign.html" for name in ("127.0.0.1", ELSEWHERE)), asked)
+            yield (*(f"http://{name}:{server.server_port}/minisign.html" for name in ("127.0.0.1", NON_LOCAL_NAME)), asked)
         finally:
             server.shutdown()
 
@@ -57,15 +57,15 @@ def check_wrong_files(person):
                                ("cut.pub", b"untrusted comment: x\n" + sig.split(b"\n")[1][:56] + b"\n", "part of a signature"),
                                ("alone.pub", bare, "only the key", f" {line} (alone.pub)")):
         person.choose_key(person.put(name, data))
-        person.says("key-said", f"{words[0]}, as the key's file", name, *words)
+        person.says("key-message", f"{words[0]}, as the key's file", name, *words)
     # Wrong files that are dropped as downloads are reported with the files. (For a file with only the line of a key, no key is shown.)
     person.open()
     for part, name, data, words in (
-            *(("key-said", name, bare, f"Paste it into the field: ({name})") for name in ("alone.pub", "alone.txt")),
-            *(("files-said", name, data, f"{name} This is a PGP key or signature") for name, data in (
+            *(("key-message", name, bare, f"Paste it into the field: ({name})") for name in ("alone.pub", "alone.txt")),
+            *(("files-message", name, data, f"{name} This is a PGP key or signature") for name, data in (
                 ("update.zip.asc", PGP_KEY.encode()), ("update.zip.asc", PGP_SIGNATURE.encode()),
                 ("update.zip.sig", PGP_BYTES), ("update.zip.gpg", PGP_BYTES), ("key.ASC", PGP_BYTES))),
-            ("files-said", "first.key", secret, "first.key This is a secret key")):
+            ("files-message", "first.key", secret, "first.key This is a secret key")):
         person.drop("downloads", person.put(name, data))
         person.says(part, f"{name} among the files", words, lacks=[line])
         person.same(person.rows(), [], f"{name} among the files: the rows")
@@ -105,8 +105,8 @@ def check_wrong_key_texts(person):
         what = f"{what} in the key's field"
         person.type_key(typed)
         shown = {"ends": f" {line}"} if is_key_shown else {"lacks": [line]}
-        person.says("key-said", what, words, begins="No public key: ", **shown)
-        person.same((person.is_shown("key-whole"), person.see("numberOfKey") is None), (False, False), f"{what}: a key is shown, no number")
+        person.says("key-message", what, words, begins="No public key: ", **shown)
+        person.same((person.is_shown("key-full"), person.see("numberOfKey") is None), (False, False), f"{what}: a key is shown, no number")
 
 
 def check_dragged_texts(person):
@@ -145,15 +145,15 @@ def check_pasted_signatures(person):
                         (person.minisign.read("first.key").decode(), "is a secret key"), (PGP_SIGNATURE, "PGP")):
         person.begin(anew=False)
         person.type_text("signature-text", text)
-        person.says("files-said", "no signature that is pasted", words)
+        person.says("files-message", "no signature that is pasted", words)
         person.same(person.rows(), [], f"{words}: the rows")
         person.type_text("signature-text", "")
-        person.same(person.text_of("files-said"), "", f"{words}: the message after the field was cleared")
+        person.same(person.text_of("files-message"), "", f"{words}: the message after the field was cleared")
 
 
 def check_page_that_cannot_start(person):
     """If the script, a part of it or WebAssembly cannot run, the page says so, and what to do."""
-    seen = "return [performance.now(), getComputedStyle(document.getElementById('lacking')).visibility === 'visible']"
+    seen = "return [performance.now(), getComputedStyle(document.getElementById('unusable')).visibility === 'visible']"
     what = "a script that cannot run"
     with served(person.page, Content_Security_Policy="script-src 'none'") as (address, *_):
         person.go(address)
@@ -161,7 +161,7 @@ def check_page_that_cannot_start(person):
         person.check(not is_early or milliseconds > 1400,
                      f"the page says after {milliseconds} ms that it has not started, expected after 1400 ms or later")
         person.wait(lambda: person.run(seen)[1])
-        person.says("lacking", what, "has not started", "Allow JavaScript")
+        person.says("unusable", what, "has not started", "Allow JavaScript")
         person.same([*map(person.is_shown, STATES)], [True, False], f"{what}: if {STATES} are shown")
     for policy, at, is_secure, has, lacks in (
             ("script-src 'unsafe-inline'", 0, True,
@@ -170,15 +170,15 @@ def check_page_that_cannot_start(person):
         what = f"the policy {policy!r}, and by https or from this machine: {is_secure}"
         with served(person.page, Content_Security_Policy=policy) as addresses:
             person.open(addresses[at])
-        person.says("lacking", what, *has, lacks=["newer browser", *lacks])
+        person.says("unusable", what, *has, lacks=["newer browser", *lacks])
         shown = person.run("return isSecureContext"), *map(person.is_shown, STATES), person.run(seen)[1]
         person.same(shown, (is_secure, True, False, True),
                     f"{what}: a secure context, if {STATES} are shown, and if the message is visible")
     # Without worker threads the page still verifies.
     with served(person.page, Content_Security_Policy="worker-src 'none'") as (address, *_):
         person.open(address)
-        engine = person.run("return beginEngine('').then(engine => engine.constructor.name);")
-        person.same(engine, "NearEngine", "the engine where no thread is allowed")
+        engine = person.run("return startEngine('').then(engine => engine.constructor.name);")
+        person.same(engine, "PageEngine", "the engine where no thread is allowed")
         person.choose_key(os.path.join(CORPUS, "published.pub"))
         person.choose(*(os.path.join(CORPUS, name) for name in ("test", "published.minisig")))
         person.only("no thread of its own", number=0)

@@ -26,14 +26,14 @@ function band() {
 // Returns the rows, the band, true if this is a project's page, which has no field for a key, what is said once about the key with true
 // if it is a warning, and what the page says of its source.
 function state() {
-  const whose = document.getElementById("whose");
+  const whose = document.getElementById("key-notice");
   return [rows(), band(), !document.getElementById("key-text").checkVisibility(),
-    [whose.innerText, whose.checkVisibility() && whose.classList.contains("caution")], document.getElementById("key-said").innerText];
+    [whose.innerText, whose.checkVisibility() && whose.classList.contains("caution")], document.getElementById("key-message").innerText];
 }
 
 // Returns the error number of what was given as a key, 0 for a valid key, or null if nothing was given.
 function numberOfKey() {
-  const {number} = document.getElementById("key-said").dataset;
+  const {number} = document.getElementById("key-message").dataset;
   return number === undefined ? null : Number(number);
 }
 
@@ -63,7 +63,7 @@ function isReady(search = location.search) {
 
 // Returns true if the page shows a message about the key.
 function isKeySaid() {
-  return isTaken() && document.getElementById("key-said").innerText !== "";
+  return isTaken() && document.getElementById("key-message").innerText !== "";
 }
 
 function click(name) {
@@ -155,7 +155,7 @@ function buttons() {
     const {backgroundColor, borderTopWidth, borderTopStyle, borderTopColor, paddingLeft, display} = getComputedStyle(part);
     return [backgroundColor, borderTopWidth, borderTopStyle, borderTopColor, paddingLeft, display].join(" ");
   };
-  return [document.getElementById("clear"), ...all(".place .button")].map(look);
+  return [document.getElementById("clear"), ...all(".drop-area .button")].map(look);
 }
 
 // Returns true if the page is not wider than the window, and no part of a row overflows the row.
@@ -334,9 +334,9 @@ function endThreads() {
 
 // Delays the first text that is read until a part of the next file has been read.
 function waitOnce() {
-  const real = window.textOfFile;
-  window.textOfFile = async file => {
-    window.textOfFile = real;
+  const real = window.bytesOfTextFile;
+  window.bytesOfTextFile = async file => {
+    window.bytesOfTextFile = real;
     await new Promise(resolve => {
       new MutationObserver((_, observer) => {
         if ((document.querySelector("progress")?.value ?? 0) > 0) {
@@ -352,10 +352,10 @@ function waitOnce() {
 
 // Delays each file that the page reads until letFilesGo is called. (Texts are delayed before their time limit starts.)
 function holdFiles() {
-  const {bytesOfFile, textOfFile} = window;
+  const {bytesOfFile, bytesOfTextFile} = window;
   const held = new Promise(resolve => {
     window.letFilesGo = () => {
-      Object.assign(window, {bytesOfFile, textOfFile});
+      Object.assign(window, {bytesOfFile, bytesOfTextFile});
       resolve();
     };
   });
@@ -363,9 +363,9 @@ function holdFiles() {
     await held;
     return bytesOfFile(...of);
   };
-  window.textOfFile = async file => {
+  window.bytesOfTextFile = async file => {
     await held;
-    return textOfFile(file);
+    return bytesOfTextFile(file);
   };
 }
 
@@ -386,7 +386,7 @@ function verifyMany(count, text, data) {
     real(download, verdict, source);
     window.verified += verdict.verdict === "good" ? 1 : 0;
   };
-  inTurn(() => takeFiles(files));
+  queueAction(() => takeFiles(files));
 }
 
 // Requests an address by fetch and as a picture, and returns which of the two succeeded.

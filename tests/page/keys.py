@@ -37,10 +37,10 @@ def check_given_key_is_kept(person):
         person.drop("downloads", *theirs)
         person.only(f"{what}, and another among the files", number=31, cautions=[])
         person.uses(own, what)
-        person.says("files-said", what, begins="minisign.pub came with the files and was ignored: this page uses the key above, ")
+        person.says("files-message", what, begins="minisign.pub came with the files and was ignored: this page uses the key above, ")
         person.choose(*person.pair("update.zip", b"update", good))
         person.only(what, number=0, verdict="good", cautions=[], has=[words])
-        person.same(person.text_of("files-said"), "", f"{what}: the message about new files")
+        person.same(person.text_of("files-message"), "", f"{what}: the message about new files")
 
 
 def check_key_with_files(person):
@@ -69,12 +69,12 @@ def check_key_with_files(person):
                  f"the project's key instead: the log for screen readers, expected two lines `NOT verified ..`: {log}")
     person.click("key-remove")
     person.expect_each("verdict", {"update.zip": "waiting", "other.zip": "waiting"}, "a key that was removed")
-    person.same((person.text_of("key-said"), person.is_shown("key-whole"), person.log()), ("", False, []),
+    person.same((person.text_of("key-message"), person.is_shown("key-full"), person.log()), ("", False, []),
                 "a key that was removed: the messages")
     # If several keys come together, none is used.
     person.drop("downloads", my_key, theirs[-1])
-    person.says("key-said", "two keys at once", "several keys")
-    person.same((person.is_shown("key-whole"), {row.verdict for row in person.rows()}), (False, {"waiting"}), "two keys at once")
+    person.says("key-message", "two keys at once", "several keys")
+    person.same((person.is_shown("key-full"), {row.verdict for row in person.rows()}), (False, {"waiting"}), "two keys at once")
 
 
 def check_key_field(person):
@@ -87,18 +87,18 @@ def check_key_field(person):
         for given in (keys[:1], keys):
             what = f"{text!r} in the key's field, and {len(given)} keys among the files"
             person.begin(text, anew=False)
-            said = person.text_of("key-said")
+            said = person.text_of("key-message")
             person.drop("downloads", *paths, *given)
             person.only(what, verdict="waiting", number=None)
-            seen = person.text_of("key-text", "value"), person.text_of("key-said"), person.is_shown("key-whole")
+            seen = person.text_of("key-text", "value"), person.text_of("key-message"), person.is_shown("key-full")
             person.same(seen, (text, said, False), f"{what}: the field")
             ignored = "{} came with the files and was ignored: the text in the field above is not a key. Correct that text, or clear the field."
-            person.says("files-said", what, *(ignored.format(name) for name in ("minisign.pub", "other.pub")[:len(given)]))
+            person.says("files-message", what, *(ignored.format(name) for name in ("minisign.pub", "other.pub")[:len(given)]))
     # White space is treated like an empty field, because the user cannot see it.
     person.type_key(" \n")
     person.drop("downloads", keys[0])
     person.only("an empty field", verdict="unchecked")
-    person.says("whose", "an empty field", WITH_FILES)
+    person.says("key-notice", "an empty field", WITH_FILES)
     # The user pastes the key that came with the files.
     person.type_key(own.line)
     person.only("a key with the files that is pasted then", verdict="good", cautions=[])
@@ -111,15 +111,15 @@ def check_keys_in_links(person):
     escaped = first.replace("+", "%2B").replace("/", "%2F")
     for part in (escaped, f"key={first}", f"key={escaped}", f"key={first}&later=more", f"later=more&key={first}"):
         person.open(f"{person.address}#{part}")
-        person.says("key-said", f"#{part}", ends="which came with the link to this page.")
+        person.says("key-message", f"#{part}", ends="which came with the link to this page.")
         person.uses(person.first, f"#{part}")
     for part in (f"Verified%20by%20the%20project:%20{first}", f"untrusted%20comment:%20Verified%0A{first}",
                  f"key=Verified%0A{first}", f"{first}%20", f"{first}x", first[:-1], f"key={first}&key={second}",
                  f"{first}&{second}", f"other={first}", "key=", "%", person.sign(b"x").decode().split("\n")[1][:56].replace("+", "%2B")):
         person.open(f"{person.address}#{part}")
-        person.says("key-said", f"#{part}",
+        person.says("key-message", f"#{part}",
                     begins="No public key: the link to this page has no key of 56 characters after #.")
-        seen = person.is_shown("key-whole"), person.text_of("key-text", "value"), "Verified" in person.run("return document.body.innerText")
+        seen = person.is_shown("key-full"), person.text_of("key-text", "value"), "Verified" in person.run("return document.body.innerText")
         person.same(seen, (False, "", False), f"#{part}: a key, and words of the link, are shown")
     what = "an address that changes"
     person.begin(first, *person.signed("update.zip", b"update"))
@@ -128,7 +128,7 @@ def check_keys_in_links(person):
     person.wait(lambda: person.run("return document.documentElement?.dataset.older === undefined"))
     person.wait(lambda: person.see("isReady"))
     person.expect_each("verdict", {}, what)
-    person.says("key-said", what, "which came with the link to this page")
+    person.says("key-message", what, "which came with the link to this page")
     person.uses(person.second, what)
 
 

@@ -1,6 +1,6 @@
 """Checks that the page says what to do next in each state, and what is said about the key once."""
 
-from person import OF_KEY, WHOSE
+from person import KEY_SENTENCES, UNKNOWN_OWNER
 
 PLAIN = "In the folder of the file and its signature, run:"
 
@@ -50,19 +50,19 @@ def check_said_once(person):
     files = [path for number in range(9) for path in person.signed(f"f{number}", b"%d" % number, trusted="t")]
     key = person.put("minisign.pub", person.first.text)
     for what, link, typed, given, sentence in (
-            ("a key that was pasted", "", person.first.line, files, WHOSE),
-            ("a key that came with the files", "", "", [*files, key], OF_KEY["which came with the files"][0]),
-            ("a key in the link", f"#{person.first.line}", "", files, OF_KEY["which came with the link"][0])):
+            ("a key that was pasted", "", person.first.line, files, UNKNOWN_OWNER),
+            ("a key that came with the files", "", "", [*files, key], KEY_SENTENCES["which came with the files"][0]),
+            ("a key in the link", f"#{person.first.line}", "", files, KEY_SENTENCES["which came with the link"][0])):
         person.begin(typed, *given, address=person.address + link)
         person.settled(what)
         shown = person.run("return document.body.innerText")
         person.same(shown.count(sentence), 1, f"{what}: how often the page says whose key it is")
-        person.same(person.run("return document.getElementById('whose').role ?? document.getElementById('whose').getAttribute('role')"),
+        person.same(person.run("return document.getElementById('key-notice').role ?? document.getElementById('key-notice').getAttribute('role')"),
                     "status", f"{what}: the role of the sentence")
-        person.check(person.see("isBefore", "whose", "verdicts"), f"{what}: the sentence is below the list")
+        person.check(person.see("isBefore", "key-notice", "verdicts"), f"{what}: the sentence is below the list")
     person.type_key("")
     person.settled("no key")
-    person.same(person.text_of("whose"), "", "no key: the sentence")
+    person.same(person.text_of("key-notice"), "", "no key: the sentence")
 
 
 def check_what_this_page_cannot_verify(person):

@@ -3,14 +3,14 @@
 
     tests/page/page.py [PAGE] [WORD ..]
 
-By default PAGE is that of `dist/`. `tools/dist.py --check` checks that `page/build.py` builds the same page, and wide_module.py
-compares its module with the proved one. The modules of this directory contain the tests. With words, only the steps run whose
-names contain one of them. To test changed sources of the page, pass a PAGE that `page/build.py` has built from them, without the Rattle
+PAGE is a web page that `page/build.py` built, by default the page in `dist/`. `tools/dist.py --check` checks that `page/build.py`
+builds the same page, and wide_module.py compares its module with the proved one. The modules of this directory contain the tests.
+WORD selects the steps whose name contains it. To test changed sources of the page, pass a PAGE that `page/build.py` has built from them, without the Rattle
 kit. Each patch of the directory `mutants` breaks one thing in the sources, and a step has to detect it. The script prints a
 line for each failure; the last line is `N passed, M failed`.
 
 Needs Python 3.9 or later, chromium, chromium-driver, firefox-esr, binaryen, clang, a C compiler, make, libsodium with its header and
-minisign 0.11. It installs what is missing if it may.
+minisign 0.11. It installs missing packages if it has permission.
 """
 
 import importlib
@@ -24,12 +24,12 @@ HERE = os.path.dirname(os.path.realpath(__file__))
 sys.path += [os.path.join(HERE, "..", directory) for directory in ("shared", "verdicts", "bindings", os.path.join("..", "page"))]
 
 import build
-import ending
 import needs
 import page_mutants
 import page_sources
 import selected
 import static_library
+import test_script
 import verdicts
 from browser import Chromium
 from firefox import Firefox
@@ -63,7 +63,7 @@ def run_step(person, step, begin):
         person = begin()
         step(person)
     if person.is_chromium:
-        person.same([line for line in person.said() if "Uncaught" in line], [], "the errors of the page's console")
+        person.same([line for line in person.console_messages() if "Uncaught" in line], [], "the errors of the page's console")
     return person
 
 
@@ -88,11 +88,11 @@ def run_in(begin):
 
 
 def run_all(checks, room):
-    page = selected.file() or os.path.join(static_library.DIST, "minisign.html")
+    page = selected.file_argument() or os.path.join(static_library.DIST, "minisign.html")
     if selected.is_selected("sources"):
         page_sources.check_contracts(checks)
         page_sources.check_file(checks, page)
-        page_sources.check_sums(checks, page)
+        page_sources.check_digests(checks, page)
     minisign = Minisign(needs.minisign(), tempfile.mkdtemp(dir=room))
     for name in ("first", "second"):
         minisign.make_pair(name)
@@ -102,4 +102,4 @@ def run_all(checks, room):
 
 
 if __name__ == "__main__":
-    sys.exit(ending.check("page", run_all, RuntimeError, build.NotPossible))
+    sys.exit(test_script.run_checks("page", run_all, RuntimeError, build.NotPossible))

@@ -14,8 +14,8 @@ import proved
 from process import run
 from running import expect
 
-# The directories that a copy of the sources has of its own. It shares all others with the repository.
-CHANGED = ("page", "bindings")
+# The directories that are copied for a mutant. All others are links to those of the repository.
+COPIED = ("page", "bindings")
 
 
 class Counting:
@@ -34,9 +34,9 @@ class Counting:
 
 def changed_sources(room, mutant):
     """Returns a copy of the repository with a mutant applied."""
-    copy = mutants.copy_sources(room, *CHANGED)
+    copy = mutants.copy_sources(room, *COPIED)
     for name in os.listdir(proved.ROOT):
-        if name not in (*CHANGED, ".git"):
+        if name not in (*COPIED, ".git"):
             os.symlink(os.path.join(proved.ROOT, name), os.path.join(copy, name))
     if mutant:
         mutants.apply(mutant, copy)
@@ -49,8 +49,8 @@ def failures(person, mutant, case):
     step, counting, before = vars(importlib.import_module(module))[f"check_{name}"], Counting(), vars(person).copy()
     copy, places = changed_sources(person.room, mutant), (build.TOP, build.HERE)
     page = os.path.join(tempfile.mkdtemp(dir=person.room), "page.html")
-    status, said = run([sys.executable, os.path.join(copy, "page", "build.py"), page, "--from", person.page], copy)
-    expect(status == 0, f"build.py in a copy: {said}")
+    status, output = run([sys.executable, os.path.join(copy, "page", "build.py"), page, "--from", person.page], copy)
+    expect(status == 0, f"build.py in a copy: exit status {status}: {output}")
     try:
         build.TOP, build.HERE = copy, os.path.join(copy, "page")
         vars(person).update(page=page, address=f"file://{page}", check=counting.check, same=counting.same)

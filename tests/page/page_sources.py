@@ -6,7 +6,7 @@ import os
 import re
 
 import build
-from process import run_apart
+from process import run_with_stderr
 from running import read
 
 # The largest size of the built page without built-in signatures.
@@ -49,25 +49,25 @@ def check_file(checks, page):
     checks.check(len(text.encode()) <= MAX_PAGE_BYTES, f"the page has {len(text.encode())} bytes, allowed are {MAX_PAGE_BYTES}")
 
 
-def sums_on(text):
+def digests_on(text):
     """Returns the digests of sources that a page shows."""
     return re.findall(r"\b[0-9a-f]{64}\b", re.sub(r"(?s)<script>.*</script>", "", text))
 
 
-def check_sums(checks, path):
+def check_digests(checks, path):
     """Checks that the page shows the digest of tools/sources.sh and says that it is proved, if dist/PROVED has this digest and that of
     the page's module. With another module, or other sources, it shows no digest and does not say that it is proved."""
     module, by = build.taken_from(path)
-    ours, digest = run_apart(["sh", "tools/sources.sh", "page"], build.TOP)[1].strip(), hashlib.sha256(module).hexdigest()
+    ours, digest = run_with_stderr(["sh", "tools/sources.sh", "page"], build.TOP)[1].strip(), hashlib.sha256(module).hexdigest()
     page = build.page(module, by, sums=(digest, ours))
-    checks.check(sums_on(page) == [ours] and PROOF in page,
-                 f"the proved module and sources: the page shows {sums_on(page)}, expected {[ours]} and `{PROOF}`: {PROOF in page}")
+    checks.check(digests_on(page) == [ours] and PROOF in page,
+                 f"the proved module and sources: the page shows {digests_on(page)}, expected {[ours]} and `{PROOF}`: {PROOF in page}")
     for taken, *sums in ((module + b"\0", digest, ours), (module, "0" * 64, ours), (module, digest, "0" * 64), (module, ours, digest)):
         page = build.page(taken, by, sums=tuple(sums))
-        checks.check(sums_on(page) == [] and PROOF not in page and "makes no claim about proofs" in page,
-                     f"a module of {len(taken)} bytes, with {sums} in dist/PROVED: the page shows {sums_on(page)}, expected none")
+        checks.check(digests_on(page) == [] and PROOF not in page and "makes no claim about proofs" in page,
+                     f"a module of {len(taken)} bytes, with {sums} in dist/PROVED: the page shows {digests_on(page)}, expected none")
     # dist/PROVED has the digests of the page in dist/.
     of_dist = os.path.join(build.TOP, "dist", "minisign.html")
     of_module, of_sources = build.named_sums()
     checks.same(of_module, hashlib.sha256(build.taken_from(of_dist)[0]).hexdigest(), "the digest of the module in dist/PROVED")
-    checks.same(sums_on(build.read(of_dist)), [of_sources], "the digests that the page of dist/ shows")
+    checks.same(digests_on(build.read(of_dist)), [of_sources], "the digests that the page of dist/ shows")

@@ -16,10 +16,10 @@ from types import SimpleNamespace
 from running import read, write
 
 SECONDS = 120
-# A name of this machine that browsers do not know to be local, so that a page from it without TLS is not a secure context.
-ELSEWHERE = "page.test"
+# A host name of this machine that browsers do not treat as local, so that a page from it without TLS is not a secure context.
+NON_LOCAL_NAME = "page.test"
 IN_PAGE = read(os.path.dirname(os.path.realpath(__file__)), "in_page.js").decode()
-# The heading of a row for each verdict, or state before a verdict, with the worst first.
+# The heading of a row for each verdict, or for each state before a verdict. The worst comes first.
 HEADINGS = {"bad": "\u2717 NOT verified", "unchecked": "? Signed, by a key that you have not checked",
           "unlisted": "! Signed by this key, but not part of this release", "renamed": "! Signed, but for a different file name",
           "unsupported": "? This page cannot verify this file", "stopped": "\u2013 Stopped before it was verified",
@@ -29,8 +29,8 @@ HEADINGS = {"bad": "\u2717 NOT verified", "unchecked": "? Signed, by a key that 
 SIGNED = ("good", "unchecked", "unlisted", "renamed")
 # The next step that the page recommends for each verdict, on the general page, and on a project's page: for one file, and for several.
 # For files that wait for input, it names what is missing.
-WAIT = ("Wait until this page has read the file.", "Wait until this page has read the files.")
-NEXT = {"bad": ("Do not use this file. Get it, its signature and the key again from the project.",
+WAIT_STEPS = ("Wait until this page has read the file.", "Wait until this page has read the files.")
+NEXT_STEPS = {"bad": ("Do not use this file. Get it, its signature and the key again from the project.",
                 "Do not use these files. Get them, their signatures and the key again from the project."),
         "unchecked": ("Before you use the file, paste the key that the project publishes.",
                       "Before you use the files, paste the key that the project publishes."),
@@ -41,22 +41,22 @@ NEXT = {"bad": ("Do not use this file. Get it, its signature and the key again f
                         "Verify the files with the program minisign, as shown below."),
         "stopped": ("To verify the file, press \u201cVerify it again\u201d, below.",
                     "To verify the files, press \u201cVerify it again\u201d below each of them."),
-        "reading": WAIT, "queued": WAIT,
+        "reading": WAIT_STEPS, "queued": WAIT_STEPS,
         "good": ("You can use the file if the key is the project's own.", "You can use the files if the key is the project's own.")}
-OWN_NEXT = {**NEXT, "bad": ("Do not use this file. Download it again from the project.",
+PROJECT_NEXT_STEPS = {**NEXT_STEPS, "bad": ("Do not use this file. Download it again from the project.",
                             "Do not use these files. Download them again from the project."),
             "good": ("You can use the file if this page is the project's own.", "You can use the files if this page is the project's own.")}
 # The words of a row for each missing part, in the order in which the next step names them.
 MISSING = {"The file itself is missing.": "the file", "Its signature is missing.": "the signature",
            "The public key is missing.": "the public key"}
-# What is said once above the list, by what the page says of the source of the key: with a valid signature, and with none but an invalid
-# one.
-WHOSE = "This page cannot know who owns the key. Compare all of its 56 characters with the key that the project publishes."
-PASTE = "Before you use a file, get the key from where the project publishes it, and paste it into the field for the key."
+# The sentences about the source of the key that the page shows once, above the list: if a signature is valid, and if only invalid
+# signatures were found.
+UNKNOWN_OWNER = "This page cannot know who owns the key. Compare all of its 56 characters with the key that the project publishes."
+PASTE_KEY = "Before you use a file, get the key from where the project publishes it, and paste it into the field for the key."
 WITH_FILES = "The key came with the files, so whoever made the files may have made the key."
 BY_LINK = "The key came with the link to this page, so whoever made the link chose the key."
-OF_KEY = {"which you pasted or typed": (WHOSE, ""), "which you chose as the file": (WHOSE, ""),
-          "which came with the files": (f"{WITH_FILES} {PASTE}", WITH_FILES), "which came with the link": (f"{BY_LINK} {PASTE}", BY_LINK),
+KEY_SENTENCES = {"which you pasted or typed": (UNKNOWN_OWNER, ""), "which you chose as the file": (UNKNOWN_OWNER, ""),
+          "which came with the files": (f"{WITH_FILES} {PASTE_KEY}", WITH_FILES), "which came with the link": (f"{BY_LINK} {PASTE_KEY}", BY_LINK),
           "which is built into this page": (
               "The key is built into this page, so trust the result only as much as the place where you got this page.", "")}
 # The smallest contrast of a text to its background that is easy to read (WCAG 2, level AA).
@@ -86,24 +86,24 @@ def band_of(rows, is_own):
 def next_step(verdict, rows, is_own=False):
     """Returns the next step for the rows with this verdict."""
     if verdict != "waiting":
-        return (OWN_NEXT if is_own else NEXT)[verdict][len(rows) > 1]
+        return (PROJECT_NEXT_STEPS if is_own else NEXT_STEPS)[verdict][len(rows) > 1]
     parts = [part for words, part in MISSING.items() if any(words in row.text for row in rows)]
     return f"Add what is missing: {' and '.join(', '.join(parts).rsplit(', ', 1))}."
 
 
-def whose_of(rows, said):
-    """Returns what the page must say above the list about the key, of which it says `said`, and true if that is a warning."""
-    source = next((each for each in OF_KEY if each in said), None)
-    fits, fails = OF_KEY.get(source, ("", ""))
+def key_sentences(rows, said):
+    """Returns what the page must say above the list about the key, of which it says `console_messages`, and true if that is a warning."""
+    source = next((each for each in KEY_SENTENCES if each in said), None)
+    fits, fails = KEY_SENTENCES.get(source, ("", ""))
     words = fits if any(row.number == 0 for row in rows) else fails if any(row.verdict == "bad" for row in rows) else ""
     return [words, bool(words) and source in ("which came with the files", "which came with the link")]
 
 
-def is_right(row):
+def is_consistent(row):
     """Returns true if a row is consistent: it begins with its verdict, only a good verdict says "Verified" and has no warnings, only the
     verdict and the warnings are bold, and what is said once above the list is not in the row."""
     lines = [line for line in row.text.split("\n") if line]
-    sentences = [sentence for both in OF_KEY.values() for sentence in both if sentence]
+    sentences = [sentence for both in KEY_SENTENCES.values() for sentence in both if sentence]
     return (row.head == lines[0] == HEADINGS[row.verdict] and row.bold == [row.head, *row.cautions]
             and (row.number == 0) == (row.verdict in SIGNED) and (row.comment is None or row.number == 0)
             and not any(sentence in row.text for sentence in sentences)
@@ -127,7 +127,7 @@ class Person:
     """A user of the page. A subclass for a browser defines:
 
     - `begin_session`, which returns None as long as the browser does not listen, and `end_session`;
-    - `order`, which sends a WebDriver command;
+    - `send_command`, which sends a WebDriver command;
     - `run`, which runs a script in the page and returns its result, or the value of a promise;
     - `send`, which chooses files in a field; `drop` and `drop_text`, which drop files or a text on an element;
     - `resize`, which sets the size of the page, or uses the whole window;
@@ -154,7 +154,7 @@ class Person:
                     raise TimeoutError(f"{self.name} did not begin")
                 time.sleep(0.1)
             self.capabilities = session["capabilities"]
-            self.order("SetTimeouts", script=1000 * SECONDS, pageLoad=1000 * SECONDS, implicit=0)
+            self.send_command("SetTimeouts", script=1000 * SECONDS, pageLoad=1000 * SECONDS, implicit=0)
         except BaseException:
             self.quit()
             raise
@@ -219,14 +219,14 @@ class Person:
             self.taken()
 
     def go(self, address):
-        self.order("Navigate", url=address)
+        self.send_command("Navigate", url=address)
 
     def press(self, keys, held=""):
         """Presses keys one after another, while the keys `held` are held down."""
         acts = [*(("keyDown", key) for key in held), *((kind, key) for key in keys for kind in ("keyDown", "keyUp")),
                 *(("keyUp", key) for key in held)]
         steps = [{"type": kind, "value": key} for kind, key in acts]
-        self.order("PerformActions", actions=[{"type": "key", "id": "keyboard", "actions": steps}])
+        self.send_command("PerformActions", actions=[{"type": "key", "id": "keyboard", "actions": steps}])
         self.taken()
 
     # ---- What the user does ----
@@ -344,7 +344,7 @@ class Person:
 
     def uses(self, key, what):
         """Checks that the page shows this key as the one in use."""
-        self.same(self.text_of("key-whole"), f"In full: {key.line}", f"{what}: the key in use")
+        self.same(self.text_of("key-full"), f"In full: {key.line}", f"{what}: the key in use")
 
     def settled(self, what):
         """Waits until nothing is being verified, checks that each row and the band at the top are consistent, and returns the rows."""
@@ -352,9 +352,9 @@ class Person:
         seen, band, is_own, whose, said = self.see("state")
         rows = [SimpleNamespace(**row) for row in seen]
         for row in rows:
-            self.check(is_right(row), f"{what}: the texts of a row do not fit its verdict: {row}")
+            self.check(is_consistent(row), f"{what}: the texts of a row do not fit its verdict: {row}")
         self.same(band, band_of(rows, is_own), f"{what}: the band at the top of the window")
-        self.same(whose, whose_of(rows, said), f"{what}: what is said once about the key, and if it is a warning")
+        self.same(whose, key_sentences(rows, said), f"{what}: what is said once about the key, and if it is a warning")
         verdicts = [row.verdict == "bad" for row in rows]
         self.same(verdicts, sorted(verdicts, reverse=True), f"{what}: if rows are bad, in their order")
         return rows

@@ -13,15 +13,15 @@ import urllib.parse
 import build
 from keys import NAMED, OTHER_FILE
 from minisign_cases import pattern
-from process import run_apart
+from process import run_with_stderr
 from running import read
 from texts import lines, record_of, with_line, with_record
 from views import WINDOWS
 
 TITLE = "Verify a download of <b>Example & \"others\"</b>"
 # The elements that ask for more than the download, and words about keys, which a project's page must not show.
-ASKED = ("signature-text", "key-text", "key-remove", "of-the-key")
-TOLD = ("publishes", "website", "documentation", "minisign.pub", ".minisig", "paste", "1.", "2.", "3.")
+KEY_ELEMENTS = ("signature-text", "key-text", "key-remove", "limit-key")
+KEY_WORDS = ("publishes", "website", "documentation", "minisign.pub", ".minisig", "paste", "1.", "2.", "3.")
 UNLISTED = ("The file is not one of those that are built into this page. Its signature came with the file or with the link. The file "
             "may be from an older release, or something else that the owner of the key has signed.")
 NOT_OF_RELEASE = "The file is not part of this release either: nothing that is built into this page is for it."
@@ -45,7 +45,7 @@ class Release:
     def build(self, *words, **environment):
         """Runs build.py with a new directory for its output. Returns the exit status and standard error."""
         self.out = os.path.join(tempfile.mkdtemp(dir=self.person.room), "example.html")
-        status, said, why = run_apart([sys.executable, os.path.join(build.HERE, "build.py"), self.out, *words], **environment)
+        status, said, why = run_with_stderr([sys.executable, os.path.join(build.HERE, "build.py"), self.out, *words], **environment)
         if status == 0:
             self.person.same(said.split()[-1], hashlib.sha256(read(self.out)).hexdigest(), "the digest that build.py prints")
         return status, why
@@ -86,11 +86,11 @@ def check_asks_for_download_only(person, release):
             person.open(release.own)
             person.check(person.see("isPlaceSeen"), f"{what}: the place for the download is out of view")
             person.same(person.tab(), "files", f"{what}: the first element for the keyboard")
-            person.same([part for part in ASKED if person.is_shown(part)], [], f"{what}: elements that ask for more")
+            person.same([part for part in KEY_ELEMENTS if person.is_shown(part)], [], f"{what}: elements that ask for more")
             shown = person.run("return document.body.innerText").partition("What this page does not show")[0]
             for file in release.files:
                 shown = shown.replace(file, "FILE")
-            person.same([part for part in TOLD if part in shown], [], f"{what}: words about keys")
+            person.same([part for part in KEY_WORDS if part in shown], [], f"{what}: words about keys")
             person.same(person.see("titles"), [TITLE, TITLE], f"{what}: the project's page")
             person.expect_each("verdict", {}, f"{what}: before the download")
             person.uses(person.first, what)
@@ -182,7 +182,7 @@ def check_given_signatures(person, release):
     person.drop("downloads", *person.pair(ZIP, release.files[ZIP], old), person.put("second.pub", person.second.text))
     person.only(what, verdict="good")
     person.uses(person.first, what)
-    person.says("files-said", what, "second.pub came with the files and was ignored: this page uses the key below, ")
+    person.says("files-message", what, "second.pub came with the files and was ignored: this page uses the key below, ")
 
 
 def check_links(person, release):
@@ -197,9 +197,9 @@ def check_links(person, release):
         what = f"#{link:.20}"
         person.resize(*WINDOWS[at % len(WINDOWS)])
         person.open(f"{person.address}#{link}")
-        person.same([person.is_shown(part) for part in ASKED], [False, True, True, True], f"{what}: the elements {ASKED} are shown")
+        person.same([person.is_shown(part) for part in KEY_ELEMENTS], [False, True, True, True], f"{what}: the elements {KEY_ELEMENTS} are shown")
         person.check(person.see("isPlaceSeen"), f"{what}: the place for the download is out of view")
-        person.says("key-said", what, ends="which came with the link to this page.")
+        person.says("key-message", what, ends="which came with the link to this page.")
         person.uses(person.first, what)
         release.drop(ZIP, data, what, verdict="unchecked", lacks=["with the signature"])
     person.resize()
@@ -213,7 +213,7 @@ def check_links(person, release):
     # A link without a key.
     what = "a link with only a signature"
     person.open(f"{person.address}#sig={text}")
-    person.same((person.text_of("key-said"), person.is_shown("signature-text")), ("", False), what)
+    person.same((person.text_of("key-message"), person.is_shown("signature-text")), ("", False), what)
     release.drop(ZIP, data, what, has=["The public key is missing."])
     person.type_key(key)
     person.only(f"{what}, and its key", verdict="good")
@@ -221,7 +221,7 @@ def check_links(person, release):
     for wrong in (text[:40], "", "%", "x", base64.b64encode(person.first.text).decode(), escaped[:-230]):
         what = f"sig={wrong:.30}"
         person.open(f"{person.address}#key={key}&sig={wrong}")
-        person.says("files-said", what, "The link to this page has no complete signature after sig=")
+        person.says("files-message", what, "The link to this page has no complete signature after sig=")
         person.check(person.is_shown("signature-text"), f"{what}: the page does not ask for a signature")
         release.drop(ZIP, data, what, has=["Its signature is missing"])
 
@@ -237,7 +237,7 @@ def check_links_to_project_page(person, release):
             (f"key={key}&key={other}&sig={text}", 0, True), (f"key={other}&sig={by_other}", 29, True)):
         what = f"#{part:.20}"
         person.open(f"{release.own}#{part}")
-        person.says("key-said", what, **{"ends": OTHER_KEY} if is_ignored else {"lacks": [OTHER_KEY]})
+        person.says("key-message", what, **{"ends": OTHER_KEY} if is_ignored else {"lacks": [OTHER_KEY]})
         person.uses(person.first, what)
         release.drop(name, b"later", what, number=number, verdict="bad" if number else "unlisted")
         release.drop(ZIP, None, f"{what}, and a download whose signature is built in", verdict="good")
@@ -257,15 +257,15 @@ def check_page_without_signatures(person, release):
     person.check(read(release.out).decode() == again, f"{what}: building it again gives other bytes")
     for link in ("", f"#{person.second.line}"):
         person.open(address + link)
-        seen = person.see("titles"), *map(person.is_shown, ASKED)
-        person.same(seen, ([TITLE, TITLE], True, False, False, False), f"{what}: the titles, and if the elements {ASKED} are shown")
+        seen = person.see("titles"), *map(person.is_shown, KEY_ELEMENTS)
+        person.same(seen, ([TITLE, TITLE], True, False, False, False), f"{what}: the titles, and if the elements {KEY_ELEMENTS} are shown")
         person.uses(person.first, what)
         person.says("introduction", what, begins="A signature shows", lacks=["publishes"])
         person.drop("key", person.put(ZIP, release.files[ZIP]))
         person.only(what, has=["Its signature is missing"])
         person.drop("downloads", release.paths[0], person.put("second.pub", person.second.text))
         person.only(what, number=0, verdict="good", cautions=[], has=["which is built into this page"])
-        person.says("files-said", f"{what}, and another key", "was ignored")
+        person.says("files-message", f"{what}, and another key", "was ignored")
     person.click("clear")
     release.drop(ZIP, None, what, verdict="waiting")
     person.type_text("signature-text", release.signatures[ZIP].decode())
@@ -287,7 +287,7 @@ def check_slow_processor(person, release):
     person.command("Emulation.setCPUThrottlingRate", rate=6)
     try:
         person.open(release.own)
-        person.check(not person.is_shown("lacking"), f"a slow processor: the page reports {person.text_of('lacking')!r}")
+        person.check(not person.is_shown("unusable"), f"a slow processor: the page reports {person.text_of('unusable')!r}")
         release.drop(TAR, None, "a slow processor", number=0)
     finally:
         person.command("Emulation.setCPUThrottlingRate", rate=1)

@@ -57,7 +57,7 @@ def check_random_actions(person):
         wanted = [(name, *model.verdict(**parts)) for name, parts in model.downloads.items()]
         person.same(rows, sorted(wanted, key=lambda row: row[1] != "bad"), what)
         whole = f"In full: {keys[model.key].line}" if model.key else ""
-        person.same(person.text_of("key-whole") if person.is_shown("key-whole") else "", whole, f"{what}: the key")
+        person.same(person.text_of("key-full") if person.is_shown("key-full") else "", whole, f"{what}: the key")
 
 
 def act(person, model, chance, keys, texts):

@@ -8,7 +8,7 @@ from person import MIN_CONTRAST
 from project_page import TAR, ZIP, Release
 from views import NARROW
 
-NAME, VERSION, HEAD = "Example", "1.2.3", "Files of Example 1.2.3"
+NAME, VERSION, HEADING = "Example", "1.2.3", "Files of Example 1.2.3"
 LINK = "https://example.org/app-1.0.zip?a=1&b='2'"
 NOT_YET, VERIFIED, BAD = "\u2026 Not verified yet", "\u2713 Verified", "\u2717 NOT verified"
 SAFE_LINKS = ("https://example.org/app.zip", "https://example.org:8443/?file=a#b", "app.zip", "../dl/app%20x.zip", "/dl/app.zip", "?file=1",
@@ -23,7 +23,7 @@ HOSTILE = {"</script><script>document.title='owned'</script>": None, "<img src=x
            "\u2713 Verified": None, "${1} $& {{script}}": None}
 
 
-def built(release, *words):
+def build_page(release, *words):
     """Builds the page of a release with these further words, and returns its address."""
     ran = release.build("--from", release.person.page, "--key", release.line, "--signature", *release.paths, *words)
     release.person.same(ran, (0, ""), f"build.py {words}")
@@ -33,14 +33,14 @@ def built(release, *words):
 def check_files_of_the_release(person):
     """Each file has its state, and only a file that is verified by its own built-in signature, and under its name, is marked as verified."""
     release = Release(person)
-    address = built(release, "--name", NAME, "--version", VERSION, "--link", f"{ZIP}={LINK}", f"{TAR}=dl/{TAR}")
+    address = build_page(release, "--name", NAME, "--version", VERSION, "--link", f"{ZIP}={LINK}", f"{TAR}=dl/{TAR}")
     names, older = sorted([ZIP, TAR, "new.pub"]), release.sign(ZIP, b"older")
     links = {ZIP: LINK, TAR: f"dl/{TAR}"}
 
     def expect(what, **states):
         shown = {name: (states.get(name.replace("-", "_").replace(".", "_"), ("waiting", NOT_YET)), links.get(name)) for name in names}
         head, files = person.see("releaseList")
-        person.same((head, {name: ((verdict, words), link) for name, verdict, words, link in files}), (HEAD, shown),
+        person.same((head, {name: ((verdict, words), link) for name, verdict, words, link in files}), (HEADING, shown),
                     f"{what}: the files of the release")
 
     person.open(address)
@@ -74,7 +74,7 @@ def check_pages_without_names(person):
     """Without a name, the heading is "Files of this release", and a page without signatures lists no files."""
     release = Release(person)
     for words, head in (((), "Files of this release"), (("--name", NAME), "Files of Example"), (("--version", VERSION), "Files of 1.2.3")):
-        person.open(built(release, *words))
+        person.open(build_page(release, *words))
         person.same((person.see("releaseList")[0], person.is_shown("release")), (head, True), f"{words}: the heading")
     for address in (person.address, release.build_own()):
         person.open(address)
@@ -120,7 +120,7 @@ def check_many_signatures(person):
         own = person.put("z.minisig", person.sign(data, trusted="file:z"))
         release.paths = [*others, *(last if legacy else []), own]
         what = f"{length} bytes and {len(release.paths)} signatures, legacy ones: {legacy}"
-        person.open(built(release))
+        person.open(build_page(release))
         person.see("countReadings", "download")
         release.drop("download", data, what, verdict="renamed", number=0)
         person.same(person.run("return window.readings"), readings, f"{what}: how often the file is read")
@@ -132,7 +132,7 @@ def check_looks(person):
     paper and with forced colours, and the states of files differ in words."""
     release, long = Release(person), f"Example-1.2.3-{'x86_64-' * 12}installer.tar.gz"
     release.paths.append(person.put(f"{long}.minisig", release.sign(long, b"long")))
-    address = built(release, "--name", NAME * 9, "--version", VERSION, "--link", f"{ZIP}={LINK}", f"{long}={long}?{'a' * 200}")
+    address = build_page(release, "--name", NAME * 9, "--version", VERSION, "--link", f"{ZIP}={LINK}", f"{long}={long}?{'a' * 200}")
     person.open(address)
     release.drop(ZIP, None, "looks", verdict="good")
     release.drop(TAR, b"x", "looks", verdict="bad")
@@ -140,7 +140,7 @@ def check_looks(person):
     states = {words for _, _, words, _ in person.see("releaseList")[1]}
     person.same(states, {NOT_YET, VERIFIED, BAD}, "the words of the states")
     person.open()
-    person.run("document.getElementById('own').open = true")
+    person.run("document.getElementById('project').open = true")
     check_readable(person, "the form for a project's page")
 
 

@@ -2,7 +2,7 @@
 even while the replacement is still being read, and that the page never asks for an input that is being read.
 """
 
-from person import NEXT, WAIT as WAITS
+from person import NEXT_STEPS, WAIT_STEPS as WAITS
 from robustness import LONG_BYTES, VERDICT_OR_PROGRESS
 
 MISSING = "Its signature is missing"
@@ -44,10 +44,10 @@ def check_replaced_files(person):
             seen = {name: "queued" if verdict == "reading" else verdict for name, verdict in seen.items()}
             person.same(seen, at_once, f"{what} is replaced, and being read")
             several = sum(verdict == "queued" for verdict in at_once.values()) > 1
-            wanted = WAITS[several] if "queued" in at_once.values() else NEXT["good"][1]
+            wanted = WAITS[several] if "queued" in at_once.values() else NEXT_STEPS["good"][1]
             person.same(step, wanted, f"{what} is replaced, and being read: the next step")
             if at_once is both and "key" in what:
-                person.check(not person.is_shown("key-whole"), f"{what} is replaced: the old key is still shown")
+                person.check(not person.is_shown("key-full"), f"{what} is replaced: the old key is still shown")
         person.expect_each("verdict", after, f"{what} is replaced")
 
 

@@ -27,8 +27,8 @@ return ["good", "bad"].includes(verdict) || document.querySelector("progress")?.
 CLICK = "document.querySelector('#verdicts button').click()"
 # Reasons for which a file hangs while it is verified. Each has the next file, and the function of in_page.js, with its arguments, that
 # causes it. It is called after the files were chosen and before the key is given.
-HANGS = {"threads that end": ("small", "endThreads"), "a read that hangs": ("small", "hangOnce", "answerOf"),
-         "a signature whose read hangs": ("small", "hangOnce", "textOfFile"),
+HANGS = {"threads that end": ("small", "endThreads"), "a read that hangs": ("small", "hangOnce", "replyOf"),
+         "a signature whose read hangs": ("small", "hangOnce", "bytesOfTextFile"),
          "a text that arrives while the next file is read": ("long", "waitOnce")}
 
 

@@ -15,21 +15,21 @@ SAVED = "The page is saved as verify.html."
 def fill(person, release, title="", signatures=(), name="", version="", links=()):
     """Opens the page with the key of the release, and fills in the fields that are not empty."""
     person.begin(release.line)
-    person.run("document.getElementById('own').open = true")
+    person.run("document.getElementById('project').open = true")
     for part, text in (("title", title), ("name", name), ("version", version), ("links", "\n".join(links))):
         if text:
-            person.type_text(f"own-{part}", text)
+            person.type_text(f"project-{part}", text)
     if signatures:
-        person.send("own-signatures", *signatures)
+        person.send("project-signatures", *signatures)
 
 
 def save_page(person):
     """Presses the button, and returns the bytes of the page that the browser saves."""
     directory = tempfile.mkdtemp(dir=person.room)
     person.save_into(directory)
-    person.click("own-save")
-    person.wait(lambda: person.text_of("own-said") != "")
-    person.says("own-said", "the page is saved", begins=SAVED)
+    person.click("project-save")
+    person.wait(lambda: person.text_of("project-message") != "")
+    person.says("project-message", "the page is saved", begins=SAVED)
 
     def is_saved():
         sizes = {name: os.path.getsize(os.path.join(directory, name)) for name in os.listdir(directory)}
@@ -57,12 +57,12 @@ def check_saved_page(person):
         page = save_page(person)
         person.check(page == read(release.out), f"{what}: the saved page has {len(page)} bytes, which differ from those of build.py")
     person.open(f"file://{person.put('saved.html', page)}")
-    person.same((person.see("titles"), person.is_shown("own")), ([TITLE, TITLE], False),
+    person.same((person.see("titles"), person.is_shown("project")), ([TITLE, TITLE], False),
                 "the saved page: the title and heading, and whether it can save pages itself")
     release.drop(ZIP, None, "the saved page", verdict="good")
     release.drop(TAR, b"x", "the saved page, and another file", verdict="bad")
     if person.is_chromium:
-        person.same([line for line in person.said() if "Content Security Policy" in line], [],
+        person.same([line for line in person.console_messages() if "Content Security Policy" in line], [],
                     "what the content security policy of the saved page blocks")
 
 
@@ -84,13 +84,13 @@ def check_nothing_is_saved(person):
             ({"signatures": signatures, "links": [f"{ZIP} javascript:alert(1)"]}, "has to begin with https"),
             ({"signatures": signatures, "links": [f"{ZIP} x", f"{ZIP} y"]}, "Two lines have links for the same file")):
         fill(person, release, **given)
-        person.click("own-save")
-        person.wait(lambda: person.text_of("own-said") != "")
-        person.says("own-said", str(given), words, begins="No page was saved. ")
+        person.click("project-save")
+        person.wait(lambda: person.text_of("project-message") != "")
+        person.says("project-message", str(given), words, begins="No page was saved. ")
     for how, take in (("no key", lambda: person.open()), ("a key in the link", lambda: person.open(f"{person.address}#{release.line}")),
                       ("a key with the files", lambda: person.begin("", person.put("minisign.pub", person.first.text)))):
         take()
-        person.run("document.getElementById('own').open = true")
-        person.click("own-save")
-        person.wait(lambda: person.text_of("own-said") != "")
-        person.says("own-said", how, begins="No page was saved. First paste or choose your public key")
+        person.run("document.getElementById('project').open = true")
+        person.click("project-save")
+        person.wait(lambda: person.text_of("project-message") != "")
+        person.says("project-message", how, begins="No page was saved. First paste or choose your public key")

@@ -104,7 +104,7 @@ def check_lists_that_are_not_used(person):
     person.expect_each("verdict", {NEW: "waiting", "notes.txt": "good"}, "a text that is not a list")
 
 
-def built(person, release, *words, text=TEXT, comment=COMMENT):
+def build_page(person, release, *words, text=TEXT, comment=COMMENT):
     """Builds a page with a list, and returns its address."""
     path, _ = put_list(person, text, comment=comment)
     person.same(release.build("--from", person.page, "--key", person.first.line, "--list", path, *words), (0, ""), f"build.py --list {words}")
@@ -114,7 +114,7 @@ def built(person, release, *words, text=TEXT, comment=COMMENT):
 def check_release_with_list(person):
     """The page of a release with a list asks only for the downloads, and shows the state of each file of the list."""
     release, names = Release(person), [*FILES, TWICE, TWICE]
-    address, _ = built(person, release, "--name", "Example", "--version", "2", "--link", f"{NEW}=dl/{NEW}")
+    address, _ = build_page(person, release, "--name", "Example", "--version", "2", "--link", f"{NEW}=dl/{NEW}")
     person.open(address)
     person.same(person.is_shown("signature-text"), False, "a page with a list asks for a signature")
     head, files = person.see("releaseList")
@@ -144,7 +144,7 @@ def check_invalid_built_in_lists(person):
     person.put(f"{LIST}.minisig", read(signature), changed)
     person.same(release.build("--from", person.page, "--key", person.first.line, "--list", changed), (0, ""), "build.py with a changed list")
     person.open(f"file://{release.out}")
-    person.says("files-said", "a changed list", "The list that is built into this page is not valid")
+    person.says("files-message", "a changed list", "The list that is built into this page is not valid")
     person.drop("downloads", person.put(NEW, FILES[NEW]))
     person.only("a file of a changed list", verdict="waiting")
     unnamed, _ = put_list(person, comment="version:2")
@@ -162,7 +162,7 @@ def check_invalid_built_in_lists(person):
 def check_saved_list(person):
     """A page that is saved with a list has the same bytes as the page that build.py writes. No page is saved with an invalid list."""
     release = Release(person)
-    _, path = built(person, release, "--name", "Example", "--link", f"{NEW}=dl/{NEW}", f"{OTHER}=x")
+    _, path = build_page(person, release, "--name", "Example", "--link", f"{NEW}=dl/{NEW}", f"{OTHER}=x")
     signature = f"{path}.minisig"
     fill(person, release, signatures=[signature, path], name="Example", links=[f"{OTHER} x", f"{NEW} dl/{NEW}"])
     page = save_page(person)
@@ -173,6 +173,6 @@ def check_saved_list(person):
                          ([*put_list(person, comment="version:2")], "does not name it as a list"),
                          ([*put_list(person, TEXT + "x\n")], "Line 9: ")):
         fill(person, release, signatures=files)
-        person.click("own-save")
-        person.wait(lambda: person.text_of("own-said") != "")
-        person.says("own-said", f"{words}", words, begins="No page was saved. ")
+        person.click("project-save")
+        person.wait(lambda: person.text_of("project-message") != "")
+        person.says("project-message", f"{words}", words, begins="No page was saved. ")

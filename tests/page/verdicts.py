@@ -8,16 +8,16 @@ import re
 from collections import Counter
 
 import build
-import edges
+import ed25519_edge_cases
 import minisign_differences as differences
 import shared_cases
 from cases import kept_cases, key_errors, signature_errors, typed_key_errors
 from keys import with_key_id_of
 from minisign_cases import pattern, random_cases
 from process import run_program
-from texts import lines, turned
+from texts import flip_bit, lines
 
-TEXTS, TEXTS_IN_FIREFOX = 500, 150
+TEXT_COUNT, FIREFOX_TEXT_COUNT = 500, 150
 # The error for a key whose algorithm is not "Ed".
 UNKNOWN_ALGORITHM = 28
 # The error for a public key or signature that strict Ed25519 rejects by its bytes alone.
@@ -28,7 +28,7 @@ class Programs:
     """The program `c/minisign`, and the messages of the library and of the program for each error number of the header."""
 
     def __init__(self, room):
-        self.program, numbers = shared_cases.c_minisign(room), shared_cases.ERRORS
+        self.program, numbers = shared_cases.build_c_minisign(room), shared_cases.ERRORS
         self.meaning = {numbers[name]: text for name, text in shared_cases.error_texts().items() if name in numbers}
         own = re.findall(r'\{ MINISIGN_(\w+), "(.*)" \}', build.read("c/minisign/messages.c"))
         self.words = {**self.meaning, **{numbers[name]: text.replace('\\"', '"') for name, text in own}}
@@ -36,12 +36,12 @@ class Programs:
     def is_same_verdict(self, case, number, comment, ran):
         """Returns true if the program's result has the same verdict, for the same reason, as the error number and comment of a row."""
         if number == 0:
-            return ran.status == 0 and ran.output.decode().replace("\r", "U+000D").endswith(f"\nTrusted comment: {comment}\n")
+            return ran.status == 0 and ran.stdout.decode().replace("\r", "U+000D").endswith(f"\nTrusted comment: {comment}\n")
         if number == 29:
-            return ran.status == 1 and ran.said.startswith(b"Signature key id in ")
+            return ran.status == 1 and ran.stderr.startswith(b"Signature key id in ")
         # The program reports a file that is not UTF-8 before it checks the key and the signature. Its errors name the file, and another
         # error and a hint may follow the first line.
-        line, _, more = re.sub(r"\Aerror: [^\n]+\.(?:pub|minisig): ", "", ran.said.decode()).partition("\n")
+        line, _, more = re.sub(r"\Aerror: [^\n]+\.(?:pub|minisig): ", "", ran.stderr.decode()).partition("\n")
         is_line = re.fullmatch(r"(error: [^\n]+\.(pub|minisig): [^\n]+\n)?(hint: [^\n]+\n)?", more) is not None
         # For a weak signature the program reports, as Minisign does with libsodium, which of the two signatures is rejected.
         numbers = [31, 32] if number == WEAK else [number] if differences.is_utf8(case.sig) else [number, 8]
@@ -52,7 +52,7 @@ def check_corpus(person):
     """The corpus and random changes of it have the verdicts of the C program, for the same reasons. (tests/verdicts/real_minisign.py
     compares the C program with minisign on the same texts.)"""
     corpus, by_key, counted = kept_cases(), {}, {True: 0, False: 0}
-    for case in corpus + random_cases(corpus, TEXTS if person.is_chromium else TEXTS_IN_FIREFOX):
+    for case in corpus + random_cases(corpus, TEXT_COUNT if person.is_chromium else FIREFOX_TEXT_COUNT):
         by_key.setdefault(case.pk, []).append(case)
     person.open()
     for text, cases in by_key.items():
@@ -94,7 +94,7 @@ def check_new_signatures(person):
         person.only(f"before {what}", verdict="waiting")
         take(*given)
         person.only(what, number=0, comment="version 2", has=[key_id])
-        person.says("key-said", what, f"Key {key_id}")
+        person.says("key-message", what, f"Key {key_id}")
         person.uses(first, what)
     # With another key the file is no longer verified.
     person.choose_key(person.put("second.pub", person.second.text))
@@ -102,7 +102,7 @@ def check_new_signatures(person):
     person.type_key("")
     person.only("no key", verdict="waiting")
     for what, number, changed, text in (
-            ("a changed bit of the data", 31, turned(data, 0), sig), ("a byte less", 31, data[:-1], sig),
+            ("a changed bit of the data", 31, flip_bit(data, 0), sig), ("a byte less", 31, data[:-1], sig),
             ("a byte more", 31, data + b"x", sig), ("no data", 31, b"", sig), ("a foreign signature", 29, data, foreign),
             ("a foreign signature with the key's ID", 31, data, with_key_id_of(sig, foreign)),
             ("the signature of other data", 31, data, person.sign(b"other")),
@@ -110,33 +110,33 @@ def check_new_signatures(person):
             ("a legacy signature of other data", 31, data, person.sign(b"other", legacy=True))):
         person.begin(first.line, *person.pair("update.zip", changed, text), anew=False)
         person.only(what, number=number)
-    key, text = edges.texts_for_every_file()
+    key, text = ed25519_edge_cases.files_accepted_for_all_data()
     for content in (b"", b"data", data):
         person.begin(key.decode(), *person.pair("data", content, text), anew=False)
         person.only("a signature that would fit every file", number=WEAK, verdict="bad")
 
 
 def check_ed25519_vectors(person):
-    """The Ed25519 vectors of edges.py have the verdicts of libsodium, with the browser's Ed25519. (The error 32, for the comment
+    """The Ed25519 vectors of ed25519_edge_cases.py have the verdicts of libsodium, with the browser's Ed25519. (The error 32, for the comment
     signature, means that the vector itself is accepted.)"""
     by_key, numbers = {}, Counter()
-    for vector in edges.vectors():
+    for vector in ed25519_edge_cases.vectors():
         by_key.setdefault(vector["A"], []).append(vector)
     person.open()
     for vectors in by_key.values():
         paths, place = [], person.put("unused", b"")
         for at, vector in enumerate(vectors):
-            key, text = edges.legacy_texts(vector)
+            key, text = ed25519_edge_cases.legacy_files(vector)
             paths += [person.put(f"{at}", bytes.fromhex(vector["msg"]), place), person.put(f"{at}.minisig", text, place)]
         person.act("empty")
         person.choose_key(person.put("vectors.pub", key))
         person.choose(*paths)
         rows = {row.name: row.number for row in person.settled("vectors")}
         for at, vector in enumerate(vectors):
-            wanted = shared_cases.ERRORS[edges.error_of(vector)]
+            wanted = shared_cases.ERRORS[ed25519_edge_cases.expected_error(vector)]
             person.same(rows.get(str(at)), wanted, f"the vector {vector['name']}")
             numbers[wanted] += 1
-    person.same((numbers[WEAK], numbers[32], sum(numbers.values())), (edges.WEAK, edges.ACCEPTED, edges.COUNT),
+    person.same((numbers[WEAK], numbers[32], sum(numbers.values())), (ed25519_edge_cases.WEAK_COUNT, ed25519_edge_cases.ACCEPTED_COUNT, ed25519_edge_cases.VECTOR_COUNT),
                 "the numbers of weak, of accepted and of all vectors")
 
 
@@ -150,7 +150,7 @@ def check_errors(person):
             person.type_key(text.decode() if is_typed else "")
             if not is_typed:
                 person.choose_key(person.put("faulty.pub", text))
-            person.says("key-said", f"a key, typed: {is_typed}, rejected by {number}", words, begins="No public key: ")
+            person.says("key-message", f"a key, typed: {is_typed}, rejected by {number}", words, begins="No public key: ")
             person.same(person.see("numberOfKey"), number, f"a key, typed: {is_typed}: the number")
     person.type_key(person.first.line)
     for number, words, text in signature_errors(sig, person.sign(data, key="second")):

@@ -7,8 +7,8 @@ The page of `dist/` contains the module for 32 bits; the kit proves and builds t
 Chromium: the corpus with changes, and at least one text for each error of a key or signature. (tests/bindings/javascript.py
 compares the module for 32 bits with the C program.) The last line is `N passed, M failed`.
 
-Needs Python 3.9 or later, the kit, chromium, chromium-driver, binaryen, and what tests/page/page.py needs to sign. It installs what is
-missing if it may.
+Needs Python 3.9 or later, the Rattle kit, chromium, chromium-driver, binaryen, and what tests/page/page.py needs to sign. It
+installs missing packages if it has permission.
 """
 
 import base64
@@ -21,9 +21,9 @@ HERE = os.path.dirname(os.path.realpath(__file__))
 sys.path += [os.path.join(HERE, "..", directory) for directory in ("shared", "verdicts", "bindings", os.path.join("..", "page"))]
 
 import build
-import ending
 import needs
 import static_library
+import test_script
 import verdicts
 from browser import Chromium
 from cases import kept_cases, key_errors, signature_errors, typed_key_errors
@@ -31,7 +31,7 @@ from minisign_cases import Case, Minisign, random_cases
 
 RANDOM_TEXTS = 500
 # Error numbers that must occur among the results.
-NUMBERS = {0, 8, *range(20, 31), 61, 62, 81}
+REQUIRED_ERRORS = {0, 8, *range(20, 31), 61, 62, 81}
 
 
 def texts(person):
@@ -59,7 +59,7 @@ def check_modules(person, page):
     for at, (narrow_result, wide_result) in enumerate(zip(narrow, wide)):
         person.same(narrow_result, wide_result, f"text {at}: the result of the module for 32 bits")
     numbers = {answered.get("asked", answered)["number"] for answer in narrow[1:] for answered in json.loads(answer)[2:]}
-    person.check(NUMBERS <= numbers, f"the results lack the error numbers {sorted(NUMBERS - numbers)}")
+    person.check(REQUIRED_ERRORS <= numbers, f"the results lack the error numbers {sorted(REQUIRED_ERRORS - numbers)}")
 
 
 def run_all(checks, room):
@@ -75,4 +75,4 @@ def run_all(checks, room):
 
 
 if __name__ == "__main__":
-    sys.exit(ending.check("wide_module", run_all, RuntimeError, build.NotPossible))
+    sys.exit(test_script.run_checks("wide_module", run_all, RuntimeError, build.NotPossible))

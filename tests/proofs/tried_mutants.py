@@ -1,13 +1,14 @@
 #!/usr/bin/env python3
-"""Checks that the digest of a crate changes with everything that decides whether its mutants are rejected. The functions
-here compute and record these digests, so that CI tries only the mutants of changed crates.
+"""Computes and records a digest for each crate with mutants, so that CI has to try only the mutants of changed
+crates. As a script, it checks that the digest of a crate changes with everything on which the rejection of its
+mutants depends.
 
     tests/proofs/tried_mutants.py
 
-`tried_mutants.txt` has a digest for each crate with mutants, which `wrong_bodies.py --record` writes. The digest covers
-the kit's logic, the crate's mutants, and the sources, definitions and proofs of the crate and of all crates that it
-depends on, except lines that are only a comment. CI tries the mutants of each crate whose digest differs from the recorded
-one. The last line is `N passed, M failed`.
+The digest covers the kit's logic, the crate's mutants, and the sources, definitions and proofs of the crate and of
+all crates on which it depends. It ignores lines that consist only of a comment. `wrong_bodies.py --record` writes
+the digests to `tried_mutants.txt`, and CI tries the mutants of each crate whose digest differs from the recorded
+one. The last line of the output is `N passed, M failed`.
 
 Needs Python 3.9 or later.
 """
@@ -22,32 +23,35 @@ from functools import lru_cache
 HERE = os.path.dirname(os.path.realpath(__file__))
 sys.path.append(os.path.join(HERE, "..", "shared"))
 
-import ending
 import proved
+import test_script
 from running import read, write
 
 LIST = "tests/proofs/tried_mutants.txt"
-# The record of this machine, which git ignores. `wrong_bodies.py --record` copies it into LIST.
+# The record of the mutants that were tried on this machine. It is not in git. `wrong_bodies.py --record` copies it
+# to LIST.
 TRIED_HERE = "out/tried_mutants.txt"
 HEAD = "# A digest of each crate, taken when all its mutants were rejected (tests/proofs/tried_mutants.py).\n"
 PARTS, MUTANTS = ("src", "specs", "proofs"), "wrong-bodies"
-# A line that is only a comment, in .rt or .antt files. Comments change no proof.
+# A line of a .rt or .antt file that consists only of a comment. After `--`, a comment has white space or another `-`.
 COMMENT = re.compile(rb"(?m)^[ \t]*(?://|--(?![^\s-])).*\n")
 
 
 @lru_cache(maxsize=None)
 def kit():
-    """Returns the digest of the kit's logic, which decides what is proved. Kits with the same logic may differ in other parts."""
+    """Returns the version of the kit's logic, which decides what can be proved. Kits with the same logic may differ
+    in other parts."""
     version = subprocess.run(["rt", "version"], stdout=subprocess.PIPE, check=True, text=True).stdout
     return re.search(r"logic \S+", version)[0]
 
 
-def digest(crate, crates, top, kit_line, own=MUTANTS):
-    """Returns a digest of everything that decides whether the mutants of a crate, in its directory `own`, are rejected."""
-    sha256 = hashlib.sha256(kit_line.encode())
-    for each in (*crates[crate].below, crate):
-        sha256.update(f"\0{each} {crates[each].near} {crates[each].of_kit}".encode())
-        for part in (*PARTS, *([own] if own and each == crate else [])):
+def digest(crate, crates, top, logic, mutants=MUTANTS):
+    """Returns a digest of everything on which the rejection of a crate's mutants depends. `logic` is the result of
+    `kit()`. `mutants` is the name of the crate's directory of mutants, or "" for a digest without mutants."""
+    sha256 = hashlib.sha256(logic.encode())
+    for each in (*crates[crate].dependencies, crate):
+        sha256.update(f"\0{each} {crates[each].direct_dependencies} {crates[each].kit_dependencies}".encode())
+        for part in (*PARTS, *([mutants] if mutants and each == crate else [])):
             directory = os.path.join(top, "crates", each, part)
             paths = sorted(os.path.relpath(os.path.join(at, name), directory) for at, _, names in os.walk(directory) for name in names)
             for path in paths:
@@ -57,46 +61,49 @@ def digest(crate, crates, top, kit_line, own=MUTANTS):
 
 
 def digests(names, top=proved.ROOT):
-    """Returns the current digests of these crates."""
+    """Maps the names of these crates to their current digests."""
     return {name: digest(name, proved.crates(), top, kit()) for name in names}
 
 
 def recorded(path=LIST, top=proved.ROOT):
-    """Returns the recorded digests by crate; none if the file does not exist."""
+    """Maps the names of crates to their recorded digests. The result is empty if the file does not exist."""
     path = os.path.join(top, path)
     return dict(re.findall(r"(?m)^(\w+): (\w+)$", read(path).decode())) if os.path.exists(path) else {}
 
 
-def record(more, crates, path=LIST, top=proved.ROOT):
-    """Adds digests to a record. `crates` are the crates with mutants, in the order of the record; other entries are dropped."""
-    entries = {**recorded(path, top), **more}
+def record(new_digests, crates, path=LIST, top=proved.ROOT):
+    """Adds digests to a record. `crates` are the crates with mutants, in the order of the record. Digests of other
+    crates are removed from it."""
+    entries = {**recorded(path, top), **new_digests}
     os.makedirs(os.path.dirname(os.path.join(top, path)), exist_ok=True)
     write(top, path, (HEAD + "".join(f"{crate}: {entries[crate]}\n" for crate in crates if crate in entries)).encode())
 
 
 # ---- Checks ----
 
-LINES = ["low:", "middle: low sha2", "high: middle", "beside: low"]
-# Changed files, and the crates whose mutants then have to be tried.
+# Lines in the format of crates.txt. They define made-up crates and their dependencies.
+CRATE_LINES = ["low:", "middle: low sha2", "high: middle", "beside: low"]
+# The file to change, and the crates whose digests must change with it.
 CHANGES = [("low/src/lib.rt", {"low", "middle", "high", "beside"}), ("middle/specs/Words.antt", {"middle", "high"}),
            ("high/proofs/f/Answers.antt", {"high"}), ("low/wrong-bodies/one.edit", {"low"}), ("middle/CALLING.md", set()),
            ("low/src/new.rt", {"low", "middle", "high", "beside"})]
 
 
-def check_digests(checks, room):
-    """Checks the digests of made-up crates, whose dependencies LINES gives."""
+def check_digests(checks, scratch):
+    """Checks the digests of the crates of CRATE_LINES before and after changes of their files."""
     crates = {}
-    for line in LINES:
+    for line in CRATE_LINES:
         crates[line.partition(":")[0]] = proved.Crate(line, crates)
 
     def put(path, text):
-        path = os.path.join(room, "crates", path)
+        path = os.path.join(scratch, "crates", path)
         os.makedirs(os.path.dirname(path), exist_ok=True)
         write("", path, text)
 
-    def all_digests(kit_line="the kit"):
-        return {name: digest(name, crates, room, kit_line) for name in crates}
+    def all_digests(logic="the kit"):
+        return {name: digest(name, crates, scratch, logic) for name in crates}
 
+    # The last file of CHANGES is a new one.
     for path, _ in CHANGES[:-1]:
         put(path, b"before")
     before = all_digests()
@@ -111,16 +118,17 @@ def check_digests(checks, room):
     checks.same(all_digests(), before, "the digests after a change of comments")
     put("low/src/new.rt", b"after // a comment\n")
     checks.check(all_digests()["low"] != before["low"], "a comment after code did not change the digest")
-    os.rename(os.path.join(room, "crates/low/src/new.rt"), os.path.join(room, "crates/low/src/other.rt"))
+    before = all_digests()
+    os.rename(os.path.join(scratch, "crates/low/src/new.rt"), os.path.join(scratch, "crates/low/src/other.rt"))
     checks.check(not {*all_digests().values()} & {*before.values()}, "a renamed file did not change the digest of each crate")
     checks.check(not {*all_digests("another kit").values()} & {*all_digests().values()}, "another kit did not change each digest")
-    without = digest("low", crates, room, "the kit", own="")
+    without = digest("low", crates, scratch, "the kit", mutants="")
     put("low/wrong-bodies/one.edit", b"again")
-    checks.same(digest("low", crates, room, "the kit", own=""), without, "the digest without mutants after a change of a mutant")
-    record({"low": "1", "high": "2"}, crates, "record", room)
-    record({"high": "3"}, crates, "record", room)
-    checks.same((recorded("record", room), recorded("none", room)), ({"low": "1", "high": "3"}, {}), "the record")
+    checks.same(digest("low", crates, scratch, "the kit", mutants=""), without, "the digest without mutants after a change of a mutant")
+    record({"low": "1", "high": "2"}, crates, "record", scratch)
+    record({"high": "3"}, crates, "record", scratch)
+    checks.same((recorded("record", scratch), recorded("none", scratch)), ({"low": "1", "high": "3"}, {}), "the record")
 
 
 if __name__ == "__main__":
-    sys.exit(ending.check("tried-mutants", check_digests))
+    sys.exit(test_script.run_checks("tried-mutants", check_digests))

@@ -1,13 +1,16 @@
 #!/usr/bin/env python3
-"""Checks that the prover rejects each fact of crates/*/proofs/Facts.antt once its value is changed.
+"""Checks that the prover rejects each fact in crates/*/proofs/Facts.antt if its value is changed.
 
     tests/proofs/wrong_facts.py [CRATE..]
 
-A fact, `LEFT ≡ RIGHT`, says which value a definition has. The script changes the last literal of RIGHT: a letter, byte,
-number or named error. If RIGHT has none, it changes the last literal of a value of the same file that the fact names, in
-a copy of that value. All facts of a crate share a check, which has to reject each one by name, because two values differ.
-If other facts name a fact, it stays unchanged, and the wrong one is added under another name. Facts without a value, such
-as laws, are not tried.
+By default, the facts of all crates are tried. A fact, `LEFT ≡ RIGHT`, says which value a definition has. The script
+changes the last literal in RIGHT, which is a string, a number or the name of an error. If RIGHT has no literal, the
+script changes a copy of a value that the fact names and that is defined in the same file. If other facts use a
+fact, the fact is kept, and the wrong one is added under another name. Facts without a value, such as laws, are not
+tried.
+
+The prover checks all facts of a crate in one run. It must report each wrong fact by its name, with the error that
+two values differ.
 
 Needs Python 3.9 or later and the kit.
 """
@@ -27,9 +30,9 @@ from sources import files_below, read, read_module
 from wrong_bodies import HOLE, Trial
 
 FACTS = "proofs/Facts.antt"
-# The statement of a fact: the text between its name and its line `unfolding` or its proof.
+# The two sides of the statement of a fact. The statement ends before the line `unfolding` or before the proof.
 STATEMENT = re.compile(r"(?ms)^(?:pub )?\S+ :\s(?P<left>.*)≡(?P<right>.*?)(?=^unfolding |^\S+ = )")
-# The literals at the end of values: a text, a number, a named error, or an empty list that is not the end of another list.
+# A literal in a value: a string, a number, the name of an error, or an empty list that is not the end of another list.
 LITERAL = re.compile(r'"[^"]+"|\b0x[0-9A-Fa-f]+\b|(?<![\w.])\d+\b|(?<=\bNamed )[A-Z]\w+|(?<=\bnamed\.)\w+|(?<!∷ )\[\]')
 # The named errors that a file imports.
 IMPORTED = re.compile(r"TheVariants\.\{([^}]*)\}")
@@ -38,18 +41,19 @@ DIFFERS = re.compile(r"(?m)^\./proofs/Facts\.antt:\d+:\d+: error: `([^`]+)`: (?:
 
 
 class Facts:
-    """The facts of a crate, and the file of facts with wrong values."""
+    """The facts of a crate. Changes each of them to a wrong fact."""
 
     def __init__(self, crate):
         self.text = read(f"crates/{crate}/{FACTS}")
         definitions = read_module(f"{proved.ROOT}/crates/{crate}/{FACTS}").definitions
         self.texts = {name: definition.text.rstrip() for name, definition in definitions.items()}
-        # For the name of each wrong fact: the text of the right fact, and the text that replaces it.
+        # Maps the name of each wrong fact to the text of the right fact, and to the text that replaces it.
         self.wrong = dict(filter(None, map(self.wrong_fact, self.texts)))
 
     def wrong_fact(self, name):
-        """Returns the name of a wrong fact, the right text, and the text that replaces it; or a false value if the fact has no value. A
-        right fact that others name stays in front of the wrong one."""
+        """Returns the name of the wrong fact, with the right text and the text that replaces it. Returns an empty
+        string if the fact has no value. If other facts use the fact, the replacement contains both the right and
+        the wrong fact."""
         right, wrong = self.texts[name], self.with_wrong_value(name)
         others = "\n".join(text for fact, text in self.texts.items() if fact != name)
         if not wrong or not re.search(rf"(?<![^\s(]){re.escape(name)}(?![^\s)])", others):
@@ -58,8 +62,8 @@ class Facts:
         return f"{name}-wrong", (right, f"{right}\n\n{copy}")
 
     def with_wrong_value(self, name):
-        """Returns the text of a fact with a wrong value, after a wrong copy of the value that it names, if it has no literal. Returns an
-        empty text if there is no literal to change."""
+        """Returns the text of a fact with a wrong value. If the fact has no literal, a wrong copy of a value that
+        it names precedes it. Returns an empty string if there is no literal to change."""
         text = self.texts[name]
         statement = STATEMENT.match(text)
         if not statement:
@@ -75,7 +79,7 @@ class Facts:
         return ""
 
     def changed(self, value):
-        """Returns the text of a value with its last literal changed, or an empty text if it has no literal."""
+        """Returns the text of a value with its last literal changed, or an empty string if it has no literal."""
         last = ([*LITERAL.finditer(value)] or [None])[-1]
         return value[:last.start()] + self.other_literal(last[0]) + value[last.end():] if last else ""
 
@@ -91,7 +95,7 @@ class Facts:
         return next(name for name in imported if name != literal)
 
     def written(self):
-        """Returns the text of the file with all facts wrong."""
+        """Returns the text of the file in which all facts with a value are wrong."""
         text = self.text
         for right, wrong in self.wrong.values():
             assert text.count(right) == 1, right
@@ -100,26 +104,27 @@ class Facts:
 
 
 def try_facts(report, crate):
-    """Tries each fact of a crate with a wrong value. (`rt ci` proves the right ones.) To make the prover check only the facts, this
-    checks one function, whose proof is replaced by a hole that imports them."""
+    """Tries each fact of a crate with a wrong value. (`rt ci` proves the right facts.) So that the prover checks
+    only the facts, it gets a single function to check, whose proof is replaced by a hole and by an import of the
+    facts."""
     facts = Facts(crate)
     if not facts.wrong:
         return
-    why = proved.supply(proved.crates()[crate].below)
+    error = proved.build_libraries(proved.crates()[crate].dependencies)
     path = next(os.path.relpath(at, f"crates/{crate}/proofs") for at, _, files in sorted(os.walk(f"crates/{crate}/proofs"))
                 if "Answers.antt" in files)
     *_, function = names = path.split(os.sep)
     hole = HOLE.format(path=".".join([crate, "proofs", *names]), name=function)
-    if not report.check(not why, crate, why):
+    if not report.check(not error, crate, error):
         return
-    with tempfile.TemporaryDirectory(prefix="wrong-facts-") as room:
-        Trial(crate).copy_into(room, [])
-        for file in files_below(f"{room}/proofs/{path}"):
+    with tempfile.TemporaryDirectory(prefix="wrong-facts-") as scratch:
+        Trial(crate).copy_into(scratch, [])
+        for file in files_below(f"{scratch}/proofs/{path}"):
             os.remove(file)
-        write(room, f"proofs/{path}/Proof.antt", f"use Rattle.{crate}.proofs.Facts\n{hole}".encode())
-        write(room, FACTS, facts.written().encode())
-        words = ("--allow-holes", "--only", "::".join(names))
-        output = proved.rattle("check", crate, room, *words, before=("nice", "-n", "19")).stdout
+        write(scratch, f"proofs/{path}/Proof.antt", f"use Rattle.{crate}.proofs.Facts\n{hole}".encode())
+        write(scratch, FACTS, facts.written().encode())
+        flags = ("--allow-holes", "--only", "::".join(names))
+        output = proved.rattle("check", crate, scratch, *flags, before=("nice", "-n", "19")).stdout
     for name, (_, wrong) in facts.wrong.items():
         report.check(name in DIFFERS.findall(output), f"{crate}/{FACTS}", f"{name} is not rejected with a wrong value: {wrong}")
 

@@ -1,7 +1,7 @@
 """Encodes requests to the program `minisign_compare`, and the expected responses.
 
-compare/oracle/README.md describes requests and responses. A request is a name followed by words. In the test cases a word
-is bytes or a text, which are sent in hexadecimal digits; a number, a flag or None; or a `Word`, such as a data source.
+compare/oracle/README.md describes requests and responses. A request is a name followed by words. In the test cases, a word is bytes or
+a string, which are sent in hexadecimal digits; an integer, a boolean or None; or a `Word`, which is sent unchanged.
 """
 
 import base64
@@ -61,12 +61,12 @@ Row = namedtuple("Row", "name request answer")
 # compare by name. They include the output of the call, and the number of typed lines that it did not read.
 Answer = namedtuple("Answer", "head values")
 # The kind and the text of each named error.
-BY_NAME = {error["name"]: (error["kind"], error["text"]) for error in ERRORS}
+ERROR_TEXTS = {error["name"]: (error["kind"], error["text"]) for error in ERRORS}
 
 
 def rows(what, request, *cases):
-    """Returns a test case for each of `cases`, which has a name, the words of the request, and the expected response. `what` precedes the
-    name."""
+    """Returns a `Row` for each of `cases`, which is a tuple of a name, the words of the request, and the expected response. The name of
+    the row is `what`, a colon and the name."""
     return [Row(f"{what}: {name}", encode_request(request, *words), answer) for name, *words, answer in cases]
 
 
@@ -77,8 +77,8 @@ def response(head="ok", **values):
 
 
 def rejected(error, text=None, **values):
-    """Returns the expected response for a named error. `text` is given for errors whose text contains key IDs."""
-    kind, default_text = BY_NAME[error]
+    """Returns the expected response for a named error. `text` is passed if the text of the error contains key IDs."""
+    kind, default_text = ERROR_TEXTS[error]
     return response(f"err {kind} {encoded(text or default_text)}", **values)
 
 

@@ -16,15 +16,15 @@ VECTORS = (
      "d5432955613f0fcf62d49705242a9af9e61e85dc0d651e40dfcf017b45575887"),
 )
 # Parameters that scrypt rejects, whatever memory there is.
-NO_PARAMETERS = (
+INVALID_PARAMETERS = (
     (0, 8, 1), (1, 0, 1), (1, 1, 0), (16, 1, 1), (32, 2, 1), (1, 32768, 32768), (1, 8, 134217728), (1, 1 << 30, 1),
     (1, 1, 1 << 30), (54, 8, 1), (55, 4, 1), (63, 4, 1), (63, 8, 1), (64, 8, 1), (255, 16, 1),
     (255, (1 << 32) - 1, 1), (1, (1 << 32) - 1, (1 << 32) - 1),
 )
 
 
-def derived(password, salt, n_log2, r, p, length=64, key=None):
-    """Returns the name, the words of a request and the expected response, for a key of this many bytes."""
+def derivation_case(password, salt, n_log2, r, p, length=64, key=None):
+    """Returns a case that derives a key of `length` bytes. Without `key`, the expected key is that of Python's hashlib."""
     key = key or hashlib.scrypt(password, salt=salt, n=1 << n_log2, r=r, p=p, dklen=length, maxmem=1 << 26)
     name = f"{n_log2}, {r}, {p}, {length} bytes of {password[:12]} and {salt[:12]}"
     return name, n_log2, r, p, length, password, salt, response(out=key)
@@ -32,23 +32,23 @@ def derived(password, salt, n_log2, r, p, length=64, key=None):
 
 ROWS = [
     *rows("scrypt", "scrypt",
-          *(derived(*numbers, key=bytes.fromhex(key)) for *numbers, key in VECTORS),
+          *(derivation_case(*numbers, key=bytes.fromhex(key)) for *numbers, key in VECTORS),
           # Each r and p with small N; keys with lengths around multiples of SHA-256's output; passwords and salts with lengths around
           # SHA-256's block size.
-          *(derived(b"password", b"some salt", n_log2, r, p, 104)
+          *(derivation_case(b"password", b"some salt", n_log2, r, p, 104)
             for n_log2 in range(1, 7) for r in (1, 2, 3, 8) for p in (1, 2, 3)),
-          *(derived(b"password", b"some salt", 3, r, 1, 104) for r in range(1, 33)),
-          *(derived(b"pw", b"na", 1, 1, 1, length) for length in (1, 31, 32, 33, 63, 64, 65, 100)),
-          *(derived(*words, 2, 1, 1) for length in (0, 1, 63, 64, 65, 128, 200)
+          *(derivation_case(b"password", b"some salt", 3, r, 1, 104) for r in range(1, 33)),
+          *(derivation_case(b"pw", b"na", 1, 1, 1, length) for length in (1, 31, 32, 33, 63, 64, 65, 100)),
+          *(derivation_case(*words, 2, 1, 1) for length in (0, 1, 63, 64, 65, 128, 200)
             for words in ((b"k" * length, b"some salt"), (b"pw", b"s" * length))),
-          derived(b"", b"", 15, 8, 1),
+          derivation_case(b"", b"", 15, 8, 1),
           # A key of no bytes, and more rows than any memory holds. Rows of 2 to the 64th bytes or more are invalid parameters.
           *((f"{length} bytes by {numbers}", *numbers, length, b"pw", b"salt", error) for numbers, length, error in (
               ((4, 1, 1), 0, "InvalidOutputLength"), ((53, 8, 1), 0, "InvalidOutputLength"),
               ((53, 8, 1), 32, "OutOfMemory"), ((54, 7, 1), 32, "OutOfMemory"),
-              *((numbers, 32, "InvalidParameters") for numbers in NO_PARAMETERS)))),
-    # The parameters that follow from limits of memory and operations, worked out by hand. The number of parts is computed from the low
-    # 32 bits of a quotient, as in the Rust crate; in the first rejected case these are all zero.
+              *((numbers, 32, "InvalidParameters") for numbers in INVALID_PARAMETERS)))),
+    # The scrypt parameters for limits of memory and operations, worked out by hand. As in the Rust crate, p is computed from the low 32
+    # bits of a quotient; in the first rejected case they are all zero.
     *rows("limits", "raw_scrypt_params",
           *((f"{memory} and {operations}", memory, operations, 20, response(n_log2=n_log2, r=8, p=p))
             for memory, operations, n_log2, p in (

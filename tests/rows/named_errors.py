@@ -1,5 +1,5 @@
-"""Reads the named errors of `named_errors.txt`, which come from outside, and compares them with docs/FORMATS.md, which is
-generated from the proved definition.
+"""Reads the named errors of `named_errors.txt`, which was written by hand, and compares them with docs/FORMATS.md, which is generated
+from the proved definition.
 """
 
 import os
@@ -9,10 +9,10 @@ from itertools import zip_longest
 HERE = os.path.dirname(os.path.realpath(__file__))
 
 
-def rows_of(file, form):
-    """Returns the rows of a table of errors, each with a name, a number, a kind and a text."""
+def rows_of(file, pattern):
+    """Returns the errors in a file: the groups name, number, kind and text of each match of the pattern."""
     with open(os.path.join(HERE, file), encoding="utf-8") as table:
-        return [match.groupdict() for match in re.finditer(form, table.read())]
+        return [match.groupdict() for match in re.finditer(pattern, table.read())]
 
 
 ERRORS = rows_of("named_errors.txt", r"(?m)^ ?(?P<number>\d+) (?P<name>\w+) (?P<kind>\w+) `(?P<text>[^`]*)`$")

@@ -9,15 +9,15 @@ from texts import text_of
 RECORD = toy.RECORD
 LINE = base64.b64encode(RECORD)
 TEXT = toy.public_text()
-# The first line of key A's file, after an empty line. It has as many letters as an encoded key.
+# An empty line and then the first line of key A's file, which has as many characters as an encoded key.
 EMPTY_LINE_FIRST = b"\nuntrusted comment: minisign public key: 0807060504030201\n"
 
-# A key of the upstream tool, and its public key file, in which that tool shows the key ID.
+# A public key of the upstream tool, and its file. The tool writes the key ID into the comment.
 UPSTREAM = b"RWQf6LRCGA9i53mlYecO4IzT51TGPpvWucNSCh1CBM0QTaLn73Y7GFO3"
 UPSTREAM_RECORD = base64.b64decode(UPSTREAM)
 UPSTREAM_TEXT = text_of(UPSTREAM_RECORD, b"minisign public key: E7620F1842B4E81F")
 
-# Another key, and a line of 58 letters.
+# Another key, and a line of 58 characters.
 OTHER = b"RWRzq51bKcS8oJvZ4xEm+nRvGYPdsNRD3ciFPu1YJEL8Bl/3daWaj72r"
 LONGER = b"RWQt7oYqpar/yePp+nonossdnononovlOSkkckMMfvHuGc+0+oShmJyN5Y"
 
@@ -25,8 +25,8 @@ KEY_A = public_key(RECORD)
 NO_KEY, LENGTH, TOO_SHORT = "MissingEncodedPublicKey", "PublicKeyLineLength", "RecordTooShort"
 NOT_BASE64, BARE_NOT_BASE64 = "PublicKeyLineNotBase64", "BarePublicKeyNotBase64"
 
-# Sizes around each power of two up to 2^17. The comments have this many letters, or one of the first 256 characters, except the line
-# feed, between two letters.
+# Sizes around each power of two up to 2^17. Comments of these sizes, and comments that contain one of the first 256 characters except
+# the line feed.
 SIZES = sorted({(1 << exponent) + more for exponent in range(18) for more in (-1, 0, 1)})
 COMMENTS = {
     **{f"{size} letters": b"x" * size for size in SIZES},
@@ -34,8 +34,8 @@ COMMENTS = {
 }
 
 
-def of_prefix(length):
-    """Returns the response for this many bytes of key A's file, whose first line has 57 bytes, and whose key has 56."""
+def response_to_prefix(length):
+    """Returns the expected response for the first `length` bytes of key A's file. Its first line has 57 bytes, and its key 56."""
     return "MissingPublicKeyComment" if length == 0 else NO_KEY if length <= 57 else LENGTH if length <= 112 else KEY_A
 
 
@@ -46,10 +46,10 @@ ROWS = [
     *rows("public half", "pk_from_secret_key", *(
         (f"key derivation {derivation}", toy.KEY_A.record(derivation, other=bytes(32)), KEY_A)
         for derivation in (bytes(2), b"Sc"))),
-    # The length of a text decides which error it has. The first line may be anything. The second is trimmed, but its length is
-    # checked before that.
+    # The error for a prefix of a file depends on its length. The first line may have any content. The second line is trimmed, but its
+    # length is checked before.
     *rows("public box", "pk_from_box",
-          *((f"the first {length} bytes", TEXT[:length], of_prefix(length)) for length in range(len(TEXT) + 1)),
+          *((f"the first {length} bytes", TEXT[:length], response_to_prefix(length)) for length in range(len(TEXT) + 1)),
           ("a line feed", b"\n", NO_KEY),
           ("a letter", b"c", NO_KEY),
           ("carriage returns", b"c\r\n" + LINE + b"\r\n", KEY_A),

@@ -1,4 +1,4 @@
-"""Test cases for the records of keys: reading and comparing them, and when a secret key counts as encrypted."""
+"""Test cases for the binary records of keys: parsing them, comparing them, and telling encrypted secret keys from unencrypted ones."""
 
 import public_keys
 import secret_keys
@@ -6,9 +6,9 @@ import toy
 from asking import response, rows, secret_key
 
 
-def read_and_compared(name, kind, record, answer, begin, end):
-    """Yields cases for a record. It is read from its bytes or more, and not from fewer. A comparison of two records compares only the
-    bytes from `begin` to `end`."""
+def parsing_and_comparison(name, kind, record, answer, begin, end):
+    """Yields cases for a record. Parsing must succeed with its bytes, also if more bytes follow, and fail if a byte is missing. A
+    comparison of two records must compare only the bytes from `begin` to `end`."""
     renamed = bytes([7]) * begin + record[begin:end] + bytes([7]) * (len(record) - end)
     changed = record[:end - 1] + b"\x5b" + record[end:]
     yield from rows(f"record of {name}", f"{kind}_from_bytes", ("its bytes", record, answer),
@@ -19,8 +19,8 @@ def read_and_compared(name, kind, record, answer, begin, end):
 
 
 ROWS = [
-    *read_and_compared("a public key", "pk", public_keys.RECORD, public_keys.KEY_A, 10, 42),
-    *read_and_compared("a secret key", "sk", secret_keys.RECORD, secret_keys.KEY_A, 62, 126),
+    *parsing_and_comparison("a public key", "pk", public_keys.RECORD, public_keys.KEY_A, 10, 42),
+    *parsing_and_comparison("a secret key", "sk", secret_keys.RECORD, secret_keys.KEY_A, 62, 126),
     # A key counts as encrypted if it has a key derivation and its checksum does not match.
     *rows("encrypted", "sk_from_bytes", *(
         (name, record, secret_key(record, is_sealed)) for name, derivation, checksum, is_sealed in (

@@ -1,13 +1,13 @@
 #!/usr/bin/env python3
-"""Checks that the library gives the expected results for the test cases of this directory's modules.
+"""Checks the results of the library's calls for the test cases in the modules of this directory.
 
-    tests/rows/rows.py [MODULE..]
+    tests/rows/rows.py [MODULE ..]
 
-The program `minisign_compare`, which `rt ci` or `rt run` has built, makes the calls. No expected value was computed by a
-crate of this repository: they come from standards, from Python's hashlib and base64, from the upstream program minisign,
-or were worked out by hand from a definition. A module has its test cases in `ROWS`, and the files that they name in
-`FILES`. These files are created in a new directory for each module. The script also compares the named errors with
-docs/FORMATS.md. The last line is `N passed, M failed`.
+MODULE is the name of a module, such as `signing`; by default all modules are run. The program `minisign_compare`, which `rt ci` or
+`rt run` has built, makes the calls. No expected value was computed by a crate of this repository. They come from standards, from
+Python's hashlib and base64, or from the upstream program minisign, or were worked out by hand from a definition. A module has its
+test cases in `ROWS`, and the files that they name in `FILES`. These files are created in a new directory for each module. The script
+also compares the named errors with docs/FORMATS.md. The last line is `N passed, M failed`.
 
 Needs Python 3.9 or later.
 """
@@ -32,7 +32,7 @@ MODULES = sorted({name[:-3] for name in os.listdir(HERE) if name.endswith(".py")
 
 
 def responses_to(requests, directory):
-    """Runs the program in a directory with these requests. Returns its responses, one line for each request."""
+    """Runs `minisign_compare` in a directory with these requests. Returns its responses, one line for each request."""
     ran = subprocess.run([PROGRAM], input="\n".join(requests) + "\n", cwd=directory, stdout=subprocess.PIPE,
                          stderr=subprocess.STDOUT, text=True, timeout=SECONDS)
     lines = ran.stdout.splitlines()
@@ -43,13 +43,13 @@ def responses_to(requests, directory):
 
 
 def difference(answer, line):
-    """Returns a text with the differences between the response `line` and the expected one. It is empty if they are the same."""
+    """Describes the differences between the response `line` and the expected `Answer`. Returns an empty string if there are none."""
     result, _, tail = line.partition(" | ")
     head, *words = [result] if result.startswith("err ") else result.split(" ")
     values = dict(word.partition("=")[::2] for word in [*words, *tail.split()])
     differences = [] if head == answer.head else [f"got `{head}`, expected `{answer.head}`"]
     differences += [f"{name} is {values.get(name)}, expected {encoded(value)}" for name, value in answer.values.items()
-              if values.get(name) != encoded(value)]
+                    if values.get(name) != encoded(value)]
     return "; ".join(differences)
 
 

@@ -24,11 +24,12 @@ def response_to_prefix(length):
     return "MissingSecretKeyComment" if length == 0 else NO_KEY if length <= 46 else error_in_base64 if length <= 257 else KEY_A
 
 
-# A name, a record, a comment or None for the default one, the file that `sk_to_box` writes, and the response of `sk_plain` to this file.
+# A name; a record; a comment, or None for the default one; the file that `sk_to_box` must write; and the expected response of `sk_plain`
+# for this file.
 WRITTEN = [
     *((name, record, None, secret_text(record), answer) for name, record, answer in (
         ("no key derivation", RECORD, KEY_A),
-        ("another checksum", toy.turned(RECORD), "CorruptedKey"),
+        ("another checksum", toy.flip_bit(RECORD), "CorruptedKey"),
         ("the key derivation scrypt", toy.KEY_A.record(b"Sc"), "KeyMightBeEncrypted"),
         ("an unknown key derivation", toy.KEY_A.record(b"Xx"), "KeyMightBeEncrypted"))),
     *((f"a comment of {name}", RECORD, comment, secret_text(comment=comment), KEY_A)
@@ -37,8 +38,8 @@ WRITTEN = [
 
 ROWS = [
     *rows("secret key", "sk_to_box", *((name, record, comment, response(text=text)) for name, record, comment, text, _ in WRITTEN)),
-    # Every prefix of a file has the error for its length. The first line may have any content. From the second line only the line ending
-    # is removed, so any white space in it is an error.
+    # The error for a prefix of a file depends on its length. The first line may have any content. Only the line ending is removed from the
+    # second line, so any other white space in it is an error.
     *rows("secret box", "sk_plain",
           *((name, text, answer) for name, _, _, text, answer in WRITTEN),
           *((f"the first {length} bytes", TEXT[:length], response_to_prefix(length)) for length in range(len(TEXT))),

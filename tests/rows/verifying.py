@@ -1,5 +1,5 @@
-"""Test cases for verifying, with parsed keys and with key files: each result and error, what is printed and copied, and how far
-the data is read."""
+"""Test cases for verification, with parsed keys and with key files: each result and error, the printed and the copied bytes, and how
+far the data is read."""
 
 from itertools import product
 
@@ -10,7 +10,7 @@ from texts import lines, record_of
 from toy import OTHER_RECORD, RECORD
 
 # The number of bytes that a read returns unless a case says otherwise.
-PIECE = 65536
+READ_SIZE = 65536
 KEY_TEXT = toy.public_text()
 OTHER_KEY_TEXT = toy.public_text(toy.OTHER_KEYNUM)
 VERIFIED = b"Signature and comment signature verified\n"
@@ -23,36 +23,35 @@ LEGACY_TEXT = toy.signature_text(b"abc", LEGACY_RECORD)
 ACCEPTED = ""
 
 # The errors that are reported after the data was read. All other errors of a key or signature are reported before that.
-VERDICTS = ("DifferentKeyIds", "LegacyNotAccepted", "SignatureRefused", "CommentSignatureRefused")
-OTHER_KEY_SAYS = "Signature key id: 0807060504030201 is different from public key: E7620F1842B4E81F"
+ERRORS_AFTER_DATA = ("DifferentKeyIds", "LegacyNotAccepted", "SignatureRefused", "CommentSignatureRefused")
+OTHER_KEY_MESSAGE = "Signature key id: 0807060504030201 is different from public key: E7620F1842B4E81F"
 
-# The most bytes that a read returns: data is read at once, or byte by byte. BOTH gives a case for each.
+# Values of `chunks`: the maximum number of bytes that a read returns, with one case for each. None stands for READ_SIZE.
 AT_ONCE, BY_BYTES = (None,), (1,)
-BOTH = AT_ONCE + BY_BYTES
+AT_ONCE_AND_BY_BYTES = AT_ONCE + BY_BYTES
 
 
 def reads_of(length, chunk):
     """Returns the number of reads for this many bytes, including the one that finds the end."""
-    return -(-length // (chunk or PIECE)) + 1
+    return -(-length // (chunk or READ_SIZE)) + 1
 
 
-def in_pieces(name, chunk):
-    """Returns the name of a test case with the size of its reads."""
+def name_with_read_size(name, chunk):
+    """Returns the name of a test case with the size of its reads appended."""
     return f"{name}, {f'read in pieces of {chunk}' if chunk else 'read at once'}"
 
 
-def judged(name, outcome, signature=PREHASHED_TEXT, content=b"abc", key=None, trusted=b"t", quiet=False, output=False,
-           legacy=False, chunks=BOTH, front=b"", second=None, fail=None):
-    """Yields test cases that verify a signature with a public key, each as a file or as a record; one case for each size of a read in
-    `chunks`. `front` is data that was read before the call, `second` the data of the second reading, and `fail` the number of the read
-    that fails.
+def verification_cases(name, outcome, signature=PREHASHED_TEXT, content=b"abc", key=None, trusted=b"t", quiet=False, output=False,
+           legacy=False, chunks=AT_ONCE_AND_BY_BYTES, front=b"", second=None, fail=None):
+    """Yields test cases that verify a signature with a public key; one case for each size of a read in `chunks`. The signature and the
+    key are files or records. `outcome` is ACCEPTED or an error. `front` is data that was read before the call. When the data is read a
+    second time, it is `second`, if that is not None. `fail` is the number of the read that fails.
 
-    The data is read once. To copy it, it is read a second time, except with a legacy signature, for which the whole data is in
-    memory."""
+    The data is read once. To copy it, it is read a second time, except with a legacy signature, which needs the whole data in memory."""
     is_bare = signature[:1] == b"E"
     key = key if key is not None else RECORD if is_bare else KEY_TEXT
     request = "verify" if key[:1] == b"E" else "verify_texts"
-    status = b"" if quiet else VERIFIED if is_bare else VERIFIED + toy.joined([b"Trusted comment: " + trusted])
+    status = b"" if quiet else VERIFIED if is_bare else VERIFIED + toy.join_lines([b"Trusted comment: " + trusted])
     # `RU` is the beginning of the algorithm `ED` in base64.
     goes_back = output and (signature[:2] == b"ED" or b"\nRU" in signature)
     copied = second if second is not None and goes_back else content
@@ -66,48 +65,48 @@ def judged(name, outcome, signature=PREHASHED_TEXT, content=b"abc", key=None, tr
         elif outcome == "ReadingFailed":
             again = fail - 1 - reads
             answer = rejected("ReadingFailed", stdout=content[:again], stderr=status, reads=fail, pos=again)
-        elif outcome in VERDICTS:
-            says = OTHER_KEY_SAYS if outcome == "DifferentKeyIds" else None
-            answer = rejected(outcome, says, reads=reads, pos=len(front + content))
+        elif outcome in ERRORS_AFTER_DATA:
+            message = OTHER_KEY_MESSAGE if outcome == "DifferentKeyIds" else None
+            answer = rejected(outcome, message, reads=reads, pos=len(front + content))
         elif outcome in (ACCEPTED, "DataChanged"):
-            deeds = {"stdout": copied if output else b"", "stderr": status, "reads": both, "pos": len(front + copied)}
-            answer = rejected("DataChanged", **deeds) if outcome else response(**deeds)
+            effects = {"stdout": copied if output else b"", "stderr": status, "reads": both, "pos": len(front + copied)}
+            answer = rejected("DataChanged", **effects) if outcome else response(**effects)
         else:
             answer = rejected(outcome)
-        yield Row(in_pieces(name, chunk), asked, answer)
+        yield Row(name_with_read_size(name, chunk), asked, answer)
 
 
-def turned(record):
+def with_changed_comment_signature(record):
     """Returns the signature file of a record, with the lowest bit of the last byte of its comment signature flipped."""
-    return toy.signature_text(b"", record, comment_signature=toy.turned(toy.signature_of(record[10:] + b"t")))
+    return toy.signature_text(b"", record, comment_signature=toy.flip_bit(toy.signature_of(record[10:] + b"t")))
 
 
-def each_run(name, key, signature, content, outcome, strict=None, **how):
-    """Yields test cases for each combination of quiet, output and legacy. `strict` is the outcome if legacy signatures are not accepted
-    and this makes a difference."""
+def cases_for_all_options(name, key, signature, content, outcome, strict=None, **how):
+    """Yields test cases for each combination of quiet, output and legacy. If `strict` is not None, it is the outcome if legacy signatures
+    are not accepted."""
     for quiet, output, legacy in product((False, True), repeat=3):
         options = [option for option, is_set in (("quiet", quiet), ("output", output), ("legacy", legacy)) if is_set]
-        yield from judged(f"{name}; {', '.join(options) or 'no options'}", outcome if legacy or strict is None else strict,
+        yield from verification_cases(f"{name}; {', '.join(options) or 'no options'}", outcome if legacy or strict is None else strict,
                           signature, content, key, quiet=quiet, output=output, legacy=legacy, **how)
 
 
-CHANGED_TEXT = turned(PREHASHED_RECORD)
+CHANGED_TEXT = with_changed_comment_signature(PREHASHED_RECORD)
 UNKNOWN_RECORD = b"Ex" + PREHASHED_RECORD[2:]
 # A message that takes more than one read, and its signature.
-LONG = bytes((7 * i + i // 256) % 256 for i in range(100_000))
-OF_LONG = b"ED" + toy.KEYNUM + bytes(32) + bytes.fromhex(
+LONG_DATA = bytes((7 * i + i // 256) % 256 for i in range(100_000))
+LONG_DATA_RECORD = b"ED" + toy.KEYNUM + bytes(32) + bytes.fromhex(
     "d4f140d88e494e19283fe4a31a2b66a60cde500f743d176788259b07d1098643")
 
-# The name, the key, the signature, the data and the outcome, and a second outcome if legacy signatures are not accepted and this makes
-# a difference. If several checks fail, the outcome is the first one.
+# The name, the key, the signature, the data, the outcome, and another outcome if legacy signatures are not accepted. If several checks
+# fail, the outcome is the error of the first one.
 CASES = (
     ("a signature", RECORD, PREHASHED_RECORD, b"abc", ACCEPTED),
     ("a signature, no data", RECORD, PREHASHED_RECORD, b"", "SignatureRefused"),
     ("a signature, other data", RECORD, PREHASHED_RECORD, b"abd", "SignatureRefused"),
-    ("a changed signature", RECORD, toy.turned(PREHASHED_RECORD), b"abc", "SignatureRefused"),
+    ("a changed signature", RECORD, toy.flip_bit(PREHASHED_RECORD), b"abc", "SignatureRefused"),
     ("a signature of empty data", RECORD, toy.signature_record(b""), b"", ACCEPTED),
-    ("a long message", RECORD, OF_LONG, LONG, ACCEPTED),
-    ("a long message without its last byte", RECORD, OF_LONG, LONG[:-1], "SignatureRefused"),
+    ("a long message", RECORD, LONG_DATA_RECORD, LONG_DATA, ACCEPTED),
+    ("a long message without its last byte", RECORD, LONG_DATA_RECORD, LONG_DATA[:-1], "SignatureRefused"),
     # If legacy signatures are not accepted, they are rejected whatever they sign.
     ("legacy, of the digest", RECORD, b"Ed" + PREHASHED_RECORD[2:], b"abc", "SignatureRefused", "LegacyNotAccepted"),
     ("legacy, of the data", RECORD, LEGACY_RECORD, b"abc", ACCEPTED, "LegacyNotAccepted"),
@@ -122,7 +121,7 @@ CASES = (
     # Another key ID is rejected whatever the signature signs, and before a legacy signature is.
     ("another key", OTHER_RECORD, PREHASHED_RECORD, b"abc", "DifferentKeyIds"),
     ("another key, legacy, other data", OTHER_RECORD, LEGACY_RECORD, b"abd", "DifferentKeyIds"),
-    # A signature file with a key's record, and ("text") both as files.
+    # A signature file with the record of a key. In the cases "text", the key is a file, too.
     ("a signature file", RECORD, PREHASHED_TEXT, b"abc", ACCEPTED),
     ("a signature file, other data", RECORD, PREHASHED_TEXT, b"abd", "SignatureRefused"),
     ("a signature file with a changed comment signature", RECORD, CHANGED_TEXT, b"abc", "CommentSignatureRefused"),
@@ -135,7 +134,7 @@ CASES = (
     ("text: no signature", KEY_TEXT, b"", b"abc", "MissingUntrustedComment"),
     ("text: a changed comment signature, other data", KEY_TEXT, CHANGED_TEXT, b"abd", "SignatureRefused"),
     ("text: a changed comment signature", KEY_TEXT, CHANGED_TEXT, b"abc", "CommentSignatureRefused"),
-    ("text: legacy, a changed comment signature", KEY_TEXT, turned(LEGACY_RECORD), b"abc", "CommentSignatureRefused",
+    ("text: legacy, a changed comment signature", KEY_TEXT, with_changed_comment_signature(LEGACY_RECORD), b"abc", "CommentSignatureRefused",
      "LegacyNotAccepted"),
     ("text: another key", OTHER_KEY_TEXT, PREHASHED_TEXT, b"abc", "DifferentKeyIds"),
     ("text: another key, legacy, other data", OTHER_KEY_TEXT, LEGACY_TEXT, b"abd", "DifferentKeyIds"),
@@ -167,24 +166,24 @@ def upstream_parts(text):
 
 
 ROWS = [row for rows in (
-    *(each_run(*case) for case in CASES),
+    *(cases_for_all_options(*case) for case in CASES),
     # The copy begins at the position of the source before the call.
-    *(judged(f"{name}: copied from the position before the call", ACCEPTED, signature, output=True, legacy=True, front=b"xx")
+    *(verification_cases(f"{name}: copied from the position before the call", ACCEPTED, signature, output=True, legacy=True, front=b"xx")
       for name, signature in (("a signature", PREHASHED_RECORD), ("text", PREHASHED_TEXT), ("text: legacy", LEGACY_TEXT))),
     # The toy scheme xors the blocks of a message, so that zero bytes at the end do not change the signature.
-    judged("toy: a zero byte appended to legacy data", ACCEPTED, LEGACY_TEXT, b"abc\0", output=True, legacy=True),
-    judged("toy: a zero byte appended to the trusted comment", ACCEPTED,
+    verification_cases("toy: a zero byte appended to legacy data", ACCEPTED, LEGACY_TEXT, b"abc\0", output=True, legacy=True),
+    verification_cases("toy: a zero byte appended to the trusted comment", ACCEPTED,
            PREHASHED_TEXT.replace(b"comment: t\n", b"comment: t\0\n"), trusted=b"t\0"),
     # The scheme also accepts the upstream tool's signatures from a table, until the table is cleared.
     [Row("upstream: a signature is added to the table", encode_request("table_add", signed, UPSTREAM_RECORD[10:], signature), response())
      for text, message in UPSTREAM_MESSAGES.items() for record, trusted, of_comment in [upstream_parts(text)]
      for signed, signature in ((message, record[10:]), (record[10:] + trusted, of_comment))],
-    *(each_run(f"upstream: {name}", UPSTREAM_TEXT, text, content, *outcomes, trusted=upstream_parts(text)[1])
+    *(cases_for_all_options(f"upstream: {name}", UPSTREAM_TEXT, text, content, *outcomes, trusted=upstream_parts(text)[1])
       for name, text, content, *outcomes in (
           ("legacy", UPSTREAM_LEGACY, b"test", ACCEPTED, "LegacyNotAccepted"),
           ("legacy, other data", UPSTREAM_LEGACY, b"test2", "SignatureRefused", "LegacyNotAccepted"),
           ("prehashed", UPSTREAM_PREHASHED, b"test", ACCEPTED),
           ("prehashed, other data", UPSTREAM_PREHASHED, b"test2", "SignatureRefused"))),
     [Row("upstream: the table is cleared", encode_request("table_clear"), response())],
-    each_run("upstream: without a table", UPSTREAM_TEXT, UPSTREAM_PREHASHED, b"test", "SignatureRefused"),
+    cases_for_all_options("upstream: without a table", UPSTREAM_TEXT, UPSTREAM_PREHASHED, b"test", "SignatureRefused"),
 ) for row in rows]

@@ -2,10 +2,10 @@
 secret key can be decrypted."""
 
 import toy
-from running import (CLOSED, DIRECTORY, FULL, LOCKED, WRITE_ONLY, FromFile, Link, OneOf, Pieces,
-                     PrefixOf, ReadPipe, RoomFor, SecondName, Sources, Typed, WithMode, expect)
+from running import (CLOSED, DIRECTORY, FULL, READ_ONLY_DIRECTORY, WRITE_ONLY, FromFile, HardLink, Link, OneOf,
+                     OutputPipe, Pieces, PrefixOf, RandomAndTime, SizeLimit, TypedInput, WithMode, expect)
 from texts import record_of
-from tool_cases import Leaves, command, out_of_memory, without_stderr
+from tool_cases import ExpectedFiles, command_case, out_of_memory, without_stderr
 from toy import NOT_UTF8, OUT_OF_MEMORY, READING_FAILED, WARNING, WRITING_FAILED
 
 END_OF_INPUT = "error: unexpected end of input\n"
@@ -39,13 +39,13 @@ MADE_BEFORE = set()
 def pair(password=b"p", public_mode=0o644, secret_mode=0o600, names=(PK, SK), links=()):
     """Expects the two files of a pair that this password decrypts, with these modes, and these links."""
     files = {**dict(links), **dict.fromkeys(names, bytes)}
-    return Leaves(files, dict(zip(names, (public_mode, secret_mode))),
-                  judge=lambda left: check_pair(password, *(left[name][1] for name in names)))
+    return ExpectedFiles(files, dict(zip(names, (public_mode, secret_mode))),
+                  check=lambda left: check_pair(password, *(left[name][1] for name in names)))
 
 
 def one_file(name, links):
     """Expects a secret key in this file, which only its owner may read, and these links to it."""
-    return Leaves({**links, name: check_secret}, {name: 0o600})
+    return ExpectedFiles({**links, name: check_secret}, {name: 0o600})
 
 
 def check_public(text):
@@ -62,32 +62,32 @@ def check_pair(password, public_text, secret_text):
     """Decrypts the secret key, compares both files with those of this key in the toy scheme, and checks that random bytes differ."""
     sealed = record_of(secret_text)
     salt = sealed[6:38]
-    opened = bytes(a ^ b for a, b in zip(sealed[54:], toy.stream(password, toy.USUAL, salt)))
+    opened = bytes(a ^ b for a, b in zip(sealed[54:], toy.key_stream(password, toy.USUAL_LIMITS, salt)))
     key = toy.Key(opened[8:40], opened[:8])
-    expect(secret_text == toy.secret_text(key.sealed(password, toy.USUAL, salt)), f"{password!r} does not decrypt {secret_text!r}")
+    expect(secret_text == toy.secret_text(key.sealed(password, toy.USUAL_LIMITS, salt)), f"{password!r} does not decrypt {secret_text!r}")
     public = toy.public_text(key.keynum, key.public)
     expect(public_text == public, f"the public key is {public_text!r}, that of the secret key is {public!r}")
     expect(key.keynum not in MADE_BEFORE and salt != key.seed, f"random bytes occur twice: key ID {key.keynum.hex()}, salt {salt.hex()}")
     MADE_BEFORE.add(key.keynum)
 
 
-def keygen(name, *said, typed=b"p\np\n", output=MADE, left=Leaves({}), arguments=(PK, SK), **how):
+def keygen(name, *lines, typed=b"p\np\n", output=MADE, check_directory=ExpectedFiles({}), arguments=(PK, SK), **changes):
     """Returns a case of `keygen`. By default `p` is typed twice and no file is left."""
-    return command(name, ["keygen", *arguments], said, stdin=typed, output=output, left=left, **how)
+    return command_case(name, ["keygen", *arguments], lines, stdin=typed, output=output, check_directory=check_directory, **changes)
 
 
-def made(name, password=b"p", said=(), **how):
+def made(name, password=b"p", lines=(), **changes):
     """Returns a case in which a pair is generated. By default the password is typed twice."""
-    return keygen(name, *said, **{"typed": (password + b"\n") * 2, "left": pair(password), **how})
+    return keygen(name, *lines, **{"typed": (password + b"\n") * 2, "check_directory": pair(password), **changes})
 
 
 LONGEST, TOO_MUCH = b"x" * 1024, b"x" * 1025
 # Input that is not a password, and the error.
 NO_PASSWORD = [
     ("no input", b"", END_OF_INPUT),
-    ("no input at a terminal", Typed((b"\x04",)), END_OF_INPUT),
+    ("no input at a terminal", TypedInput((b"\x04",)), END_OF_INPUT),
     ("a password that is too long", TOO_MUCH + b"\n", TOO_LONG),
-    ("a password that is too long at a terminal", Typed((TOO_MUCH + b"\n",)), TOO_LONG),
+    ("a password that is too long at a terminal", TypedInput((TOO_MUCH + b"\n",)), TOO_LONG),
     ("a password that is too long, without a line feed", TOO_MUCH, TOO_LONG),
     ("the longest password and a carriage return, without a line feed", LONGEST + b"\r", TOO_LONG),
     ("no line feed in 1026 bytes", b"\xff" * 1026, TOO_LONG),
@@ -96,15 +96,15 @@ NO_PASSWORD = [
     ("an input that cannot be read", WRITE_ONLY, READING_FAILED),
     ("a directory as input", DIRECTORY, READING_FAILED),
 ]
-DIFFER, TO_OLDER = {"typed": b"a\nb\n", "output": TWICE}, {"files": OLDER, "left": Leaves(OLDER)}
-AT_TERMINAL = Typed((b"p\n", b"p\n"))
+DIFFER, TO_OLDER = {"typed": b"a\nb\n", "output": TWICE}, {"files": OLDER, "check_directory": ExpectedFiles(OLDER)}
+AT_TERMINAL = TypedInput((b"p\n", b"p\n"))
 
 LONGER, OLDER_FILE, READABLE = b"older\n" * 200, WithMode(b"older", 0o604), WithMode(b"older", 0o644)
 LINKS = {PK: Link("kept/public"), SK: Link("kept/secret")}
 CHAIN = {PK: Link("first"), "first": Link("./second"), "second": Link("kept/public"), SK: Link("kept/secret")}
 ACROSS = {PK: Link("kept/link"), "kept/link": Link("public"), SK: Link("kept/secret")}
-PUBLIC_PIPE, SECRET_PIPE, EMPTY_PIPE = {PK: ReadPipe(COUNTED_PUBLIC)}, {SK: ReadPipe(COUNTED_SECRET)}, {SK: ReadPipe(b"")}
-INTO_PIPES = {"sources": Sources(), "left": None}
+PUBLIC_PIPE, SECRET_PIPE, EMPTY_PIPE = {PK: OutputPipe(COUNTED_PUBLIC)}, {SK: OutputPipe(COUNTED_SECRET)}, {SK: OutputPipe(b"")}
+INTO_PIPES = {"random_and_time": RandomAndTime(), "check_directory": None}
 
 # Closed or full streams. No file may get the descriptor of a closed stream, because then a prompt or an error would be written into the
 # file, or a password read from it.
@@ -130,28 +130,28 @@ CASES = [
     *(keygen(name, line, typed=typed, output=ONCE) for name, typed, line in NO_PASSWORD),
     *(keygen(name, line, typed=typed, output=TWICE) for name, typed, line in (
         ("two passwords that differ", b"a\nb\n", DIFFERENT),
-        ("two passwords that differ at a terminal", Typed((b"a\n", b"b\n")), DIFFERENT),
+        ("two passwords that differ at a terminal", TypedInput((b"a\n", b"b\n")), DIFFERENT),
         ("passwords that differ by a space", b"a\na \n", DIFFERENT),
         ("end of input after the first password", b"a\n", END_OF_INPUT),
-        ("end of input after the first password at a terminal", Typed((b"a\n", b"\x04")), END_OF_INPUT),
+        ("end of input after the first password at a terminal", TypedInput((b"a\n", b"\x04")), END_OF_INPUT),
         ("a second password that is too long", b"a\n" + TOO_MUCH + b"\n", TOO_LONG),
         ("a second password that is not UTF-8", b"a\n\xc3\n", NOT_UTF8))),
     keygen("a password and an empty password", DIFFERENT, typed=b"a\n\n", output=TWICE + b"<empty>\n"),
     keygen("two passwords that differ, and files that exist", DIFFERENT, **DIFFER, **TO_OLDER),
     # Known random bytes determine both files. If there are too few, nothing is asked.
-    *(made(f"{random} random bytes, which count up", sources=Sources(random=random), left=Leaves({PK: COUNTED_PUBLIC, SK: COUNTED_SECRET}))
+    *(made(f"{random} random bytes, which count up", random_and_time=RandomAndTime(random_bytes=random), check_directory=ExpectedFiles({PK: COUNTED_PUBLIC, SK: COUNTED_SECRET}))
       for random in (256, 72)),
-    *(keygen(f"{count} random bytes", RANDOM_FAILED, output=b"", sources=Sources(random=count), **TO_OLDER) for count in (0, 32, 40, 71)),
+    *(keygen(f"{count} random bytes", RANDOM_FAILED, output=b"", random_and_time=RandomAndTime(random_bytes=count), **TO_OLDER) for count in (0, 32, 40, 71)),
     # At a terminal, each line is typed when the program asks for it, and not echoed unless a case says so. Control-D ends the input.
     made("at a terminal", typed=AT_TERMINAL),
-    made("at a terminal that shows what is typed", typed=Typed((b"p\n", b"p\n"), shows=True),
+    made("at a terminal that shows what is typed", typed=TypedInput((b"p\n", b"p\n"), shows=True),
          output=b"".join(part.replace(b"\n", b"\r\n") for part in (ONCE, b"p\n", TWICE[len(ONCE):], b"p\n", TOLD))),
-    made("an empty password at a terminal", b"", typed=Typed((b"\n", b"\n")), output=EMPTY),
-    made("the longest password at a terminal", LONGEST, typed=Typed((LONGEST + b"\n",) * 2)),
-    made("the last line without a line feed at a terminal", b"p", typed=Typed((b"p\n", b"p\x04\x04"))),
+    made("an empty password at a terminal", b"", typed=TypedInput((b"\n", b"\n")), output=EMPTY),
+    made("the longest password at a terminal", LONGEST, typed=TypedInput((LONGEST + b"\n",) * 2)),
+    made("the last line without a line feed at a terminal", b"p", typed=TypedInput((b"p\n", b"p\x04\x04"))),
     # Existing files are replaced and keep their modes, except for permissions that the group has and all others do not. Links are
     # followed: the target is replaced, and the link is unchanged.
-    *(made(name, files=files, left=pair(b"p", *modes)) for name, files, *modes in (
+    *(made(name, files=files, check_directory=pair(b"p", *modes)) for name, files, *modes in (
         ("files that exist", {PK: LONGER, SK: LONGER}, 0o644, 0o644),
         ("a public file that exists", {PK: b""}, 0o644, 0o600),
         ("a secret file that exists", {SK: LONGER}, 0o644, 0o644),
@@ -162,9 +162,9 @@ CASES = [
         ("files with access control lists",
          {PK: WithMode(LONGER, 0o644, "g::---,u:65534:rw"), SK: WithMode(LONGER, 0o600, "u:65534:rw")}, 0o644, 0o600),
         ("files that exist and can only be written", {PK: WithMode(LONGER, 0o200), SK: WithMode(LONGER, 0o200)}, 0o200, 0o200))),
-    made("a umask without permission to write", umask=0o222, left=pair(b"p", 0o444, 0o400)),
+    made("a umask without permission to write", umask=0o222, check_directory=pair(b"p", 0o444, 0o400)),
     made("paths that begin with ./", arguments=("./" + PK, "././" + SK)),
-    *(made(name, files={"kept": DIRECTORY, **files, **links}, left=pair(b"p", *modes, ("kept/public", "kept/secret"), links))
+    *(made(name, files={"kept": DIRECTORY, **files, **links}, check_directory=pair(b"p", *modes, ("kept/public", "kept/secret"), links))
       for name, links, files, *modes in (
           ("links to files", LINKS, {"kept/public": OLDER_FILE, "kept/secret": OLDER_FILE}, 0o604, 0o604),
           ("dangling links", LINKS, {}, 0o644, 0o600),
@@ -173,7 +173,7 @@ CASES = [
     # If both paths lead to the same file, it is the secret key in the end, and only its owner may read it, whatever the mode of the old
     # file. If the paths are two hard links of a file, each becomes a separate file.
     *(made(f"{name}, and a umask of {umask:o}", arguments=arguments, files=files, umask=umask,
-           left=one_file(shared, files) if shared else pair(b"p", 0o644 if files else 0o666 & ~umask, 0o600))
+           check_directory=one_file(shared, files) if shared else pair(b"p", 0o644 if files else 0o666 & ~umask, 0o600))
       for umask in (0o000, 0o022, 0o077)
       for name, arguments, shared, files in (
           ("one path twice", (SK, SK), SK, {}),
@@ -186,11 +186,11 @@ CASES = [
           ("the public key's path a link to the new secret key", (PK, SK), SK, {PK: Link(SK)}),
           ("both paths links to one missing file", (PK, SK), "key", {PK: Link("key"), SK: Link("./key")}),
           ("both paths links to one file", (PK, SK), "key", {"key": READABLE, PK: Link("key"), SK: Link("./key")}),
-          ("two hard links of one file", (PK, SK), None, {PK: READABLE, SK: SecondName(PK)}),
+          ("two hard links of one file", (PK, SK), None, {PK: READABLE, SK: HardLink(PK)}),
           ("new files", (PK, SK), None, {}))),
     # Files that cannot be written. Nothing is replaced before both new files are complete.
     *(keygen(name, WRITING_FAILED, arguments=arguments, files=files,
-             left=Leaves({path: held.data if isinstance(held, WithMode) else held for path, held in files.items()}))
+             check_directory=ExpectedFiles({path: held.data if isinstance(held, WithMode) else held for path, held in files.items()}))
       for name, arguments, files in (
           ("no room for the public key", (FULL_DEVICE, SK), {}),
           ("no room for the public key, and a secret file that exists", (FULL_DEVICE, SK), {SK: b"older"}),
@@ -202,8 +202,8 @@ CASES = [
           ("a link into a missing directory as secret key", (PK, SK), {PK: b"older", SK: Link("none/key")}),
           ("a missing directory of the public key", ("none/key", SK), {}),
           ("a missing directory of the secret key", (PK, "none/key"), {}),
-          ("a locked directory of the public key", ("locked/key", SK), {"locked": LOCKED}),
-          ("a locked directory of the secret key", (PK, "locked/key"), {"locked": LOCKED}),
+          ("a locked directory of the public key", ("locked/key", SK), {"locked": READ_ONLY_DIRECTORY}),
+          ("a locked directory of the secret key", (PK, "locked/key"), {"locked": READ_ONLY_DIRECTORY}),
           ("a public file that may not be written", (PK, SK), {PK: WithMode(b"older", 0o444)}),
           ("a secret file that may not be written", (PK, SK), {SK: WithMode(b"older", 0o400)}),
           ("an empty name of the public key", ("", SK), {}),
@@ -211,19 +211,19 @@ CASES = [
           ("a name of the public key that is too long", ("k" * 256, SK), {}))),
     # Named pipes are written directly, the public key's first. The first failed write ends the run; a failed message has no effect.
     made("keys into pipes", files={**PUBLIC_PIPE, **SECRET_PIPE}, **INTO_PIPES),
-    made("keys into pipes, stderr takes five bytes", said=["warni"], files={**PUBLIC_PIPE, **SECRET_PIPE}, typed=AT_TERMINAL,
-         stderr=RoomFor(5), **INTO_PIPES),
+    made("keys into pipes, stderr takes five bytes", lines=["warni"], files={**PUBLIC_PIPE, **SECRET_PIPE}, typed=AT_TERMINAL,
+         stderr=SizeLimit(5), **INTO_PIPES),
     keygen("no room for the public key, and the secret key into a pipe", WRITING_FAILED,
            files=EMPTY_PIPE, arguments=(FULL_DEVICE, SK), **INTO_PIPES),
     keygen("the public key into a pipe, and no room for the secret key", WRITING_FAILED,
            files=PUBLIC_PIPE, arguments=(PK, FULL_DEVICE), **INTO_PIPES),
     keygen("the public key into stderr, which takes nine bytes, and the secret key into a pipe", "untrusted", status=1,
-           files=EMPTY_PIPE, arguments=("/dev/stderr", SK), typed=AT_TERMINAL, stderr=RoomFor(9), **INTO_PIPES),
+           files=EMPTY_PIPE, arguments=("/dev/stderr", SK), typed=AT_TERMINAL, stderr=SizeLimit(9), **INTO_PIPES),
     keygen("the public key into a pipe, and the secret key into stderr, which takes one byte", "u", status=1,
-           files=PUBLIC_PIPE, arguments=(PK, "/dev/stderr"), typed=AT_TERMINAL, stderr=RoomFor(1), **INTO_PIPES),
+           files=PUBLIC_PIPE, arguments=(PK, "/dev/stderr"), typed=AT_TERMINAL, stderr=SizeLimit(1), **INTO_PIPES),
     *WITH_STREAMS,
     *without_stderr([*WITH_STREAMS, made("a password"), keygen("two passwords that differ", DIFFERENT, **DIFFER, **TO_OLDER),
-             keygen("no room for the secret key", WRITING_FAILED, arguments=(PK, FULL_DEVICE), files=OLDER, left=Leaves(OLDER))]),
+             keygen("no room for the secret key", WRITING_FAILED, arguments=(PK, FULL_DEVICE), files=OLDER, check_directory=ExpectedFiles(OLDER))]),
     # Each allocation fails. If it is for the files of a generated pair, the error is a failed write. No file is touched.
     *out_of_memory(OneOf(([WARNING, OUT_OF_MEMORY], [WARNING, WRITING_FAILED])),
               ("a pair", keygen("", OUT_OF_MEMORY, output=PrefixOf(MADE), **TO_OLDER))),

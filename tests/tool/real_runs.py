@@ -1,11 +1,12 @@
 #!/usr/bin/env python3
-"""Checks that `minisign_tool` gives exactly the expected output on real files, and that it survives faults (`surviving.py`).
+"""Checks that `minisign_tool` gives exactly the expected output on real files, and that failing system calls, signals and kills do no
+harm (`surviving.py`).
 
     tests/tool/real_runs.py [PROGRAM] [WORD ..]
 
-By default it runs the programs that `rt ci` or `rt run` left in the directory `out` of `crates/minisign_tool`, one for each
-compiler. If there is none, it runs `rt run`. It prints a line for each case that failed or was skipped; the last line is
-`N passed, M failed`.
+WORD selects the cases whose names contain it. PROGRAM is the program to test. By default, the script tests the programs that `rt ci` or
+`rt run` left in the directory `out` of `crates/minisign_tool`, one for each compiler. If there is none, it runs `rt run`. It prints a line
+for each case that failed or was skipped; the last line is `N passed, M failed`.
 
 Needs Python 3.9 or later and a C compiler, which it installs if it may.
 """
@@ -21,12 +22,12 @@ import tempfile
 HERE = os.path.dirname(os.path.realpath(__file__))
 sys.path.append(os.path.join(HERE, "..", "shared"))
 
-import ending
 import keygen_runs
 import needs
 import selected
 import sign_runs
 import surviving
+import test_script
 from running import CLOSED, FULL, NOBODY, Case, Runner, run_cases
 from toy import WARNING
 from verify_runs import CAT, KEY, RAW, SIGNATURE, VERIFY
@@ -35,7 +36,7 @@ CRATE = os.path.join(HERE, "..", "..", "crates", "minisign_tool")
 
 USAGE = "usage: minisign_tool keygen PK SK | sign SK FILE SIG | verify PK FILE SIG | verify-raw PK SIG | cat PK FILE SIG\n"
 
-ONE_PAIR = ["key.pk", "abc.sig"]
+KEY_AND_SIGNATURE = ["key.pk", "abc.sig"]
 # Wrong command lines.
 USAGE_CASES = [
     *(Case(name, arguments, 2, [WARNING, USAGE], stdin=b"abc",
@@ -46,20 +47,20 @@ USAGE_CASES = [
           ("keygen with one file", ["keygen", "new.pk"]),
           ("keygen with three files", ["keygen", "new.pk", "new.sk", "new"]),
           ("too few arguments", ["verify-raw", "key.pk"]),
-          ("too many arguments", ["verify-raw", *ONE_PAIR, "abc.sig"]),
-          ("one argument too many, which is empty", ["verify-raw", *ONE_PAIR, ""]),
-          ("an unknown command", ["frobnicate", *ONE_PAIR]),
-          ("an empty command", ["", *ONE_PAIR]),
-          ("a command in upper case", ["VERIFY-RAW", *ONE_PAIR]),
-          ("a command with a space after it", ["verify-raw ", *ONE_PAIR]),
-          ("the beginning of a command", ["verify-ra", *ONE_PAIR]),
-          ("a command after its files", [*ONE_PAIR, "verify-raw"]),
+          ("too many arguments", ["verify-raw", *KEY_AND_SIGNATURE, "abc.sig"]),
+          ("one argument too many, which is empty", ["verify-raw", *KEY_AND_SIGNATURE, ""]),
+          ("an unknown command", ["frobnicate", *KEY_AND_SIGNATURE]),
+          ("an empty command", ["", *KEY_AND_SIGNATURE]),
+          ("a command in upper case", ["VERIFY-RAW", *KEY_AND_SIGNATURE]),
+          ("a command with a space after it", ["verify-raw ", *KEY_AND_SIGNATURE]),
+          ("a truncated command", ["verify-ra", *KEY_AND_SIGNATURE]),
+          ("a command after its files", [*KEY_AND_SIGNATURE, "verify-raw"]),
           ("an option", ["--help"]),
-          ("a command that is not UTF-8", [b"verify-raw\xff", *ONE_PAIR]),
+          ("a command that is not UTF-8", [b"verify-raw\xff", *KEY_AND_SIGNATURE]),
           ("a key's name that is not UTF-8", ["verify-raw", b"\xff.pk", "abc.sig"]),
           ("a signature's name that is not UTF-8", ["verify-raw", "key.pk", b"abc\xc3.sig"]),
-          ("one argument too many, which is not UTF-8", ["verify-raw", *ONE_PAIR, b"\x80"]),
-          *((f"{count} files for {command}", [command, *ONE_PAIR, *more]) for command in ("sign", "verify", "cat")
+          ("one argument too many, which is not UTF-8", ["verify-raw", *KEY_AND_SIGNATURE, b"\x80"]),
+          *((f"{count} files for {command}", [command, *KEY_AND_SIGNATURE, *more]) for command in ("sign", "verify", "cat")
             for count, more in ((2, []), (4, ["abc.sig", "abc.sig"]))))),
     Case("no arguments, stderr closed", [], 2, stderr=CLOSED),
     Case("no arguments, stderr full", [], 2, stderr=FULL),
@@ -84,30 +85,31 @@ def run_as_nobody(program, room):
 
 def built_programs():
     """Returns the paths of the built programs, one for each compiler. If there is none, `rt run` proves and builds them."""
-    made = os.path.join(CRATE, "out", "minisign_tool")
-    if not os.path.exists(made):
+    program = os.path.join(CRATE, "out", "minisign_tool")
+    if not os.path.exists(program):
         print("real_runs.py: building the program by `rt run`, which proves it first", flush=True)
         subprocess.run(["rt", "run"], cwd=CRATE, stdin=subprocess.DEVNULL, stdout=subprocess.DEVNULL, stderr=subprocess.DEVNULL)
-    return [each for each in (made, made + ".by-rattle") if os.path.exists(each)]
+    return [each for each in (program, program + ".by-rattle") if os.path.exists(each)]
 
 
 def run_all(room):
     """Runs the cases with the program of the command line, or with each built program. Returns the failures and the number of cases."""
     os.chmod(room, 0o711)
-    # The user nobody may not install packages.
-    needs.c_compiler(), needs.program("setfacl", "acl")
+    # These are installed now if they are missing, because the user nobody cannot install packages.
+    needs.c_compiler()
+    needs.program("setfacl", "acl")
     failures, count = [], 0
-    for program in [selected.file()] if selected.file() else built_programs():
-        place = tempfile.mkdtemp(dir=room)
-        copy = shutil.copy(program, os.path.join(place, "program"))
+    for program in [selected.file_argument()] if selected.file_argument() else built_programs():
+        directory = tempfile.mkdtemp(dir=room)
+        copy = shutil.copy(program, os.path.join(directory, "program"))
         with contextlib.suppress(OSError):
-            os.chown(place, NOBODY, NOBODY)
+            os.chown(directory, NOBODY, NOBODY)
         with concurrent.futures.ProcessPoolExecutor(1) as pool:
-            beside = pool.submit(run_as_nobody, copy, place)
-            for failed, ran in (run_cases(surviving.cases(program, tempfile.mkdtemp(dir=room))), beside.result()):
+            as_nobody = pool.submit(run_as_nobody, copy, directory)
+            for failed, ran in (run_cases(surviving.cases(program, tempfile.mkdtemp(dir=room))), as_nobody.result()):
                 failures, count = failures + [f"{os.path.basename(program)}: {failure}" for failure in failed], count + ran
     return (failures, count) if count else (["the program was not built"], 1)
 
 
 if __name__ == "__main__":
-    sys.exit(ending.main("real-runs", run_all))
+    sys.exit(test_script.run_cases("real-runs", run_all))

@@ -8,9 +8,10 @@ from dataclasses import replace
 
 import toy
 from keygen_runs import FULL_DEVICE, LONGEST, MADE, NO_PASSWORD, PK, RANDOM_FAILED
-from running import (CLOSED, DIRECTORY, FULL, LOCKED, MISSING, WRITE_ONLY, Case, FromFile, IntoFile, OneOf, Pieces, Pipe,
-                     PrefixOf, RoomFor, SecondName, Sources, Typed, WithMode, expect)
-from tool_cases import Leaves, command, in_order, opening, out_of_memory, without_stderr
+from running import (CLOSED, DIRECTORY, FULL, MISSING, READ_ONLY_DIRECTORY, WRITE_ONLY, Case, FromFile, HardLink,
+                     InputPipe, OneOf, Pieces, PrefixOf, RandomAndTime, SizeLimit, ToFile, TypedInput, WithMode,
+                     expect)
+from tool_cases import ExpectedFiles, command_case, in_order, opening, out_of_memory, without_stderr
 from toy import NOT_UTF8, OUT_OF_MEMORY, READING_FAILED, TOO_SHORT, WARNING, WRITING_FAILED
 from verify_runs import LARGE, LENGTHS, NO_TEXT, REJECTED, VERIFIED_RAW
 
@@ -34,12 +35,12 @@ DRAWN_BEFORE = set()
 
 def signed(data=b"abc", name=SIG, mode=0o644):
     """Expects a signature file for the data, with the default comments."""
-    return Leaves({name: lambda text: check_signature(data, text)}, {name: mode}, others={SK, FILE} - {name})
+    return ExpectedFiles({name: lambda text: check_signature(data, text)}, {name: mode}, optional={SK, FILE} - {name})
 
 
 def leaves_signature(signature=MISSING):
     """Expects this signature file, or none."""
-    return Leaves({} if signature == MISSING else {SIG: signature}, others=(SK, FILE, "locked"))
+    return ExpectedFiles({} if signature == MISSING else {SIG: signature}, optional=(SK, FILE, "locked"))
 
 
 def signed_at(seconds, data=b"abc", half=bytes(range(32)), comment_half=bytes(range(64, 96))):
@@ -62,18 +63,18 @@ def check_signature(data, text):
 
 
 # An existing signature that is not changed.
-OVER_OLDER = {"files": {SIG: b"older"}, "left": leaves_signature(b"older")}
+OVER_OLDER = {"files": {SIG: b"older"}, "check_directory": leaves_signature(b"older")}
 
 
-def sign(name, *said, files=None, arguments=(SK, FILE, SIG), **how):
+def sign(name, *lines, files=None, arguments=(SK, FILE, SIG), **changes):
     """Returns a case of `sign`, by default with an unencrypted key and the data `abc`. If it fails, no signature may be left."""
-    left = leaves_signature() if said and said[-1].startswith("error: ") else signed()
-    return command(name, ["sign", *arguments], said, files={SK: OPEN_KEY, FILE: b"abc", **(files or {})}, **{"left": left, **how})
+    left = leaves_signature() if lines and lines[-1].startswith("error: ") else signed()
+    return command_case(name, ["sign", *arguments], lines, files={SK: OPEN_KEY, FILE: b"abc", **(files or {})}, **{"check_directory": left, **changes})
 
 
-def sealed(name, *said, key=SEALED_KEY, typed=b"p\n", output=OPENED, files=None, **how):
+def sealed(name, *lines, key=SEALED_KEY, typed=b"p\n", output=OPENED, files=None, **changes):
     """Returns a case with an encrypted key, by default with the password `p`, which is typed."""
-    return sign(name, *said, files={SK: key, **(files or {})}, stdin=typed, output=output, **how)
+    return sign(name, *lines, files={SK: key, **(files or {})}, stdin=typed, output=output, **changes)
 
 
 WIDE = "\u00e4\U0001f511 \u0000".encode()
@@ -93,18 +94,18 @@ ORDER = list(in_order(
           ("a public key", toy.public_text(), TOO_SHORT),
           ("a signature", toy.signature_text(b"abc"), TOO_SHORT),
           ("a key with a space after it", OPEN_KEY.rstrip(b"\n") + b" \n", "error: invalid base64\n"),
-          ("a key with a changed checksum", toy.secret_text(toy.turned(toy.SECRET_RECORD)), "error: Corrupted key\n"),
+          ("a key with a changed checksum", toy.secret_text(toy.flip_bit(toy.SECRET_RECORD)), "error: Corrupted key\n"),
           ("a key with an unknown key derivation", toy.secret_text(toy.KEY_A.record(b"Xx")), "error: Unsupported encryption algorithm\n")]),
     (FILE, [("a directory as data", DIRECTORY, READING_FAILED)])))
 
 # Closed or full streams. No file may get the descriptor of a closed stream, because then the password would be read from the key file, or
 # a message written into the signature file.
 WITH_STREAMS = [
-    *(sign(f"{what}, stdin {stdin or 'empty'}, stdout {stdout or 'open'}", *said, stdin=stdin, stdout=stdout, **how)
+    *(sign(f"{what}, stdin {stdin or 'empty'}, stdout {stdout or 'open'}", *lines, stdin=stdin, stdout=stdout, **changes)
       for stdin, stdout in [(b"", None), (CLOSED, None), (b"", CLOSED), (CLOSED, CLOSED), (b"", FULL)]
-      for what, how, *said in (
+      for what, changes, *lines in (
           ("an unencrypted key", {}),
-          ("a directory as data", {"files": {FILE: DIRECTORY, SIG: b"older"}, "left": leaves_signature(b"older")}, READING_FAILED),
+          ("a directory as data", {"files": {FILE: DIRECTORY, SIG: b"older"}, "check_directory": leaves_signature(b"older")}, READING_FAILED),
           ("no room for the signature", {"arguments": (SK, FILE, FULL_DEVICE)}, WRITING_FAILED))),
     *(sealed(f"an encrypted key, stdin {typed}, stdout {stdout or 'open'}", line, typed=typed, output=output, stdout=stdout, **OVER_OLDER)
       for typed, stdout, line, output in (
@@ -114,9 +115,9 @@ WITH_STREAMS = [
 
 # Generates a pair, signs a file, verifies it and copies it. After the file was changed, both are rejected until it is signed again.
 SIGNING, SIGNED = ["sign", SK, FILE, SIG], (PK, FILE, SIG)
-GOOD = [WARNING, f"{VERIFIED_RAW}Trusted comment: timestamp:{Sources.moment}\n"]
+GOOD = [WARNING, f"{VERIFIED_RAW}Trusted comment: timestamp:{RandomAndTime.unix_time}\n"]
 WHOLE_WAY = Case("a pair is generated, and a file is signed, verified and copied", ["keygen", PK, SK], 0, [WARNING], stdin=b"p\np\n",
-                 output=MADE, sources=Sources(), then=(
+                 output=MADE, random_and_time=RandomAndTime(), next_steps=(
     Case("", SIGNING, 0, [WARNING], files={FILE: b"abc"}, stdin=b"p\n", output=OPENED),
     Case("", ["verify", *SIGNED], 0, GOOD),
     Case("", ["cat", *SIGNED], 0, GOOD, output=b"abc"),
@@ -127,10 +128,10 @@ WHOLE_WAY = Case("a pair is generated, and a file is signed, verified and copied
     Case("", ["cat", *SIGNED], 0, GOOD, output=b"abd")))
 
 CASES = [
-    *(sign(f"data of {len(data)} bytes", files={FILE: data}, left=signed(data)) for data in map(toy.some_data, LENGTHS)),
-    sign("data from a pipe", files={FILE: Pipe(b"abc")}),
-    sign("large data from a pipe", files={FILE: Pipe(LARGE)}, left=signed(LARGE)),
-    sign("a key from a pipe", files={SK: Pipe(OPEN_KEY)}),
+    *(sign(f"data of {len(data)} bytes", files={FILE: data}, check_directory=signed(data)) for data in map(toy.some_data, LENGTHS)),
+    sign("data from a pipe", files={FILE: InputPipe(b"abc")}),
+    sign("large data from a pipe", files={FILE: InputPipe(LARGE)}, check_directory=signed(LARGE)),
+    sign("a key from a pipe", files={SK: InputPipe(OPEN_KEY)}),
     sealed("a directory as data, and an encrypted key", READING_FAILED, files={FILE: DIRECTORY}),
     sealed("a directory as data, and a wrong password", WRONG_PASSWORD, typed=b"q\n", files={FILE: DIRECTORY}),
     sealed("a password"),
@@ -140,19 +141,19 @@ CASES = [
     sealed("a password byte by byte", typed=Pieces((b"p", b"\r", b"\n"))),
     sealed("a password from a file", typed=FromFile(b"p\nnever read")),
     sealed("a password without a line feed", typed=b"p"),
-    sealed("at a terminal", typed=Typed((b"p\n",))),
-    sealed("an empty password at a terminal", key=toy.sealed_text(b""), typed=Typed((b"\n",)), output=OPENED_EMPTY),
+    sealed("at a terminal", typed=TypedInput((b"p\n",))),
+    sealed("an empty password at a terminal", key=toy.sealed_text(b""), typed=TypedInput((b"\n",)), output=OPENED_EMPTY),
     sealed("a wrong password", WRONG_PASSWORD, typed=b"q\n"),
-    sealed("a wrong password at a terminal", WRONG_PASSWORD, typed=Typed((b"q\n",))),
+    sealed("a wrong password at a terminal", WRONG_PASSWORD, typed=TypedInput((b"q\n",))),
     sealed("an empty password for a key with a password", WRONG_PASSWORD, typed=b"\n", output=OPENED_EMPTY),
     sealed("a wrong password, and a signature that exists", WRONG_PASSWORD, typed=b"q\n", **OVER_OLDER),
     *(sealed(name, line, typed=typed, output=ASKED) for name, typed, line in NO_PASSWORD),
     sign("an unencrypted key, and an input that cannot be read", stdin=WRITE_ONLY),
     *ORDER,
-    *(replace(case, name=f"{case.name}, and a signature that exists", files={**case.files, **OVER_OLDER["files"]}, left=OVER_OLDER["left"])
+    *(replace(case, name=f"{case.name}, and a signature that exists", files={**case.files, **OVER_OLDER["files"]}, check_directory=OVER_OLDER["check_directory"])
       for case in ORDER),
     *(sealed(f"missing data before a password is asked for, and {what}", READING_FAILED, typed=b"", output=b"",
-             files={FILE: MISSING, SIG: held}, left=leaves_signature(held))
+             files={FILE: MISSING, SIG: held}, check_directory=leaves_signature(held))
       for what, held in (("no signature", MISSING), ("a signature that exists", b"older"))),
     sign("lines that end with carriage return and line feed", files={SK: OPEN_KEY.replace(b"\n", b"\r\n")}),
     sealed("a key whose derivation takes too much memory", "error: scrypt parameters too high\n",
@@ -160,43 +161,43 @@ CASES = [
     sealed("a key whose derivation has no parts, because the low 32 bits are zero", "error: invalid scrypt parameters\n",
            key=toy.secret_text(toy.KEY_A.record(b"Sc", toy.Limits(0, 1 << 40))), output=ASKED + DERIVING),
     # Known random bytes and a known time determine the whole file. There may be too few random bytes, or a time before 1970.
-    *(make(f"{name} at time {seconds}", sources=Sources(moment=seconds), left=leaves_signature(signed_at(seconds)), **how)
+    *(make(f"{name} at time {seconds}", random_and_time=RandomAndTime(unix_time=seconds), check_directory=leaves_signature(signed_at(seconds)), **changes)
       for seconds in (0, 1555779966)
-      for make, name, how in ((sign, "an unencrypted key", {}), (sealed, "an encrypted key", {}),
+      for make, name, changes in ((sign, "an unencrypted key", {}), (sealed, "an encrypted key", {}),
                               (sealed, "an encrypted key with limits of zero", {"key": KEY_WITHOUT_LIMITS}))),
-    sign("128 random bytes", sources=Sources(random=128), left=leaves_signature(signed_at(Sources.moment))),
-    *(sign(f"{count} random bytes", RANDOM_FAILED, sources=Sources(random=count), **OVER_OLDER) for count in (0, 63, 64, 127)),
-    sign("a time before 1970", CLOCK_INCORRECT, sources=Sources(moment=-1), **OVER_OLDER),
-    sign("a time before 1970 is reported before an empty key", CLOCK_INCORRECT, sources=Sources(moment=-1), files={SK: b""}),
+    sign("128 random bytes", random_and_time=RandomAndTime(random_bytes=128), check_directory=leaves_signature(signed_at(RandomAndTime.unix_time))),
+    *(sign(f"{count} random bytes", RANDOM_FAILED, random_and_time=RandomAndTime(random_bytes=count), **OVER_OLDER) for count in (0, 63, 64, 127)),
+    sign("a time before 1970", CLOCK_INCORRECT, random_and_time=RandomAndTime(unix_time=-1), **OVER_OLDER),
+    sign("a time before 1970 is reported before an empty key", CLOCK_INCORRECT, random_and_time=RandomAndTime(unix_time=-1), files={SK: b""}),
     # An existing signature is replaced and keeps its mode. A failed write of the signature is the last error that is reported.
     sign("a signature that exists", files={SIG: LONGER}),
     sign("an empty signature that exists", files={SIG: b""}),
-    sign("a signature that exists, with a mode", files={SIG: WithMode(LONGER, 0o640)}, left=signed(mode=0o600)),
+    sign("a signature that exists, with a mode", files={SIG: WithMode(LONGER, 0o640)}, check_directory=signed(mode=0o600)),
     sign("a signature that exists, with an access control list", files={SIG: WithMode(LONGER, 0o644, "g::---,u:65534:rw")},
-         left=signed(mode=0o644)),
-    sign("a umask with permissions for the owner only", umask=0o077, left=signed(mode=0o600)),
-    sign("the signature in place of the data", arguments=(SK, FILE, FILE), left=signed(name=FILE)),
-    sign("the signature in place of the key", arguments=(SK, FILE, SK), left=signed(name=SK)),
-    *(make(f"{name}{more}", WRITING_FAILED, arguments=(SK, FILE, path), files=files, left=leaves_signature(held))
+         check_directory=signed(mode=0o644)),
+    sign("a umask with permissions for the owner only", umask=0o077, check_directory=signed(mode=0o600)),
+    sign("the signature in place of the data", arguments=(SK, FILE, FILE), check_directory=signed(name=FILE)),
+    sign("the signature in place of the key", arguments=(SK, FILE, SK), check_directory=signed(name=SK)),
+    *(make(f"{name}{more}", WRITING_FAILED, arguments=(SK, FILE, path), files=files, check_directory=leaves_signature(held))
       for make, more in ((sign, ""), (sealed, ", and an encrypted key"))
       for name, path, files, held in (
           ("no room for the signature", FULL_DEVICE, {}, MISSING),
           ("a directory as signature", SIG, {SIG: DIRECTORY}, DIRECTORY),
           ("a missing directory of the signature", "none/" + SIG, {}, MISSING),
-          ("a locked directory of the signature", "locked/" + SIG, {"locked": LOCKED}, MISSING),
+          ("a locked directory of the signature", "locked/" + SIG, {"locked": READ_ONLY_DIRECTORY}, MISSING),
           ("a signature that may not be written", SIG, {SIG: WithMode(LONGER, 0o444)}, LONGER),
           ("an empty name of the signature", "", {}, MISSING),
           ("a name of the signature that is too long", "s" * 256, {}, MISSING))),
     sealed("a wrong password before a directory as signature", WRONG_PASSWORD, typed=b"q\n", files={SIG: DIRECTORY},
-           left=leaves_signature(DIRECTORY)),
-    sign("the signature into standard output", arguments=(SK, FILE, "/dev/stdout"), sources=Sources(),
-         output=signed_at(Sources.moment), left=leaves_signature()),
+           check_directory=leaves_signature(DIRECTORY)),
+    sign("the signature into standard output", arguments=(SK, FILE, "/dev/stdout"), random_and_time=RandomAndTime(),
+         output=signed_at(RandomAndTime.unix_time), check_directory=leaves_signature()),
     # The file is written in place, not replaced: its second hard link has the signature too.
     sign("the signature into standard output, which is a file", arguments=(SK, FILE, "/dev/stdout"),
-         files={SIG: b"", "other": SecondName(SIG)}, stdout=IntoFile(SIG, os.O_RDWR),
-         left=Leaves({"other": lambda text: check_signature(b"abc", text)}, others=(SK, FILE, SIG))),
+         files={SIG: b"", "other": HardLink(SIG)}, stdout=ToFile(SIG, os.O_RDWR),
+         check_directory=ExpectedFiles({"other": lambda text: check_signature(b"abc", text)}, optional=(SK, FILE, SIG))),
     sign("the signature into standard output, which takes nine bytes", WRITING_FAILED,
-         arguments=(SK, FILE, "/dev/stdout"), stdout=RoomFor(9), output=b"untrusted"),
+         arguments=(SK, FILE, "/dev/stdout"), stdout=SizeLimit(9), output=b"untrusted"),
     *WITH_STREAMS,
     *without_stderr([*WITH_STREAMS, sealed("a password")]),
     # Each allocation fails. If it is for the signature file, the error is a failed write. No file is touched.
@@ -204,6 +205,6 @@ CASES = [
         OneOf(([WARNING, OUT_OF_MEMORY], [WARNING, WRITING_FAILED])),
         ("an unencrypted key", sign("", OUT_OF_MEMORY, **OVER_OLDER)),
         ("an encrypted key", sealed("", OUT_OF_MEMORY, **{**OVER_OLDER, "output": PrefixOf(OPENED)})),
-        ("an empty key", sign("", OUT_OF_MEMORY, files={SK: b"", SIG: b"older"}, left=leaves_signature(b"older")))),
+        ("an empty key", sign("", OUT_OF_MEMORY, files={SK: b"", SIG: b"older"}, check_directory=leaves_signature(b"older")))),
     WHOLE_WAY,
 ]

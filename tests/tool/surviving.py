@@ -1,7 +1,6 @@
-"""Test cases with faults for `minisign_tool`, which real_runs.py runs: it is killed at each of its system calls, each
-call fails in turn, and it runs on a full disk, with a limit on the size of files, and with data that could fill the
-memory. After each run every file is either the complete old one or the complete new one. Unless the program was killed,
-no temporary file is left.
+"""Test cases with faults for `minisign_tool`, which real_runs.py runs. The program is killed at each of its system
+calls, each call fails in turn, the disk is full, a file size limit is reached, or the data is larger than the memory.
+After each run, every file is the old or the new one, complete. Unless the program was killed, no temporary file is left.
 """
 
 import errno
@@ -15,11 +14,11 @@ import tempfile
 from dataclasses import dataclass, replace
 from functools import partial
 
-import disturbed
+import faults
 import toy
-from disturbed import OverTasks, content
+from faults import TaskFaultRunner, content_or_none
 from keygen_runs import PK, SK, check_public, check_secret
-from permissions import OTHER_GROUP, OTHER_USER, Replaced, by_nobody, of_other_group, permission_cases
+from permissions import OTHER_GROUP, OTHER_USER, Replacement, by_nobody, of_other_group, permission_cases
 from running import DIRECTORY, NOBODY, Link, WithMode, expect, make_files, write
 from sign_runs import FILE, OPEN_KEY, SIG, check_signature
 from verify_runs import LEGACY
@@ -30,7 +29,7 @@ PUBLIC_FRONT, SECRET_FRONT = b"untrusted comment: minisign", b"untrusted comment
 
 
 @dataclass(frozen=True)
-class Task(disturbed.Task):
+class Task(faults.Task):
     """A run in a directory whose files have this mode."""
 
     mode: int = 0o644
@@ -72,29 +71,29 @@ TASKS = [
 ]
 # Files of other users, and their permissions after they were replaced.
 OWNERS = [
-    ("of another user, replaced by root", Replaced(0o644, 0o644, whose=(OTHER_USER, OTHER_GROUP))),
+    ("of another user, replaced by root", Replacement(0o644, 0o644, owners=(OTHER_USER, OTHER_GROUP))),
     ("owned and replaced by nobody", by_nobody(0o664, 0o644)),
     ("of another group", of_other_group(0o664, 0o604)),
     ("of another group that may not do what all others may", of_other_group(0o606, 0o600)),
-    ("of another owner", by_nobody(0o664, 0o644, whose=(OTHER_USER, NOBODY))),
-    ("of another owner and group", by_nobody(0o666, 0o606, whose=(OTHER_USER, OTHER_GROUP))),
+    ("of another owner", by_nobody(0o664, 0o644, owners=(OTHER_USER, NOBODY))),
+    ("of another owner and group", by_nobody(0o666, 0o606, owners=(OTHER_USER, OTHER_GROUP))),
 ]
 
 
-class Surviving(OverTasks):
-    """Runs a program in fresh directories, with the password `p` typed twice."""
+class Surviving(TaskFaultRunner):
+    """Runs a program in new directories. The password `p` is typed twice."""
 
     def in_fresh(self, case, task, *given):
         """Runs a case in a fresh directory with the files of a task."""
-        with tempfile.TemporaryDirectory(dir=self.place) as directory:
+        with tempfile.TemporaryDirectory(dir=self.parent) as directory:
             task.make(directory)
             case(task, directory, *given)
 
-    def run(self, directory, arguments, environment=None, program=None, **how):
-        return super().run(directory, arguments, environment, program, **{"typed": b"p\np\n", **how})
+    def run(self, directory, arguments, environment=None, program=None, **changes):
+        return super().run(directory, arguments, environment, program, **{"typed": b"p\np\n", **changes})
 
     def expect_unwritten(self, ran, _):
-        expect(ran.status == 1 and ran.said.endswith(WRITING_FAILED), ran)
+        expect(ran.status == 1 and ran.stderr.endswith(WRITING_FAILED), ran)
 
     def failing(self, task, calls, endings, number=errno.EIO):
         """Makes each of these calls fail in turn. `endings` returns, for the number of the call, the allowed pairs of exit status and
@@ -103,7 +102,7 @@ class Surviving(OverTasks):
 
         def judge(ran, directory):
             ended, allowed = (ran.status, sum(task.check(directory))), endings(next(counted)) if ran.reached else [whole]
-            is_reported = ended == whole or len(allowed) > 1 or ran.said.endswith(WRITING_FAILED)
+            is_reported = ended == whole or len(allowed) > 1 or ran.stderr.endswith(WRITING_FAILED)
             expect(ended in allowed and is_reported, ran, f"{ended[1]} files are new, expected one of {allowed} (exit status, new files)")
 
         broken = self.break_each(task.make, judge, CALLS=calls, ERRNO=number)
@@ -117,14 +116,14 @@ class Surviving(OverTasks):
             write(directory, name, b"another file")
         ran = self.run(directory, task.arguments, {"LD_PRELOAD": self.preload, "DRAW_ZEROS": "1"})
         for name in taken:
-            expect(content(directory, name) == b"another file", f"{name} was changed to {content(directory, name)!r}")
+            expect(content_or_none(directory, name) == b"another file", f"{name} was changed to {content_or_none(directory, name)!r}")
             os.remove(os.path.join(directory, name))
         ended, wanted = (ran.status, sum(task.check(directory))), (0, 2) if count < 99 else (1, 0)
         expect(ended == wanted, ran, f"exit status and new files {ended}, expected {wanted}")
 
     def under_odd_path(self, task, directory):
         """Checks that a program runs from a path that is not UTF-8."""
-        odd = os.path.join(os.fsencode(self.room), b"tool\xff")
+        odd = os.path.join(os.fsencode(self.work_directory), b"tool\xff")
         shutil.copy(self.program, odd)
         ran = self.run(directory, [*map(os.fsencode, task.arguments)], program=odd)
         expect(ran.status == 0 and all(task.check(directory)), ran)
@@ -133,7 +132,7 @@ class Surviving(OverTasks):
         """Checks that a legacy signature of 1 GiB is rejected with at most this many MiB more than a prehashed signature of no data
         needs."""
         is_raw = command == "verify-raw"
-        with tempfile.TemporaryDirectory(dir=self.place) as directory:
+        with tempfile.TemporaryDirectory(dir=self.parent) as directory:
             for name, algorithm in (("old", b"Ed"), ("new", b"ED")):
                 record = toy.signature_record(b"", algorithm=algorithm)
                 write(directory, name, record if is_raw else toy.signature_text(b"", record=record))
@@ -149,17 +148,17 @@ class Surviving(OverTasks):
             least = next((kibibytes for kibibytes in range(1024, 65536, 256) if run_within("nothing", "new", kibibytes).status == 0), None)
             expect(least is not None, "64 MiB are not enough to verify no data")
             ran = run_within("large", "old", least + 1024 * mebibytes)
-            expect(ran.status == 1 and ran.said.endswith(LEGACY.encode()), ran, f"expected exit status 1 and {LEGACY!r}")
+            expect(ran.status == 1 and ran.stderr.endswith(LEGACY.encode()), ran, f"expected exit status 1 and {LEGACY!r}")
 
 
 def of_task(surviving, task):
     """Yields the cases of a task: a name, a function, and its arguments."""
     count = len(task.targets)
     old, new = (1, 0), (0, count)
-    yield "killed", surviving.killed
+    yield "killed", surviving.check_kills
     for number in (errno.ENOSPC, errno.EDQUOT):
-        for more, how in (("", {}), (" half way", {"SHORT": 1})):
-            yield f"a write fails with {errno.errorcode[number]}{more}", partial(surviving.failing_writes, **how), number
+        for more, changes in (("", {}), (" half way", {"SHORT": 1})):
+            yield f"a write fails with {errno.errorcode[number]}{more}", partial(surviving.check_failing_writes, **changes), number
     # The files are synced first. Their directory is synced last, when all files are replaced.
     yield "a sync fails", surviving.failing, "fsync", lambda at: [old if at <= count else (1, count)]
     yield "a sync is not supported", surviving.failing, "fsync", lambda at: [old if at <= count else new], errno.EINVAL
@@ -170,9 +169,9 @@ def of_task(surviving, task):
         yield "fchmod fails", surviving.failing, "fchmod", lambda at: [old]
     for calls in ("open", "read", "statx readlink"):
         yield f"{calls} fails", surviving.failing, calls, lambda at: [old, new]
-    yield "on a full disk", surviving.on_full_disk
-    yield "the limit on file sizes is exceeded", surviving.within_file_size, signal.SIG_DFL, True
-    yield "the limit on file sizes is exceeded, SIGXFSZ ignored", surviving.within_file_size, signal.SIG_IGN
+    yield "on a full disk", surviving.check_full_disk
+    yield "the limit on file sizes is exceeded", surviving.check_file_size_limit, signal.SIG_DFL, True
+    yield "the limit on file sizes is exceeded, SIGXFSZ ignored", surviving.check_file_size_limit, signal.SIG_IGN
 
 
 def cases(program, room):
@@ -182,7 +181,7 @@ def cases(program, room):
     for task in TASKS:
         for name, run, *given in of_task(surviving, task):
             yield f"{task.name}, {name}", run, task, *given
-    yield "a pair over an older one that only its owner may read, killed", surviving.killed, replace(REPLACED_PAIR, mode=0o600)
+    yield "a pair over an older one that only its owner may read, killed", surviving.check_kills, replace(REPLACED_PAIR, mode=0o600)
     for replaced in OLDER_PAIR:
         def prepare(directory, name=replaced):
             REPLACED_PAIR.make(directory)
@@ -192,7 +191,7 @@ def cases(program, room):
             yield f"{replaced}: {name}", *row
     for count in (1, 40, 200):
         yield f"{count} names of temporary files are taken", surviving.in_fresh, surviving.taken_names, REPLACED_PAIR, count
-    yield "concurrent runs", surviving.at_once, NEW_SIGNATURE
+    yield "concurrent runs", surviving.check_concurrent_runs, NEW_SIGNATURE
     yield "a program whose path is not UTF-8", surviving.in_fresh, surviving.under_odd_path, NEW_SIGNATURE
     for command in ("verify", "cat", "verify-raw"):
         yield f"{command} of large data with a legacy signature", surviving.legacy_within, command

@@ -5,76 +5,85 @@ import os
 from dataclasses import replace
 
 import toy
-from running import (CLOSED, DIRECTORY, FULL, LOCKED, MISSING, NO_READER, OPENED_PIPE, UNOPENED_PIPE, Case, expect, files_in,
-                     unreadable)
+from running import (CLOSED, DIRECTORY, FULL, MISSING, NO_READER, OPENED_PIPE, READ_ONLY_DIRECTORY, UNOPENED_PIPE,
+                     Case, expect, files_in, unreadable)
 from toy import READING_FAILED, WARNING
 
 
-def command(name, arguments, said, status=None, stderr=None, **how):
-    """Returns a case that expects the warning and these lines on standard error; only these lines if `stderr` is given. The expected exit
-    status is 1 if the last line is an error and 0 otherwise, unless it is given."""
-    status = (1 if said and said[-1].startswith("error: ") else 0) if status is None else status
-    return Case(name, arguments, status, [*said] if stderr else [WARNING, *said], stderr=stderr, **how)
+def command_case(name, arguments, lines, status=None, stderr=None, **fields):
+    """Returns a case that expects these lines on standard error, after the warning.
+
+    The expected exit status is 1 if the last line is an error, and otherwise 0, unless `status` is given. With `stderr`, the case has that
+    standard error, and the lines do not include the warning: a standard error that fails has received only a part of it. `fields` are more
+    fields of the case."""
+    if status is None:
+        status = 1 if lines and lines[-1].startswith("error: ") else 0
+    return Case(name, arguments, status, [*lines] if stderr else [WARNING, *lines], stderr=stderr, **fields)
 
 
-def without_stderr(cases, **how):
-    """Returns these cases with a standard error that takes nothing. `how` is what then differs."""
-    return [replace(case, name=f"{case.name}, stderr is {stderr}", lines=[], stderr=stderr, **how)
+def without_stderr(cases, **changes):
+    """Returns copies of these cases with a standard error that cannot be written to. `changes` are other fields to replace."""
+    return [replace(case, name=f"{case.name}, stderr is {stderr}", lines=[], stderr=stderr, **changes)
             for stderr in (CLOSED, FULL, NO_READER) for case in cases]
 
 
-def opening(file, what, data):
+def opening(file, description, data):
     """Returns a phase of `in_order` in which a file is opened."""
-    return file, [(f"missing {what}", MISSING, READING_FAILED), (f"unreadable {what}", unreadable(data), READING_FAILED)]
+    return file, [(f"missing {description}", MISSING, READING_FAILED), (f"unreadable {description}", unreadable(data), READING_FAILED)]
 
 
 def in_order(make, *phases):
-    """Yields cases for the order in which a command opens, reads and checks its files: it reports the first error.
+    """Yields cases that show in which order a command opens, reads and checks its files: it reports the first error.
 
-    A phase is a file and its possible faults in that phase: a name, the content, and the error. The first phase of a file opens it, and
-    the second one, if there is one, reads it. There is a case for each fault alone, for each fault with each later one of another file,
-    and for each fault with a named pipe, to which nobody writes, as another file: it must be opened only in its turn, and not read."""
-    faults = [(at, file, *fault) for at, (file, file_faults) in enumerate(phases) for fault in file_faults]
-    turns = {file: [at for at, (phase_file, _) in enumerate(phases) if phase_file == file] for file, _ in phases}
-    for at, file, what, held, line in faults:
-        yield make(what, line, files={file: held})
-        for other_file, (opened, *later) in turns.items():
-            if other_file != file and later and at < later[0]:
-                name, pipe = ("opened", UNOPENED_PIPE) if at < opened else ("read", OPENED_PIPE)
-                yield make(f"{what} before {other_file} is {name}", line, files={file: held, other_file: pipe})
-    for (_, file, what, held, line), (_, later_file, later_what, later_held, _) in itertools.combinations(faults, 2):
+    A phase is a file and its possible faults in that phase. A fault is a title, the content of the file, and the line of the error. The
+    first phase of a file opens it, and the second phase, if there is one, reads it.
+
+    There is a case for each fault without another fault, and for each fault together with each later fault of another file. In further
+    cases, another file is a named pipe without a writer. A command that opens this pipe too early, or reads it too early, does not end."""
+    faults = [(phase, file, *fault) for phase, (file, file_faults) in enumerate(phases) for fault in file_faults]
+    phases_of = {file: [phase for phase, (phase_file, _) in enumerate(phases) if phase_file == file] for file, _ in phases}
+    for phase, file, title, content, line in faults:
+        yield make(title, line, files={file: content})
+        for pipe_file, (opened_in, *read_in) in phases_of.items():
+            if pipe_file != file and read_in and phase < read_in[0]:
+                event, pipe = ("opened", UNOPENED_PIPE) if phase < opened_in else ("read", OPENED_PIPE)
+                yield make(f"{title} before {pipe_file} is {event}", line, files={file: content, pipe_file: pipe})
+    for (_, file, title, content, line), (_, later_file, later_title, later_content, _) in itertools.combinations(faults, 2):
         if file != later_file:
-            yield make(f"{what} before {later_what}", line, files={file: held, later_file: later_held})
+            yield make(f"{title} before {later_title}", line, files={file: content, later_file: later_content})
 
 
-def out_of_memory(lines, *named_cases, **how):
-    """Returns these cases with each allocation failing in turn, alone or with all after it. They expect these lines."""
-    return [replace(case, name=f"{name}, and {many} failing", lines=lines, rejecting=rejecting, **how)
-            for name, case in named_cases for rejecting, many in toy.REJECTING]
+def out_of_memory(lines, *named_cases, **changes):
+    """Returns copies of these cases in which each allocation fails in turn, and copies in which all allocations after it fail too.
+
+    `lines` are the expected lines of all of them. `changes` are other fields to replace."""
+    return [replace(case, name=f"{name}, and {failing} failing", lines=lines, failing_allocations=rejecting, **changes)
+            for name, case in named_cases for rejecting, failing in toy.ALLOCATION_FAILURES]
 
 
-class Leaves:
-    """Checks the directory that a run leaves.
+class ExpectedFiles:
+    """Checks the files in a directory after a run.
 
-    `files` maps names to contents, to functions that check the content, to links, or to DIRECTORY. `modes` maps names to modes. No other
-    files may exist, except those in `others`, which may have any content. `judge` gets the result of `files_in`."""
+    `files` maps names to contents, to functions that check the content, to links, to DIRECTORY, or to LOCKED. `modes` maps names to modes.
+    The names in `optional` may be missing, and other files may have these names, with any content. No other files may exist. `check` is
+    called with the result of `files_in`."""
 
-    def __init__(self, files, modes=None, others=(), judge=None):
-        self.files, self.modes, self.others, self.judge = files, modes or {}, {*others}, judge
+    def __init__(self, files, modes=None, optional=(), check=None):
+        self.files, self.modes, self.optional, self.check = files, modes or {}, {*optional}, check
 
     def __call__(self, directory):
         left = files_in(directory)
         # Only empty directories count; others are named by their files.
         names = {*left} - {os.path.dirname(name) for name in left}
-        expect(names >= {*self.files} - self.others and names <= {*self.files} | self.others,
+        expect({*self.files} - self.optional <= names <= {*self.files} | self.optional,
                f"the run left {sorted(names)}, expected {sorted(self.files)}")
         for name, mode in self.modes.items():
             expect(left[name][0] == mode, f"{name} has the mode {left[name][0]:o}, expected {mode:o}")
         for name, expected in self.files.items():
-            held = left[name][1]
-            if callable(expected) and isinstance(held, bytes):
-                expected(held)
-            elif expected not in (DIRECTORY, LOCKED):
-                expect(held == expected, f"{name} contains {held!r:.200}, expected {expected!r:.200}")
-        if self.judge:
-            self.judge(left)
+            content = left[name][1]
+            if callable(expected) and isinstance(content, bytes):
+                expected(content)
+            elif expected not in (DIRECTORY, READ_ONLY_DIRECTORY):
+                expect(content == expected, f"{name} contains {content!r:.200}, expected {expected!r:.200}")
+        if self.check:
+            self.check(left)

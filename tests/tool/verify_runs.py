@@ -5,9 +5,9 @@ import os
 from dataclasses import replace
 
 import toy
-from running import (CLOSED, DIRECTORY, FULL, MISSING, WRITE_ONLY, FromFile, IntoFile, Link, OneOf, Pieces, Pipe, PrefixOf, ReadLate,
-                     RoomFor, SecondName, write)
-from tool_cases import Leaves, command, in_order, opening, out_of_memory, without_stderr
+from running import (CLOSED, DIRECTORY, FULL, MISSING, WRITE_ONLY, FromFile, HardLink, InputPipe, Link, OneOf, Pieces,
+                     PrefixOf, ReadLate, SizeLimit, ToFile, write)
+from tool_cases import ExpectedFiles, command_case, in_order, opening, out_of_memory, without_stderr
 from toy import NOT_UTF8, OUT_OF_MEMORY, READING_FAILED, TOO_SHORT, WARNING, WRITING_FAILED
 
 VERIFIED_RAW = "Signature and comment signature verified\n"
@@ -31,17 +31,17 @@ NO_TEXT = b"untrusted comment: \xff\n"
 OTHER_KEY = toy.public_text(keynum=toy.OTHER_KEYNUM)
 LENGTHS = (0, 1, 127, 128, 129, 65535, 65536, 65537, 131073, 5_000_000)
 # Standard error takes only the warning and five more bytes.
-CUT_SHORT = {"status": 1, "stderr": RoomFor(len(WARNING) + 5)}
+CUT_SHORT = {"status": 1, "stderr": SizeLimit(len(WARNING) + 5)}
 
 
-def verify(name, *said, files=None, arguments=(PK, FILE, SIG), **how):
+def verify(name, *lines, files=None, arguments=(PK, FILE, SIG), **changes):
     """Returns a case of `verify`. By default its files are GOOD, in which `files` replaces or adds some."""
-    return command(name, ["verify", *arguments], said, files={**GOOD, **(files or {})}, **how)
+    return command_case(name, ["verify", *arguments], lines, files={**GOOD, **(files or {})}, **changes)
 
 
-def cat(name, *said, output=b"", **how):
+def cat(name, *lines, output=b"", **changes):
     """Returns a case of `cat`, with the same default files as `verify`."""
-    return as_cat(verify(name, *said, **how), output)
+    return as_cat(verify(name, *lines, **changes), output)
 
 
 def as_cat(case, output=None):
@@ -50,9 +50,9 @@ def as_cat(case, output=None):
     return replace(case, arguments=["cat", *case.arguments[1:]], output=output)
 
 
-def signed(data=b"abc", **how):
-    """Returns the data file and its signature file. `how` replaces parts of the signature."""
-    return {FILE: data, SIG: toy.signature_text(data, **how)}
+def signed(data=b"abc", **changes):
+    """Returns the data file and its signature file. `changes` replaces parts of the signature."""
+    return {FILE: data, SIG: toy.signature_text(data, **changes)}
 
 
 RECORD = toy.signature_record(b"abc")
@@ -66,9 +66,9 @@ VERDICTS = [
     ("no data", {FILE: b""}, REJECTED),
     ("more data", {FILE: b"abc\n"}, REJECTED),
     ("one more letter", {FILE: b"abcd"}, REJECTED),
-    ("a changed signature", signed(record=toy.turned(RECORD)), REJECTED),
+    ("a changed signature", signed(record=toy.flip_bit(RECORD)), REJECTED),
     ("a changed trusted comment", {SIG: GOOD[SIG].replace(b"comment: t\n", b"comment: u\n")}, COMMENT_REJECTED),
-    ("a changed comment signature", signed(comment_signature=toy.turned(COMMENT)), COMMENT_REJECTED),
+    ("a changed comment signature", signed(comment_signature=toy.flip_bit(COMMENT)), COMMENT_REJECTED),
     ("a short comment signature", signed(comment_signature=COMMENT[:63]), COMMENT_REJECTED),
     ("a longer comment signature", signed(comment_signature=COMMENT + b"\xff"), VERIFIED),
     ("another untrusted comment", signed(untrusted=b"u"), VERIFIED),
@@ -121,9 +121,9 @@ BOTH = [
 
 def over_streams(make, *cases):
     """Returns each case four times: with standard input empty or closed, and standard output open or closed."""
-    return [make(f"{what}, stdin {stdin or 'empty'}, stdout {stdout or 'open'}", *said, files=files, stdin=stdin, stdout=stdout)
+    return [make(f"{what}, stdin {stdin or 'empty'}, stdout {stdout or 'open'}", *lines, files=files, stdin=stdin, stdout=stdout)
             for stdin, stdout in [(b"", None), (CLOSED, None), (b"", CLOSED), (CLOSED, CLOSED)]
-            for what, files, *said in cases]
+            for what, files, *lines in cases]
 
 
 def failing_allocations(make, *more_lines):
@@ -135,10 +135,10 @@ def failing_allocations(make, *more_lines):
 
 VERIFY = [
     *BOTH,
-    verify("data from a pipe", VERIFIED, files={FILE: Pipe(b"abc")}),
-    verify("large data from a pipe", VERIFIED, files={FILE: Pipe(LARGE), SIG: toy.signature_text(LARGE)}),
-    verify("other data from a pipe", REJECTED, files={FILE: Pipe(b"abd")}),
-    verify("key and signature from pipes", VERIFIED, files={PK: Pipe(GOOD[PK]), SIG: Pipe(GOOD[SIG])}),
+    verify("data from a pipe", VERIFIED, files={FILE: InputPipe(b"abc")}),
+    verify("large data from a pipe", VERIFIED, files={FILE: InputPipe(LARGE), SIG: toy.signature_text(LARGE)}),
+    verify("other data from a pipe", REJECTED, files={FILE: InputPipe(b"abd")}),
+    verify("key and signature from pipes", VERIFIED, files={PK: InputPipe(GOOD[PK]), SIG: InputPipe(GOOD[SIG])}),
     *over_streams(verify, ("a good signature", {}, VERIFIED))[1:],
     verify("a good signature, stdout full", VERIFIED, stdout=FULL),
     *without_stderr(over_streams(verify, ("a good signature", {}), ("missing data", {FILE: MISSING})), status=1),
@@ -148,13 +148,13 @@ VERIFY = [
 
 def holding(name, data):
     """Returns the expected files after a run: this content of one file, and no new file."""
-    return Leaves({name: data}, others={*GOOD, "other"} - {name})
+    return ExpectedFiles({name: data}, optional={*GOOD, "other"} - {name})
 
 
 APPEND = os.O_WRONLY | os.O_APPEND
 # Data that is large enough to be changed after it was verified and before all of it was copied.
 LONG = toy.some_data(2_000_000)
-CHANGED = toy.turned(LONG)
+CHANGED = toy.flip_bit(LONG)
 
 
 def write_at(path, at, data):
@@ -165,32 +165,32 @@ def write_at(path, at, data):
 
 CAT = [
     *map(as_cat, BOTH),
-    cat("data from a pipe", GOING_BACK_FAILED, files={FILE: Pipe(b"abc")}),
-    cat("data from a pipe before another key ID", GOING_BACK_FAILED, files={PK: OTHER_KEY, FILE: Pipe(b"abc")}),
-    cat("an empty signature before data from a pipe", NO_SIGNATURE, files={SIG: b"", FILE: Pipe(b"abc")}),
-    cat("key and signature from pipes", VERIFIED, files={PK: Pipe(GOOD[PK]), SIG: Pipe(GOOD[SIG])}, output=b"abc"),
+    cat("data from a pipe", GOING_BACK_FAILED, files={FILE: InputPipe(b"abc")}),
+    cat("data from a pipe before another key ID", GOING_BACK_FAILED, files={PK: OTHER_KEY, FILE: InputPipe(b"abc")}),
+    cat("an empty signature before data from a pipe", NO_SIGNATURE, files={SIG: b"", FILE: InputPipe(b"abc")}),
+    cat("key and signature from pipes", VERIFIED, files={PK: InputPipe(GOOD[PK]), SIG: InputPipe(GOOD[SIG])}, output=b"abc"),
     # If the copy cannot be written, the error comes after the status line.
     cat("stdin closed", VERIFIED, output=b"abc", stdin=CLOSED),
-    cat("stdout takes two bytes", VERIFIED, WRITING_FAILED, output=b"ab", stdout=RoomFor(2)),
+    cat("stdout takes two bytes", VERIFIED, WRITING_FAILED, output=b"ab", stdout=SizeLimit(2)),
     cat("stderr takes five bytes after the warning", WARNING + VERIFIED[:5], **CUT_SHORT),
-    *(cat(f"{what}, stdin {stdin or 'empty'}, stdout {stdout}", *said, files=files, stdin=stdin, stdout=stdout)
+    *(cat(f"{what}, stdin {stdin or 'empty'}, stdout {stdout}", *lines, files=files, stdin=stdin, stdout=stdout)
       for stdout in (CLOSED, FULL) for stdin in (b"", CLOSED)
-      for what, files, *said in (("a good signature", {}, VERIFIED, WRITING_FAILED), ("no data", signed(b""), VERIFIED),
+      for what, files, *lines in (("a good signature", {}, VERIFIED, WRITING_FAILED), ("no data", signed(b""), VERIFIED),
                                  ("other data", {FILE: b"abd"}, REJECTED))),
     *without_stderr(over_streams(cat, ("a good signature", {})), status=1),
     # If standard output is the data file, this is reported after all files were opened and before anything is read or written.
-    *(cat(name, said, files=files, arguments=(PK, data, SIG), stdout=IntoFile(into, flags), left=holding(FILE, left))
-      for name, said, data, into, flags, files, left in [
+    *(cat(name, lines, files=files, arguments=(PK, data, SIG), stdout=ToFile(into, flags), check_directory=holding(FILE, left))
+      for name, lines, data, into, flags, files, left in [
           ("stdout appends to the data", INPUT_IS_OUTPUT, FILE, FILE, APPEND, {}, b"abc"),
           ("stdout overwrites the data", INPUT_IS_OUTPUT, FILE, FILE, os.O_RDWR, {}, b"abc"),
           ("stdout truncated the data", INPUT_IS_OUTPUT, FILE, FILE, APPEND | os.O_TRUNC, {}, b""),
-          ("stdout is a second name of the data", INPUT_IS_OUTPUT, FILE, "other", APPEND, {"other": SecondName(FILE)}, b"abc"),
+          ("stdout is a second name of the data", INPUT_IS_OUTPUT, FILE, "other", APPEND, {"other": HardLink(FILE)}, b"abc"),
           ("stdout is the data through a link", INPUT_IS_OUTPUT, FILE, "other", APPEND, {"other": Link(FILE)}, b"abc"),
           ("the data is a link to stdout", INPUT_IS_OUTPUT, "other", FILE, APPEND, {"other": Link(FILE)}, b"abc"),
           ("stdout appends to the data, before an empty key", INPUT_IS_OUTPUT, FILE, FILE, APPEND, {PK: b""}, b"abc"),
           ("a missing signature, before stdout appends to the data", READING_FAILED, FILE, FILE, APPEND, {SIG: MISSING}, b"abc")]),
-    cat("stdout appends to another file", VERIFIED, files={"other": b"abc"}, stdout=IntoFile("other", APPEND),
-        left=holding("other", b"abcabc")),
+    cat("stdout appends to another file", VERIFIED, files={"other": b"abc"}, stdout=ToFile("other", APPEND),
+        check_directory=holding("other", b"abcabc")),
     # The data is changed after the status was written and before all of it was copied. The output is not read until then, so the program
     # could not copy more than a pipe holds.
     *(cat(f"while it is copied, {name}", VERIFIED, *([] if output == LONG else [DATA_CHANGED]), files=signed(LONG), output=output,
@@ -215,10 +215,10 @@ SIGNATURE = b"ED" + toy.KEYNUM + bytes(32) + bytes.fromhex("9d5d3a5ce8ed6e7af22f
 UNKNOWN_ALGORITHM, LEGACY_ALGORITHM = b"Ex" + SIGNATURE[2:], b"Ed" + SIGNATURE[2:]
 
 
-def verify_raw(name, *said, files=None, arguments=(PK, SIG), **how):
+def verify_raw(name, *lines, files=None, arguments=(PK, SIG), **changes):
     """Returns a case of `verify-raw`, by default with a good key, a good signature, and the data `abc`. The data is standard input."""
     files = {PK: KEY, SIG: SIGNATURE, FILE: b"abc", **(files or {})}
-    return command(name, ["verify-raw", *arguments], said, stdin=files.pop(FILE), files=files, **how)
+    return command_case(name, ["verify-raw", *arguments], lines, stdin=files.pop(FILE), files=files, **changes)
 
 
 # Data that comes byte by byte or in pieces, and large data.
@@ -257,10 +257,10 @@ RAW = [
         (FILE, [("a directory as data", DIRECTORY, READING_FAILED)]),
         (PK, [("another key ID", toy.OTHER_RECORD, OTHER_KEYNUM)]),
         (SIG, [("a prehashed signature with the algorithm of a legacy signature", LEGACY_ALGORITHM, LEGACY),
-               ("a changed signature", toy.turned(SIGNATURE), REJECTED)])),
+               ("a changed signature", toy.flip_bit(SIGNATURE), REJECTED)])),
     # Each read of the key, of the signature and of data that comes byte by byte fails in turn, including the one that finds the end. This
     # is reported before any verdict, and with a short key before the contents of the two files are checked.
-    *(verify_raw(f"{name}, and a read fails", READING_FAILED, files={PK: key, FILE: BY_BYTES}, breaking="read")
+    *(verify_raw(f"{name}, and a read fails", READING_FAILED, files={PK: key, FILE: BY_BYTES}, failing_call="read")
       for name, key in (("good data", KEY), ("another key ID", toy.OTHER_RECORD), ("a short key", KEY[:41]))),
     # File names are used unchanged.
     *(verify_raw(f"a file named {name[:20]!r}", VERIFIED_RAW,
@@ -291,5 +291,5 @@ RAW = [
     verify_raw("stderr takes five bytes after the warning", WARNING + VERIFIED_RAW[:5], **CUT_SHORT),
     # Each allocation fails. The first ones are made while the arguments are read.
     *out_of_memory([WARNING, OUT_OF_MEMORY], ("good data", verify_raw("", OUT_OF_MEMORY)),
-              ("other data", verify_raw("", OUT_OF_MEMORY, files={FILE: b"abd"})), ("no arguments", command("", [], [OUT_OF_MEMORY]))),
+              ("other data", verify_raw("", OUT_OF_MEMORY, files={FILE: b"abd"})), ("no arguments", command_case("", [], [OUT_OF_MEMORY]))),
 ]

@@ -1,20 +1,21 @@
 // A test program that verifies with the package. javascript.py copies it into a user's directory, beside `node_modules`, and compares
 // what it prints.
 //
-// These words verify the cases on standard input, one a line, and print a line for each:
+// These commands verify the cases on standard input, one on each line, and print a line for each. With `legacy`, legacy signatures are
+// allowed.
 //
-//     node answers.mjs cases [legacy]    with data in memory
-//     node answers.mjs pieces [legacy]   with data of each kind
-//     node answers.mjs read [legacy]     with a signature and a key that were read before, whose fields are printed too
-//     node answers.mjs threads           in four threads, which must print the same
-//     node answers.mjs growth COUNT      COUNT times; prints by how many bytes the memory grows after a tenth of them
-//     node answers.mjs comment           only the trusted comments, before there is data
+//     node answers.mjs cases [legacy]    passes the data as bytes
+//     node answers.mjs pieces [legacy]   passes the data in each form that the package accepts
+//     node answers.mjs read [legacy]     passes a parsed signature and a parsed key, and also prints their fields
+//     node answers.mjs threads           verifies in four threads, which must print the same
+//     node answers.mjs growth COUNT      verifies COUNT times; prints by how many bytes the memory grows after a tenth of them
+//     node answers.mjs comment           verifies only the trusted comment, before there is data
 //
-// These words use the published signature, whose data has four bytes. Each line has the expected result, a tab, and the result:
+// These commands use the published signature, whose data has four bytes. Each line has the expected result, a tab, and the actual result:
 //
-//     node answers.mjs verifier          the properties and methods of a verifier
-//     node answers.mjs wrong             arguments of wrong types, and unknown options
-//     node answers.mjs letters           strings that are, or are not, the base64 of a key
+//     node answers.mjs verifier          checks the properties and methods of a verifier
+//     node answers.mjs wrong             checks the errors for arguments of wrong types and for unknown options
+//     node answers.mjs letters           checks which strings are accepted as the base64 of a key
 
 import {Readable} from "node:stream";
 import {runInNewContext} from "node:vm";
@@ -42,7 +43,7 @@ async function answerOf(data, signature, key, options) {
   return outcome(async () => (await verify(data, signature, key, options)).trustedComment);
 }
 
-// Verifies the trusted comment before and after there is data, which has to give the same result.
+// Verifies the trusted comment before and after data was passed. Both results must be the same.
 async function commentOf(data, signature, key) {
   return outcome(async () => {
     const verifier = await createVerifier(signature, key);
@@ -105,7 +106,7 @@ const streamOf = pieces => new ReadableStream({
 // Copies bytes into a buffer of another realm, and into a view of that realm.
 const OF_OTHER_REALM = runInNewContext("bytes => [new Uint8Array(bytes).buffer, new Uint8Array(bytes)]");
 
-// Verifies each case with data of each kind. Prints all results if they differ.
+// Verifies each case with the data in each form that the package accepts. Returns all results of a case if they differ.
 async function answersInPieces(cases, options) {
   const answers = [];
   for (const [key, data, signature] of cases) {

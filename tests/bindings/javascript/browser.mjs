@@ -31,7 +31,7 @@ function streamOf(data, lengths) {
   });
 }
 
-// Verifies data of each kind that a browser has. Returns all results if they differ.
+// Verifies data in each form that a browser has. Returns all results if they differ.
 async function answerInPieces(data, signature, key) {
   const blob = new Blob([data]), address = URL.createObjectURL(blob);
   const ways = [data, data.buffer, blob, new File([data], "data"), blob.stream(), streamOf(data, [1000, 1, 65536]), (await fetch(address)).body];

@@ -1,12 +1,12 @@
 // Checks what the package does with files, in Node. javascript.py copies this program into a user's directory, beside `node_modules`.
 //
-//     node files.mjs comments FILE OTHER ..    prints the default trusted comment of these files, passed in each form, without the time
-//     node files.mjs names                     checks names that are not those of files
-//     node files.mjs new DIRECTORY             writes new files in this directory
-//     node files.mjs full DIRECTORY            writes a new file there while no file can have any content
+//     node files.mjs comments FILE OTHER ..    prints the default trusted comments of these files without the time, for each form of data
+//     node files.mjs names                     checks the default trusted comments for names that are not those of regular files
+//     node files.mjs new DIRECTORY             checks writing new files in this directory
+//     node files.mjs full DIRECTORY            checks writing a new file while the file size limit is 0
 //     node files.mjs ids KEY                   prints the key ID of a secret key, and the first line of its public key
 //
-// Except for `comments` and `ids`, each line has the expected result, a tab, and the result.
+// The lines of `names`, `new` and `full` have the expected result, a tab, and the actual result.
 
 import {File} from "node:buffer";
 import {createReadStream, existsSync, lstatSync, readdirSync, readFileSync, readlinkSync, statSync, symlinkSync, writeFileSync} from "node:fs";

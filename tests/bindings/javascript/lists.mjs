@@ -1,11 +1,12 @@
-// Checks the verifying of files with signed lists. javascript.py copies this program into a user's directory, beside `node_modules`.
+// Tests verifying files against signed lists. javascript.py copies this program into a user's directory, beside `node_modules`.
 //
-//     node lists.mjs verify_listed        verifies the file of each case on standard input with data of each kind
+//     node lists.mjs verify_listed        verifies the file of each case, passing its data in every form that the package accepts
 //     node lists.mjs entries              prints the entries of the list of each case
-//     node lists.mjs arguments            arguments of wrong types, and the properties of a list; takes one case
-//     node lists.mjs files DIRECTORY      files and lists that it writes to the directory
+//     node lists.mjs arguments            checks the errors for wrong arguments, and the properties of a list; takes one case
+//     node lists.mjs files DIRECTORY      checks the functions that take paths, with files in this directory
 //
-// The first two print a line for each case. The others print lines with the expected result, a tab, and the result.
+// The cases are lines on standard input. The first two commands print a line for each case. The others print lines with the expected
+// result, a tab, and the actual result.
 
 import {createHash} from "node:crypto";
 import {copyFileSync, mkdirSync, writeFileSync} from "node:fs";
@@ -19,6 +20,7 @@ import {verifyListedFile, verifyListFile} from "minisign-proved/node";
 const bytesOf = digits => new Uint8Array(Buffer.from(digits === "-" ? "" : digits, "hex"));
 const textOf = bytes => new TextDecoder().decode(bytes);
 
+// Returns the cases on standard input, each as a list of fields.
 async function cases() {
   const chunks = [];
   for await (const chunk of process.stdin) {
@@ -27,9 +29,10 @@ async function cases() {
   return Buffer.concat(chunks).toString().split("\n").filter(line => line).map(line => line.split(" ").map(bytesOf));
 }
 
-function* cut(data, lengths) {
-  for (let begin = 0, turn = 0; begin < data.length; turn += 1) {
-    const length = lengths[turn % lengths.length];
+// Splits data into pieces of these lengths, which are repeated.
+function* split(data, lengths) {
+  for (let begin = 0, count = 0; begin < data.length; count += 1) {
+    const length = lengths[count % lengths.length];
     yield data.subarray(begin, begin + length);
     begin += length;
   }
@@ -42,38 +45,46 @@ const streamOf = pieces => new ReadableStream({
   },
 });
 
-// Returns `accepted`, the trusted comment and the line of the entry, or `rejected`, the error and the line at fault.
-async function answerOf(verify) {
+// Returns `accepted`, the trusted comment and the line number of the entry; or `rejected`, the error and the number of the line at fault.
+async function resultLine(verify) {
   try {
     const [list, entry] = await verify();
     return `accepted ${Buffer.from(list.trustedComment).toString("hex")} ${entry.line}`;
-  } catch (why) {
-    const hasLine = why.line === 0 || why.message.startsWith(`line ${why.line}: `);
-    if (!(why instanceof MinisignError) || ERRORS[why.code] !== why.number || !why.message || why.message.includes("unknown") || !hasLine) {
-      throw why;
+  } catch (error) {
+    const isLineNamed = error.line === 0 || error.message.startsWith(`line ${error.line}: `);
+    const hasMessage = error.message && !error.message.includes("unknown") && isLineNamed;
+    if (!(error instanceof MinisignError) || ERRORS[error.code] !== error.number || !hasMessage) {
+      throw error;
     }
-    return `rejected ${why.code} ${why.line}`;
+    return `rejected ${error.code} ${error.line}`;
   }
 }
 
-const verified = ([key, text, signature, listName, longDigest]) =>
+// Verifies the list of a case.
+const verifyListOf = ([key, text, signature, listName, longDigest]) =>
   verifyList(text, signature, key, listName.length === 0 ? null : listName, {longDigest: textOf(longDigest)});
 
 async function verifyListed() {
-  for (const parts of await cases()) {
-    const [name, data] = parts.slice(5), isText = Buffer.from(textOf(name)).equals(name);
+  for (const fields of await cases()) {
+    const [name, data] = fields.slice(5);
+    const isText = Buffer.from(textOf(name)).equals(name);
     const names = isText ? [name, textOf(name)] : [name];
-    const ways = () => [
-      data, data.slice().buffer, new Blob([data]), cut(data, [1, 7, 4096, 65536]), streamOf(cut(data, [300, 1000])),
-      Readable.from(cut(Buffer.from(data), [1000])),
-    ].map(way => (list, given) => list.verifyListed(way, given));
-    const trusting = [data, data.slice().buffer, new Blob([data])].map(way => (list, given) => list.verifyListedTrustingWebCrypto(way, given));
+    // Streams and iterators can be read only once, so they are made anew for each call.
+    const forms = () => [
+      data, data.slice().buffer, new Blob([data]), split(data, [1, 7, 4096, 65536]), streamOf(split(data, [300, 1000])),
+      Readable.from(split(Buffer.from(data), [1000])),
+    ];
+    const formsForWebCrypto = [data, data.slice().buffer, new Blob([data])];
     const results = new Set();
-    for (const given of names) {
-      for (const way of [...ways(), ...trusting]) {
-        results.add(await answerOf(async () => {
-          const list = await verified(parts);
-          return [list, await way(list, given)];
+    for (const listedName of names) {
+      const calls = [
+        ...forms().map(form => list => list.verifyListed(form, listedName)),
+        ...formsForWebCrypto.map(form => list => list.verifyListedTrustingWebCrypto(form, listedName)),
+      ];
+      for (const call of calls) {
+        results.add(await resultLine(async () => {
+          const list = await verifyListOf(fields);
+          return [list, await call(list)];
         }));
       }
     }
@@ -82,74 +93,89 @@ async function verifyListed() {
 }
 
 async function entries() {
-  for (const parts of await cases()) {
-    const shown = (await verified(parts)).entries().map(({line, hash, digest, name, isEscaped}) =>
+  for (const fields of await cases()) {
+    const lines = (await verifyListOf(fields)).entries().map(({line, hash, digest, name, isEscaped}) =>
       [line, hash, ...[digest, name].map(bytes => Buffer.from(bytes).toString("hex")), isEscaped].join(" "));
-    console.log(shown.join(","));
+    console.log(lines.join(","));
   }
 }
 
-const rows = [];
-const outcome = async call => {
+// Pairs of an expected and an actual result.
+const results = [];
+// Returns the result of a call: the line number of an entry, another value, or the error.
+const resultOf = async call => {
   try {
     const result = await call();
     return result?.line ?? result;
-  } catch (why) {
-    return why instanceof TypeError ? `${why.code}: ${why.message}` : why.code ?? `${why}`;
+  } catch (error) {
+    return error instanceof TypeError ? `${error.code}: ${error.message}` : error.code ?? `${error}`;
   }
 };
-const add = async (expected, call) => rows.push([expected, await outcome(call)]);
+const check = async (expected, call) => results.push([expected, await resultOf(call)]);
 
 async function checkArguments() {
   const [[key, text, signature, listName, , name, data]] = await cases();
-  const begin = changed => verifyList(...Object.values({text, signature, key, listName, ...changed}));
-  const list = await begin();
-  await add("INVALID_ARGUMENT: text must be a string or bytes, not number", () => begin({text: 1}));
-  await add("INVALID_ARGUMENT: text must have at most 1048576 bytes", () => begin({text: "#".repeat(1048577)}));
-  await add("SIGNATURE_REFUSED", () => begin({text: "#".repeat(1048576)}));
-  await add("INVALID_ARGUMENT: signature must be a string or bytes, not null", () => begin({signature: null}));
-  await add("INVALID_ARGUMENT: key must be a string or bytes, not number", () => begin({key: 3}));
-  await add("INVALID_ARGUMENT: name must be a string or bytes, not undefined", () => begin({listName: undefined}));
-  await add("OTHER_LIST", () => begin({listName: ""}));
+  const verifyWith = changed => verifyList(...Object.values({text, signature, key, listName, ...changed}));
+  const list = await verifyWith();
+  await check("INVALID_ARGUMENT: text must be a string or bytes, not number", () => verifyWith({text: 1}));
+  await check("INVALID_ARGUMENT: text must have at most 1048576 bytes", () => verifyWith({text: "#".repeat(1048577)}));
+  await check("SIGNATURE_REFUSED", () => verifyWith({text: "#".repeat(1048576)}));
+  await check("INVALID_ARGUMENT: signature must be a string or bytes, not null", () => verifyWith({signature: null}));
+  await check("INVALID_ARGUMENT: key must be a string or bytes, not number", () => verifyWith({key: 3}));
+  await check("INVALID_ARGUMENT: name must be a string or bytes, not undefined", () => verifyWith({listName: undefined}));
+  await check("OTHER_LIST", () => verifyWith({listName: ""}));
   for (const value of ["SHA512", "", 1, null]) {
     const kind = value === null ? "null" : typeof value;
-    await add(`INVALID_ARGUMENT: longDigest must be sha512, blake2b or none, not ${kind}`, () =>
+    await check(`INVALID_ARGUMENT: longDigest must be sha512, blake2b or none, not ${kind}`, () =>
       verifyList(text, signature, key, listName, {longDigest: value}));
   }
-  await add("INVALID_ARGUMENT: unknown option allowLegacy", () => verifyList(text, signature, key, listName, {allowLegacy: true}));
+  await check("INVALID_ARGUMENT: unknown option allowLegacy", () => verifyList(text, signature, key, listName, {allowLegacy: true}));
   for (const call of [() => list.find(1), () => list.verifyListed(data, 1), () => list.verifyListedTrustingWebCrypto(data, 1)]) {
-    await add("INVALID_ARGUMENT: name must be a string or bytes, not number", call);
+    await check("INVALID_ARGUMENT: name must be a string or bytes, not number", call);
   }
   for (const value of [1, "data", null]) {
     const kind = value === null ? "null" : typeof value;
-    await add(`INVALID_ARGUMENT: data must be bytes, a Blob, a stream or pieces of bytes, not ${kind}`, () => list.verifyListed(value, name));
-    await add(`INVALID_ARGUMENT: data must be bytes or a Blob, not ${kind}`, () => list.verifyListedTrustingWebCrypto(value, name));
+    await check(`INVALID_ARGUMENT: data must be bytes, a Blob, a stream or pieces of bytes, not ${kind}`, () => list.verifyListed(value, name));
+    await check(`INVALID_ARGUMENT: data must be bytes or a Blob, not ${kind}`, () => list.verifyListedTrustingWebCrypto(value, name));
   }
-  await add("INVALID_ARGUMENT: unknown option name", () => list.verifyListed(data, name, {name: "x"}));
-  await add("INVALID_ARGUMENT: progress must be a function, not string", () => list.verifyListed(data, name, {progress: "x"}));
-  const seen = [];
-  await add(3, () => list.verifyListed([data, data.subarray(0, 0)], name, {progress: (bytes, total) => seen.push(bytes, total)}));
-  rows.push([`${data.length},,${data.length},`, seen.join()]);
+  await check("INVALID_ARGUMENT: unknown option name", () => list.verifyListed(data, name, {name: "x"}));
+  await check("INVALID_ARGUMENT: progress must be a function, not string", () => list.verifyListed(data, name, {progress: "x"}));
+  const progress = [];
+  await check(3, () => list.verifyListed([data, data.subarray(0, 0)], name, {progress: (bytes, total) => progress.push(bytes, total)}));
+  // Two calls of the function, without a total.
+  results.push([`${data.length},,${data.length},`, progress.join()]);
+  // An iterable without end. Closing it or its iterator sets isClosed.
   let isClosed = false;
-  const endless = () => ({[Symbol.asyncIterator]: () => ({next: async () => ({done: false, value: data}), return: async () => { isClosed = true; return {}; }}),
-    return: async () => { isClosed = true; }});
-  await add("NOT_LISTED", () => list.verifyListed(endless(), "absent"));
-  rows.push([true, isClosed]);
+  const close = async () => {
+    isClosed = true;
+    return {};
+  };
+  const endless = () => ({
+    [Symbol.asyncIterator]: () => ({next: async () => ({done: false, value: data}), return: close}),
+    return: close,
+  });
+  await check("NOT_LISTED", () => list.verifyListed(endless(), "absent"));
+  results.push([true, isClosed]);
   const controller = new AbortController();
   setTimeout(() => controller.abort(Object.assign(new Error("late"), {code: "LATE"})), 20);
-  await add("LATE", () => list.verifyListed(endless(), name, {signal: controller.signal}));
-  // A caller's changes have no effect: neither of the list's buffer, nor of the object.
-  const own = text.slice(), copied = verifyList(own, signature, key, listName);
-  own.fill(0);
-  await add(3, async () => (await copied).find(name));
-  rows.push([true, Object.isFrozen(list) && Object.isFrozen(list.find(name)) && Object.isFrozen(list.entries()[0])]);
-  rows.push(["version:2\tfile:SHA256SUMS 2 SHA256SUMS".replace("\t", " "), `${list.trustedComment.replace("\t", " ")} ${list.fields.version} ${list.fields.file}`]);
-  rows.push([true, /^[0-9A-F]{1,16}$/.test(list.keyId)]);
+  await check("LATE", () => list.verifyListed(endless(), name, {signal: controller.signal}));
+  // Changing the buffer after the call has no effect, and the returned objects are frozen.
+  const buffer = text.slice();
+  const verifying = verifyList(buffer, signature, key, listName);
+  buffer.fill(0);
+  await check(3, async () => (await verifying).find(name));
+  results.push([true, Object.isFrozen(list) && Object.isFrozen(list.find(name)) && Object.isFrozen(list.entries()[0])]);
+  // The tab of the comment is replaced, because a tab separates the expected result from the actual one.
+  const comment = list.trustedComment.replace("\t", " ");
+  results.push(["version:2 file:SHA256SUMS 2 SHA256SUMS", `${comment} ${list.fields.version} ${list.fields.file}`]);
+  results.push([true, /^[0-9A-F]{1,16}$/.test(list.keyId)]);
 }
 
 async function checkFiles(directory) {
   mkdirSync(directory, {recursive: true});
-  const at = name => join(directory, name), secret = await generateSecretKey(), key = await writePublicKey(secret);
+  const at = name => join(directory, name);
+  const secret = await generateSecretKey();
+  const key = await writePublicKey(secret);
   const digest = createHash("sha512").update("data").digest("hex");
   const writeList = async (name, text, trustedComment) => {
     writeFileSync(at(name), text);
@@ -160,33 +186,34 @@ async function checkFiles(directory) {
     writeFileSync(at(name), text);
   }
   const list = await verifyListFile(at("SHA512SUMS"), key);
-  await add(1, () => verifyListedFile(at("app"), list));
-  await add(1, async () => verifyListedFile(pathToFileURL(at("app")), await verifyListFile(pathToFileURL(at("SHA512SUMS")), key)));
-  await add("DIGEST_MISMATCH", () => verifyListedFile(at("other"), list));
-  await add("NOT_LISTED", () => verifyListedFile(at("renamed"), list));
-  await add(3, () => verifyListedFile(at("renamed"), list, {name: "sub/app"}));
-  await add("ENOENT", () => verifyListedFile(at("absent"), list, {name: "app"}));
-  await add("INVALID_ARGUMENT: path must be a string or a URL, not number", () => verifyListedFile(1, list));
-  await add("INVALID_ARGUMENT: list must be the result of verifyList, not string", () => verifyListedFile(at("app"), at("SHA512SUMS")));
-  await add("INVALID_ARGUMENT: unknown option mode", () => verifyListedFile(at("app"), list, {mode: 1}));
-  await add("INVALID_ARGUMENT: path must be a string or a URL, not object", () => verifyListFile({}, key));
-  await add("ENOENT", () => verifyListFile(at("app"), key));
-  await add("ENOENT", () => verifyListFile(at("absent"), key));
-  await add("DIGEST_MISMATCH", async () => verifyListedFile(at("app"), await verifyListFile(at("SHA512SUMS"), key, {longDigest: "blake2b"})));
+  await check(1, () => verifyListedFile(at("app"), list));
+  await check(1, async () => verifyListedFile(pathToFileURL(at("app")), await verifyListFile(pathToFileURL(at("SHA512SUMS")), key)));
+  await check("DIGEST_MISMATCH", () => verifyListedFile(at("other"), list));
+  await check("NOT_LISTED", () => verifyListedFile(at("renamed"), list));
+  await check(3, () => verifyListedFile(at("renamed"), list, {name: "sub/app"}));
+  await check("ENOENT", () => verifyListedFile(at("absent"), list, {name: "app"}));
+  await check("INVALID_ARGUMENT: path must be a string or a URL, not number", () => verifyListedFile(1, list));
+  await check("INVALID_ARGUMENT: list must be the result of verifyList, not string", () => verifyListedFile(at("app"), at("SHA512SUMS")));
+  await check("INVALID_ARGUMENT: unknown option mode", () => verifyListedFile(at("app"), list, {mode: 1}));
+  await check("INVALID_ARGUMENT: path must be a string or a URL, not object", () => verifyListFile({}, key));
+  await check("ENOENT", () => verifyListFile(at("app"), key));
+  await check("ENOENT", () => verifyListFile(at("absent"), key));
+  await check("DIGEST_MISMATCH", async () => verifyListedFile(at("app"), await verifyListFile(at("SHA512SUMS"), key, {longDigest: "blake2b"})));
   copyFileSync(at("SHA512SUMS"), at("OTHER"));
   copyFileSync(at("SHA512SUMS.minisig"), at("OTHER.minisig"));
-  await add("OTHER_LIST", () => verifyListFile(at("OTHER"), key));
+  await check("OTHER_LIST", () => verifyListFile(at("OTHER"), key));
   await writeList("LARGE", `${"#".repeat(1048575)}\n`, "file:LARGE");
-  await add(0, async () => (await verifyListFile(at("LARGE"), key)).entries().length);
+  await check(0, async () => (await verifyListFile(at("LARGE"), key)).entries().length);
   await writeList("LARGE", `${"#".repeat(1048576)}\n`, "file:LARGE");
-  await add(`INVALID_ARGUMENT: ${at("LARGE")} has more than 1048576 bytes`, () => verifyListFile(at("LARGE"), key));
+  await check(`INVALID_ARGUMENT: ${at("LARGE")} has more than 1048576 bytes`, () => verifyListFile(at("LARGE"), key));
   // A list of the maximum size that consists of the shortest entries.
-  const line = index => `${digest.slice(0, 64)}  ${String(index).padStart(5, "0")}\n`, count = Math.floor(1048576 / line(0).length);
+  const line = index => `${digest.slice(0, 64)}  ${String(index).padStart(5, "0")}\n`;
+  const count = Math.floor(1048576 / line(0).length);
   await writeList("MANY", Array.from({length: count}, (_, index) => line(index)).join(""), "file:MANY");
   const many = (await verifyListFile(at("MANY"), key)).entries();
-  rows.push([`${count} ${count} 00000`, `${many.length} ${many.at(-1).line} ${many[0].name}`]);
+  results.push([`${count} ${count} 00000`, `${many.length} ${many.at(-1).line} ${many[0].name}`]);
 }
 
-const [word, directory] = process.argv.slice(2);
-await {verify_listed: verifyListed, entries, arguments: checkArguments, files: () => checkFiles(directory)}[word]();
-rows.forEach(row => console.log(row.join("\t")));
+const [command, directory] = process.argv.slice(2);
+await {verify_listed: verifyListed, entries, arguments: checkArguments, files: () => checkFiles(directory)}[command]();
+results.forEach(row => console.log(row.join("\t")));

@@ -1,4 +1,5 @@
-//! Runs the examples of bindings/rust/README.md that their `main` does not call. tests/bindings/rust.py adds this file to them.
+//! Runs the functions in the examples of bindings/rust/README.md that the `main` of the examples does not call.
+//! tests/bindings/rust.py writes the examples to `../main.rs`.
 #![allow(dead_code)]
 
 mod pasted {
@@ -8,9 +9,9 @@ mod pasted {
     pub fn run() -> Result<(), minisign_proved::Error> {
         make_key("pass word")?;
         sign("pass word")?;
-        assert!(make_key("pass word").is_err(), "an existing key file is overwritten");
+        assert!(make_key("pass word").is_err(), "an existing key file was overwritten");
         let (key, signature) = (PublicKey::from_file("new.pub")?, Signature::from_file("app-3.minisig")?);
-        assert!(sign("password").is_err(), "a wrong password decrypts a key");
+        assert!(sign("wrong").is_err(), "a wrong password decrypted the key");
         verify_stream(&key, &signature, std::fs::File::open("app-3")?)
     }
 }
