@@ -1,5 +1,5 @@
 /* SPDX-License-Identifier: MIT */
-/* Implements the functions that src/c_calls.rt declares with libsodium. Rattle passes a slice as a pointer and a length. */
+/* Implements with libsodium the functions that src/c_calls.rt declares. Rattle passes a slice as a pointer and a length. */
 #include <stdbool.h>
 #include <stddef.h>
 #include <stdint.h>
