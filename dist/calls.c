@@ -19283,7 +19283,7 @@ static void do_minisign_lists_entries_Entries_next_entry(u64 sp, u64 table, u64 
     sp = l2 + UINT64_C(464);
 }
 
-static void do_minisign_lists_finding_next_of(u64 sp, u64 table, u64 l0, u64 l1, u64 l2, u64 l3)
+static void do_minisign_lists_finding_next_entry_named(u64 sp, u64 table, u64 l0, u64 l1, u64 l2, u64 l3)
 {
     u32 l6 = 0;
     u64 l4 = 0, l5 = 0, l7 = 0, l8 = 0, l9 = 0, l10 = 0;
@@ -19524,7 +19524,7 @@ static void do_minisign_lists_finding_find_listed(u64 sp, u64 table, u64 l0, u32
             after18:;
             fill(l6 + UINT64_C(240), 0u, UINT64_C(128));
             fill(l6 + UINT64_C(112), 0u, UINT64_C(128));
-            do_minisign_lists_finding_next_of(sp, table, l6 + UINT64_C(240), l6 + UINT64_C(8), l4, l5);
+            do_minisign_lists_finding_next_entry_named(sp, table, l6 + UINT64_C(240), l6 + UINT64_C(8), l4, l5);
             l9 = load8(l6 + 248);
             l10 = load64(l6 + 280);
             l8 = load64(l6 + 272);
@@ -19541,7 +19541,7 @@ static void do_minisign_lists_finding_find_listed(u64 sp, u64 table, u64 l0, u32
                                         {
                                             if ((l9 & 255u) != 1u) { goto after26; }
                                             l3 = load64(l6 + 288);
-                                            do_minisign_lists_finding_next_of(sp, table, l6 + UINT64_C(112), l6 + UINT64_C(8), l4, l5);
+                                            do_minisign_lists_finding_next_entry_named(sp, table, l6 + UINT64_C(112), l6 + UINT64_C(8), l4, l5);
                                             l9 = load8(l6 + 120);
                                             l12 = load64(l6 + 128);
                                             if (load8(l6 + 112) != 0) { goto after24; }
@@ -19549,7 +19549,7 @@ static void do_minisign_lists_finding_find_listed(u64 sp, u64 table, u64 l0, u32
                                             fill(l6 + UINT64_C(368), 0u, UINT64_C(128));
                                             again27:;
                                             {
-                                                do_minisign_lists_finding_next_of(sp, table, l6 + UINT64_C(368), l6 + UINT64_C(8), l4, l5);
+                                                do_minisign_lists_finding_next_entry_named(sp, table, l6 + UINT64_C(368), l6 + UINT64_C(8), l4, l5);
                                                 l9 = load8(l6 + 376);
                                                 if (load8(l6 + 368) != 0) { goto after23; }
                                                 if ((l9 & 255u) == 1u) { goto again27; }
