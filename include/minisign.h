@@ -185,7 +185,7 @@ enum minisign_error {
     MINISIGN_NO_ROOM = 5,
     /* The parameter allow_legacy is neither 0 nor 1. */
     MINISIGN_BAD_LEGACY_FLAG = 6,
-    /* An allocation failed, or its size is too large for any allocation. */
+    /* An allocation failed, or the requested size is too large for any allocation. */
     MINISIGN_OUT_OF_MEMORY = 7,
     /* The input is not UTF-8: a file, a typed line, a password, a comment or a name. */
     MINISIGN_NOT_UTF8 = 8,
@@ -374,7 +374,7 @@ enum minisign_kind {
     MINISIGN_KIND_KDF = 8,
     /* Generating random bytes failed. */
     MINISIGN_KIND_RNG = 9,
-    /* A secret key file is not base64; in Rust, also: std rejected bytes that are not UTF-8. */
+    /* A secret key file is not base64. */
     MINISIGN_KIND_ENCODING = 10,
     /* A secret key is encrypted, but the call needs a decrypted one. */
     MINISIGN_KIND_ENCRYPTED_KEY = 11,

@@ -66,7 +66,7 @@ not_read s t e d same failure is =
     false_from_ne_true _
     (λ read. let ok = sym (decoded t _ (reads t read)) ∙ failed in cc ok)
 
--- The base64 of fewer than n bytes is base64, and decodes to fewer than n bytes.
+-- The base64 of fewer than n bytes passes the base64 test, and decodes to fewer than n bytes.
 pub short_of : (text b d : List ℕ) (n : ℕ) → IsBase64Of text b → d ≡ b → length d < n
     → (is_base64 text ≡ true) × (length (base64_bytes text) < n)
 short_of text b d n h same short = (
@@ -74,7 +74,7 @@ short_of text b d n h same short = (
   rw (same ∙ sym (bytes_read text b h)) at short,
 )
 
--- Bytes that some text encodes are also encoded by base64_of.
+-- If some text is the base64 of bytes, then base64_of gives the base64 of these bytes.
 pub own_base64 : (t b d : List ℕ) → IsBase64Of t b → b ≡ d → IsBase64Of (base64_of d) d
 own_base64 t b d h same = record { each = rw same at h.each; encoded = refl }
 

@@ -8,18 +8,19 @@ pub on_err_of : {T E : Type 0} (r : Result T E) (P : Type 0) → P → OnErr r P
 on_err_of (Ok x) P h = tt
 on_err_of (Err e) P h = h
 
--- A result that is this error is Err of it.
+-- A result with exactly this error is equal to Err of the error.
 pub err_is : {T E : Type 0} (r : Result T E) (e : E) → IsErrAnd r (λ y. y ≡ e) → r ≡ Err e
 err_is (Ok x) e is = absurd is
 err_is (Err y) e is = ap Err is
 
--- If a statement holds for an error, it holds for the result that passes this error on.
+-- If a statement holds for an error, it holds for the error of each result that passes it on.
 pub passed_up : {T E : Type 0} (r : Result T E) (e : E) (P : E → Type 0) → IsErrAnd r (λ y. y ≡ e) → P e
     → IfErr r P
 passed_up (Ok x) e P _ h = tt
 passed_up (Err y) e P is h = rw (sym is) at h
 
--- Combines what holds for a value with what holds for the end of the call that returned it.
+-- A statement about a returned value follows from a clause about the value and a clause about how the
+-- call ended.
 pub on_value : {T E : Type 0} (r : Result T E) (P : T → Type 0) (Ends : Result ⊤ E → Type 0)
     (Q : T → Type 0) → IfOk r P → Ends (without_value r)
     → ((v : T) → P v → Ends (Ok tt) → Q v) → IfOk r Q
@@ -32,7 +33,8 @@ pub on_fault : {T E : Type 0} (r : Result T E) (Ends : Result ⊤ E → Type 0) 
 on_fault (Ok v) Ends Q _ f = tt
 on_fault (Err e) Ends Q ended f = f e ended
 
--- If bytes were read from the front and then more of them, a prefix was read in total.
+-- If bytes were read from the front and a prefix of the rest was removed after that, a prefix was
+-- removed in total.
 pub given_behind : (old mid new : Option (List ℕ)) (a : List ℕ) → Consumes old mid a → PrefixIsRemoved mid new
     → PrefixIsRemoved old new
 given_behind _ _ None a _ _ = tt
@@ -41,7 +43,7 @@ given_behind (Some _) None (Some _) a all _ = absurd all
 given_behind (Some _) (Some _) (Some ys) a all (front, more) =
     (a ++ front, all ∙ ap (λ l. a ++ l) more ∙ sym (append_assoc a front ys))
 
--- The bytes that were read were at the front.
+-- Reading bytes removes a prefix.
 pub consumed : (old now : Option (List ℕ)) (a : List ℕ) → Consumes old now a → PrefixIsRemoved old now
 consumed _ None a _ = tt
 consumed None (Some _) a _ = tt

@@ -33,7 +33,7 @@ strip_front l = by_cases (slice_index l (length l - 1) == 13)
         (ap (λ k. take k l) n, omega (arith, n))
     by_cases false = (take_all (length l) l (omega arith), omega arith)
 
--- A text without a line feed is its only line.
+-- If a text without a line feed has a first line, this line is the whole text and the only line.
 only : (w x : List ℕ) (more : List (List ℕ)) (b : Bool) → cond b [] (w ∷ []) ≡ x ∷ more
     → (w ≡ x) × (lines [] ≡ more)
 only w x more true h = cc h
@@ -104,7 +104,7 @@ placed bytes line part text at n h front fits is =
 
 -- == The trusted comment ==
 
--- The comment of a line with a label, without white space at its ends.
+-- The position of the trimmed comment in a line with the label.
 pub in_line : (line comment own rest trimmed : List ℕ) (n : ℕ) → line ≡ trusted_comment_label ++ comment
     → line ≡ trusted_comment_label ++ own
     → rest ≡ trim_start own → rest ≡ drop n own → trimmed ≡ trim_end rest

@@ -5,7 +5,7 @@ use Rattle.minisign.proofs.Common.{append_known, Appends, Consumes, Keeps, Appen
 use Rattle.minisign.proofs.Common.{AppendsPrefix-after, AppendsPrefix-keeps, AppendsPrefix-more}
 use Rattle.minisign.specs.Reading.{KnownBytesAre}
 
--- All of a text is a prefix of it.
+-- A sink that received all of a text received a prefix of the text.
 pub front_of_all : (a b c : Option (List ℕ)) (bs : List ℕ) → Appends a b bs → Keeps b c → AppendsPrefix a c bs
 front_of_all a b c bs all kept =
     rw (append-nil bs) at (AppendsPrefix-after a b c bs [] all (AppendsPrefix-keeps b c [] kept))
@@ -26,7 +26,7 @@ pub front_of_nothing : (ahead old new : Option (List ℕ)) → Keeps old new
 front_of_nothing None _ _ kept = ([], tt, AppendsPrefix-keeps _ _ [] kept)
 front_of_nothing (Some xs) _ _ kept = (xs, refl, AppendsPrefix-keeps _ _ xs kept)
 
--- A sink that is not written to is unchanged.
+-- The bytes of an unchanged sink are kept.
 pub keeps_same : (known : Option (List ℕ)) → Keeps known known
 keeps_same None = tt
 keeps_same (Some _) = refl
@@ -45,7 +45,7 @@ given_more None _ a b _ more = subst (λ known. KnownBytesAre known (a ++ b)) (s
 given_more (Some _) _ a b given more = subst (λ known. KnownBytesAre known (a ++ b)) (sym more)
     (ap (λ (l : List ℕ). l ++ b) given)
 
--- The bytes that were read are the same if the record of them is unchanged.
+-- If the bytes read so far are unchanged, or are not known any more, what is known of them still holds.
 pub given_still : (old new : Option (List ℕ)) (a : List ℕ) → KnownBytesAre old a → EqualIfSecondKnown old new
     → KnownBytesAre new a
 given_still _ None a _ _ = tt

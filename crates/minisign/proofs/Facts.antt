@@ -21,8 +21,8 @@ use Rattle.minisign.specs.SignatureText.{trusted_comment_label}
 use Rattle.minisign.specs.Acceptance.{Verifier}
 use Rattle.minisign.specs.Headline.{verdict}
 
--- The definitions that the facts about parsing, and those about verdicts, unfold. To unfold these
--- names is to unfold all of them.
+-- Two names for lists of definitions: unfolding `readers`, for the facts about parsing, or `verdicts`, for
+-- those about verdicts, unfolds all definitions of its list.
 unfoldable readers : ℕ
 unfolding read_public_key read_bare_public_key read_signature read_secret_key untrusted_comment_label
     trusted_comment_label base64_of base64_bytes is_base64 encode_symbols groups_bytes scan_steps trim_start
@@ -295,8 +295,9 @@ secret_key_of_157_bytes = refl
 
 -- == The verdict on these texts ==
 
--- Ed25519 has to accept these, because the author of Minisign signed them: the signature of the digest
--- of `test`, and the comment signature of the signature followed by the trusted comment.
+-- The two Ed25519 checks that must succeed, because the author of Minisign made these signatures: that of
+-- the signature for the digest of `test`, and that of the comment signature for the signature followed by
+-- the trusted comment.
 abbrev digest : List ℕ
 digest =
     0xa7 ∷ 0x10 ∷ 0x79 ∷ 0xd4 ∷ 0x28 ∷ 0x53 ∷ 0xde ∷ 0xa2 ∷ 0x6e ∷ 0x45 ∷ 0x30 ∷ 0x04 ∷ 0x33 ∷ 0x86 ∷ 0x70 ∷

@@ -19,7 +19,7 @@ use Rattle.minisign.proofs.SealingLimits.{sealing_numbers}
 use Rattle.minisign.specs.Texts.{and_then, require}
 use Rattle.minisign.proofs.Openings.{opened_within, sealed_taken, unencrypted_taken, unencrypted_text}
 
--- A key that stores these limits has their scrypt parameters.
+-- The scrypt parameters of a key are those for the limits that it stores.
 pub limits_named : (k : SecretKeyRecord) (operations memory : ℕ) → operations < 2 ^ 64 → memory < 2 ^ 64
     → k.operations_limit ≡ to_le_bytes w64 operations → k.memory_limit ≡ to_le_bytes w64 memory
     → key_limits k ≡ sealing_limits memory operations
@@ -41,12 +41,12 @@ pub work_allowed : (k : SecretKeyRecord) (l : Result Numbers Fault) → key_limi
     → IsOk (allowed_work k None) → IsOk l
 work_allowed k l same h = rw (unbounded (key_limits k) ∙ same) at h
 
--- If the limits are allowed, the error is the other one.
+-- If the limits l are allowed, unwrap_or (result_err l) f is f.
 pub other_fault : (l : Result Numbers Fault) (e f : Fault) → IsOk l → e ≡ f → e ≡ unwrap_or (result_err l) f
 other_fault (Ok v) e f _ is = is
 other_fault (Err g) e f ok _ = absurd (true≢false (sym ok))
 
--- The error if a key was not encrypted is that of its limits, or else out of memory.
+-- If encrypting a key fails, the error is that of its limits, or out of memory if they are allowed.
 pub stream_fault : (k : SecretKeyRecord) (l : Result Numbers Fault) (e : Fault) → key_limits k ≡ l
     → ((e ≡ Named OutOfMemory) × IsOk (allowed_work k None)) ⊎ (allowed_work k None ≡ Err e)
     → e ≡ unwrap_or (result_err l) (Named OutOfMemory)
@@ -74,7 +74,7 @@ pub opened_before : (keynum secret salt : List ℕ) (operations memory : ℕ)
 unfolding key_to_seal unsealed_key
 opened_before keynum secret _ _ _ = no_mismatch (checksum_of (unsealed_key keynum secret))
 
--- The text of an unencrypted key meets IsMadeText.
+-- The text of an unencrypted key satisfies IsMadeText.
 pub made_unsealed : (keynum secret comment text : List ℕ) (s : Sealing) (sk : SecretKeyRecord)
     → sk ≡ unsealed_key keynum secret
     → text ≡ secret_key_text (Some comment) sk → (LacksByte 10 comment → read_secret_key text ≡ Ok sk)
@@ -118,7 +118,7 @@ module _ (keynum secret salt password : List ℕ) (operations memory : ℕ) (som
       (λ r. and_then (and_then r sealed_by_scrypt) (λ k. open_sealed k password bound)) read
       ∙ sealed_opens _
 
--- The text of an encrypted key meets IsMadeText.
+-- The text of an encrypted key satisfies IsMadeText.
 pub made_sealed : (keynum secret password comment text : List ℕ) (s : Sealing) (sk : SecretKeyRecord)
     → s.operations_limit < 2 ^ 64 → s.memory_limit < 2 ^ 64
     → sk ≡ xored_key (key_to_seal keynum secret s.salt s.operations_limit s.memory_limit) password
@@ -135,7 +135,7 @@ made_sealed keynum secret password comment text s sk some more sealed opened all
       size = size;
     }
 
--- Combines three clauses about the text that was returned.
+-- A statement about a returned text follows from three clauses about the text.
 pub of_text : {T E A : Type 0} (r : Result T E) (P Q S V : T → Type 0) → IfOk r P → (A → IfOk r Q) → IfOk r S
     → ((t : T) → P t → (A → Q t) → S t → V t) → IfOk r V
 of_text (Ok t) P Q S V p q s f = f t p q s
@@ -152,7 +152,7 @@ seed_and_keynum _ _ (seed_bytes, seed_length) (keynum_bytes, keynum_length) =
       keynum_bytes = keynum_bytes;
     }
 
--- A public key and a decrypted secret key of its parts belong together.
+-- A public key and a decrypted secret key that are made of the same seed and key ID belong together.
 pair_of_parts : (public_of : List ℕ → List ℕ) (seed keynum : List ℕ) (pk : PublicKeyRecord)
     (sk : SecretKeyRecord) → AreSeedAndKeynum seed keynum → pk ≡ public_key_of public_of seed keynum
     → sk.keynum ≡ keynum → sk.secret ≡ secret_of public_of seed → is_encrypted sk ≡ false

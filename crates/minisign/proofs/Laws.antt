@@ -1,5 +1,5 @@
--- The laws that the proofs of other crates use: about a box that is checked, about the verdict on
--- texts that are valid for a message, about verification without an output, and about a sink that
+-- The laws that the proofs of other crates use: about checking a signature box, about the verdict
+-- on texts that are valid for a message, about verification without an output, and about a sink that
 -- is written to in parts.
 use Rattle.std.proofs.Common.{◌≡◌, ℕ, Bool, List, sym, ◌∙◌, inl, inr, Ok, Err}
 use Rattle.minisign.proofs.Common.{Fault, Named, OutOfMemory}

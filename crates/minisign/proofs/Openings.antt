@@ -64,7 +64,8 @@ opening_held k v _ _ h =
     let (is, checksum) = restored_held _ v restored in
     (ap is_ok work, is, rw is at checksum)
 
--- An encrypted key decrypts within each bound that its parallelization is within.
+-- If the limits are allowed and the checksum matches, a key decrypts for each bound that its p does
+-- not exceed, and the error for all other bounds is WorkTooHigh.
 pub opened_within : (k : SecretKeyRecord) (password : List ℕ) (bound : Option ℕ) (v : Numbers)
     → key_limits k ≡ Ok v
     → (xored_key k password).checksum ≡ checksum_of (xored_key k password)
@@ -84,7 +85,7 @@ pub opened_from_parts : (k v : SecretKeyRecord) (password : List ℕ) (bound : O
 opened_from_parts k v password _ w is work restored = ap
     (λ r. and_then r (λ _. restored_key (xored_key k password))) work ∙ ap restored_key (sym is) ∙ restored
 
--- The check for a key that is encrypted with scrypt, applied to the key in a text.
+-- If a text parses to a key, the result of sealed_by_scrypt for the text is that for the key.
 pub sealed_text : (text : List ℕ) (k : SecretKeyRecord) (r : Result SecretKeyRecord Fault)
     → read_secret_key text ≡ Ok k → sealed_by_scrypt k ≡ r → and_then (read_secret_key text) sealed_by_scrypt
     ≡ r
@@ -205,7 +206,7 @@ closed_opening p (Some _) _ _ e same refused =
     (same, inl (sym (unopened_text _ _ _ e refused)))
 closed_opening p None _ _ e same refused = inl (refused, same)
 
--- Decrypting a parsed key with a typed password meets IsOpening.
+-- Decrypting a parsed key with a typed password satisfies IsOpening.
 pub asked_opening : {R W : Type 0} (p : PromptCall R W) (text : List ℕ) (bound : Option ℕ)
     (k : SecretKeyRecord) (r : Result SecretKeyRecord Fault)
     → and_then (read_secret_key text) sealed_by_scrypt ≡ Ok k
@@ -218,7 +219,7 @@ asked_opening p _ _ k (Ok v) read (bytes, password, typed, opens, ended) _ =
     (k, bytes, password, read, typed, open_text _ _ _ k read ∙ opens, ended)
 asked_opening p _ _ k (Err e) read _ (bytes, stopped) = inr (k, bytes, read, stopped)
 
--- Decrypting a parsed key with a given password meets IsOpening.
+-- Decrypting a parsed key with a given password satisfies IsOpening.
 pub given_opening : {R W : Type 0} (p : PromptCall R W) (password text : List ℕ) (bound : Option ℕ)
     (k : SecretKeyRecord) (r : Result SecretKeyRecord Fault)
     → p.new ≡ p.old → and_then (read_secret_key text) sealed_by_scrypt ≡ Ok k
@@ -228,7 +229,7 @@ given_opening p _ _ _ k r same read (inl is) =
     (same, inl (is ∙ sym (open_text _ _ _ k read)))
 given_opening p _ _ _ k r same read (inr memory) = (same, inr (memory.0, rw read memory.1))
 
--- With a given password, decryption has the result of open_key or is out of memory.
+-- With a given password, the result of decryption is that of open_key or out of memory.
 pub headline_of : {R W : Type 0} (p : PromptCall R W) (given : Option (List ℕ)) (text : List ℕ)
     (bound : Option ℕ) (r : Result SecretKeyRecord Fault)
     → IsOpening p given text bound r
@@ -236,7 +237,7 @@ pub headline_of : {R W : Type 0} (p : PromptCall R W) (given : Option (List ℕ)
 headline_of p None _ _ r h = tt
 headline_of p (Some _) _ _ r h = h.1
 
--- The text is that of an encrypted key.
+-- is_sealed_text is a function of the result of parsing the text.
 is_sealed : (text : List ℕ) (r : Result SecretKeyRecord Fault) → read_secret_key text ≡ r
     → is_sealed_text text ≡ option_map_or wants_password (result_ok r) false
 unfolding is_sealed_text
@@ -244,12 +245,12 @@ is_sealed _ r read = ap (λ x. option_map_or wants_password (result_ok x) false)
 
 module _ {R W : Type 0} (p : PromptCall R W) (given : Option (List ℕ)) (text : List ℕ)
     (r : Result SecretKeyRecord Fault) where
-  -- If the key names a key derivation, decrypting the text meets GivesKey.
+  -- If the key names a key derivation, decrypting the text satisfies GivesKey.
   pub sealed_key : (k : SecretKeyRecord) → read_secret_key text ≡ Ok k → bytes_eq k.kdf no_kdf ≡ false
       → IsOpening p given text None r → GivesKey p given text r
   sealed_key k read other h = inl (is_sealed _ _ read ∙ ap not other, h)
 
-  -- If the key names no key derivation, reading it as an unencrypted key meets GivesKey.
+  -- If the key names no key derivation, reading it as an unencrypted key satisfies GivesKey.
   pub unsealed_key : (k : SecretKeyRecord) → read_secret_key text ≡ Ok k → bytes_eq k.kdf no_kdf ≡ true
       → p.new ≡ p.old
       → r ≡ read_unencrypted_key text → GivesKey p given text r
@@ -263,13 +264,13 @@ untouched p _ None _ r h = tt
 untouched p _ (Some _) _ r (inl (_, (same, h))) = same
 untouched p _ (Some _) _ r (inr (_, same, h)) = same
 
--- The error of a text that does not parse as a key meets GivesKey.
+-- The error of a text that does not parse as a key satisfies GivesKey.
 pub unread_key : {R W : Type 0} (p : PromptCall R W) (given : Option (List ℕ)) (text : List ℕ) (e : Fault)
     → p.new ≡ p.old
     → read_secret_key text ≡ Err e → GivesKey p given text (Err e)
 unread_key p _ _ e same read = inr (is_sealed _ _ read, same, sym (unread_unencrypted _ e read))
 
--- With a password, the result is the key that the text gives under it.
+-- With a given password, the result is that of key_with_password or out of memory.
 pub with_password : {Same : Type 0} (password text : List ℕ) (r : Result SecretKeyRecord Fault)
     → ((is_sealed_text text ≡ true) × (Same × IsOpenedOrNoMemory text None r (open_key text password None)))
     ⊎ ((is_sealed_text text ≡ false) × Same × (r ≡ read_unencrypted_key text))
@@ -278,13 +279,13 @@ with_password _ _ r (inl (sealed, (_, inl h))) = rw sealed (inl h)
 with_password _ _ r (inl (sealed, (_, inr memory))) = rw sealed (inr memory)
 with_password _ _ r (inr (plain, _, h)) = rw plain (inl h)
 
--- A key that was returned is the one that the text gives.
+-- If the result is a key, it is the key of the given result.
 given_value : (text : List ℕ) (key : SecretKeyRecord) (given : Result SecretKeyRecord Fault)
     → IsOpenedOrNoMemory text None (Ok key) given → given ≡ Ok key
 given_value _ _ _ (inl is) = sym is
 given_value text key given (inr memory) = absurd (cc memory.0)
 
--- A key that was returned, with a prompt or a password, is a key of the text.
+-- A key that was returned, with a typed or a given password, is one that the text gives.
 pub key_of_given : {R W : Type 0} (p : PromptCall R W) (given : Option (List ℕ)) (text : List ℕ)
     (key : SecretKeyRecord)
     → GivesKey p given text (Ok key) → IsKeyOf text key

@@ -1,6 +1,6 @@
--- Lemmas about the stages of verification: stages that do not use the status, or the output, end in
--- the same way with any other sink; how the calls go through the stages; and what follows from
--- them.
+-- Lemmas about the stages of verification: stages that do not use the status sink or the output sink
+-- end in the same way with any other sink; the parts of `verify` run the stages in order; and what
+-- follows if the stages succeed or fail. Here `the status` and `the output` are these two sinks.
 use Rattle.std.proofs.Common.{◌≡◌, ◌≢◌, ◌⊎◌, ℕ, Bool, true, false, Vec, List, [], ◌∷◌, ◌++◌, Option, None}
 use Rattle.std.proofs.Common.{Some, IfErr, IfSome, IsSome, OnOk, inl, inr, ⊎_elim, refl, sym, ap, subst, ◌∙◌}
 use Rattle.std.proofs.Common.{Result, Ok, Err, true≢false, ◌&&◌}
@@ -66,8 +66,8 @@ module _ {Step D F E : Type 0} (Ends : Step → D → D → Result ⊤ E → Typ
       inr (other d, one step old d (Ok tt) u done, steps_beside later d new (Err e) us h)
 
 module _ {Step D E : Type 0} (Ends : Step → D → D → Result ⊤ E → Type 0) where
-  -- One of two lists of steps stopped: either the first one, or the second one after the first one
-  -- succeeded.
+  -- If the steps of two joined lists stop with an error, either those of the first list do, or those of
+  -- the first list succeed and those of the second stop with the error.
   stopped_in : (first second : List Step) (old new : D) (e : E)
       → StepsEnd Ends (first ++ second) old new (Err e)
       → StepsEnd Ends first old new (Err e)
@@ -78,7 +78,7 @@ module _ {Step D E : Type 0} (Ends : Step → D → D → Result ⊤ E → Type 
       ⊎_elim (λ a. inl (inr (d, done, a))) (λ (between, a, b). inr (between, (d, done, a), b))
       (stopped_in first _ d _ e h)
 
-  -- A step succeeded, and the steps after it ended with this result; or it is the last step.
+  -- If a step succeeds, it and the later steps end with the result of the later steps.
   pub next_step : (step : Step) (later : List Step) (old between new : D) (answer : Result ⊤ E)
       → Ends step old between (Ok tt) → StepsEnd Ends later between new answer
       → StepsEnd Ends (step ∷ later) old new answer
@@ -234,7 +234,7 @@ both_known : (first : Option (List ℕ)) (message second : List ℕ) → IsSome 
 both_known None _ _ some _ _ = absurd (true≢false (sym some))
 both_known (Some _) _ _ _ same given = same ∙ given
 
--- The bytes that are checked are those that the signature signs, if it is allowed.
+-- The bytes that are kept in memory are those that the signature signs, if such a signature is allowed.
 judged_signed : (bytes : List ℕ) (signed : SignedData) (x : SignatureBoxRecord) (legacy : Bool)
     (message : List ℕ) → bytes ≡ held_bytes signed
     → HoldsSigned signed x legacy message → AreSigned bytes x legacy message
@@ -247,7 +247,7 @@ module _ {R : Type 0} (source : SourceOf R) (steady : R → Type 0) (old mid new
   abbrev between : R → R → RereaderCall R
   between = rereader_call source steady
 
-  -- The place could not be marked.
+  -- If the place cannot be marked, the stages that read the data end with this error.
   pub mark_stops : (again : Bool) (e : Fault)
       → (again ≡ true) × (e ≡ Named GoingBackFailed) × Marks (between old new) (Err tt)
       → (message : List ℕ) × StagesEnd (between old new) no_sink no_sink (reading_stages again message)
@@ -255,7 +255,7 @@ module _ {R : Type 0} (source : SourceOf R) (steady : R → Type 0) (old mid new
   mark_stops true e (_, is, fails) = ([], inl ((is, fails), refl, refl))
   mark_stops false e (is_requested, _, _) = absurd (true≢false (sym is_requested))
 
-  -- The data was read from the current place on, or could not be read.
+  -- If marking succeeded or was not needed, the stages that read the data end as the reading does.
   pub read_ends : (again : Bool) → (again ≡ false → mid ≡ old)
       → (again ≡ true → Marks (between old mid) (Ok tt)) → (message : List ℕ) (answer : Result ⊤ Fault)
       → StageEnds (between mid new) no_sink no_sink (Read message) answer
@@ -311,7 +311,7 @@ module _ {R W O : Type 0} (reader : RereaderCall R) (status : SinkCall W) (out :
         o,
       )
 
-  -- The status lines were not written.
+  -- If writing the status lines fails, the stage that reports ends with this error.
   say_stops : (quiet : Bool) (x : SignatureBoxRecord) (e : Fault) → reader.new ≡ reader.old
       → out.new ≡ out.old
       → (quiet ≡ false) × (((e ≡ Named OutOfMemory) × (status.new ≡ status.old)) ⊎ IsWritingFault status e)
@@ -321,7 +321,7 @@ module _ {R W O : Type 0} (reader : RereaderCall R) (status : SinkCall W) (out :
   say_stops false x e r o (_, why) front unflushed =
       inl (⊎_elim inl (λ failed. inr ((failed, front), unflushed)) why, r, o)
 
-  -- The status lines were written.
+  -- If the status lines are written, or are not wanted, the stage that reports succeeds.
   say_runs : (quiet : Bool) (x : SignatureBoxRecord) → reader.new ≡ reader.old → out.new ≡ out.old
       → (quiet ≡ true → status.new ≡ status.old) → SinkReceives status (status_unless_quiet quiet x)
       → SinkHasNoNewFault status → FlushesNothing status
@@ -331,13 +331,13 @@ module _ {R W O : Type 0} (reader : RereaderCall R) (status : SinkCall W) (out :
   say_runs false x r o _ said no_new_fault unflushed =
       (ended reader status out, (inr ((said, no_new_fault), unflushed), r, o), refl)
 
--- The stages that copy data that was kept.
+-- The stages that copy the data of a legacy signature write it from memory and flush it.
 pub kept_steps : (output : Bool) (signed : SignedData) (bytes : Vec ℕ _) (second : List ℕ) → output ≡ true
     → signed ≡ Message bytes
     → Put bytes.items ∷ Flush ∷ [] ≡ held_copy_stages output signed second
 kept_steps _ _ _ _ is_requested is = rw (is_requested, is) refl
 
--- The state after copying, which began after the data was read.
+-- What holds after copying, for a call that had read the data before and whose reader was then mid.
 record Copied {R O : Type 0} (accepts : Verifier) (pk : PublicKeyRecord) (x : SignatureBoxRecord)
     (output legacy : Bool) (reader : RereaderCall R) (mid : R) (out : SinkCall O) (message : List ℕ)
     : Type 0 where
@@ -349,7 +349,7 @@ record Copied {R O : Type 0} (accepts : Verifier) (pk : PublicKeyRecord) (x : Si
 
 module _ (accepts : Verifier) (pk : PublicKeyRecord) (x : SignatureBoxRecord) (legacy : Bool)
     (message : List ℕ) (vouches : Vouches accepts pk x message legacy) where
-  -- A box that is neither prehashed nor allowed is not valid.
+  -- If legacy signatures are not allowed, the signature is prehashed, because the box is valid.
   unallowed : is_prehashed x.signature ≡ false → legacy ≡ false → ⊥
   unallowed kept unwanted = ⊎_elim (λ alike. true≢false (sym ((bytes_eq-Decides _ _).1 alike) ∙ kept))
       (λ is_requested. true≢false (sym is_requested ∙ unwanted)) vouches.allowed
@@ -364,7 +364,7 @@ module _ (accepts : Verifier) (pk : PublicKeyRecord) (x : SignatureBoxRecord) (l
     comment_signed = vouches.comment_signed;
   }
 
-  -- The stages that copy what was kept are those that verification has.
+  -- The stages that copy from what is kept in memory are the copying stages of verification.
   copying_is : (second : List ℕ) (output : Bool) (signed : SignedData) → HoldsSigned signed x legacy message
       → held_copy_stages output signed second
       ≡ copying_stages output (is_prehashed x.signature) message second
@@ -373,7 +373,7 @@ module _ (accepts : Verifier) (pk : PublicKeyRecord) (x : SignatureBoxRecord) (l
   copying_is _ true (Message _) holds = rw (holds.0, holds.1) refl
   copying_is _ true NoData holds = absurd (unallowed holds.0 holds.1)
 
-  -- The data is copied if that was requested.
+  -- If the stages that copy succeed, Copied holds.
   module _ {R O : Type 0} (reader : RereaderCall R) (mid : R) (out : SinkCall O) where
     copied : (output : Bool) (signed : SignedData) → HoldsSigned signed x legacy message
         → StagesEnd (record reader { new = mid }) no_sink no_sink (reading_stages
@@ -446,16 +446,16 @@ module _ (accepts : Verifier) (pk : PublicKeyRecord) (x : SignatureBoxRecord) (l
 module _ {R W O : Type 0} (accepts : Verifier) (pk : PublicKeyRecord) (x : SignatureBoxRecord)
     (quiet output legacy : Bool)
     (reader : RereaderCall R) (status : SinkCall W) (out : SinkCall O) where
-  -- A failure of verification, by the final state of the three devices.
+  -- Verification fails and leaves the three devices in these states.
   abbrev Fails : R → W → O → Fault → Type 0
   Fails r w o e = VerifyingFails accepts pk x (options_of quiet output legacy) (record reader { new = r })
       (record status { new = w }) (record out { new = o }) e
 
-  -- The devices if only the reader was used.
+  -- The devices after only the reader was used.
   abbrev at : R → Devices R W O
   at r = record { reader = r; status = status.old; out = out.old }
 
-  -- Reading, with both sinks unchanged.
+  -- The stages that read the data end in the same way if both sinks are unchanged.
   beside_sinks : (r : R) (message : List ℕ) (answer : Result ⊤ Fault)
       → StagesEnd (record reader { new = r }) no_sink no_sink (reading_stages (is_reread output x) message)
       answer
@@ -467,7 +467,7 @@ module _ {R W O : Type 0} (accepts : Verifier) (pk : PublicKeyRecord) (x : Signa
       (beside_status status.sink status.old (record reader { new = r }) no_sink no_sink
       _ answer (reading_unsaid _ _) read)
 
-  -- Reading stopped.
+  -- If reading fails, verification fails, with both sinks unchanged.
   pub unread : (e : Fault) → (message : List ℕ) × StagesEnd reader no_sink no_sink
       (reading_stages (is_reread output x) message) (Err e)
       → Fails reader.new status.old out.old e
@@ -477,7 +477,7 @@ module _ {R W O : Type 0} (accepts : Verifier) (pk : PublicKeyRecord) (x : Signa
     first_stopped (OneEnds reader status out) _ _ (at reader.old) (at reader.new) e (beside_sinks _ _ _ h),
   )
 
-  -- The data was read, and what is kept of it was checked.
+  -- In this module, the data was read, and `bytes` is what is kept of it in memory.
   module _ (mid : R) (signed : SignedData) (held : (message : List ℕ) × HoldsSigned signed x legacy message
       × StagesEnd (record reader { new = mid }) no_sink no_sink (reading_stages (is_reread output x) message)
       (Ok tt)) (bytes : List ℕ) (is : bytes ≡ held_bytes signed) where
@@ -492,7 +492,7 @@ module _ {R W O : Type 0} (accepts : Verifier) (pk : PublicKeyRecord) (x : Signa
     abbrev copying : List ℕ → List Stage
     copying second = copying_stages output (is_prehashed x.signature) held.0 second
 
-    -- The stages after reading.
+    -- If a stage after reading fails, verification fails.
     after_reading : (second : List ℕ) (w : W) (o : O) (r : R) (e : Fault)
         → StepsEnd (OneEnds reader status out)
         (Judge accepts pk x legacy held.0 ∷ (reporting_stages quiet x ++ copying second)) (at mid)
@@ -505,7 +505,7 @@ module _ {R W O : Type 0} (accepts : Verifier) (pk : PublicKeyRecord) (x : Signa
           (beside_sinks _ _ _ held.2) h,
     )
 
-    -- The box is rejected, or an allocation failed.
+    -- If the box is rejected or an allocation fails, verification fails, with both sinks unchanged.
     pub unjudged : (e : Fault) → Judged (Err e) → Fails mid status.old out.old e
     unjudged e why = after_reading [] _ _ _ e (inl (judged _ why, refl, refl, refl))
 
@@ -513,14 +513,14 @@ module _ {R W O : Type 0} (accepts : Verifier) (pk : PublicKeyRecord) (x : Signa
       vouches : Vouches accepts pk x held.0 legacy
       vouches = judged_or_not _ pk x _ _ tt (judged _ accepted)
 
-      -- The box was accepted, and the stages after that failed.
+      -- If the box is accepted and a later stage fails, verification fails.
       after_judging : (second : List ℕ) (w : W) (o : O) (r : R) (e : Fault)
           → StepsEnd (OneEnds reader status out) (reporting_stages quiet x ++ copying second) (at mid)
           (record { reader = r; status = w; out = o }) (Err e) → Fails r w o e
       after_judging _ w o r e h = after_reading _ w o r e
           (inr (at mid, (judged _ accepted, refl, refl, refl), h))
 
-      -- The status failed.
+      -- If writing the status lines fails, verification fails, with the output unchanged.
       pub unsaid : (e : Fault)
           → (quiet ≡ false) × (((e ≡ Named OutOfMemory) × (status.new ≡ status.old)) ⊎ IsWritingFault status
           e)
@@ -532,7 +532,7 @@ module _ {R W O : Type 0} (accepts : Verifier) (pk : PublicKeyRecord) (x : Signa
           (say_stops (record reader { old = mid; new = mid }) status (record out { new = out.old }) quiet x e
           refl refl why front unflushed))
 
-      -- Copying ended with this result.
+      -- If the status lines are written, verification ends with the result of copying.
       pub copying_ends : (quiet ≡ true → status.new ≡ status.old)
           → SinkReceives status (status_unless_quiet quiet x)
           → SinkHasNoNewFault status → FlushesNothing status → (answer : Result ⊤ Fault)
@@ -575,8 +575,8 @@ module _ {R W O : Type 0} (accepts : Verifier) (pk : PublicKeyRecord) (x : Signa
 
 -- == Why verification fails ==
 
--- The second reading of a steady source returned the bytes that were unread at first, and has
--- another digest than the message.
+-- The second reading has a different digest from the message. For a steady source with known bytes, the
+-- second reading returned the bytes that were unread at first.
 pub record IsOther {R : Type 0} (reader : RereaderCall R) (message : List ℕ) : Type 0 where
   pub second : List ℕ
   pub same : IsSteady reader → IfSome (reader.source.ahead reader.old) (λ xs. second ≡ xs)
@@ -602,11 +602,11 @@ module _ {R W O : Type 0} (accepts : Verifier) (pk : PublicKeyRecord) (x : Signa
   abbrev Why : Type 0
   Why = IsReason accepts pk x quiet output legacy reader status out e
 
-  -- From this state on, one of these stages stopped.
+  -- From this state on, these stages were run and one of them failed.
   abbrev Stops : List Stage → Devices R W O → Type 0
   Stops stages d = StepsEnd (OneEnds reader status out) stages d (ended reader status out) (Err e)
 
-  -- A read failed, and the source had not failed before.
+  -- If a read fails and the source had not failed before, this is one of the reasons.
   read_fault : (r : R) → reader.source.faults r ≡ reader.source.faults reader.old
       → IsReadFault reader.source r reader.new e → Why
   read_fault r _ (inl memory) = inl memory.0

@@ -29,7 +29,7 @@ long_enough bytes k h =
       simp length-append at (ap length h.front.1),
     )
 
--- A text that encodes a key passes the checks of base64 and of the length.
+-- A text that encodes a key passes the base64 test and the test of the decoded length.
 encodes_tests : (text : List ℕ) (k : PublicKeyRecord) → Encodes ReadsPublicKey text k
     → (is_base64 text ≡ true) × (leb 42 (length (base64_bytes text)) ≡ true)
 encodes_tests text k h = (
@@ -115,7 +115,7 @@ pub of_lines : (text : List ℕ) (ls : List (List ℕ)) → lines text ≡ ls �
 unfolding read_public_key
 of_lines _ _ cut = ap key_in_lines cut
 
--- The same for bare base64.
+-- A bare base64 text parses to a key if the relation holds for this key.
 pub bare_is_read : (text : List ℕ) (k : PublicKeyRecord) → BarePublicKey text k → read_bare_public_key text
     ≡ Ok k
 unfolding read_bare_public_key
@@ -187,7 +187,7 @@ module _ (k : PublicKeyRecord) (bare : BarePublicKey (base64_of (public_key_byte
     key = rw (sym stays) at bare.key;
   })
 
--- The text that is written, character by character.
+-- The text that `to_box` writes, with its labels spelled out, is public_key_text of the key.
 pub spelled_text : (k : PublicKeyRecord) (id b : List ℕ) → id ≡ k.keynum → b ≡ base64_of (public_key_bytes k)
     → codes "untrusted comment: minisign public key: " ++ (key_id_text id ++ (10 ∷ (b ++ 10 ∷ [])))
     ≡ public_key_text k

@@ -23,7 +23,7 @@ pub same_end : {V : Type 0} (r : Result V Fault) (e : Fault) → Err e ≡ witho
 same_end (Ok v) e h = cc h
 same_end (Err f) e h = cc h
 
--- If a value was parsed, the function gives this value.
+-- If a result is a value, and is either out of memory or that of a function, the function gives the value.
 pub read_value : {V : Type 0} (v : V) (read : Result V Fault) → IsGivenOrNoMemory (Ok v) read → read ≡ Ok v
 read_value v _ (inl is) = sym is
 read_value v read (inr memory) = cc memory

@@ -11,7 +11,7 @@ pub joined_fields : (bytes a b c r s t : List ℕ) → bytes ≡ a ++ r → r �
     → bytes ≡ a ++ b ++ c ++ t
 joined_fields _ a b c r s t cut_a cut_b cut_c = rw (append_assoc, append_assoc, ← cut_c, ← cut_b) cut_a
 
--- A stored signature begins with its algorithm.
+-- If bytes begin with the record of a signature, the first two bytes are its algorithm.
 pub stored_algorithm : (bytes : List ℕ) (s : SignatureRecord) → ReadsSignature bytes s
     → take 2 bytes ≡ s.algorithm
 stored_algorithm bytes s reads =
@@ -21,7 +21,7 @@ stored_algorithm bytes s reads =
     let front : take (length s.algorithm) bytes ≡ s.algorithm = rw cut (take-append_seam s.algorithm _) in
     rw reads.algorithm_length at front
 
--- A stored signature has 74 bytes.
+-- Bytes that begin with the record of a signature are at least 74 bytes.
 pub stored_length : (bytes : List ℕ) (s : SignatureRecord) → ReadsSignature bytes s → 74 ≤ length bytes
 stored_length bytes s reads =
     omega (
@@ -32,7 +32,7 @@ stored_length bytes s reads =
       simp length-append at (ap length reads.front.1),
     )
 
--- An algorithm that is neither of the two is not known.
+-- An algorithm that is neither `Ed` nor `ED` is not a known algorithm.
 pub unknown_algorithm : (a : List ℕ) → true ≡ not (bytes_eq a legacy_algorithm)
     → true ≡ not (bytes_eq a prehashed_algorithm) → ¬ (IsKnownAlgorithm a)
 unknown_algorithm a legacy prehashed (inl e) = let same : bytes_eq a legacy_algorithm ≡ true =
@@ -40,7 +40,7 @@ unknown_algorithm a legacy prehashed (inl e) = let same : bytes_eq a legacy_algo
 unknown_algorithm a legacy prehashed (inr e) = let same : bytes_eq a prehashed_algorithm ≡ true =
     (bytes_eq-Decides a _).1 e in let differs = rw same at prehashed in cc
 
--- Two cuts at the same place are equal.
+-- If two equal lists are split at the same index, their parts are equal.
 same_cut : (a b c d : List ℕ) → length a ≡ length b → a ++ c ≡ b ++ d → (a ≡ b) × (c ≡ d)
 same_cut a b c d len same =
     let front = ap (λ n. take n (a ++ c)) len
@@ -52,7 +52,7 @@ same_cut a b c d len same =
           ∙ drop-append_seam b d,
     )
 
--- The same for three fields.
+-- If two equal lists begin with three fields of the same lengths, the fields and the rests are equal.
 same_fields : (a b c x y z r s : List ℕ) → length a ≡ length x → length b ≡ length y → length c ≡ length z
     → a ++ b ++ c ++ r ≡ x ++ y ++ z ++ s → (a ≡ x) × (b ≡ y) × (c ≡ z) × (r ≡ s)
 same_fields a b c x y z r s la lb lc same =
@@ -80,7 +80,7 @@ one_signature _ s t read again =
     (read.signature_length ∙ sym again.signature_length) (sym read.front.1 ∙ again.front.1) in
     λ i. record { algorithm = same.0 i; keynum = same.1 i; signature = same.2 i }
 
--- The same for three fields with nothing after them.
+-- If two equal lists consist of three fields of the same lengths, the fields are equal.
 same_three : (a b c x y z : List ℕ) → length a ≡ length x → length b ≡ length y → length c ≡ length z
     → a ++ b ++ c ≡ x ++ y ++ z → (a ≡ x) × (b ≡ y) × (c ≡ z)
 same_three a b c x y z la lb lc same =

@@ -38,21 +38,21 @@ xor_twice (b ∷ a) (y ∷ x) len =
     let first = xor_assoc b y y ∙ ap (bit_xor b) (xor_self y) ∙ xor_zero_r b in
     (λ i. first i ∷ xor_twice a x (omega arith) i)
 
--- The fields that are encrypted have their lengths.
+-- The three encrypted fields have the lengths of the record.
 pub record HasSealedLengths (k : SecretKeyRecord) : Type 0 where
   pub keynum : length k.keynum ≡ 8
   pub secret : length k.secret ≡ 64
   pub checksum : length k.checksum ≡ 32
 
--- The key with these three fields.
+-- The key with these three encrypted fields.
 abbrev pub with_fields : SecretKeyRecord → List ℕ → List ℕ → List ℕ → SecretKeyRecord
 with_fields k a b c = record k { keynum = a; secret = b; checksum = c }
 
--- The key with other bytes in these three fields.
+-- The key with these 104 bytes in its three encrypted fields.
 abbrev key_with_part : SecretKeyRecord → List ℕ → SecretKeyRecord
 key_with_part k part = with_fields k (take 8 part) (take 64 (drop 8 part)) (take 32 (drop 72 part))
 
--- Three fields that were joined, split again.
+-- Splitting three joined fields gives these fields.
 cut_fields : (k : SecretKeyRecord) (a b c : List ℕ) → length a ≡ 8 → length b ≡ 64 → length c ≡ 32
     → key_with_part k (a ++ b ++ c) ≡ with_fields k a b c
 cut_fields k a b c la lb lc =
@@ -91,7 +91,8 @@ cut_stream stream = append_assoc (take 8 stream) _ _
     ∙ ap (λ l. take 8 stream ++ l) (take-append-drop 64 (drop 8 stream))
     ∙ take-append-drop 8 stream
 
--- The same for 104 bytes, whose last part has exactly 32.
+-- 104 bytes that are split like the fields, the last of which has 32 bytes, give the bytes again when
+-- the parts are joined.
 cut_part : (part : List ℕ) → length part ≡ 104
     → take 8 part ++ take 64 (drop 8 part) ++ take 32 (drop 72 part) ≡ part
 cut_part part long =
@@ -134,7 +135,7 @@ pub same_stream : (k : SecretKeyRecord) (stream password : List ℕ) → stream_
 unfolding key_xor stream_of
 same_stream k _ _ = refl
 
--- Decrypting what was encrypted under the same password.
+-- Decrypting a key that was encrypted under the same password gives the key again.
 pub restored_key : (k new : SecretKeyRecord) (stream password : List ℕ) → stream ≡ stream_of k password
     → new ≡ key_xor k stream → key_xor new stream ≡ k
     → xored_key new password ≡ k

@@ -32,7 +32,7 @@ pub allowed_numbers : (k : SecretKeyRecord) (v : Numbers) → key_limits k ≡ O
 unfolding key_limits
 allowed_numbers k v h = sealing_numbers _ _ v h
 
--- The limits of a key, read as numbers.
+-- The scrypt parameters that are computed from the two limit fields are those of the key.
 pub read_limits : (k : SecretKeyRecord) (memory operations : ℕ) → length k.memory_limit ≡ 8
     → length k.operations_limit ≡ 8
     → memory ≡ from_le_bytes w64 (take 8 k.memory_limit)

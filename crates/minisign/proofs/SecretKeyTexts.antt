@@ -147,7 +147,7 @@ longer bytes n k h = record {
 
 module _ (line room bytes : List ℕ) (n : ℕ) (base64 : IsBase64Of line bytes)
     (count : n ≡ min (length bytes) 159) (fits : n ≤ length room) where
-  -- A record at the front is the record of the line.
+  -- If the buffer holds at least 158 decoded bytes, the first 158 are the record of the line.
   pub front_read : take n room ≡ take n bytes → 158 ≤ n
       → require (is_base64 line) SecretKeyNotBase64 (read_secret_key_bytes (base64_bytes line))
       ≡ Ok (secret_key_of_bytes (take 158 room))
@@ -157,7 +157,7 @@ module _ (line room bytes : List ℕ) (n : ℕ) (base64 : IsBase64Of line bytes)
       let reads = longer bytes 158 _ (key_in_front (take 158 bytes) (omega (arith, long))) in
       line_is_read _ _ base64 ∙ bytes_are_read _ _ reads ∙ ap (λ x. Ok (secret_key_of_bytes x)) (sym same)
 
-  -- A front that is too short is all of the bytes.
+  -- If fewer than 158 bytes were decoded, the line is rejected as too short.
   pub front_refused : n < 158 → require (is_base64 line) SecretKeyNotBase64
       (read_secret_key_bytes (base64_bytes line)) ≡ Err (Named RecordTooShort)
   front_refused short =

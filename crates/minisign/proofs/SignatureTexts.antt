@@ -93,7 +93,7 @@ decoded_signature text s h =
     let reads = rw (sym (bytes_read text h.bytes h.base64)) at h.reads in
     one_signature _ _ s (signature_in_front _ (stored_length _ s reads)) reads
 
--- The result of parsing four lines.
+-- The result of parsing four lines, for each check that may fail and for success.
 module _ (a b c d : List ℕ) where
   abbrev read : Result SignatureTextRecord Fault
   read = signature_in_lines (a ∷ b ∷ c ∷ d ∷ [])
@@ -214,7 +214,7 @@ pub of_lines : (text : List ℕ) (ls : List (List ℕ)) → lines text ≡ ls
 unfolding read_signature
 of_lines _ _ cut = ap signature_in_lines cut
 
--- The text that is written, character by character.
+-- The text that `to_string` writes, with its labels spelled out, is signature_text of the box.
 pub spelled_text : (s : SignatureRecord) (c : CommentsRecord) (u b t g : List ℕ) → u ≡ c.untrusted
     → b ≡ base64_of (signature_bytes s) → t ≡ c.trusted → g ≡ base64_of c.signature
     → codes "untrusted comment: "
@@ -290,7 +290,7 @@ module _ (s : SignatureRecord) (c : CommentsRecord)
     comment_signature = rw (sym (trim_graphic _ graphic_comment)) at signed;
   }))
 
--- Comments that are read back as they were written lose nothing.
+-- Comments that satisfy AreReadBack are read back unchanged.
 pub same_comments : (c : CommentsRecord) → AreReadBack c.untrusted c.trusted → comments_read_back c ≡ c
 same_comments c keeps = ap (λ u. record c { untrusted = u }) (strip_none _ keeps.untrusted_end)
 
@@ -301,7 +301,7 @@ longer bytes record_bytes rest n front =
     sym (take-append-drop n bytes) ∙ ap (λ x. x ++ drop n bytes) front
     ∙ append_assoc record_bytes rest _
 
--- The records at the front of the decoded bytes.
+-- A record at the front of the decoded bytes in a buffer is the record that the text encodes.
 module _ (text room bytes : List ℕ) (n : ℕ) (base64 : IsBase64Of text bytes)
     (front : take n room ≡ take n bytes) where
   encoded_key : (k : PublicKeyRecord) → ReadsPublicKey (take n room) k → Encodes ReadsPublicKey text k
@@ -335,7 +335,8 @@ module _ (text room bytes : List ℕ) (n : ℕ) (base64 : IsBase64Of text bytes)
     };
   }
 
--- A front that is too short is all of the bytes.
+-- If fewer than m bytes were decoded into a buffer with space for m, the text decodes to fewer than m
+-- bytes.
 pub short_front : (text room bytes : List ℕ) (n cap m : ℕ) → IsBase64Of text bytes
     → n ≡ min (length bytes) cap → n ≤ length room → m ≤ cap → length (take n room) < m
     → (is_base64 text ≡ true) × (length (base64_bytes text) < m)
@@ -356,7 +357,7 @@ front_read fault text room bytes n (Err e) base64 count fits front refused =
     let short = short_front _ _ _ n 42 42 base64 count fits (omega arith) refused.1 in
     rw (short.0, lt-leb 42 _ short.1) (ap Err refused.0)
 
--- The first 64 bytes.
+-- The value of first_64, for fewer than 64 bytes and for at least 64.
 few_bytes : (bytes : List ℕ) → length bytes < 64 → first_64 bytes ≡ None
 few_bytes bytes few = ap (λ b. cond b (Some (take 64 bytes)) None) (lt-leb 64 _ few)
 

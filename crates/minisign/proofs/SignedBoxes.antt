@@ -15,7 +15,7 @@ use Rattle.minisign.specs.Signing.{Signer, ChosenComments, IsGenuine, IsSigned, 
 use Rattle.minisign.proofs.Verdicts.{vouches_judged}
 use Rattle.minisign.specs.SignatureText.{AreOneLine, box_read_back, read_signature_box, signature_text}
 
--- A box with these parts.
+-- The box with these parts and a prehashed signature.
 abbrev pub box_of : List ℕ → List ℕ → ChosenComments → List ℕ → SignatureBoxRecord
 box_of keynum signature chosen global = record {
   signature = record { algorithm = prehashed_algorithm; keynum = keynum; signature = signature };
@@ -94,7 +94,8 @@ with_signature chosen global = record {
       global;
 }
 
--- The result of writing a box with comments.
+-- If writing a box with these comments succeeds, the text is signature_text of the box, and is read back
+-- if AreOneLine holds.
 pub written_text : {T : Type 0} (bytes : T → List ℕ) (r : Result T Fault) (x : SignatureBoxRecord)
     (chosen : ChosenComments) (global : List ℕ)
     → x.comments ≡ Some (with_signature chosen global)
@@ -111,7 +112,7 @@ written_text _ (Ok t) x _ _ both written back = (
       (sym both) one),
 )
 
--- The untrusted comment does not matter for what a box is valid for.
+-- A box that was read back is valid for every message for which the written box was valid.
 pub vouched_back : (accepts : Verifier) (key keynum message : List ℕ) (x : SignatureBoxRecord)
     (chosen : ChosenComments) (global : List ℕ)
     → x.comments ≡ Some (with_signature chosen global)

@@ -71,12 +71,12 @@ module _ (accepts : Verifier) (pk : PublicKeyRecord) (x : SignatureBoxRecord) (m
   pub judge_decided : (judge accepts pk x message legacy ≡ Ok tt) ↔ Vouches accepts pk x message legacy
   judge_decided = (judged_vouches tt, vouches_judged)
 
-  -- A box that was accepted is valid, even if the result may be out of memory.
+  -- A box that is accepted by a check that may also run out of memory is valid.
   pub judged_or_not : (u : ⊤) → IsGivenOrNoMemory (Ok u) (judge accepts pk x message legacy)
       → Vouches accepts pk x message legacy
   judged_or_not u judged = judged_vouches u (read_value u _ judged)
 
-  -- To check the bytes that an allowed signature signs is to check the message.
+  -- Checking the bytes that an allowed signature signs has the same result as checking the message.
   pub judged_held : (bytes : List ℕ) → AreSigned bytes x legacy message → (r : Result ⊤ Fault)
       → IsGivenOrNoMemory r (and_then (judge_key pk.keynum x.signature legacy)
       (λ _. judge_answers (accepts bytes pk.key x.signature.signature) (accepts_comments accepts pk x)))
@@ -86,7 +86,7 @@ module _ (accepts : Verifier) (pk : PublicKeyRecord) (x : SignatureBoxRecord) (m
       (judged_alike _ _ _ _ _ _ (λ allowed. ap (λ b. judge_answers (accepts b pk.key x.signature.signature)
       (accepts_comments accepts pk x)) (held allowed)))
 
--- An error is the same if less is known of the value.
+-- map_ok does not change an error.
 pub kept_refusal : {V W : Type 0} (f : V → W) (e : Fault) (r : Result V Fault) → IsGivenOrNoMemory (Err e) r
     → IsGivenOrNoMemory (Err e) (map_ok f r)
 kept_refusal f e r (inl is) = inl (ap (map_ok f) is)
@@ -143,7 +143,7 @@ module _ (accepts : Verifier) (pk_text sig_text message : List ℕ) (legacy : Bo
   unfolding verdict
   signature_refused _ e read refused = rw (read, refused) refl
 
-  -- The rest of the verdict if the texts parse to this key and this box.
+  -- The verdict if the texts parse to this key and this box.
   abbrev left : PublicKeyRecord × SignatureBoxRecord → Result (List ℕ) Fault
   left both = and_then (judge accepts both.0 both.1 message legacy) (λ _. Ok (comment_of both.1))
 
@@ -155,14 +155,15 @@ module _ (accepts : Verifier) (pk_text sig_text message : List ℕ) (legacy : Bo
   in_parts (Ok _) (Err e) = refl
   in_parts (Err e) s = refl
 
-  -- So the verdict is a function of what both texts parse to.
+  -- The verdict is a function of what both texts parse to.
   of_texts : (r : Result (PublicKeyRecord × SignatureBoxRecord) Fault) → read_texts pk_text sig_text ≡ r
       → answer ≡ and_then r left
   unfolding verdict
   of_texts r read = in_parts (read_public_key pk_text) (read_signature sig_text)
       ∙ ap (λ r. and_then r left) read
 
-  -- A text is rejected, or an allocation for one failed.
+  -- If an error is that of parsing the texts or out of memory, it is the error of the verdict or out of
+  -- memory.
   pub text_refused : (e : Fault) → IsGivenOrNoMemory (Err e) (read_texts pk_text sig_text)
       → IsGivenOrNoMemory (Err e) answer
   text_refused e (inl refused) = inl (sym (of_texts _ (sym refused)))
@@ -170,7 +171,7 @@ module _ (accepts : Verifier) (pk_text sig_text message : List ℕ) (legacy : Bo
 
   module _ (key : PublicKeyRecord) (box : SignatureBoxRecord)
       (read : read_texts pk_text sig_text ≡ Ok (key, box)) where
-    -- The box that the text parses to is checked.
+    -- If both texts parse, the verdict is the result of checking the box, with its trusted comment.
     pub judged_verdict : (r : Result ⊤ Fault) → judge accepts key box message legacy ≡ r
         → answer ≡ and_then r (λ _. Ok (comment_of box))
     judged_verdict r judged = of_texts _ read ∙ ap (λ r. and_then r (λ _. Ok (comment_of box))) judged
@@ -238,7 +239,7 @@ module _ (accepts : Verifier) (pk_text sig_text message : List ℕ) (legacy : Bo
   pub verdict_decided : IsReading (TextsVouchWith accepts pk_text sig_text message legacy) answer
   verdict_decided = record { value = λ comment. (vouched _, vouched_verdict _) }
 
-  -- The comment of the text is the one that was signed, if the texts are valid for the message.
+  -- If the texts are valid for the message, the trusted comment of the text is signed with it.
   pub signed_comment : (comment : List ℕ) → TextsVouchFor accepts pk_text sig_text message legacy
       → map_ok trusted_of (read_signature sig_text) ≡ Ok comment
       → TextsVouchWith accepts pk_text sig_text message legacy comment

@@ -100,7 +100,7 @@ module _ {R W O : Type 0} (accepts : Verifier) (key : PublicKeyRecord) (box : Si
       refused_for message known_data no_new_fault status_no_new_fault out_no_new_fault again e
       (why_it_fails accepts key box options.quiet options.output options.allow_legacy reader status out e err)
 
-  -- The same if an error is passed on.
+  -- If no device fails and an error is passed on, the result is that of the function judge.
   pub refused_exactly : (r : Result ⊤ Fault) (e : Fault) → IsErrAnd r (λ y. y ≡ e)
       → IfErr r (VerifyingFails accepts key box options reader status out)
       → IfNothingFails options.output reader status out r
@@ -108,7 +108,7 @@ module _ {R W O : Type 0} (accepts : Verifier) (key : PublicKeyRecord) (box : Si
   refused_exactly (Ok u) e is _ = absurd is
   refused_exactly (Err y) e _ err = judged_exactly (Err y) tt err
 
--- The comment is that of the signature text.
+-- The comment is the trusted comment of the signature text.
 abbrev IsCommentOf : List ℕ → List ℕ → Type 0
 IsCommentOf sig comment = map_ok trusted_of (read_signature sig) ≡ Ok comment
 
@@ -125,7 +125,8 @@ some_ahead : (known : Option (List ℕ)) → (message : List ℕ) × KnownBytesA
 some_ahead None = ([], tt)
 some_ahead (Some xs) = (xs, refl)
 
--- If nothing is reported or copied, three reasons are left.
+-- The three kinds of error that are possible if nothing is reported or copied: out of memory, a failed
+-- source, or the error of the verdict.
 abbrev IsLeft : {R : Type 0} → Verifier → List ℕ → List ℕ → RereaderCall R → Fault → Type 0
 IsLeft accepts pk sig reader e = (e ≡ Named OutOfMemory)
     ⊎ HasFailed ReadingFailed reader.source.faults reader.old reader.new e
@@ -149,7 +150,7 @@ module _ {R W O : Type 0} (accepts : Verifier) (pk sig : List ℕ) (reader : Rer
     ahead_reason (inr (inr (inr (inr (inr (inr (is_requested, _))))))) = absurd (true≢false
         (sym is_requested))
 
--- The verdict on a file's data.
+-- Verifying an opened file gives the verdict on some data, or an error of reading a file.
 pub file_verdict : {T R : Type 0} (bytes : T → List ℕ) (accepts : Verifier) (pk sig : List ℕ)
     (reader : RereaderCall R) (r : Result T Fault)
     → IfOk r (λ t. (message : List ℕ) × ReadsWhole reader.source reader.old reader.new message
@@ -197,7 +198,7 @@ module _ {R W O : Type 0} (accepts : Verifier) (pk sig : List ℕ) (reader : Rer
   )
   ahead_vouched _ (Err e) _ _ = tt
 
-  -- A rejection has one of the three reasons.
+  -- An error is one of the three kinds of IsLeft.
   pub ahead_refused : {T : Type 0} (r : Result T Fault)
       → IfErr r (VerifyingTextsFails accepts pk sig (options_of true false false) reader status out)
       → IfErr r (IsLeft accepts pk sig reader)
@@ -210,7 +211,7 @@ module _ {R W O : Type 0} (accepts : Verifier) (pk sig : List ℕ) (reader : Rer
       ahead_reason accepts pk sig reader status out key box e read
       (why_it_fails accepts key box true false false reader status out e h)
 
-  -- The stage at which the data was rejected. Neither sink is used.
+  -- Verification that fails does so at a stage that uses neither sink.
   pub reader_refused : {T : Type 0} (r : Result T Fault)
       → IfErr r (VerifyingTextsFails accepts pk sig (options_of true false false) reader status out)
       → IfErr r (VerifyingTextsFails accepts pk sig (options_of true false false) reader no_sink no_sink)

@@ -23,7 +23,7 @@ use Rattle.std.proofs.lemmas.Str.Pattern.{NoCharPasses-char}
 use borrow.Author.Tests.{tests}
 use Rattle.minisign.specs.Texts.{line, base64_of}
 
--- No byte of such a text is a line feed.
+-- If no character of a text is a line feed, no byte is.
 no_newline : (bs : List ℕ) → NoCharPasses is_newline bs → All (λ b. eqb b 10 ≡ false) bs
 no_newline bs h k d l = ne_eqb _ 10
     (λ z. NoCharPasses-char 10 bs k h (lit< tt) l (get_or_default bs k 0 d l ∙ z))
@@ -104,7 +104,7 @@ is_graphic c = leb 33 c && leb c 126
 graphic_from : (c : ℕ) → is_graphic c ≡ true → IsGraphic c
 graphic_from c h = grind (arith, common_steps)
 
--- Characters of a constant text.
+-- A constant text whose characters pass the test for graphic characters has only graphic characters.
 pub graphic_codes : (xs : List ℕ) → all_pass is_graphic xs ≡ true → AllGraphic xs
 graphic_codes = each_passes _ _ graphic_from
 
@@ -220,7 +220,7 @@ pub record IsOneLine (x : List ℕ) : Type 0 where
 no_feeds : (x : List ℕ) → ((k : ℕ) → k < length x → slice_index x k ≢ 10) → All (λ b. eqb b 10 ≡ false) x
 no_feeds x h k d l = ne_eqb _ 10 (λ z. h k l (get_or_default x k 0 d l ∙ z))
 
--- A line, and the lines after it.
+-- The lines of a line followed by a text are this line and the lines of the text.
 pub lines_line : (x rest : List ℕ) → IsOneLine x → lines (line x ++ rest) ≡ x ∷ lines rest
 lines_line x rest h = ap lines (append_assoc x (10 ∷ []) rest) ∙ lines-cut x _ (no_feeds x h.no_feed)
     ∙ ap (λ b. b ∷ lines rest) (ap (λ t. cond t (take (length x - 1) x) x) (ne_eqb _ 13 h.no_return))
@@ -229,7 +229,7 @@ lines_line x rest h = ap lines (append_assoc x (10 ∷ []) rest) ∙ lines-cut x
 pub lines_last : (x : List ℕ) → IsOneLine x → lines (line x) ≡ x ∷ []
 lines_last x h = ap lines (sym (append-nil (line x))) ∙ lines_line x [] h
 
--- Characters from the space on.
+-- All characters are the space or have a greater code, so none is a line feed or a carriage return.
 abbrev pub AllShown : List ℕ → Type 0
 AllShown xs = AllByRecursion (λ c. 32 ≤ c) xs
 
@@ -249,11 +249,12 @@ shown_one_line (x ∷ xs) h = record {
   no_return = λ e. absurd (omega (arith, e, shown_at (x ∷ xs) (length (x ∷ xs) - 1) h (omega arith)));
 }
 
--- Characters of a constant text.
+-- A constant text whose characters all pass `leb 32` satisfies AllShown.
 pub shown_codes : (xs : List ℕ) → all_pass (leb 32) xs ≡ true → AllShown xs
 shown_codes = each_passes _ _ (leb-true 32)
 
--- A line with a label, and the text after it.
+-- The line of a label and a text, followed by a rest, is the label followed by the text, a line feed and
+-- the rest.
 pub labelled : (label x rest : List ℕ) → line (label ++ x) ++ rest ≡ label ++ (x ++ (10 ∷ rest))
 labelled label x rest = append_assoc (label ++ x) (10 ∷ []) rest ∙ append_assoc label x (10 ∷ rest)
 
@@ -271,7 +272,7 @@ labelled_no_feed label x shown lacks k l e = ⊎_elim
     (λ behind. lacks (k - length label) (omega (arith, l, length-append label x))
     (sym (get_or-append_right _ x k 0 behind) ∙ e)) (cases_lt k (length label))
 
--- A line with a label before it is still a line.
+-- A label and a text that has no line feed and no carriage return at its end are together one line.
 pub labelled_one_line : (label x : List ℕ) → AllShown label → 0 < length label → LacksByte 10 x
     → slice_index x (length x - 1) ≢ 13 → IsOneLine (label ++ x)
 labelled_one_line label x shown some lacks end = record {
@@ -286,7 +287,8 @@ labelled_one_line label x shown some lacks end = record {
         absurd (omega (arith, at, shown_at label (length label - 1) shown (omega arith)))
     last_of (y ∷ ys) lacks end e = end (sym (last_append label (y ∷ ys) (omega arith)) ∙ e)
 
--- A line with a label: a carriage return at its end is one of the text after the label.
+-- A label does not end in a carriage return. So removing a carriage return at the end of a label and a
+-- text removes it from the text.
 label_ends : (label : List ℕ) → AllShown label → 0 < length label
     → slice_index (label ++ []) (length (label ++ []) - 1) ≢ 13
 label_ends label shown some = (labelled_one_line _ [] shown some (λ k l. absurd (omega arith))
@@ -311,7 +313,8 @@ strip_labelled label (y ∷ ys) shown some =
         (length (y ∷ ys) - 1)
     step false = refl
 
--- A line with a label and without a line feed, and the lines after it.
+-- The lines of a label, a text without a line feed, a line feed and a rest: the first is the label and
+-- the text without a carriage return at its end.
 pub lines_labelled : (label x rest : List ℕ) → AllShown label → 0 < length label → LacksByte 10 x
     → lines (line (label ++ x) ++ rest) ≡ (label ++ strip_carriage_return x) ∷ lines rest
 lines_labelled label x rest shown some lacks =
@@ -319,7 +322,7 @@ lines_labelled label x rest shown some lacks =
     (no_feeds _ (labelled_no_feed _ x shown lacks))
     ∙ ap (λ b. b ∷ lines rest) (strip_labelled _ x shown some)
 
--- A text that does not end in a carriage return loses nothing.
+-- Removing a carriage return at the end does not change a text that does not end in one.
 pub strip_none : (x : List ℕ) → slice_index x (length x - 1) ≢ 13 → strip_carriage_return x ≡ x
 strip_none x other = ap (λ t. cond t (take (length x - 1) x) x) (ne_eqb _ 13 other)
 

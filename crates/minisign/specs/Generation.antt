@@ -92,11 +92,12 @@ key_to_seal keynum secret salt operations memory = record (unsealed_key keynum s
   memory_limit = to_le_bytes w64 memory;
 }
 
--- This key with the default limits: 1048576 operations and 33554432 bytes.
+-- The key of key_to_seal with the default limits: 1048576 operations and 33554432 bytes.
 abbrev pub opened_key : List ℕ → List ℕ → List ℕ → SecretKeyRecord
 opened_key keynum secret salt = key_to_seal keynum secret salt 1048576 33554432
 
--- The record of a new key: encrypted under the password if there is one, and otherwise unencrypted.
+-- The secret key of these parts: encrypted under the password if there is one, and otherwise
+-- unencrypted.
 abbrev pub made_key : List ℕ → List ℕ → Option (List ℕ) → Sealing → SecretKeyRecord
 made_key keynum secret None s = unsealed_key keynum secret
 made_key keynum secret (Some password) s =
@@ -104,7 +105,7 @@ made_key keynum secret (Some password) s =
 
 -- The text gives back the key that was made of these parts. Without a password it parses to this
 -- key, which was never encrypted. With a password it decrypts to the key as it was before
--- encryption, and to no other, within each bound that p is within.
+-- encryption, and to no other, unless the bound on the parallelization p is below that of the limits.
 abbrev pub GivesParts : List ℕ → Option (List ℕ) → List ℕ → List ℕ → Sealing → Type 0
 GivesParts text None keynum secret s = read_unencrypted_key text ≡ Ok (unsealed_key keynum secret)
 GivesParts text (Some password) keynum secret s =
@@ -152,8 +153,8 @@ PasswordPairFails password z e =
     × (HasFailed named.RandomSourceFailed z.random.random_faults z.old z.new e
     ⊎ (AllDrawn z × (e ≡ Named named.OutOfMemory))))
 
--- An encrypted key pair is not generated: the random source failed, before the first prompt, or no
--- key was encrypted.
+-- An encrypted key pair is not generated: either the random source failed, with the prompt
+-- unchanged; or all random bytes were taken, and choosing the password or encrypting the key failed.
 abbrev pub SealedPairFails : {Z R W : Type 0} → RandomCall Z → PromptCall R W → Option (List ℕ) → Fault
     → Type 0
 SealedPairFails z p password e =
@@ -187,7 +188,8 @@ module _ (public_of : List ℕ → List ℕ) where
   abbrev pub secret_of : List ℕ → List ℕ
   secret_of seed = seed ++ public_of seed
 
-  -- The secret key is genuine, and the public key has its seed's public half and its key ID.
+  -- The two keys belong together: the secret key is genuine, and the public key is that of its seed,
+  -- with the key ID of the secret key.
   pub record IsGenuinePair (pk : PublicKeyRecord) (sk : SecretKeyRecord) : Type 0 where
     pub seed : List ℕ
     pub genuine : IsGenuine public_of sk seed

@@ -24,7 +24,7 @@ pub record ReadsWhole {R : Type 0} (source : SourceOf R) (old new : R) (message 
   pub mark : source.behind new ≡ source.behind old
   pub no_new_fault : source.faults new ≡ source.faults old
 
--- A device failed: its error count rose, and e is the error that says so.
+-- A device failed: its error count rose, and e is the given named error.
 pub record HasFailed {D : Type 0} (error : NamedFault) (faults : D → ℕ) (old new : D) (e : Fault)
     : Type 0 where
   pub fault : e ≡ Named error
@@ -37,9 +37,9 @@ IsReadFault source old new e =
     ((e ≡ Named OutOfMemory) × (source.faults new ≡ source.faults old))
     ⊎ HasFailed ReadingFailed source.faults old new e
 
--- All unread data is read and written to the output, without a flush. On an error, either an
--- allocation failed before anything was read, or a device failed. The output then holds a prefix of
--- the data, and of what was read.
+-- All unread data is read and written to the output, without a flush. After an error, either an
+-- allocation failed before anything was read, or a device failed. The output then received a prefix
+-- of the unread data, which is also a prefix of the data that was read.
 pub record Copies {R O : Type 0} (reader : RereaderCall R) (out : SinkCall O) (second : List ℕ)
     (answer : Result ⊤ Fault) : Type 0 where
   pub read : OnOk answer (ReadsWhole reader.source reader.old reader.new second)
@@ -67,7 +67,7 @@ IsTextFault source old new e = IsReadFault source old new e
 abbrev pub IsTextFileFault : Fault → Type 0
 IsTextFileFault e = (e ≡ Named OutOfMemory) ⊎ (e ≡ Named ReadingFailed) ⊎ (e ≡ Named NotUtf8)
 
--- The result of reading and parsing a file: what some text parses to, or an error of the file.
--- Nothing says that this text is the contents of the file.
+-- The result of reading and parsing a file: the result of parsing some text, or an error of reading
+-- the file. It is not stated that this text is the contents of the file.
 abbrev pub IsReadFromFile : {V : Type 0} → (List ℕ → Result V Fault) → Result V Fault → Type 0
 IsReadFromFile read r = ((text : List ℕ) × (r ≡ read text)) ⊎ IsErrAnd r IsTextFileFault

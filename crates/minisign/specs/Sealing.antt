@@ -1,5 +1,5 @@
 -- Encryption of secret keys: the checksum, the test whether a key is still encrypted, and the xor
--- of the last 104 bytes of the record with a stream of scrypt (RFC 7914, section 6). Also the
+-- of the last 104 bytes of the record with the output of scrypt (RFC 7914, section 6). Also the
 -- results of decrypting the key in a text.
 use Rattle.std.specs.Prelude.{ℕ, ◌*◌, ◌^◌, Bool, true, not, ◌&&◌, nat_lt, List, [], ◌∷◌, ◌++◌, take, drop}
 use Rattle.std.specs.Prelude.{Option, None, Result, Ok, bit_xor, bytes_eq, codes, if◌then◌else◌, ◌≡◌, ◌⊎◌}
@@ -151,8 +151,8 @@ abbrev pub key_with_password : List ℕ → List ℕ → Result SecretKeyRecord 
 key_with_password text password = if is_sealed_text text then open_key text password None else
     read_unencrypted_key text
 
--- The text decrypts under the password to this key, and never to a different one, within each bound
--- that the parallelization p is within.
+-- The text decrypts under the password to this key, and never to a different one. If there is a
+-- bound on the parallelization and p is above it, decryption fails with WorkTooHigh instead.
 abbrev pub OpensTo : List ℕ → List ℕ → ℕ → SecretKeyRecord → Type 0
 OpensTo text password p key =
     (bound : Option ℕ) → open_key text password bound ≡ require (is_within bound p) named.WorkTooHigh (Ok key)

@@ -109,8 +109,8 @@ pub record AreOneLine (untrusted trusted : List ℕ) : Type 0 where
   pub trusted_one_line : LacksByte 10 trusted
   pub trusted_trimmed : trim trusted ≡ trusted
 
--- The comments, and the box, as they are read back if AreOneLine holds: one carriage return at the
--- end of the untrusted comment is dropped.
+-- The comments, and the box, as they are read back from a text if AreOneLine holds: one carriage
+-- return at the end of the untrusted comment is dropped.
 abbrev pub comments_read_back : CommentsRecord → CommentsRecord
 comments_read_back c = record c { untrusted = strip_carriage_return c.untrusted }
 

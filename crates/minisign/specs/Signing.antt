@@ -132,7 +132,7 @@ SigningHeadline accepts public_of sk message chosen text =
     → (x : SignatureBoxRecord) × (read_signature_box text ≡ Ok x)
     × VouchesUnderEachKey accepts (public_of seed) sk.keynum message x
 
--- The text gives this key under some password.
+-- The text gives this key under some password, or without one if the key was never encrypted.
 abbrev pub IsKeyOf : List ℕ → SecretKeyRecord → Type 0
 IsKeyOf text key = (password : List ℕ) × (key_with_password text password ≡ Ok key)
 
@@ -144,9 +144,9 @@ TextSigningHeadline accepts public_of sk_text ahead chosen text = (sk : SecretKe
     × KnownBytesAre ahead message × IsKeyOf sk_text sk
     × SigningHeadline accepts public_of sk message chosen text
 
--- The key that a text gives for signing, or an error. If the key needs a password, it is decrypted.
--- Otherwise it is a key that was never encrypted, or the first check that fails, with the prompt
--- unchanged.
+-- The result of reading a secret key for signing from a text. If the text contains a key that needs
+-- a password, the result is that of decrypting it. Otherwise the prompt is unchanged, and the result
+-- is a key that was never encrypted, or the first check that fails.
 abbrev pub GivesKey : {R W : Type 0} → PromptCall R W → Option (List ℕ) → List ℕ
     → Result SecretKeyRecord Fault → Type 0
 GivesKey p password text answer = ((is_sealed_text text ≡ true) × IsOpening p password text None answer)

@@ -31,12 +31,12 @@ pub record Encodes {V : Type 0} (Reads : List ℕ → V → Type 0) (text : List
 unfoldable pub base64_bytes : List ℕ → List ℕ
 base64_bytes text = map (λ b. b % 256) (decoded_bytes_of standard text)
 
--- The text is base64: encoding the bytes that it decodes to gives the text again. So only the
--- canonical encoding is accepted.
+-- True if the text is base64: encoding the bytes that it decodes to gives the text again. So only
+-- the canonical encoding is accepted.
 unfoldable pub is_base64 : List ℕ → Bool
 is_base64 text = bytes_eq text (base64_of (base64_bytes text))
 
--- Goes on if the check holds, and otherwise gives the error.
+-- The result `more` if the check holds, and otherwise the error.
 abbrev pub require : {V : Type 0} → Bool → NamedFault → Result V Fault → Result V Fault
 require holds fault more = if holds then more else Err (Named fault)
 
@@ -50,7 +50,7 @@ abbrev pub map_ok : {V W : Type 0} → (V → W) → Result V Fault → Result W
 map_ok f (Ok v) = Ok (f v)
 map_ok f (Err e) = Err e
 
--- The answer is the given result or out of memory.
+-- The answer is the given result, or it is out of memory.
 abbrev pub IsGivenOrNoMemory : {V : Type 0} → Result V Fault → Result V Fault → Type 0
 IsGivenOrNoMemory answer given = (answer ≡ given) ⊎ (answer ≡ Err (Named OutOfMemory))
 

@@ -23,10 +23,10 @@ use Rattle.minisign.specs.SignatureText.{read_signature_box}
 use Rattle.minisign_base.specs.declared.faults.NamedFault.TheVariants as named
 
 -- The stages of verification. Mark marks the current place. Read reads the data to its end, which
--- gives these bytes. Judge checks the box for this message. Report writes a text to the status
--- sink. Return goes back to the mark. Copy reads the data again, which gives these bytes, and
--- writes it to the output. Compare compares a digest with the digest of these bytes. Put writes
--- these bytes to the output. Flush flushes the output.
+-- gives the bytes in its argument. Judge checks the box for a message. Report writes a text to the
+-- status sink. Return goes back to the mark. Copy reads the data again, which gives the bytes in its
+-- argument, and writes it to the output. Compare checks that its first argument is the digest of the
+-- second. Put writes bytes to the output. Flush flushes the output.
 pub data Stage : Type 0 where
   Mark : Stage
   Read : List ℕ → Stage

@@ -11,8 +11,8 @@ const PIECE_CHARS: usize = 64;
 
 const PIECE_BYTES: usize = 48;
 
-// Decodes base64 into `room` and returns the number of bytes written: all of them, or as many as
-// fit. Returns `None` if any part of the text is not base64.
+// Decodes base64 into `room` and returns the number of bytes written: all decoded bytes, or as many as
+// fit. Returns `None` if any part of the text is not base64. The length of `room` must be a multiple of 3.
 pub(crate) fn decode_front(text: &[u8], room: &mut [u8]) -> Option<usize>
     requires { length room.old % 3 ≡ 0 }
     ensures { MatchOption result (is_base64 text.now ≡ false) (λ n. (bytes : List ℕ)
@@ -33,7 +33,8 @@ pub(crate) fn decode_front(text: &[u8], room: &mut [u8]) -> Option<usize>
     if is_base64(rest) { Some(count) } else { None }
 }
 
-// Decodes in pieces of fixed size, so that nothing is allocated.
+// Returns true if the text is base64. The text is decoded in pieces of fixed size, so that nothing is
+// allocated.
 pub(crate) fn is_base64(text: &[u8]) -> bool
     ensures { result ≡ is_base64 text.now }
 {

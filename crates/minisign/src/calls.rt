@@ -113,9 +113,9 @@ fn read_with_comment(
 /// Verifies that `sig_text` is a valid signature of `message` under the public key in `pk_text`, and
 /// returns the trusted comment, which was signed with the message.
 ///
-/// Errors come in this order: the public key text, as for `PublicKey::from_box`; the signature text, as for
-/// `SignatureBox::from_string`; then the checks of `verify`. A legacy signature is always rejected. An
-/// allocation may fail at any time. The message is not copied.
+/// Errors come in this order: those of `PublicKey::from_box` for the public key text; those of
+/// `SignatureBox::from_string` for the signature text; then those of the signature checks of `verify`. A
+/// legacy signature is always rejected. An allocation may fail at any time. The message is not copied.
 ///
 /// ```
 /// let comment = verify_bytes(alloc, &scheme, PUBLIC_KEY, signature, update)?;
@@ -142,8 +142,8 @@ pub fn verify_bytes<S: Scheme>(
 /// allocate. `room` is scratch space at least as long as `sig_text`; its contents afterwards are
 /// unspecified.
 ///
-/// Errors come in this order: the public key text, as for `read_public_key`; the signature text, as for
-/// `read_signature`; key IDs that differ; a legacy signature, unless `allow_legacy` is set; a signature
+/// Errors come in this order: those of `read_public_key` for the public key text; those of `read_signature`
+/// for the signature text; key IDs that differ; a legacy signature, unless `allow_legacy` is set; a signature
 /// that the scheme does not accept; a comment signature that has fewer than 64 bytes or that the scheme
 /// does not accept.
 ///
@@ -177,9 +177,9 @@ pub fn verify_in_place<'a, S: Scheme>(
 /// given. The data is read in pieces of 64 KiB, so memory use does not grow with its size.
 ///
 /// Errors come in this order: a signature file that cannot be opened or read, `ReadingFailed`; a signature
-/// file that is not UTF-8, `NotUtf8`; a data file that cannot be opened, `ReadingFailed`; a text, as for
-/// `verify_bytes`; a data file that cannot be read, `ReadingFailed`; then the checks of the signature, as
-/// for `verify_bytes`. An allocation may fail at any time.
+/// file that is not UTF-8, `NotUtf8`; a data file that cannot be opened, `ReadingFailed`; a public key or a
+/// signature that does not parse, as for `verify_bytes`; a data file that cannot be read, `ReadingFailed`;
+/// then the checks of the signature, as for `verify_bytes`. An allocation may fail at any time.
 ///
 /// ```
 /// let comment = verify_file(&rt, rt.alloc(), &scheme, PUBLIC_KEY, "update.tar.minisig", "update.tar")?;
@@ -193,9 +193,9 @@ pub fn verify_file<F: Files, S: Scheme>(
     data_path: &str,
 ) -> Result<String>
     // The result is the verdict on the public key text, some signature text and some data; or it is out of
-    // memory, `reading failed` or the error for a text that is not UTF-8, and no contract says when. That the
-    // signature text and the data come from the named files is not part of the contract either: only the code
-    // and tests show it.
+    // memory, `reading failed` or the error for a text that is not UTF-8. The contract does not say when each
+    // of these three errors occurs, and it does not say that the signature text and the data come from the
+    // named files. Only the code and tests show this.
     ensures { (message : List ℕ)
         × IsReadFromFile (λ sig_text. verdict (S.accepts scheme.now) pk_text.now sig_text message false)
         (map_ok string_bytes result) }
@@ -218,9 +218,9 @@ pub fn verify_file<F: Files, S: Scheme>(
 /// data is read in pieces of 64 KiB, so memory use does not grow with its size, and it is not
 /// copied.
 ///
-/// Errors come in this order: a text, as for `verify_bytes`; data that cannot be read, `ReadingFailed`,
-/// only if `data_reader` failed; then the checks of the signature, as for `verify_bytes`. An allocation may
-/// fail at any time.
+/// Errors come in this order: a text that does not parse, as for `verify_bytes`; data that cannot be read,
+/// `ReadingFailed`, only if `data_reader` failed; then the checks of the signature, as for `verify_bytes`. An
+/// allocation may fail at any time.
 ///
 /// ```
 /// let comment = verify_reader(alloc, &scheme, PUBLIC_KEY, signature, &mut ReaderSource::new(reader))?;
@@ -276,7 +276,7 @@ pub fn verify_reader<S: Scheme, R: Rereader>(
     )
 }
 
-// Verifies the contents of an opened file. The contract says nothing about the file's bytes.
+// Verifies the contents of an opened file. The contract does not say which data was verified.
 fn verify_opened_file<S: Scheme, R: Rereader>(
     alloc: Global,
     scheme: &S,
@@ -296,12 +296,15 @@ fn verify_opened_file<S: Scheme, R: Rereader>(
 /// signed with the data.
 ///
 /// The data is read twice in pieces of 64 KiB, so memory use does not grow with its size. Nothing is copied
-/// before the signature has been verified. Errors come in this order: a text; for a prehashed signature, a
-/// place that cannot be marked, `GoingBackFailed`; a first reading that fails, `ReadingFailed`; a check of
-/// the signature, as for `verify_bytes`. After all of these `out` is unchanged. Then come a source that
-/// cannot go back, `GoingBackFailed`; a second reading or an `out` that fails, whichever is first; a second
-/// reading with a different digest, `DataChanged`; and a flush of `out` that fails. An allocation may fail
-/// until the second reading begins. After any error, discard what `out` holds. On success `out` is flushed.
+/// before the signature has been verified.
+///
+/// Errors come in this order: a text that does not parse; for a prehashed signature, a source that cannot
+/// mark its place, `GoingBackFailed`; a first reading that fails, `ReadingFailed`; a check of the signature,
+/// as for `verify_bytes`. After each of these errors, `out` is unchanged. Then come a source that cannot go
+/// back, `GoingBackFailed`; a second reading that fails, `ReadingFailed`, or a write to `out` that fails,
+/// `WritingFailed`, whichever is first; a second reading with a different digest, `DataChanged`; and a flush
+/// of `out` that fails, `WritingFailed`. An allocation may fail until the second reading begins. After any
+/// error, discard what `out` received. On success, `out` is flushed.
 ///
 /// ```
 /// let comment = copy_verified(alloc, &scheme, PUBLIC_KEY, signature, &mut download, &mut new_file)?;

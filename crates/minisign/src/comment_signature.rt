@@ -12,8 +12,8 @@ use minisign_base::Result;
 use minisign_base::scheme::Scheme;
 use std::alloc::Global;
 
-// Returns true if the comment signature is valid, or if the signature is bare and so has none. Of
-// `pk`, only the 32 key bytes are used.
+// Returns true if the comment signature is valid, or if there is none because the signature is bare. Only
+// the 32 key bytes of `pk` are used, not its key ID.
 pub(crate) fn accepts_comments<S: Scheme>(
     alloc: Global,
     scheme: &S,

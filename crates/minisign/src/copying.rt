@@ -23,8 +23,8 @@ use minisign_base::{NamedFault, Result};
 use minisign_hash::blake2b::Blake2b;
 use std::alloc::Global;
 
-// Copies the data to `out` and flushes, if `output` is set. A digest means that the data was not
-// kept, so it is read again from the mark.
+// Copies the data to `out` and flushes, if `output` is set. If `signed` is a digest, the data was not kept
+// in memory, so it is read again from the mark.
 pub(crate) fn copy_out<R: Rereader, O: Sink>(
     alloc: Global,
     signed: &SignedData,
@@ -49,7 +49,7 @@ pub(crate) fn copy_out<R: Rereader, O: Sink>(
     }
 }
 
-// Goes back to the mark, copies the data, and flushes only if its digest is the same as before.
+// Goes back to the mark, copies the data, and flushes `out` only if the data has this digest.
 fn copy_again<R: Rereader, O: Sink>(
     alloc: Global,
     digest: &[u8; 64],
@@ -66,7 +66,7 @@ fn copy_again<R: Rereader, O: Sink>(
     flush(out)
 }
 
-// Returns `DataChanged` if the second reading has another digest than the first.
+// Returns `DataChanged` if the digest of the second reading differs from that of the first.
 fn check_same(digest: &[u8; 64], second: &[u8; 64]) -> Result<()>
     ensures { MatchResult result (λ _. bytes_eq second.now digest.now ≡ true)
         (λ e. (e ≡ Named DataChanged) × (bytes_eq second.now digest.now ≡ false)) }

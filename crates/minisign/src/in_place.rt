@@ -112,8 +112,9 @@ pub fn read_public_key(text: &str) -> Result<PublicKey>
 
 /// Parses the bare base64 of a public key, 56 bytes.
 ///
-/// Errors come in this order: a text that does not have 56 bytes once white space at its ends is trimmed; a
-/// text that, not trimmed, is not base64; fewer than 42 bytes. Does not allocate.
+/// Errors come in this order: a text that does not have 56 bytes after white space at its ends is trimmed; a
+/// text that is not base64, which includes one with white space at its ends; fewer than 42 decoded bytes.
+/// Does not allocate.
 pub fn read_bare_public_key(text: &str) -> Result<PublicKey>
     // The result depends only on the text: it is the public key whose base64 is the text, or the first
     // check that fails.

@@ -53,9 +53,9 @@ impl KeyPair {
     /// `generate_encrypted_keypair` does with a given password. Takes 32 random bytes for the seed, then 8
     /// for the key ID, then 32 for the salt. Never prompts and writes nothing.
     ///
-    /// Errors come in this order: a password of more than 1024 bytes, which could not be typed when
-    /// the key is decrypted, `PasswordTooLong`, with no random bytes taken; a failing `random`;
-    /// memory for the derivation, about 32 MiB. An empty password is accepted.
+    /// Errors come in this order: a password of more than 1024 bytes, `PasswordTooLong`, with no random
+    /// bytes taken, because a prompt for the password would reject it; a failing `random`; memory for the
+    /// derivation, about 32 MiB. An empty password is accepted.
     ///
     /// ```
     /// let pair = KeyPair::generate_with_password(alloc, &scheme, &mut random, password)?;
@@ -236,8 +236,8 @@ pub fn sign_file<F: Files, S: Scheme, Z: RandomSource>(
 ) -> Result<String>
     // On success, the result is the text of the signature box that signing makes for some data, and with a
     // genuine key it parses to a signature box that is valid for this data, if neither comment has a line
-    // feed and the trusted comment is trimmed. The secret key is not encrypted. That the data comes from the
-    // named file is not part of the contract: only the code and tests show it.
+    // feed and the trusted comment is trimmed. The secret key is not encrypted. The contract does not say
+    // that the data comes from the named file; only the code and tests show this.
     ensures signed { IfOk result (λ t. (message : List ℕ) × HasSignedText S.Scheme scheme.now sk.now message
         (given_comments trusted_comment.entry None moment) (random_call Z.RandomSource random.old random.new)
         (string_bytes t)) }
@@ -278,8 +278,8 @@ pub fn sign_file<F: Files, S: Scheme, Z: RandomSource>(
     }
 }
 
-// Signs the contents of an opened file with a decrypted key. The contract says nothing about the
-// file's bytes.
+// Signs the contents of an opened file with a decrypted key. The contract does not say which data was
+// signed.
 fn sign_opened_file<S: Scheme, R: Source, Z: RandomSource>(
     alloc: Global,
     scheme: &S,

@@ -67,13 +67,13 @@ impl KeyPair {
         random: &mut Z,
     ) -> Result<KeyPair>
         // On success, the pair is computed as `specs/Generation` defines it from bytes that were read from
-        // the random source: 32 for the seed, 8 for the key ID and, for an encrypted pair, 32 for the salt.
+        // the random source: 32 for the seed and 8 for the key ID.
         ensures made { IfOk result
             (λ pair. IsUnsealedPair (S.public_of scheme.now)
             (random_call Z.RandomSource random.old random.new) pair.pk pair.sk) }
 
         // On success, the two keys belong together: the secret key is genuine and not encrypted, and the
-        // public key has its public half and its key ID.
+        // public key consists of the secret key's key ID and the last 32 of its secret bytes.
         ensures genuine { IfOk result
             (λ pair. IsGenuinePair (S.public_of scheme.now) pair.pk pair.sk) }
         ensures unencrypted { IfOk result (λ pair. unencrypted_key pair.sk ≡ Ok pair.sk) }
@@ -158,8 +158,8 @@ impl KeyPair {
     ///
     /// Errors come in this order: a failing `random`, before the first prompt; the errors of
     /// `get_password`, for the first prompt and then for the second; two passwords that differ,
-    /// `PasswordsDiffer`; memory for the derivation. A prompt that cannot be written to is an error
-    /// at each text.
+    /// `PasswordsDiffer`; memory for the derivation. If any text cannot be written to the prompt, the
+    /// error is `WritingFailed`.
     pub fn generate_encrypted_keypair<S: Scheme, Z: RandomSource, R: Source, W: Sink>(
         alloc: Global,
         scheme: &S,
@@ -168,12 +168,12 @@ impl KeyPair {
         prompt: &mut Prompt<R, W>,
     ) -> Result<KeyPair>
         // On success, the pair is computed as `specs/Generation` defines it from bytes that were read from
-        // the random source: 32 for the seed, 8 for the key ID and, for an encrypted pair, 32 for the salt.
+        // the random source: 32 for the seed, 8 for the key ID and 32 for the salt.
         //
-        // On success, the secret key of an encrypted pair decrypts under the password that was given or
-        // typed, and is then genuine. Each text that parses to the secret key decrypts to this key and to
-        // no other. A given password leaves the prompt unchanged; otherwise the prompts, the answers and
-        // all that was written are as docs/FORMATS.md says.
+        // On success, the secret key decrypts under the password that was given or typed, and is then
+        // genuine. Each text that parses to the secret key decrypts under this password to the same key and
+        // to no other. If a password is given, the prompt is unchanged; otherwise the prompts, the answers
+        // and everything that was written are as docs/FORMATS.md says.
         ensures made { IfOk result (λ pair. HasSealed (S.public_of scheme.now)
             (random_call Z.RandomSource random.old random.new) (prompt_call R.Source W.Sink prompt.old
             prompt.new) (option_map string_bytes password) pair.pk pair.sk) }
@@ -181,8 +181,9 @@ impl KeyPair {
         // On success, the random source did not fail.
         ensures no_new_fault { OnOk result (Z.random_faults random.new ≡ Z.random_faults random.old) }
 
-        // If the random source failed, nothing was asked. Otherwise all 72 random bytes were taken, and an
-        // allocation failed, the prompt failed, a line gave no password, or the two typed passwords differ.
+        // If the random source failed, the prompt is unchanged. Otherwise all 72 random bytes were taken, and
+        // an allocation failed, the prompt failed, a typed line was rejected as a password, or the two typed
+        // passwords differ.
         ensures refused { IfErr result (SealedPairFails (random_call Z.RandomSource random.old random.new)
             (prompt_call R.Source W.Sink prompt.old prompt.new) (option_map string_bytes password)) }
 

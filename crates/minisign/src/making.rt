@@ -1,5 +1,5 @@
-//! Makes key texts from the parts of keys, for example to change a password or to write a public
-//! key again.
+//! Makes the texts of keys from a key ID and secret bytes, for example to change a password or to write the
+//! public key of a secret key again.
 
 ghost use Rattle.std.specs.Prelude.{◌≡◌, ◌≤◌, ◌+◌, List, ℕ, Some, Ok, IfOk, IfErr, length};
 ghost use Rattle.std.specs.Str.Iter.{LacksByte};
@@ -17,8 +17,8 @@ use crate::secret_key_box::SecretKeyBox;
 use minisign_base::Result;
 use std::alloc::Global;
 
-/// The salt and the limits with which `make_secret_key` encrypts a key, with C layout. The limits are
-/// those of libsodium's `crypto_pwhash_scryptsalsa208sha256`.
+/// The salt and the limits with which `make_secret_key` encrypts a key, with C layout. The limits have the
+/// same meaning as for libsodium's `crypto_pwhash_scryptsalsa208sha256`.
 #[repr(C)]
 #[derive(Clone, Copy)]
 pub struct Sealing {
@@ -57,9 +57,9 @@ pub fn make_secret_key(
     // On success, the result is the text, with the comment, of the secret key of these parts, encrypted
     // under the password with the given salt and limits, or unencrypted if there is no password. It is 233
     // bytes longer than the comment. If the comment has no line feed, the text decrypts under the password
-    // to the key of these parts, within each work limit that p is within, and to no other key; without a
-    // password it parses to this key and to no other. All this holds for every salt, all limits and every
-    // k.
+    // to the key of these parts and to no other key, unless the caller's bound on the parallelization p is
+    // below the p of the limits; without a password, it parses to this key and to no other. All this holds
+    // for every salt, all limits and every k.
     ensures text { IfOk result (IsMadeText key_id secret (option_map (λ p. p.now) password.entry) sealing.now
         comment.now) }
 
@@ -93,8 +93,8 @@ fn make_sealed(
     sealed.to_box(alloc, Some(comment))
 }
 
-/// Makes the text of the public key that belongs to the secret key that `make_secret_key` makes of the same
-/// parts: the last 32 of the secret bytes, under the key ID. The text is 77 bytes longer than the comment,
+/// Makes the text of the public key with this key ID and the last 32 of the secret bytes. It belongs to the
+/// secret key that `make_secret_key` makes from the same parts. The text is 77 bytes longer than the comment,
 /// which is in its first line. Minisign's own comment is `minisign public key ` and the key ID, read little
 /// endian, in uppercase hexadecimal digits without leading zeros.
 ///

@@ -5,7 +5,8 @@ ghost use Rattle.std.specs.Prelude.{◌≡◌, true, Some, length, ⊤};
 use minisign_base::devices::DeviceFault;
 use minisign_base::devices::sources::{Rereader, Source};
 
-// A source that reads from a slice. It never fails. The beginning of the slice is marked at first.
+// A source that reads from a slice. It never fails, because a place is always marked: at first, the
+// beginning of the slice.
 #[derive(Drop)]
 pub(crate) struct MemorySource<'a> {
     rest: &'a [u8],

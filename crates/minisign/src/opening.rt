@@ -69,9 +69,8 @@ impl SecretKey {
     /// `from_box` does. The path is used as given.
     ///
     /// Errors come in this order: a file that cannot be opened or read, `ReadingFailed`; a file that is not
-    /// UTF-8, `NotUtf8`; the errors of `from_box`. An allocation may fail at any time. Until the file has
-    /// been read the prompt is unchanged. That the text comes from the named file is not part of the
-    /// contract.
+    /// UTF-8, `NotUtf8`; the errors of `from_box`. An allocation may fail at any time. The prompt is not used
+    /// until the file has been read. The contract does not say that the text comes from the named file.
     pub fn from_file<F: Files, R: Source, W: Sink>(
         files: &F,
         alloc: Global,

@@ -16,14 +16,14 @@ pub struct VerifyOptions {
 }
 
 impl VerifyOptions {
-    /// Writes no status lines and copies nothing.
+    /// Options to write no status lines and to copy nothing.
     pub const SILENT: VerifyOptions = VerifyOptions {
         quiet: true,
         output: false,
         allow_legacy: false,
     };
 
-    /// Writes no status lines, and copies the verified data.
+    /// Options to write no status lines and to copy the verified data.
     pub const COPYING: VerifyOptions = VerifyOptions {
         quiet: true,
         output: true,

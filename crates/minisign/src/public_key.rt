@@ -85,12 +85,12 @@ impl PublicKey {
     /// Parses the public key text in the file at `path`, as `from_box` does. The path is used as given.
     ///
     /// Errors come in this order: a file that cannot be opened or read, `ReadingFailed`; a file that is not
-    /// UTF-8, `NotUtf8`; the errors of `from_box`. An allocation may fail at any time. That the text comes
-    /// from the named file is not part of the contract.
+    /// UTF-8, `NotUtf8`; the errors of `from_box`. An allocation may fail at any time. The contract does not
+    /// say that the text comes from the named file.
     pub fn from_file<F: Files>(files: &F, alloc: Global, path: &str) -> Result<PublicKey>
         // On success, the result is what parsing some text gives. An error is out of memory, a file that
-        // could not be opened or read, a file that is not UTF-8, or the error of parsing some text. That the
-        // text comes from the named file is not part of the contract.
+        // could not be opened or read, a file that is not UTF-8, or the error of parsing some text. The
+        // contract does not say that the text comes from the named file.
         ensures { IsReadFromFile read_public_key result }
     {
         let text = read_text_file(files, alloc, path)?;
@@ -99,8 +99,9 @@ impl PublicKey {
 
     /// Parses the bare base64 of a public key, 56 bytes, as `read_bare_public_key` does.
     ///
-    /// Errors come in this order: a text that does not have 56 bytes once white space at its ends is trimmed;
-    /// a text that, not trimmed, is not base64; fewer than 42 bytes. Does not allocate.
+    /// Errors come in this order: a text that does not have 56 bytes after white space at its ends is
+    /// trimmed; a text that is not base64, which includes one with white space at its ends; fewer than 42
+    /// decoded bytes. Does not allocate.
     pub fn from_base64(_alloc: Global, text: &str) -> Result<PublicKey>
         // The result depends only on the text: it is the public key whose base64 is the text, or the first
         // check that fails.
@@ -113,7 +114,7 @@ impl PublicKey {
     /// secret, which for an encrypted key are the encrypted bytes. Never fails, and does not allocate.
     pub fn from_secret_key(sk: &SecretKey) -> Result<PublicKey>
         // Always succeeds. The public key has the algorithm and the key ID of the secret key and the last
-        // 32 of its secret bytes, all as the secret key holds them.
+        // 32 of its secret bytes. If the secret key is encrypted, the key ID and these bytes are too.
         ensures succeeds { IsOk result }
         ensures key { IfOk result (λ v. v ≡ own_public_key sk.now) }
     {

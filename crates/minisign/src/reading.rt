@@ -20,8 +20,7 @@ use std::rt::Files;
 // The size of the read buffer in bytes.
 const PIECE_BYTES: usize = 65536;
 
-// Reads the file as text. If the file cannot be opened, the error is the one for a file that cannot
-// be read.
+// Reads the file as text. A file that cannot be opened gives `ReadingFailed`, as one that cannot be read.
 pub(crate) fn read_text_file<F: Files>(files: &F, alloc: Global, path: &str) -> Result<String>
     ensures { IfErr result IsTextFileFault }
 {

@@ -22,8 +22,8 @@ const MEMLIMIT_MAX: u64 = 1073741824;
 // The base-2 logarithm of the greatest cost N with which keys are encrypted or decrypted.
 const N_LOG2_MAX: u8 = 20;
 
-// The bound on scrypt's parallelization p, if there is one, and which rows scrypt keeps: every
-// k-th, k at least 1.
+// How a key is derived: with a bound on scrypt's parallelization p, if there is one, and with every k-th
+// row kept in memory, k at least 1.
 #[derive(Clone, Copy)]
 pub(crate) struct Derivation {
     pub(crate) bound: Option<u32>,

@@ -110,12 +110,12 @@ impl SignatureBox {
     /// Parses the signature text in the file at `path`, as `from_string` does. The path is used as given.
     ///
     /// Errors come in this order: a file that cannot be opened or read, `ReadingFailed`; a file that is not
-    /// UTF-8, `NotUtf8`; the errors of `from_string`. An allocation may fail at any time. That the text comes
-    /// from the named file is not part of the contract.
+    /// UTF-8, `NotUtf8`; the errors of `from_string`. An allocation may fail at any time. The contract does
+    /// not say that the text comes from the named file.
     pub fn from_file<F: Files>(files: &F, alloc: Global, path: &str) -> Result<SignatureBox>
         // On success, the result is what parsing some text gives. An error is out of memory, a file that
-        // could not be opened or read, a file that is not UTF-8, or the error of parsing some text. That the
-        // text comes from the named file is not part of the contract.
+        // could not be opened or read, a file that is not UTF-8, or the error of parsing some text. The
+        // contract does not say that the text comes from the named file.
         ensures { IsReadFromFile read_signature_box result }
     {
         let text = read_text_file(files, alloc, path)?;

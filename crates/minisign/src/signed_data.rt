@@ -18,8 +18,8 @@ pub(crate) enum SignedData {
     Digest([u8; 64]),
     // Legacy: the data itself.
     Message(Vec<u8>),
-    // Legacy although that is not allowed: nothing, because the signature will be rejected before
-    // the data is looked at.
+    // A legacy signature, although these are not allowed: nothing, because the signature will be rejected
+    // without a check of the data.
     NoData,
 }
 

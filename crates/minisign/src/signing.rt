@@ -50,8 +50,8 @@ pub(crate) struct GivenComments<'a> {
 ///
 /// Errors come in this order: an encrypted key, with nothing read from `data_reader` or `random`; a failing
 /// `data_reader`; a failing `random`, after the data was read; and, if `pk` is given, a comment signature
-/// that its 32 key bytes do not accept. Key IDs are not compared. An allocation may fail after the key was
-/// checked: for the read buffer, the two comments, the comment signature and the comment message.
+/// that is not valid under the 32 key bytes of `pk`. Key IDs are not compared. An allocation may fail after
+/// the key was checked: for the read buffer, the two comments, the comment signature and the comment message.
 pub fn sign<S: Scheme, R: Source, Z: RandomSource>(
     alloc: Global,
     scheme: &S,
@@ -108,11 +108,12 @@ pub fn sign<S: Scheme, R: Source, Z: RandomSource>(
     Ok(signature_box)
 }
 
-/// States that the default comments meet the headline's premises on comments, whatever the time is. This
-/// function is a law: it does nothing, and exists only for its contract.
+/// States that the default comments are read back unchanged from a signature text, whatever the time is.
+/// This function is a law: it does nothing, and exists only for its contract.
 pub fn default_comments_are_read_back(moment: u64)
-    // If no comments are given, the default comments are read back from the signature text exactly as they
-    // were written.
+    // If no comments are given, the default comments have no line feed, the trusted one is trimmed, and the
+    // untrusted one does not end in a carriage return. So they are read back from the signature text exactly
+    // as they were written.
     ensures { AreChosenReadBack (given_comments None None moment) }
 {}
 

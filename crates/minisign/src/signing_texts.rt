@@ -24,9 +24,8 @@ use std::alloc::Global;
 /// signature text.
 ///
 /// A key that was never encrypted is used if its checksum matches (`from_unencrypted_box`). Any other key
-/// is decrypted with the given password, or with one that the prompt asks for (`from_box`). Then the data
-/// is signed (`sign`, without a public key to test), and the signature box is written as text
-/// (`to_string`).
+/// is decrypted with the given password, or with one that the prompt asks for (`from_box`). Then the data is
+/// signed, as `sign` does if no public key is given, and the signature box is written as text (`to_string`).
 ///
 /// Errors come in this order: a text that does not parse as a key; a checksum that does not match, for a
 /// key that was never encrypted, or the errors of `from_box`; a failing `data_reader`; a failing `random`,

@@ -1,5 +1,5 @@
-//! Splits texts into lines, appends lines, and encodes and decodes base64. Also states that the parsers agree
-//! with the grammars.
+//! Splits texts into lines, appends lines, and encodes and decodes base64. Also contains the law
+//! `texts_are_decided`, which states that the parsers agree with the grammars.
 
 ghost use Rattle.std.specs.Prelude.{◌≡◌, ℕ, ◌+◌, ◌≤◌, List, [], ◌∷◌, ◌++◌, length, false, Option};
 ghost use Rattle.std.specs.Prelude.{string_bytes, IfOk, IfErr, OnOk, IfSome, IfNone};
@@ -28,9 +28,9 @@ use std::str::Lines;
 #[tactic(auto, using(crate::proofs::PublicKeyTexts::read_as, crate::proofs::PublicKeyTexts::bare_read_as, crate::proofs::SignatureTexts::read_as, crate::proofs::SecretKeyTexts::read_as, crate::proofs::SecretKeyTexts::bytes_read_as, crate::proofs::Openings::opened_as, crate::proofs::Openings::unencrypted_as))]
 pub fn texts_are_decided()
     // The functions that parse a public key text, a bare base64 public key, a signature text, a secret key
-    // text or the bytes of a secret key give a value exactly if the grammar, stated as a relation, relates
-    // the text to this value. The grammar relates a text to one value at most, and to none if the function
-    // gives an error.
+    // text or the bytes of a secret key give a value exactly if the grammar, which is a relation of texts
+    // and values, holds for the text and this value. For each text, the grammar holds for one value at most,
+    // and for none if the function gives an error.
     ensures public_key { (text : List ℕ) → IsReading (PublicKeyText text) (read_public_key text) }
     ensures bare_public_key { (text : List ℕ) → IsReading (BarePublicKey text) (read_bare_public_key text) }
     ensures signature { (text : List ℕ) → IsReading (SignatureText text) (read_signature text) }

@@ -160,8 +160,8 @@ pub fn verify<S: Scheme, R: Rereader, W: Sink, O: Sink>(
     copy_out(alloc, &signed, data_reader, output, out)
 }
 
-/// States what a verdict does not depend on, for every scheme. This function is a law: it does nothing, and
-/// exists only for its contract.
+/// States which parts of the inputs never change a verdict, for every scheme. This function is a law: it does
+/// nothing, and exists only for its contract.
 #[tactic(auto, using(crate::proofs::Verdicts::unvouched_same))]
 pub fn unvouched_parts_change_no_verdict()
     // The verdict does not depend on the untrusted comment, on the public key's algorithm bytes, or on any
@@ -209,7 +209,7 @@ fn read_data<R: Rereader>(
     read_signed_data(alloc, signature_box, data_reader, allow_legacy)
 }
 
-// Returns true if the data will be read twice: it is copied, and only its digest is kept.
+// Returns true if the data will be read twice: it is to be copied, and only its digest is kept in memory.
 fn reads_again(signature_box: &SignatureBox, output: bool) -> bool
     ensures { result ≡ is_reread output signature_box.now }
 {

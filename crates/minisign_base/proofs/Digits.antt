@@ -18,12 +18,12 @@ last_digits_of_zero (suc places) behind =
     ∙ ap (λ (z : List ℕ). z ++ behind)
     (replicate_more places 48 ∙ ap (λ (k : ℕ). replicate k 48) (add-one places))
 
--- A number with more than one digit needs a second place.
+-- If a number of at most p + 1 hexadecimal digits has more than one digit, p is not zero.
 two_places : (p n : ℕ) → (n / 16 == 0) ≡ false → n < 16 ^ suc p → 0 < p
 two_places zero n some h = grind (arith, common_steps)
 two_places (suc p) n some h = omega arith
 
--- The digits of a number with leading zeros are its last digits.
+-- The digits of a number, filled up with leading zeros, are its last digits.
 filled_up : (places fuel n : ℕ) (behind : List ℕ) → n < 16 ^ places → places ≤ fuel → 0 < places
     → replicate (places + length behind - length (digits_onto fuel 16 true n behind)) 48
     ++ digits_onto fuel 16 true n behind ≡ last_digits places n behind
@@ -55,7 +55,7 @@ padded_sixteen numeral =
     ap (λ (k : ℕ). replicate k 48 ++ (numeral ++ [])) count
     ∙ ap (λ (z : List ℕ). replicate (16 - length numeral) 48 ++ z) (append-nil numeral)
 
--- The text of a key ID is the last 16 digits of its number.
+-- The text of a key ID consists of the last 16 digits of the number that its bytes encode.
 pub key_id_by_digits : (id : List ℕ) → from_le_bytes w64 id < 2 ^ 64
     → key_id_text id ≡ last_digits 16 (from_le_bytes w64 id) []
 unfolding key_id_text digits

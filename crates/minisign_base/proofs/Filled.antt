@@ -6,8 +6,8 @@ use Rattle.std.proofs.lemmas.Slice.{take-put_mid}
 use Rattle.std.proofs.Math.Seq.{take-append-add}
 use borrow.Rule.Slice.PartMut.{put_mid}
 
--- A buffer that is filled from an index on holds its earlier bytes up to it, followed by the new
--- ones.
+-- A buffer that is filled from an index on holds its old bytes up to the index, followed by the new
+-- bytes.
 pub take-filled : (at n : ℕ) (xs ys : List ℕ) → at ≤ length xs → n ≤ length ys
     → take (at + n) (put_mid at (length xs - at) xs ys) ≡ take at xs ++ take n ys
 take-filled at n xs ys within short =

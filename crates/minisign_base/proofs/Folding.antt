@@ -10,7 +10,7 @@ use Rattle.std.proofs.lemmas.Grind.{get_or-set_at}
 use Rattle.std.proofs.lemmas.List.FromFn.{length-range_with_len, get_or-range_with_len}
 use Rattle.minisign_base.specs.Toy.{column, fold_of}
 
--- An appended byte is xored into the column in which it is, and into no other.
+-- An appended byte is xored into its column, the one of its index modulo 32, and into no other.
 pub column-append : (i j : ℕ) (xs : List ℕ) (b : ℕ) → column i j (xs ++ b ∷ []) ≡ bit_xor (column i j xs)
     (if (j + length xs) % 32 == i then b else 0)
 column-append i j [] b = rw add-zero (xor_zero_r (if j % 32 == i then b else 0))

@@ -1,5 +1,5 @@
--- Lemmas about the base-2 logarithm of the cost: exactly one number meets the description, and a
--- power of two gives it.
+-- Lemmas about the base-2 logarithm of the cost: only cost_log2 satisfies IsCostLog2, and the greatest
+-- power of two up to half of the greatest cost gives it.
 use Rattle.std.proofs.Common.{◌≡◌, ℕ, ◌+◌, ◌*◌, ◌/◌, ◌^◌, ◌<◌, ◌≤◌, zero, suc, Some, None, inl, inr, false}
 use Rattle.std.proofs.Common.{true, max, refl, sym, ap, ◌∙◌, add-one, arith}
 use Rattle.std.proofs.Math.Nat.{pow-suc}
@@ -10,7 +10,7 @@ use Rattle.std.specs.List.{find, range_with_len}
 use Rattle.std.specs.Option.{unwrap_or}
 use Rattle.minisign_base.specs.Limits.{IsCostLog2, cost_log2}
 
--- A search finds the first number whose power of two is above the bound.
+-- The search finds the first number of a range whose power of two is above the bound.
 find_least : (bound n start len : ℕ) → start ≤ n → n < start + len
     → ((k : ℕ) → start ≤ k → k < n → 2 ^ k ≤ bound) → bound < 2 ^ n
     → find (λ m. nat_lt bound (2 ^ m)) (range_with_len start len) ≡ Some n
@@ -27,7 +27,7 @@ find_least bound n start (suc len) from below smaller enough = elim (cases_lt st
       rw (found, same) refl
 ]
 
--- None of some numbers has a power of two above the bound.
+-- If no number of a range has a power of two above the bound, the search finds none.
 find_none : (bound start len : ℕ) → ((k : ℕ) → start ≤ k → k < start + len → 2 ^ k ≤ bound)
     → find (λ m. nat_lt bound (2 ^ m)) (range_with_len start len) ≡ None
 find_none bound start zero smaller = refl
@@ -36,7 +36,7 @@ find_none bound start (suc len) smaller =
     (smaller start (omega arith) (omega arith)) in
     rw passes (find_none bound (start + 1) len (λ k l b. smaller k (omega arith) (omega arith)))
 
--- The number that meets the description is the one that is found.
+-- A number that satisfies IsCostLog2 equals cost_log2.
 pub cost_log2_unique : (greatest n : ℕ) → IsCostLog2 greatest n → n ≡ cost_log2 greatest
 unfolding cost_log2
 cost_log2_unique greatest n least = elim (cases_lt n 63) [

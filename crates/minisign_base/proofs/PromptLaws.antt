@@ -13,14 +13,14 @@ use Rattle.minisign_base.specs.declared.prompt.Prompt.{Prompt}
 pub typed_is : (bytes password : List ℕ) → password_of bytes ≡ Ok password → typed_password bytes ≡ password
 typed_is bytes password e = ap (λ r. result_unwrap_or r []) e
 
--- If the first of two conversations fails, both together fail with its error.
+-- If the first of two conversations fails, the combined conversation fails with the same error.
 pub stopped_first : {R W : Type 0} (p : PromptCall R W) (first second : List Step) (e : Fault)
     → ConversationEnds p first (Err e) → ConversationEnds p (first ++ second) (Err e)
 stopped_first p first second e =
     first_stopped (λ step old new. StepEnds (record p { old = old; new = new }) step) first second p.old p.new
     e
 
--- If the first conversation succeeds, both together end with the result of the second.
+-- If the first conversation succeeds, the combined conversation ends with the result of the second.
 pub second_ended : {R W : Type 0} (p : PromptCall R W) (between : Prompt R W) (first second : List Step)
     (answer : Result ⊤ Fault) → ConversationEnds (record p { new = between }) first (Ok tt)
     → ConversationEnds (record p { old = between }) second answer

@@ -31,7 +31,8 @@ consumed_all None b done c e = (tt, tt)
 consumed_all (Some xs) None done c e = absurd c
 consumed_all (Some xs) (Some ys) done c e = (c ∙ ap (λ l. done ++ l) e ∙ append-nil done, ap Some e)
 
--- Bytes without a line feed, followed by a line, are a line as long as both.
+-- If the first bytes contain no line feed, the length of the first line is their length plus the
+-- length of the first line of the other bytes.
 pub line_length-append : (done more : List ℕ) → line_length done ≡ length done → line_length (done ++ more)
     ≡ length done + line_length more
 line_length-append done more e =
@@ -44,7 +45,7 @@ pub line_length-push : (done : List ℕ) (b : ℕ) → line_length done ≡ leng
 line_length-push done b e other =
     line_length-append done (b ∷ []) e ∙ ap (λ t. length done + cond (not t) (1 + 0) 0) (ne_eqb b 10 other)
 
--- A line feed ends the line.
+-- If a line feed follows bytes without one, the first line has the length of these bytes.
 pub line_length-feed : (done rest : List ℕ) → line_length done ≡ length done
     → line_length ((done ++ 10 ∷ []) ++ rest) ≡ length done
 line_length-feed done rest e =

@@ -23,7 +23,7 @@ pub record SinkCall (W : Type 0) : Type 1 where
   pub old : W
   pub new : W
 
--- Makes these two records from their fields.
+-- These two records, made from their fields.
 abbrev pub rereader_call : {R : Type 0} → SourceOf R → (R → Type 0) → R → R → RereaderCall R
 rereader_call source steady old new = record { source = source; steady = steady; old = old; new = new }
 
@@ -100,8 +100,8 @@ Flushes out answer = HasFlushed out.sink.taken out.sink.flushed out.sink.sink_fa
 abbrev pub IsWritingFault : {W : Type 0} → SinkCall W → Fault → Type 0
 IsWritingFault sink e = (e ≡ Named WritingFailed) × SinkFails sink
 
--- Bytes are written to a sink and not flushed. On success it received all of them, and after an
--- error a prefix.
+-- Bytes are written to a sink and not flushed. On success the sink received all of them, and after
+-- an error a prefix.
 abbrev pub WritesBytes : {W : Type 0} → SinkCall W → List ℕ → Result ⊤ Fault → Type 0
 WritesBytes out bytes answer =
     MatchResult answer (λ _. SinkReceives out bytes × SinkHasNoNewFault out)

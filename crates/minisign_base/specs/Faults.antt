@@ -77,7 +77,7 @@ fault_row fault.InputOrOutputFailed = row 78 kind.Io (codes "input or output fai
 fault_row fault.FormattingFailed = row 79 kind.Io (codes "an error occurred when formatting an argument")
 fault_row fault.InvalidUtf8 = row 80 kind.Encoding (codes "invalid UTF-8")
 
--- The text of the error. For all errors except three it is the summary.
+-- The text of the error: the summary, except for the three errors that come first here.
 abbrev pub named_text : NamedFault → List ℕ
 named_text (fault.DifferentKeyIds signature key) =
     codes "Signature key id: " ++ (key_id_text signature ++

@@ -12,7 +12,7 @@ use Rattle.minisign_base.specs.declared.faults.NamedFault.TheVariants.{EndOfInpu
 abbrev pub line_length : List ℕ → ℕ
 line_length bytes = position_or_len (λ b. b == 10) bytes
 
--- The first line, without its line feed and without one carriage return before that.
+-- The first line, without its line feed and without one carriage return before the line feed.
 unfoldable pub first_line : List ℕ → List ℕ
 first_line bytes =
     let line = take (line_length bytes) bytes in

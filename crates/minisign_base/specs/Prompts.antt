@@ -34,8 +34,8 @@ pub record HasFailedInLine {R : Type 0} (r : SourceCall R) : Type 0 where
   pub given : IfSome (r.source.ahead r.new) (λ ys. IfSome (r.source.ahead r.old) (λ xs.
       (front : List ℕ) × (xs ≡ front ++ ys) × (length front < 1026)))
 
--- A step of a conversation: memory is allocated; a text is written; a line is read, with these
--- unread bytes; or a check is made, which may give an error.
+-- A step of a conversation: memory is allocated; a text is written; the first line of these unread
+-- bytes is read; or a check is made, which passes (None) or gives an error.
 pub data Step : Type 0 where
   Allocate : Step
   Say : List ℕ → Step
@@ -59,7 +59,7 @@ abbrev pub ConversationEnds : {R W : Type 0} → PromptCall R W → List Step �
 ConversationEnds p steps answer =
     StepsEnd (λ step old new. StepEnds (record p { old = old; new = new }) step) steps p.old p.new answer
 
--- The steps after a password was read: if it is empty, the prompt says so.
+-- The steps after a password was read: if the password is empty, `<empty>` is written.
 abbrev pub marking_steps : List ℕ → List Step
 marking_steps [] = Say empty_mark ∷ []
 marking_steps (b ∷ password) = []

@@ -1,6 +1,7 @@
--- Calls that take several steps: which steps were taken, and how the call ended. The steps depend
--- on the call. The parameter Ends says for a step what it does to the devices (old before it, new
--- after it) and how it ends: with Ok, or with the error that ends the call.
+-- Calls that consist of several steps, which end with success or at the first step that fails. The
+-- type of the steps depends on the call. For a step, the devices before it (old) and after it
+-- (new), and a result, the parameter Ends says whether the step can change the devices in this way
+-- and end with this result.
 use Rattle.std.specs.Prelude.{◌≡◌, ◌⊎◌, ⊤, List, [], ◌∷◌, Result, Ok, Err, MatchResult}
 use Rattle.minisign_base.specs.Fault.{Fault, Named}
 use Rattle.minisign_base.specs.declared.faults.NamedFault.{NamedFault}
@@ -17,8 +18,8 @@ StepsEnd {D = D} Ends (step ∷ later) old new (Err e) =
     Ends step old new (Err e)
     ⊎ ((between : D) × Ends step old between (Ok tt) × StepsEnd Ends later between new (Err e))
 
--- The end of a step that has only one error: what holds on success, the error, and what holds after
--- it.
+-- The end of a step that has only one error: on success, Done holds; otherwise the error is fault,
+-- and Failed holds.
 abbrev pub EndsWith : Type 0 → NamedFault → Type 0 → Result ⊤ Fault → Type 0
 EndsWith Done fault Failed answer = MatchResult answer (λ _. Done) (λ e. (e ≡ Named fault) × Failed)
 

@@ -36,8 +36,8 @@ tied_half random key m = zip2 bit_xor (zip2 bit_xor random key) (fold_of m)
 abbrev pub toy_signature_of : List ℕ → List ℕ → Option (List ℕ) → List ℕ
 toy_signature_of m secret z = random_half z ++ tied_half (random_half z) (drop 32 secret) m
 
--- The toy's check: the second half of the signature is the one for its first half, the public key
--- and the message.
+-- The check of the toy scheme: the second half of the signature is the xor of the first half, the
+-- public key and the folded message.
 abbrev pub toy_accepts : List ℕ → List ℕ → List ℕ → Bool
 toy_accepts m key signature = bytes_eq (drop 32 signature) (tied_half (take 32 signature) key m)
 
@@ -47,6 +47,7 @@ is_listed table m key signature =
     list_any (λ t. bytes_eq t.message.now m && (bytes_eq t.public_key key && bytes_eq t.signature signature))
     table
 
--- The check of the toy with a table: it accepts the table's triples and its own signatures.
+-- The check of the toy scheme with a table: it accepts the table's triples and the scheme's own
+-- signatures.
 abbrev pub toy_accepts_with : List Triple → List ℕ → List ℕ → List ℕ → Bool
 toy_accepts_with table m key signature = is_listed table m key signature || toy_accepts m key signature

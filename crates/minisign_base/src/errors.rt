@@ -37,7 +37,8 @@ pub enum ErrorKind {
     KDF,
     /// Generating random bytes failed.
     RNG,
-    /// A secret key file is not base64; in Rust, also: std rejected bytes that are not UTF-8.
+    /// A secret key file is not base64. Callers in Rust also get this kind if std rejects bytes that are not
+    /// UTF-8.
     Encoding,
     /// A secret key is encrypted, but the call needs a decrypted one.
     EncryptedKey,
@@ -55,8 +56,8 @@ pub struct PError {
 /// A value or an error.
 pub type Result<T> = std::result::Result<T, PError>;
 
-// The representation of an error: a named one, or a kind with a constant text (`StaticText`) or an allocated
-// one (`OwnedText`).
+// The representation of an error: a named error, or a kind with a text. The text is either constant
+// (`StaticText`) or allocated (`OwnedText`).
 #[derive(Debug, Drop)]
 enum Meaning {
     Named(NamedFault),

@@ -11,13 +11,13 @@ use crate::helpers::joined;
 use crate::key_ids::KeyId;
 use std::{fmt, str};
 
-/// The greatest length in bytes of a text that contains key IDs.
+/// The size in bytes of the buffer for a text that contains key IDs. Every such text fits.
 pub const TEXT_ROOM: usize = 96;
 
 /// An error that a call of Minisign returns. `Display` writes its text.
 #[derive(Clone, Copy, Debug, PartialEq, Eq)]
 pub enum NamedFault {
-    /// An allocation failed, or its size is too large for any allocation.
+    /// An allocation failed, or the requested size is too large for any allocation.
     OutOfMemory,
     /// Reading from a source, a file or a prompt failed.
     ReadingFailed,
@@ -190,8 +190,8 @@ impl NamedFault {
         self.row().0
     }
 
-    /// Returns the text of the error without its key IDs, at most 127 bytes. For all errors except
-    /// three it is the whole text.
+    /// Returns the text of the error without key IDs, at most 127 bytes. It is the whole text, except for
+    /// `DifferentKeyIds`, `RefusedByGivenKey` and `EncryptedKeyRefused`.
     pub fn summary(&self) -> &'static str
         ensures { result.now ≡ (fault_row self.now).summary }
     {

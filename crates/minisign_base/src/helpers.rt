@@ -117,7 +117,7 @@ fn line_buffer(alloc: Global) -> Result<Vec<u8>>
 /// Returns the time in seconds since 1970, rounded down. Returns `ClockIncorrect` if the clock cannot be
 /// read or is set before 1970. Does not allocate.
 pub fn unix_timestamp(clock: &impl Clock) -> Result<u64>
-    // The only error is `system clock is incorrect`. No contract says what the returned time is.
+    // The only error is `system clock is incorrect`. The contract does not say what the returned time is.
     ensures { IfErr result (λ e. e ≡ Named ClockIncorrect) }
 {
     let Ok(now) = SystemTime::now(clock) else {

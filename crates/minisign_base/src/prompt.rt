@@ -26,7 +26,7 @@ pub(crate) const LINE_BYTES: usize = 1026;
 /// The maximum length in bytes of a typed password.
 pub const PASSWORD_BYTES: usize = 1024;
 
-/// A reader and a writer, such as the two sides of a terminal, for asking a person.
+/// A reader and a writer, such as a terminal's input and output, for asking a person.
 #[derive(Drop)]
 pub struct Prompt<R, W> {
     /// The source of lines.
@@ -43,7 +43,7 @@ impl<R: Source, W: Sink> Prompt<R, W> {
         Prompt { reader, writer }
     }
 
-    /// Returns the reader and the writer as they are.
+    /// Returns the reader and the writer. Does not read, write or flush.
     pub fn into_parts(self) -> (R, W)
         ensures { result ≡ (self.reader, self.writer) }
     {
@@ -97,8 +97,8 @@ impl Prompt<NoSource, NoSink> {
     /// Returns a prompt without input and output. Text that is written to it is discarded, and
     /// asking for a password fails with `EndOfInput`. Does not allocate.
     pub fn silent() -> Prompt<NoSource, NoSink>
-        // A line that is read from a silent prompt gives no password: the input is empty, so the error is
-        // `EndOfInput`.
+        // A line that is read from a silent prompt gives `EndOfInput` instead of a password, because the
+        // input is empty.
         ensures { (old new : Prompt NoSource NoSink) (bytes : List ℕ)
             → HasReadLine (source_call ⟦<NoSource as Source>⟧ old.reader new.reader) bytes
             → password_of bytes ≡ Err (Named EndOfInput) }
@@ -161,12 +161,12 @@ fn next_byte<R: Source>(source: &mut R) -> Result<Option<u8>>
     }
 }
 
-/// States what a prompt's writer receives, given the steps of its conversation. This function is a law: it
+/// States which bytes a prompt's writer receives in the steps of a conversation. This function is a law: it
 /// does nothing, and exists only for its contract.
 pub fn conversations_are_written<R: Source, W: Sink>()
-    // If all steps of a conversation succeeded, the writer received everything that they write, without an
-    // error. If the conversation stopped with an error, the writer received a prefix of what all its steps
-    // write.
+    // If all steps of a conversation succeeded, the writer received exactly the texts of these steps, without
+    // an error. If the conversation stopped with an error, the writer received a prefix of the texts of all
+    // steps.
     ensures taken { (old new : Prompt R W) (steps : List Step)
         → ConversationEnds (prompt_call R.Source W.Sink old new) steps (Ok tt)
         → Appends (W.taken old.writer) (W.taken new.writer) (written steps) }

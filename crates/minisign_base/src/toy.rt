@@ -16,8 +16,8 @@ use std::simd::u8x32;
 /// public key and the folded message. A message is folded into 32 bytes, of which byte i is the xor of the
 /// message's bytes i, i + 32, i + 64 and so on.
 ///
-/// With a table the scheme also accepts the triples in the table, so that signatures of other schemes can
-/// be tested without them.
+/// With a table, the scheme also accepts the triples in the table. So signatures of other schemes, such as
+/// Ed25519, can be used in tests without an implementation of the scheme.
 #[derive(Clone, Copy)]
 pub struct ToyScheme<'a> {
     table: &'a [Triple<'a>],
@@ -104,8 +104,8 @@ fn is_listed(table: &[Triple], message: &[u8], public_key: &[u8; 32], signature:
     false
 }
 
-// Returns true if the second half of the signature follows from the first half, the public key and
-// the message.
+// Returns true if the second half of the signature is the one that belongs to the first half, the public key
+// and the message.
 fn is_tied(message: &[u8], public_key: &[u8; 32], signature: &[u8; 64]) -> bool
     ensures { result ≡ toy_accepts message.now public_key.now signature.now }
 {

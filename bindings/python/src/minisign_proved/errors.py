@@ -53,7 +53,7 @@ class BadLegacyFlag(MinisignError):
 
 
 class OutOfMemory(MinisignError):
-    """An allocation failed, or its size is too large for any allocation."""
+    """An allocation failed, or the requested size is too large for any allocation."""
 
     number = 7
 

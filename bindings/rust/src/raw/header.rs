@@ -23,7 +23,7 @@ impl Reason {
     pub const NO_ROOM: Reason = Reason(5);
     /// The parameter allow_legacy is neither 0 nor 1.
     pub const BAD_LEGACY_FLAG: Reason = Reason(6);
-    /// An allocation failed, or its size is too large for any allocation.
+    /// An allocation failed, or the requested size is too large for any allocation.
     pub const OUT_OF_MEMORY: Reason = Reason(7);
     /// The input is not UTF-8: a file, a typed line, a password, a comment or a name.
     pub const NOT_UTF8: Reason = Reason(8);

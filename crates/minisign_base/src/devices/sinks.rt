@@ -1,4 +1,5 @@
-//! Sinks, to which bytes are written: the trait, its implementations, and calls that write.
+//! Sinks, to which bytes are written: the trait, its implementations, and functions that write all bytes of
+//! a slice.
 
 ghost use Rattle.std.specs.Prelude.{Option, ◌≡◌, ◌⊎◌, ℕ, ◌<◌, List, [], ◌∷◌, ◌++◌, length, None, Some, IsOk};
 ghost use Rattle.std.specs.Prelude.{IfOk, IfErr, OnOk, OnErr};
@@ -31,8 +32,8 @@ pub trait Sink {
         // On success, the sink received a prefix of `bytes`, at least one byte unless `bytes` is empty.
         // After an error, it received nothing, and the error count has risen.
         //
-        // A write flushes nothing. What was flushed is known only for a sink that says so; the sinks of
-        // this library do not.
+        // A write flushes nothing. The flushed bytes are known only for a sink that defines `flushed`; the
+        // sinks of this library do not.
         ensures { HasWritten taken flushed sink_faults self.old self.new bytes.now result };
 
     /// Flushes all that was received. Writes nothing itself.
@@ -123,8 +124,8 @@ impl Sink for NoSink {
     }
 }
 
-/// Any writer of std. Its bytes are known if the writer's are. A writer that accepts none of some bytes, or
-/// reports more than there were, has failed.
+/// Writes to any std writer. The received bytes are known if those of the writer are. A write is an error
+/// if the writer accepts 0 bytes although there are some, or reports more bytes than it was given.
 #[derive(Drop)]
 pub struct WriterSink<W> {
     writer: W,
@@ -175,8 +176,8 @@ pub fn put_line<S: Sink>(
     label: &[u8],
     text: &[u8],
 ) -> errors::Result<()>
-    // On success, the sink received the whole line. There are two errors: out of memory, and then the sink
-    // is unchanged; or the sink failed, and received a prefix of the line.
+    // On success, the sink received the whole line. There are two errors: out of memory, with the sink
+    // unchanged; and `writing failed`, if the sink failed after it received a prefix of the line.
     ensures bytes { OnOk result
         (Appends (S.taken sink.old) (S.taken sink.new) (label.now ++ text.now ++ 10 ∷ [])) }
     ensures no_new_fault { OnOk result (S.sink_faults sink.new ≡ S.sink_faults sink.old) }

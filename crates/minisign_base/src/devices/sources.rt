@@ -1,4 +1,4 @@
-//! Sources, from which bytes are read: the trait, its implementations, and a call that reads.
+//! Sources, from which bytes are read: the trait, its implementations, and `fill_from`, which fills a buffer.
 
 ghost use Rattle.std.specs.Prelude.{Bool, true, false, IsTrue, Option, ◌≡◌, ◌==◌, ℕ, ◌+◌, ◌-◌, ◌<◌, ◌≤◌, ◌^◌};
 ghost use Rattle.std.specs.Prelude.{◌↔◌, min, List, [], length, take, drop, Some, None, IsOk, IsErr, IsOkAnd};
@@ -11,7 +11,7 @@ ghost use Rattle.minisign_base.specs.Devices.{HasGoneBack};
 use super::{DeviceFault, FaultCount};
 use std::io::{Read, Seek, SeekFrom};
 
-/// A source of bytes, of which there are finitely many.
+/// A source of finitely many bytes.
 pub trait Source {
     // The bytes that will be read next ("the unread bytes"), if they are known.
     ghost ahead: { Self → Option (List ℕ) };
@@ -25,7 +25,7 @@ pub trait Source {
     // True if a place is marked. Reads do not change this.
     ghost is_marked: { Self → Bool } = { λ _. false };
 
-    // The number of bytes that can still be read.
+    // The maximum number of bytes that can still be read.
     ghost left: { Self → ℕ };
 
     // The number of errors so far.
@@ -75,7 +75,7 @@ pub trait Rereader: Source {
             result };
 }
 
-/// The bytes of a slice. Fails only in `back` without a mark.
+/// Reads from a slice. The only call that can fail is `back`, if no place is marked.
 #[derive(Drop)]
 pub struct SliceSource<'a> {
     // The bytes from the place that was last marked or gone back to, or from the beginning.
@@ -174,7 +174,7 @@ impl<'a> Rereader for SliceSource<'a> {
     }
 }
 
-/// A source without bytes: a read returns 0 and never fails.
+/// A source without bytes. A read never fails and returns 0.
 #[derive(Clone, Copy, Drop)]
 pub struct NoSource;
 
@@ -193,8 +193,8 @@ impl Source for NoSource {
     }
 }
 
-/// The bytes of any reader of std, at most 2^63 - 1: a read after that is an error. The bytes are known if
-/// the reader's are, until the first error. This source cannot go back.
+/// Reads from any std reader, at most 2^63 - 1 bytes; a read after that is an error. The unread bytes are
+/// known if those of the reader are, until the first error. This source cannot go back.
 #[derive(Drop)]
 pub struct ReaderSource<R> {
     reader: R,
@@ -264,9 +264,10 @@ impl<R: Read> Rereader for ReaderSource<R> {
     }
 }
 
-/// The bytes of a file, or of anything else of std that can be read and seeked, at most 2^63 - 1: a read
-/// after that is an error. Marks its place and goes back by seeking. The bytes are not known, since those
-/// of std's files are not, so it is not known to be steady either: a file may change between two readings.
+/// Reads from a file, or from any other std type that implements `Read` and `Seek`, at most 2^63 - 1 bytes; a
+/// read after that is an error. Going back to a mark seeks to its position. Contracts do not know the bytes,
+/// because std's contracts do not give the bytes of a file. The source is not `steady`, because a file may
+/// change before it is read again.
 #[derive(Drop)]
 pub struct FileSource<F> {
     reader: ReaderSource<F>,

@@ -5,7 +5,8 @@ use Rattle.minisign.proofs.Beginnings.{passed_up}
 use Rattle.minisign.specs.Generation.{choosing_steps, sealing_steps}
 use Rattle.minisign.proofs.keypair.ask_and_seal.Goals as goal
 
--- Combines a statement about a result with a fact about the prompt.
+-- A statement about a returned value follows from a fact that holds on success and a clause about the
+-- value.
 both_hold : {T E : Type 0} (r : Result T E) (A : Type 0) (P Q : T → Type 0) → ((t : T) → A → P t → Q t)
     → OnOk r A → IfOk r P → IfOk r Q
 both_hold (Ok t) A P Q f a p = f t a p

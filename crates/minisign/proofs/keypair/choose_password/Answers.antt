@@ -8,7 +8,7 @@ use Rattle.minisign.specs.Generation.{password_difference, purpose_line, second_
 use Rattle.minisign.specs.Sealing.{asking_text}
 use Rattle.minisign.proofs.keypair.choose_password.Goals as goal
 
--- If one check is the negation of another, then the other is the negation of the one.
+-- If c is the negation of b, then b is the negation of c.
 unturned : (b c : Bool) → c ≡ not b → b ≡ not c
 unturned true true h = absurd (cc)
 unturned true false h = refl

@@ -5,7 +5,7 @@ use Rattle.std.proofs.lemmas.Bool.{lt-ltb, ltb-true, ltb_from_iff}
 use Rattle.std.proofs.lemmas.Nat.{pow_pos}
 use Rattle.minisign.proofs.opening.times.Goals as goal
 
--- At most this many rows are computed exactly if p is at most the quotient, limited to 32 bits.
+-- At most `most` rows are computed exactly if p is at most `most / 2 ^ n`, limited to 32 bits.
 same_test : (most n p m : ℕ) → p < 2 ^ 30 → m ≡ min (most / 2 ^ n) (2 ^ 32 - 1)
     → nat_lt m p ≡ nat_lt most (2 ^ n * p)
 same_test most n p m small is =

@@ -4,13 +4,13 @@ use Rattle.std.proofs.lemmas.Bool.{le-ltb, lt-ltb}
 use Rattle.minisign_base.specs.Limits.{IsCostLog2, cost_log2, numbers}
 use Rattle.minisign_base.proofs.helpers.raw_scrypt_params.Goals as goal
 
--- Few operations determine the cost.
+-- If the operations limit is below a 32nd of the memory limit, it determines the cost, and p is 1.
 few_numbers : (memlimit opslimit : ℕ) → max 32768 opslimit < memlimit / 32
     → numbers memlimit opslimit ≡ record { n_log2 = cost_log2 (max 32768 opslimit / 32); r = 8; p = 1 }
 unfolding numbers
 few_numbers memlimit opslimit few = rw (lt-ltb (max 32768 opslimit) (memlimit / 32) few) refl
 
--- The number that meets the description is the one that is found.
+-- If a number satisfies IsCostLog2 and equals cost_log2, then cost_log2 satisfies IsCostLog2.
 least_found : (measure n : ℕ) → IsCostLog2 measure n → n ≡ cost_log2 measure
     → IsCostLog2 measure (cost_log2 measure)
 least_found measure n least value = rw (← value) least

@@ -6,7 +6,7 @@ use Rattle.std.proofs.Output.{has_written_append, has_written_of_eq}
 use Rattle.minisign.specs.Records.{secret_text}
 use Rattle.minisign.proofs.keynum.KeynumSKDebug.fmt.Goals as goal
 
--- One more byte is written.
+-- The text of the first i + 1 bytes is that of the first i followed by the digits of the next byte.
 one_more : (bytes : List ℕ) (i : ℕ) → i < length bytes → secret_text (take i bytes)
     ++ digits 16 false (get_or bytes i 0) ≡ secret_text (take (i + 1) bytes)
 one_more bytes i below =

@@ -4,7 +4,7 @@ use Rattle.minisign.proofs.Common.{⊤, result_err, PromptCall, prompt_call, Fau
 use Rattle.minisign.proofs.Common.{StepEnds, Test}
 use Rattle.minisign.proofs.secret_key.SecretKey.finish_with_reports.Goals as goal
 
--- A text was written, and then a check was made.
+-- A conversation in which a text is written and a check is made ends as the check does.
 tested_last : {R W V : Type 0} (p : PromptCall R W) (text : List ℕ) (test : Result V Fault) (v : V)
     (r : Result ⊤ Fault) → StepEnds p (Say text) (Ok tt)
     → MatchResult r (λ _. test ≡ Ok v) (λ e. test ≡ Err e)

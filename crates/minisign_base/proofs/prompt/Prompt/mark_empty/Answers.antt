@@ -8,7 +8,7 @@ use Rattle.minisign_base.specs.DeviceCalls.{PromptCall, prompt_call}
 use Rattle.minisign_base.specs.Prompts.{ConversationEnds, Say, StepEnds, empty_mark, marking_steps}
 use Rattle.minisign_base.proofs.prompt.Prompt.mark_empty.Goals as goal
 
--- A conversation of one step ends as that step does.
+-- The conversation after an empty password, which only writes `<empty>`, ends as this step does.
 marked : {R W : Type 0} (p : PromptCall R W) (answer : Result ⊤ Fault) → StepEnds p (Say empty_mark) answer
     → ConversationEnds p (marking_steps []) answer
 marked p (Ok _) said = (p.new, said, refl)
