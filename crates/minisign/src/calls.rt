@@ -193,9 +193,9 @@ pub fn verify_file<F: Files, S: Scheme>(
     data_path: &str,
 ) -> Result<String>
     // The result is the verdict on the public key text, some signature text and some data; or it is out of
-    // memory, `reading failed` or the error for a text that is not UTF-8. The contract does not say when each
-    // of these three errors occurs, and it does not say that the signature text and the data come from the
-    // named files. Only the code and tests show this.
+    // memory, `reading failed` or the error for a text that is not UTF-8, and the contract does not say when.
+    // Nor does it say that the signature text and the data come from the named files; only the code and tests
+    // show this.
     ensures { (message : List ℕ)
         × IsReadFromFile (λ sig_text. verdict (S.accepts scheme.now) pk_text.now sig_text message false)
         (map_ok string_bytes result) }

@@ -111,9 +111,9 @@ pub fn sign<S: Scheme, R: Source, Z: RandomSource>(
 /// States that the default comments are read back unchanged from a signature text, whatever the time is.
 /// This function is a law: it does nothing, and exists only for its contract.
 pub fn default_comments_are_read_back(moment: u64)
-    // If no comments are given, the default comments have no line feed, the trusted one is trimmed, and the
-    // untrusted one does not end in a carriage return. So they are read back from the signature text exactly
-    // as they were written.
+    // If no comments are given, the default comments are read back from the signature text exactly as they
+    // were written: neither has a line feed, the trusted comment is trimmed, and the untrusted comment does
+    // not end in a carriage return.
     ensures { AreChosenReadBack (given_comments None None moment) }
 {}
 
