@@ -190,7 +190,8 @@ same_truth : (x y : Bool) → (x ≡ true → y ≡ true) → (y ≡ true → x 
 same_truth true y h j = sym (h refl)
 same_truth false y h j = sym (false_from_ne_true y (λ t. let no = j t in cc no))
 
--- A text is base64 if the rest after a piece of whole groups is base64.
+-- A text whose first piece s consists of whole groups and is base64 without padding is base64 exactly if
+-- the rest t is.
 module _ (s t text : List ℕ) (is : text ≡ s ++ t) (groups : length s % 4 ≡ 0) (some : 0 < length t) where
   cut_text : is_base64 text ≡ true → IsCut s t (base64_bytes text)
   cut_text h = cut s t _ (subst (λ x. IsBase64Of x (base64_bytes text)) is (reads text h)) groups some
@@ -201,7 +202,7 @@ module _ (s t text : List ℕ) (is : text ≡ s ++ t) (groups : length s % 4 ≡
       (λ all. let parts = cut_text all in is_read t _ parts.back_read) (λ rest. is_read _ _
       (rw (sym is) at (joined s t a (base64_bytes t) h (reads t rest) (omega (arith, long)))))
 
-  -- A text is not base64 if the piece before the rest is not base64 or has padding.
+  -- The text is not base64 if s is not base64 or has padding, or if t is not base64.
   pub piece_refused : is_base64 s ≡ false → is_base64 text ≡ false
   piece_refused none = false_from_ne_true _ (λ all.
       let parts = cut_text all in

@@ -1,4 +1,4 @@
--- Passes on the names of std and of the crates below that the proofs of this crate use.
+-- Re-exports the names of std and of the lower crates that the proofs of this crate use.
 use Rattle.minisign_base.specs.declared.faults.NamedFault.TheVariants as named
 pub use Rattle.base64.proofs.EngineFacts.{decode_of-encode_of, decode_of_strict, encode_of-append}
 pub use Rattle.base64.proofs.EngineFacts.{front_bytes}

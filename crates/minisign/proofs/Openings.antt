@@ -55,7 +55,8 @@ restored_held k v h =
     let (same, is) = passed _ _ _ v h in
     (same_value k v is, (bytes_eq-Decides _ _).0 same)
 
--- An encrypted key decrypts exactly if the conditions hold.
+-- If an encrypted key decrypts, its limits are allowed and within the bound, and its checksum matches
+-- after decryption.
 opening_held : (k v : SecretKeyRecord) (password : List ℕ) (bound : Option ℕ) → open_sealed k password bound
     ≡ Ok v
     → IsOk (allowed_work k bound) × (xored_key k password ≡ v) × (v.checksum ≡ checksum_of v)
@@ -141,7 +142,7 @@ pub opened_as : (text password : List ℕ) (bound : Option ℕ)
     → IsReading (IsOpened text password bound) (open_key text password bound)
 opened_as _ _ _ = record { value = λ v. (text_opens _ _ _ v, opens_text _ _ _ v) }
 
--- A key is accepted as never encrypted exactly if it was never encrypted.
+-- A key is accepted as never encrypted exactly if it names no key derivation and its checksum matches.
 pub unencrypted_taken : (k : SecretKeyRecord) → k.kdf ≡ no_kdf → k.checksum ≡ checksum_of k
     → unencrypted_key k ≡ Ok k
 unencrypted_taken k none same =
@@ -187,7 +188,8 @@ unencrypted_as _ = record {
   );
 }
 
--- The result for the key in a text is that of read_unencrypted_key.
+-- If a text parses to a key, read_unencrypted_key of the text has the result of unencrypted_key of the
+-- key.
 module _ (text : List ℕ) (k : SecretKeyRecord) (read : Ok k ≡ read_secret_key text) where
   pub unencrypted_refused : (e : Fault) → Err e ≡ without_value (unencrypted_key k)
       → Err e ≡ read_unencrypted_key text

@@ -269,8 +269,8 @@ module _ {R : Type 0} (source : SourceOf R) (steady : R → Type 0) (old mid new
       (unmarked refl)
       (last_step (OneEnds (between old new) no_sink no_sink) (Read message) _ _ answer read)
 
--- The data was read to its end without an error and is this message. The mark is unchanged, or was
--- set before.
+-- The data was read to its end without an error and is this message. If it will be read again, its
+-- start is marked; otherwise the mark is unchanged.
 record FirstPass {R : Type 0} (again : Bool) (reader : RereaderCall R) (message : List ℕ) : Type 0 where
   pub given : KnownBytesAre (reader.source.ahead reader.old) message
   pub end : IsAtEnd (reader.source.ahead reader.new)
@@ -311,7 +311,7 @@ module _ {R W O : Type 0} (reader : RereaderCall R) (status : SinkCall W) (out :
         o,
       )
 
-  -- If writing the status lines fails, the stage that reports ends with this error.
+  -- If writing the status lines fails, the stages that report end with this error.
   say_stops : (quiet : Bool) (x : SignatureBoxRecord) (e : Fault) → reader.new ≡ reader.old
       → out.new ≡ out.old
       → (quiet ≡ false) × (((e ≡ Named OutOfMemory) × (status.new ≡ status.old)) ⊎ IsWritingFault status e)
@@ -321,7 +321,7 @@ module _ {R W O : Type 0} (reader : RereaderCall R) (status : SinkCall W) (out :
   say_stops false x e r o (_, why) front unflushed =
       inl (⊎_elim inl (λ failed. inr ((failed, front), unflushed)) why, r, o)
 
-  -- If the status lines are written, or are not wanted, the stage that reports succeeds.
+  -- If the status lines are written, or `quiet` is set, the stages that report succeed.
   say_runs : (quiet : Bool) (x : SignatureBoxRecord) → reader.new ≡ reader.old → out.new ≡ out.old
       → (quiet ≡ true → status.new ≡ status.old) → SinkReceives status (status_unless_quiet quiet x)
       → SinkHasNoNewFault status → FlushesNothing status

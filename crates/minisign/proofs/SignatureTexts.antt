@@ -53,7 +53,8 @@ is_known a h = elim (or_cases _ _ h) [
   | inr e ↦ inr ((bytes_eq-Decides a _).0 e)
 ]
 
--- A text that encodes a signature passes these checks.
+-- A text that encodes a signature is base64 and decodes to at least 74 bytes, of which the first two are the
+-- algorithm.
 encodes_tests : (text : List ℕ) (s : SignatureRecord) → Encodes ReadsSignature text s
     → (is_base64 text ≡ true) × (leb 74 (length (base64_bytes text)) ≡ true)
     × (take 2 (base64_bytes text) ≡ s.algorithm)

@@ -1,6 +1,6 @@
--- The definitions applied to one example: a key of 42 bytes and a signature of 74, as `verify-raw`
--- reads them, are parsed into their fields, and the signature is accepted for its message and
--- rejected for another. The bytes were computed by another program, with Python's Blake2b.
+-- The definitions applied to one example: a key of 42 bytes and a signature of 74, as the command
+-- `verify-raw` of minisign_tool reads them, are parsed into their fields, and the signature is accepted
+-- for its message and rejected for another. The bytes were computed with Python's Blake2b.
 use Rattle.std.proofs.Common.{◌≡◌, ℕ, false, List, [], ◌∷◌, ◌++◌, None, codes, replicate, refl, Ok, Err}
 use Rattle.minisign.proofs.Common.{blake2b_digest, padded_block, compress, iv, mix, round, rounds, sigma}
 use Rattle.minisign.proofs.Common.{state_after, work_vector, Named, SignatureRefused}

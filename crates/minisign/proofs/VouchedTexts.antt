@@ -21,7 +21,8 @@ use Rattle.minisign.proofs.Verdicts.{both_read, vouches_judged, judged_verdict, 
 use Rattle.minisign.proofs.Verdicts.{trusted_of, vouched_verdict}
 use Rattle.minisign.specs.SignatureText.{read_signature}
 
--- Texts with which verification succeeded are valid for what their key and box are valid for.
+-- If verification with two texts succeeds, the texts are valid for each message for which the parsed box is
+-- valid under the parsed key.
 both_vouch : {R W O : Type 0} {accepts : Verifier} {pk sig : List ℕ} {options : VerifyOptions}
     (reader : RereaderCall R) (status : SinkCall W) (out : SinkCall O) {message : List ℕ} {legacy : Bool}
     (h : VerifyingTextsSucceeds accepts pk sig options reader status out)

@@ -73,7 +73,7 @@ impl KeyPair {
             (random_call Z.RandomSource random.old random.new) pair.pk pair.sk) }
 
         // On success, the two keys belong together: the secret key is genuine and not encrypted, and the
-        // public key consists of the secret key's key ID and the last 32 of its secret bytes.
+        // public key has the secret key's key ID and the last 32 of its secret bytes.
         ensures genuine { IfOk result
             (λ pair. IsGenuinePair (S.public_of scheme.now) pair.pk pair.sk) }
         ensures unencrypted { IfOk result (λ pair. unencrypted_key pair.sk ≡ Ok pair.sk) }
