@@ -113,8 +113,8 @@ impl PublicKey {
     /// Returns the public key of a secret key: its algorithm, its key ID and the last 32 bytes of its
     /// secret, which for an encrypted key are the encrypted bytes. Never fails, and does not allocate.
     pub fn from_secret_key(sk: &SecretKey) -> Result<PublicKey>
-        // Always succeeds. The public key has the algorithm, the key ID and the last 32 of the secret bytes as
-        // the secret key stores them, encrypted or not.
+        // Always succeeds. The public key has the algorithm, the key ID and the last 32 of the secret bytes
+        // as the secret key stores them, encrypted or not.
         ensures succeeds { IsOk result }
         ensures key { IfOk result (λ v. v ≡ own_public_key sk.now) }
     {
