@@ -1,4 +1,5 @@
--- The numbers of the calls for lists, made in a row.
+-- Lemmas about the error number of checking a file against a signed list with several calls
+-- (`check_listed_in_a_row`).
 use Rattle.std.proofs.Common.{◌≡◌, ◌∙◌, ◌<◌, ◌≤◌, ◌+◌, ◌==◌, ◌&&◌, ℕ, Bool, true, false, if◌then◌else◌, List}
 use Rattle.std.proofs.Common.{[]}
 use Rattle.std.proofs.Common.{Option, Some, None, Result, Ok, Err, length, take, ap, sym, refl, arith, subst}
@@ -49,7 +50,7 @@ use Rattle.minisign_c.proofs.Positive.{positive}
 use Rattle.minisign_c.proofs.StrictVerdicts.{chosen, not_accepted, of_strict, opened, roomy, some_number}
 use Rattle.minisign_c.proofs.StrictVerdicts.{strict_same}
 
--- == No error has the number of success ==
+-- == Error numbers are not 0 ==
 
 misuse_positive : (m : Misuse) → 0 < misuse_number m
 misuse_positive NotAsked = lit< tt
@@ -91,7 +92,7 @@ module _ (accepts : Verifier) (v : PublicKeyValue) (sig_text text : List ℕ) (n
         none ∙ of_strict (is_strict_text v u) _ (subst (λ (k : ℕ). 0 < k) none some)
     of_asked (Err e) is some = rw is refl
 
-    -- If asking fails, the verdict on the list is the same error.
+    -- If asking fails, the verdict on the list has the same error number.
     pub unasked_list : (n : ℕ) → is_public_key v ≡ true → n ≡ asking_list_number v sig_text t room → 0 < n
         → n ≡ strict_read v (read_under v false sig_text) (list_verdict_number strict_list)
     unasked_list n public is some =
@@ -102,7 +103,8 @@ module _ (accepts : Verifier) (v : PublicKeyValue) (sig_text text : List ℕ) (n
         (WrongUse PublicKeyNotRead)))) public in
         returned ∙ of_asked (read_under v false sig_text) refl (subst (λ (k : ℕ). 0 < k) returned some)
 
-  -- The verdict of strict inputs is that of the scheme.
+  -- If neither the key nor a signature is weak, the number of the strict verdict on the list is that of the
+  -- scheme's verdict.
   pub strict_list_number : (t : SignatureTextRecord) → read_under v false sig_text ≡ Ok t
       → is_strict_text v t ≡ true
       → list_verdict_number (list_verdict_under accepts v sig_text name text)
@@ -113,7 +115,8 @@ module _ (accepts : Verifier) (v : PublicKeyValue) (sig_text text : List ℕ) (n
       (λ comment. and_then (check_list_name name comment) (λ _. Ok comment))))
       (strict_same accepts v sig_text text t read h))
 
--- The answers to the questions about a list are those that its verdict asks for.
+-- The scheme's results for the questions about a list are the results of the two checks on which its verdict
+-- depends.
 pub list_answered : (accepts : Verifier) (v : PublicKeyValue) (sig_text text room : List ℕ)
     (t : SignatureTextRecord) (q : Questions) → read_under v false sig_text ≡ Ok t → AreQuestions q room v t
     → q.digest ≡ blake2b_digest 64 text
@@ -145,7 +148,7 @@ same_bytes : (b : Bool) → b ≡ true → ◌≡◌ {A = Result ⊤ Misuse} (if
 same_bytes true h = refl
 same_bytes false h = cc h
 
--- After success the list is verified, and this is its text.
+-- If the verdict on a list has the number 0, the list is verified, and `text` is accepted as its text.
 pub verified_text_of : (l new : ListValue) (first second n : ℕ) (text : List ℕ)
     → ◌≡◌ {A = ℕ × ListValue} (n, new) (list_outcome_number l first second) → n ≡ 0
     → l.text_digest ≡ blake2b_digest 64 text → text_check new text ≡ Ok tt
@@ -156,14 +159,14 @@ verified_text_of l new first second n text returned none digest =
     (bytes_eq-Decides (blake2b_digest 64 text) l.text_digest).1 (sym digest) in
     ap (λ (x : ListValue). text_check x text) is ∙ rw same refl
 
--- == After the list ==
+-- == Checks after the verdict on the list ==
 
 weak_chosen : (s : Bool) (n m : ℕ) → n ≡ (if s then 0 else weak_number) → 0 < n
     → n ≡ (if s then m else weak_number)
 weak_chosen true n m is some = absurd (omega (arith, is, some))
 weak_chosen false n m is some = is
 
--- If the list is not verified, its error is that of the whole.
+-- If the verdict on the list is an error, the whole check fails with the same error number.
 pub failed_list : (v : PublicKeyValue) (r : Result SignatureTextRecord Fault) (l : Result (List ℕ) ListFault)
     (more : List ℕ → Result (List ℕ) (Refusal ListFault)) (n : ℕ)
     → n ≡ strict_read v r (list_verdict_number l) → 0 < n
@@ -173,7 +176,7 @@ failed_list v (Err e) (Ok c) more n is some = absurd (omega (arith, is, some))
 failed_list v (Ok t) (Err e) more n is some = is
 failed_list v (Err f) (Err e) more n is some = is
 
--- The check of a digest.
+-- The result of comparing the digest of the data with that in the entry.
 abbrev matched : Bool → Result ⊤ ListFault
 matched b = if b then Ok tt else Err DigestMismatch
 
@@ -198,7 +201,7 @@ no_number : (s : Bool) (n m : ℕ) → 0 < n → 0 ≡ (if s then n else weak_nu
 no_number true n m some none = absurd (omega (arith, some, none))
 no_number false n m some none = absurd (omega (arith, none))
 
--- If the list is verified, the data decides.
+-- If the list is verified, the number of the whole check is that of checking the data against its entry.
 pub passed_list : (v : PublicKeyValue) (r : Result SignatureTextRecord Fault) (l : Result (List ℕ) ListFault)
     (e : Result Entry (Refusal ListFault)) (m : List ℕ) → 0 ≡ strict_read v r (list_verdict_number l)
     → data_number e m ≡ strict_read v r (listed_number (go_on (of_lists l) (λ comment. go_on e (λ entry.
@@ -229,7 +232,7 @@ error_of (Ok e) text old new n line m returned some =
     let none : n ≡ 0 = ap (λ p. p.0) returned in absurd (omega (arith, none, some))
 error_of (Err r) text old new n line m returned some = ap (λ p. p.0) returned
 
--- If the lookup fails, the whole check fails with the same error.
+-- If finding the entry fails, checking the data fails with the same error number.
 pub unfound : (l : ListValue) (x : Lookup) → text_check l x.text ≡ Ok tt → (long : Option LongDigest)
     → x.long ≡ long → (old new : EntryValue) (n line : ℕ) (m : List ℕ)
     → ◌≡◌ {A = ℕ × (EntryValue × ℕ)} (n, (new, line)) (finding_number long l x.text x.name old) → 0 < n
@@ -244,7 +247,7 @@ unfound l x verified (Some long) is old new n line m returned some =
     ∙ sym (ap (λ (o : Option LongDigest). data_number (go_on (meaning_of o) (λ long. go_on (utf8_text x.text)
     (λ list. go_on (utf8_text x.name) (λ name. of_lists (listed_entry long list name))))) m) is)
 
--- A lookup that succeeds found this entry.
+-- The entry that a successful lookup has found.
 pub record Found (l : ListValue) (x : Lookup) : Type 0 where
   pub long : LongDigest
   pub meant : x.long ≡ Some long
@@ -275,7 +278,8 @@ number_of_digest : (b : Bool) → (if b then 0 else list_number DigestMismatch)
 number_of_digest true = refl
 number_of_digest false = refl
 
--- The number of the data under an entry that was found.
+-- If the entry was found, the number of checking the data is 0 or, if its digest differs, that of
+-- DigestMismatch.
 pub data_of_found : (l : ListValue) (x : Lookup) (m : List ℕ) → text_check l x.text ≡ Ok tt → (f : Found l x)
     → (if has_digest f.entry.digest m then 0 else list_number DigestMismatch) ≡ data_number (looked_up x) m
 data_of_found l x m verified f =
@@ -285,7 +289,7 @@ data_of_found l x m verified f =
     ∙ sym (ap (λ (o : Option LongDigest). data_number (go_on (meaning_of o) (λ long. go_on (utf8_text x.text)
     (λ list. go_on (utf8_text x.name) (λ name. of_lists (listed_entry long list name))))) m) f.meant)
 
--- == The number 0 ==
+-- == Success has the number 0 ==
 
 pub listed_zero : (r : Result (List ℕ) (Refusal ListFault)) → (listed_number r == 0) ≡ is_ok r
 listed_zero (Ok c) = refl
@@ -315,7 +319,8 @@ module _ (accepts : Verifier) (v : PublicKeyValue) (sig_text : List ℕ) (x : Lo
   pub accepted_list : (strict_listed_number accepts v sig_text x m == 0) ≡ is_ok whole
   accepted_list = read_of (read_under v false sig_text) refl
 
--- The number is 0 exactly if the scheme that also rejects weak keys and signatures gives a verdict.
+-- The number is 0 exactly if the verdict is success for the scheme that also rejects weak keys and
+-- signatures.
 pub accepted_listed : (accepts : Verifier) (sig_text : List ℕ) (x : Lookup) (m : List ℕ)
     (key : Result PublicKeyRecord Fault)
     → (number_with_key key (λ k. strict_listed_number accepts (value_of k) sig_text x m) == 0)

@@ -1,4 +1,5 @@
--- The verdict of the calls for lists is that of the definition for UTF-8 texts.
+-- If all texts are UTF-8, the verdict that the calls for lists return is `listed_verdict`, the verdict of the
+-- definition.
 use Rattle.std.proofs.Common.{◌≡◌, ◌∙◌, ◌==◌, ℕ, false, List, Option, Some, Result, Ok, Err, refl, ap}
 use Rattle.std.specs.Prelude.{⊤, is_ok}
 use Rattle.minisign_base.specs.Fault.{Fault}
@@ -24,21 +25,21 @@ use Rattle.minisign_c.proofs.ListVerdicts.{accepted_listed}
 
 -- == The order of the checks ==
 
--- The check of the digest.
+-- Comparing the digest has the same result in both forms.
 checked_digest : (d : Result ⊤ ListFault) (comment : List ℕ)
     → ◌≡◌ {A = Result (List ℕ) (Refusal ListFault)} (go_on (of_lists d) (λ _. Ok comment))
     (of_lists (and_then d (λ _. Ok comment)))
 checked_digest (Ok t) comment = refl
 checked_digest (Err e) comment = refl
 
--- The lookup and the checks after it.
+-- Finding the entry and the checks after that have the same result in both forms.
 checked_entry : (e : Result Entry ListFault) (m comment : List ℕ)
     → go_on (of_lists e) (λ entry. go_on (of_lists (check_digest entry.digest m)) (λ _. Ok comment))
     ≡ of_lists (and_then e (λ entry. and_then (check_digest entry.digest m) (λ _. Ok comment)))
 checked_entry (Ok e) m comment = checked_digest (check_digest e.digest m) comment
 checked_entry (Err f) m comment = refl
 
--- The check of the name of the list and the checks after it.
+-- Checking the name of the list and the checks after that have the same result in both forms.
 checked_name : (c : Result ⊤ ListFault) (e : Result Entry ListFault) (m comment : List ℕ)
     → go_on (of_lists (and_then c (λ _. Ok comment))) (λ comment. go_on (of_lists e) (λ entry.
     go_on (of_lists (check_digest entry.digest m)) (λ _. Ok comment)))
@@ -66,7 +67,8 @@ module _ (name : Option (List ℕ)) (e : Result Entry ListFault) (m : List ℕ) 
 
 -- == The verdict on the list's signature ==
 
--- The scheme's checks come after the others in both forms.
+-- The result is the same, whether the scheme's checks are chained to the other checks or follow them
+-- separately.
 tested : (j : Result ⊤ Fault) (t : SignatureTextRecord) (more : SignatureTextRecord → Result ⊤ Fault)
     → texts.and_then (texts.and_then j (λ _. Ok t)) (λ (s : SignatureTextRecord).
     texts.and_then (more s) (λ _. Ok s.comments.trusted))
@@ -96,12 +98,13 @@ module _ (accepts : Verifier) (key : PublicKeyRecord) (text : List ℕ) where
 -- == All checks ==
 
 module _ (accepts : Verifier) (pk_text sig_text : List ℕ) (x : Lookup) (long : LongDigest) (m : List ℕ) where
-  -- The value form with a key that was parsed, and a lookup that was made.
+  -- The whole verdict as the calls compute it, from the results of parsing the public key and of the lookup.
   abbrev with_key : Result PublicKeyRecord Fault → Result Entry ListFault
       → Result (List ℕ) (Refusal ListFault)
   with_key key e = go_on (of_lists (wrap_library_error key)) (λ k.
       in_calls (Some x.list_name) e m (called accepts k x.text (read_signature sig_text)))
 
+  -- The whole verdict as the definition computes it.
   abbrev of_key : Result PublicKeyRecord Fault → Result Entry ListFault → Result (List ℕ) (Refusal ListFault)
   of_key key e = in_definition (Some x.list_name) e m (texts.and_then key (λ k.
       defined accepts k x.text (read_signature sig_text)))
@@ -123,7 +126,7 @@ is_ok_of : (r : Result (List ℕ) ListFault) → is_ok (of_lists r) ≡ is_ok r
 is_ok_of (Ok comment) = refl
 is_ok_of (Err e) = refl
 
--- The number is 0 exactly if the verdict of the definition is success.
+-- If all texts are UTF-8, the number is 0 exactly if the verdict of the definition is success.
 pub accepted_defined : (accepts : Verifier) (pk_text sig_text : List ℕ) (x : Lookup) (m : List ℕ) (n : ℕ)
     → n ≡ number_with_key (read_utf8 read_public_key pk_text)
     (λ k. strict_listed_number accepts (value_of k) sig_text x m)

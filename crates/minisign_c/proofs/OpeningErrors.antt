@@ -1,4 +1,4 @@
--- The error number of a call that opens a key.
+-- A lemma about the error number of a call that opens a key.
 use Rattle.std.proofs.Common.{◌≡◌, ◌∙◌, ℕ, Result, Ok, Err, ap}
 use Rattle.minisign_base.specs.Fault.{Fault}
 use Rattle.minisign.specs.Records.{SecretKeyRecord}

@@ -1,4 +1,4 @@
--- The errors of reading and opening a secret key, for a result number other than 0.
+-- Lemmas about reading and opening a secret key: a result other than 0 is the number of an error.
 use Rattle.std.proofs.Common.{◌≡◌, ◌⊎◌, ◌<◌, ℕ, true, List, Option, Some, None, Result, Ok, Err, inl, inr, ap}
 use Rattle.std.proofs.Common.{arith, refl}
 use Rattle.minisign_base.specs.Fault.{Fault, Named}

@@ -22,7 +22,7 @@ use Rattle.minisign_external.specs.declared.state.Refusal.TheVariants.{WrongUse}
 use Rattle.minisign_external.specs.declared.state.State.{State}
 use Rattle.minisign_c.proofs.Positive.{positive}
 
--- == What is read ==
+-- == Parsing ==
 
 read_same : (j : Result ⊤ Fault) (s t : SignatureTextRecord) → and_then j (λ _. Ok s) ≡ Ok t → s ≡ t
 read_same (Ok _) s t h = cc h
@@ -38,7 +38,7 @@ pub opened : (v : PublicKeyValue) (text : List ℕ) (t : SignatureTextRecord) �
     → read_utf8 read_signature text ≡ Ok t
 opened v text t h = opened_of (read_utf8 read_signature text) v t h
 
--- == What two answers decide ==
+-- == The results of the two checks ==
 
 abbrev decided : Bool → Bool → List ℕ → Result (List ℕ) Fault
 decided first second trusted = and_then (judge_answers first second) (λ _. Ok trusted)
@@ -52,7 +52,7 @@ strictly_same true true false r a b x h = refl
 strictly_same true false w r a b x h = cc h
 strictly_same false q w r a b x h = cc h
 
--- If the key or a signature is weak, the stricter scheme gives no success.
+-- If the key or a signature is weak, the verdict of the stricter scheme is an error.
 not_strict : (p q w r a b : Bool) (x : List ℕ) → ((p && q) && (not w || r)) ≡ false
     → is_ok (decided ((p && q) && a) (w && ((p && r) && b)) x) ≡ false
 not_strict true true true true a b x h = cc h
@@ -138,7 +138,7 @@ pub accepted_with : (accepts : Verifier) (text message : List ℕ) (r : Result P
 accepted_with accepts text message (Ok k) = accepted accepts (value_of k) text message
 accepted_with accepts text message (Err e) = some_number (fault_number e) (positive e)
 
--- == What asking rejects ==
+-- == Errors of asking ==
 
 pub roomy : (s b : Bool) → b ≡ true
     → asked_number (asked_strictly s (if b then Ok tt else Err (WrongUse NoRoom)))

@@ -41,15 +41,15 @@ failure_of n =
     if n == (fault_row WritingFailed).number then Some WritingFailed else
     if n == (fault_row RandomSourceFailed).number then Some RandomSourceFailed else None
 
--- The event that the error with this number reports: the lock is held, or an operation failed. No other error
--- is reported.
+-- The event if the application reports the error with this number: InUse if another process holds the lock,
+-- Failed for each other error with which an operation can fail, and none for other numbers.
 abbrev pub failure_event : ℕ → Option Event
 failure_event n =
     if n == install_number TargetInUse then Some InUse
     else option_map (λ f. Failed f) (failure_of n)
 
--- The API misuse if an installation is not begun: the options are rejected, or else a public key was not
--- read.
+-- The API misuse that prevents an installation from starting, if there is one: the options are rejected, or
+-- else a public key was not read.
 abbrev pub first_misuse : Option Misuse → Bool → Option Misuse
 first_misuse (Some m) are_read = Some m
 first_misuse None are_read = if are_read then None else Some PublicKeyNotRead
@@ -57,8 +57,8 @@ first_misuse None are_read = if are_read then None else Some PublicKeyNotRead
 abbrev pub starting_misuse : PublicKeyValue → PublicKeyValue → Choices → Option Misuse
 starting_misuse key other o = first_misuse (choices_misuse o) (is_public_key key && is_public_key other)
 
--- The time that is passed to the step if the clock shows this many seconds since the beginning of 1970. None
--- is a time before 1970.
+-- The time that is passed to the step, if the clock shows this many seconds since the beginning of 1970. A
+-- time before 1970 becomes None.
 abbrev pub time_of : ℤ → Option ℕ
 time_of (pos n) = Some n
 time_of (negsuc n) = None
@@ -69,8 +69,8 @@ abbrev pub ReturnsLength : Result ℕ (Refusal InstallFault) → ℕ → ℕ →
 ReturnsLength (Ok len) n old new = (n ≡ 0) × (new ≡ len)
 ReturnsLength (Err r) n old new = (n ≡ refusal_number install_number r) × (new ≡ old)
 
--- The call has reported this signature file at this time: if the old installation represents a state with
--- this file name, the number, the length, the buffer and the new state are those of the step.
+-- The outcome of the call that reports this signature file at this time: if the old installation represents a
+-- state with this file name, the number, the length, the buffer and the new state are those of the step.
 abbrev pub NumberReads : List ℕ → List ℕ → Option ℕ → Installation → Installation → ℕ → ℕ → ℕ → List ℕ
     → List ℕ → Type 0
 NumberReads sig_text file time old new n len_before len_after before after =
@@ -99,7 +99,8 @@ abbrev pub ReturnsVersion : Result ℕ InstallFault → ℕ → ℕ → ℕ → 
 ReturnsVersion (Ok version) n old new = (n ≡ 0) × (new ≡ version)
 ReturnsVersion (Err fault) n old new = (n ≡ install_number fault) × (new ≡ old)
 
--- As ReturnsVersion if a field has this number, otherwise BadNumbering.
+-- ReturnsVersion if `numbering` is valid; otherwise the number is that of BadNumbering, and the version
+-- number is unchanged.
 abbrev pub ReturnsVersionIf : Bool → Result ℕ InstallFault → ℕ → ℕ → ℕ → Type 0
 ReturnsVersionIf true judged n old new = ReturnsVersion judged n old new
 ReturnsVersionIf false judged n old new = (n ≡ misuse_number BadNumbering) × (new ≡ old)

@@ -22,7 +22,7 @@ use Rattle.minisign_external.specs.declared.unopened_keys.KeyText.{KeyText}
 abbrev pub opened_by : KeyText → Result SecretKeyRecord Fault
 opened_by t = opened_text t.text.now (option_copied t.password) t.most_rows
 
--- The error number if a message is not signed with the key of a secret key file.
+-- n is the number of an error of signing a message with the key in a secret key file.
 abbrev pub IsSigningNumber : {S : Type 0} → SchemeOf S → S → KeyText → ChosenComments → List ℕ → List ℕ → ℕ
     → Type 0
 IsSigningNumber s scheme t chosen message bytes n = (r : Refusal Fault) × (n ≡ refusal_number fault_number r)
@@ -51,7 +51,8 @@ abbrev pub sealing_misuse : ℕ → List ℕ → Sealing → Option Misuse
 sealing_misuse with_password password s = first_misuse (password_misuse with_password password)
     (if not (with_password == 0) && is_weak s then Some WeakSealing else None)
 
--- The error number if a secret key file is not written: that of this API misuse, or else of another error.
+-- n is the error number if no secret key file is written: that of the API misuse in the arguments if there is
+-- one, otherwise that of an error of IsMakingRefusal.
 abbrev pub IsMakingNumber : Option Misuse → SecretKeyValue → Option (List ℕ) → Sealing → List ℕ → List ℕ → ℕ
     → Type 0
 IsMakingNumber (Some m) v password s comment bytes n = n ≡ misuse_number m

@@ -63,7 +63,7 @@ listed_under accepts v sig_text x m =
     go_on (looked_up x) (λ entry.
     go_on (of_lists (check_digest entry.digest m)) (λ _. Ok comment)))
 
--- As listed_under, with the result of parsing the public key file, whose error comes first.
+-- The same verdict for the result of parsing the public key file, whose error comes first.
 abbrev pub listed_with : Verifier → Result PublicKeyRecord Fault → List ℕ → Lookup → List ℕ
     → Result (List ℕ) (Refusal ListFault)
 listed_with accepts key sig_text x m =
@@ -75,12 +75,13 @@ listed_number (Ok comment) = 0
 listed_number (Err r) = list_refusal r
 
 -- The number of the verdict of the scheme that also rejects weak public keys and signatures. A weak key or
--- signature is a check with a number of its own.
+-- signature has an error number of its own.
 abbrev pub strict_listed_number : Verifier → PublicKeyValue → List ℕ → Lookup → List ℕ → ℕ
 strict_listed_number accepts v sig_text x m =
     strict_read v (read_under v false sig_text) (listed_number (listed_under (strict accepts) v sig_text x m))
 
--- The error number of checking the data under its name in a verified list, or 0.
+-- The result of checking data against its entry in a verified list as a number: 0, or the number of the error
+-- of finding the entry or of comparing the digest.
 abbrev pub data_number : Result Entry (Refusal ListFault) → List ℕ → ℕ
 data_number (Ok entry) m = listed_number (go_on (of_lists (check_digest entry.digest m)) (λ _. Ok []))
 data_number (Err r) m = list_refusal r

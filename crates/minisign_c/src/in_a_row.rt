@@ -1,5 +1,6 @@
-//! Makes the calls of the header in the order in which an application makes them, so that contracts can state
-//! what the whole sequence does, however the data is split. No program calls these functions.
+//! Makes the calls of `include/minisign.h` in a row, in the order in which an application makes them, so that
+//! contracts can state what the whole sequence does, however the data is split. No program calls these
+//! functions.
 
 ghost use Rattle.std.specs.Prelude.{option_copied, ◌≡◌, ◌==◌, ◌<◌, ◌≤◌, ◌+◌, ◌++◌, ℕ, List, [], None, Ok};
 ghost use Rattle.std.specs.Prelude.{false, true, drop, is_ok, length, take};
@@ -62,7 +63,7 @@ pub fn verify_in_a_row<S: Scheme>(
     // **For every scheme, files and data, however the data is split: the result is 0 exactly if the signature
     // file is a valid prehashed signature of the concatenated data under the public key file, and neither the
     // key nor a signature in it is weak. Otherwise it is the error number of the first check that fails. A
-    // weak key or signature has an error number of its own, and is rejected before the scheme is asked.**
+    // weak key or signature has an error number of its own, whatever the scheme returns.**
     ensures number { result ≡ number_with_key (read_utf8 read_public_key pk_text.now) (λ k.
         strict_verdict_number (S.accepts scheme.now) (value_of k) sig_text.now (joined pieces.now) false) }
 
@@ -100,7 +101,7 @@ fn verify_under<S: Scheme>(
     verify_read(scheme, key, &signature, sig_text, pieces, room)
 }
 
-// Returns a signature that was not read.
+// Returns a struct into which no signature was read.
 pub(crate) fn no_signature() -> SignatureValue {
     SignatureValue {
         mark: 0,
@@ -192,7 +193,7 @@ fn answer<S: Scheme>(scheme: &S, state: &mut State, questions: &Questions, room:
     minisign_verdict(state, answer_of(first), answer_of(second))
 }
 
-// Returns the number by which a result of the scheme is passed in.
+// Converts a result of the scheme to the number that the calls accept.
 pub(crate) fn answer_of(is_accepted: bool) -> u32
     ensures known { IsAnswer result }
     ensures same { (result == answer_yes) ≡ is_accepted }
@@ -250,7 +251,7 @@ pub fn sign_in_a_row<S: Scheme>(
     )
 }
 
-// Returns a public key that was not read.
+// Returns a struct into which no public key was read.
 pub(crate) fn no_public_key() -> PublicKeyValue {
     PublicKeyValue {
         mark: 0,
@@ -259,7 +260,7 @@ pub(crate) fn no_public_key() -> PublicKeyValue {
     }
 }
 
-// Returns a secret key that is not open.
+// Returns a struct that holds no open secret key.
 fn no_secret_key() -> SecretKeyValue {
     SecretKeyValue {
         mark: 0,

@@ -42,8 +42,8 @@ pub extern "C" fn minisign_install_init(
     // On success, the installation represents the first state of a run with these keys and options.
     ensures begun { result ≡ 0 → (file : List ℕ)
         → Represents installation.new (begin (options_by key.now other.now options.now file)) }
-    // The errors are, in this order: an option is neither 0 nor 1, or two options must not be combined; there
-    // is no numbering with this number; a public key was not read. After an error the installation is
+    // The errors are, in this order: an option is neither 0 nor 1, or two options must not be combined;
+    // `numbering` is not a known number; a public key was not read. After an error the installation is
     // unchanged.
     ensures number { MatchOption (starting_misuse key.now other.now options.now) (result ≡ 0)
         (λ m. result ≡ misuse_number m) }
@@ -211,7 +211,7 @@ pub extern "C" fn minisign_install_signature(
     }
 }
 
-// Returns the time that is passed to the step, or `None` if the clock shows a time before 1970.
+// Converts the time that the application reports, in seconds since 1970. A time before 1970 becomes `None`.
 fn time_of(now: i64) -> Option<u64>
     ensures { result ≡ time_of now }
 {
@@ -219,7 +219,8 @@ fn time_of(now: i64) -> Option<u64>
 }
 
 /// Writes the question for Ed25519 that is due: a public key, a signature, and the digest that was signed.
-/// The message of the question about the trusted comment was written before, and the digest is zeros.
+/// For the question about the trusted comment, the digest is zeros, because `minisign_install_signature` has
+/// already written its message.
 #[unsafe(no_mangle)]
 pub extern "C" fn minisign_install_question(
     installation: &Installation,
@@ -251,7 +252,7 @@ pub extern "C" fn minisign_install_question(
     }
 }
 
-/// Reports the result of Ed25519: `ANSWER_YES` or `ANSWER_NO`.
+/// Reports the result of the Ed25519 check: `ANSWER_YES` or `ANSWER_NO`.
 #[unsafe(no_mangle)]
 pub extern "C" fn minisign_install_answer(installation: &mut Installation, answer: u32) -> u32
     // If the installation represents a state, the result and the new state are those that `step` computes
@@ -267,7 +268,7 @@ pub extern "C" fn minisign_install_answer(installation: &mut Installation, answe
     number_of(installation.answer(answer))
 }
 
-/// Returns 1 once one of the keys has been found to have signed the trusted comment, otherwise 0.
+/// Returns 1 if the trusted comment has been verified under one of the keys, otherwise 0.
 #[unsafe(no_mangle)]
 pub extern "C" fn minisign_install_is_signed(installation: &Installation) -> u32
     ensures { (s : State) → Represents installation.now s → result ≡ (if s.is_signed then 1 else 0) }
@@ -275,7 +276,7 @@ pub extern "C" fn minisign_install_is_signed(installation: &Installation) -> u32
     u32::from(installation.is_signed())
 }
 
-/// Returns the version number of the update, or 0 if its trusted comment is not signed.
+/// Returns the version number of the update, or 0 if its trusted comment has not been verified.
 #[unsafe(no_mangle)]
 pub extern "C" fn minisign_install_version(installation: &Installation) -> u64
     ensures { (s : State) → Represents installation.now s
@@ -284,8 +285,8 @@ pub extern "C" fn minisign_install_version(installation: &Installation) -> u64
     installation.version()
 }
 
-/// Writes the signed size of the data and returns 1, or returns 0 if there is none, or the trusted comment is
-/// not signed.
+/// Writes the size of the data that the trusted comment gives and returns 1, or returns 0 if the comment
+/// gives no size or has not been verified.
 #[unsafe(no_mangle)]
 pub extern "C" fn minisign_install_size(installation: &Installation, size: &mut u64) -> u32
     ensures { (s : State) → Represents installation.now s
@@ -329,7 +330,7 @@ pub extern "C" fn minisign_install_error(installation: &Installation) -> u32
     installation.error()
 }
 
-/// Checks only what a signed comment says, and writes its version number.
+/// Checks the fields of a trusted comment that the caller has verified, and writes its version number.
 #[unsafe(no_mangle)]
 pub extern "C" fn minisign_judge_comment(
     comment: &[u8],

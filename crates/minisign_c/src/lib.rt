@@ -1,6 +1,6 @@
-//! The library for C: verifies and makes minisign signatures with an Ed25519 that the caller supplies.
-//! `include/minisign.h` and `include/minisign_install.h` declare these functions and say what a caller has to
-//! do.
+//! The library for C: verifies and makes Minisign signatures with an Ed25519 that the caller supplies. The
+//! headers `minisign.h`, `minisign_install.h` and `minisign_list.h` in `include/` declare these functions and
+//! say what a caller has to do.
 
 #![tactic(auto)]
 
@@ -106,9 +106,10 @@ use minisign_lists::writing::append_entry;
 use minisign_lists::{ListFault, LongDigest};
 use std::alloc::Global;
 
-// The lowest limits with which Minisign encrypts a key.
+// The lowest operations limit with which Minisign encrypts a key.
 const LEAST_OPERATIONS_LIMIT: u64 = 524_288;
 
+// The lowest memory limit with which Minisign encrypts a key, in bytes.
 const LEAST_MEMORY_LIMIT: u64 = 16_777_216;
 
 // Converts the result of a call to a number: 0 for success, otherwise the error number.
@@ -179,9 +180,10 @@ pub extern "C" fn minisign_init(state: &mut State)
 /// Feeds the next bytes of the data.
 #[unsafe(no_mangle)]
 pub extern "C" fn minisign_update(state: &mut State, piece: &[u8]) -> u32
-    // On success, the piece is appended to the data that the state was fed. What was asked is unchanged. The
-    // call fails only if the digest was already returned, or if the state was never initialized or was
-    // finished by a verdict. Then the result is the number of that error, and the state is unchanged.
+    // On success, the piece is appended to the data that the state was fed. The record of the questions that
+    // were asked is unchanged. The call fails only if the digest was already returned, or if the state was
+    // never initialized or was finished by a verdict. Then the result is the number of that error, and the
+    // state is unchanged.
     ensures fed { (m : List ℕ) → IsFedState state.old m → (result ≡ 0)
         × IsFedState state.new (m ++ piece.now) }
     ensures asked { KeepsQuestions state.old state.new }
@@ -196,9 +198,9 @@ pub extern "C" fn minisign_update(state: &mut State, piece: &[u8]) -> u32
 #[unsafe(no_mangle)]
 pub extern "C" fn minisign_digest(state: &mut State, digest: &mut [u8; 64]) -> u32
     // On success, the digest is the Blake2b digest (64 bytes) of all data that the state was fed, and the
-    // state accepts no more data. What was asked is unchanged. The call fails only if the digest was already
-    // returned, or if the state was never initialized or was finished by a verdict. Then the result is the
-    // number of that error, and the state and the digest are unchanged.
+    // state accepts no more data. The record of the questions that were asked is unchanged. The call fails
+    // only if the digest was already returned, or if the state was never initialized or was finished by a
+    // verdict. Then the result is the number of that error, and the state and the digest are unchanged.
     ensures digest { (m : List ℕ) → IsFedState state.old m
         → (result ≡ 0) × (digest.new ≡ blake2b_digest 64 m) × HasReturnedDigest state.new m }
     ensures asked { KeepsQuestions state.old state.new }
@@ -614,7 +616,8 @@ pub extern "C" fn minisign_open_sealed_key_in_place(
 ) -> u32
     // The result and the key are those of `minisign_open_sealed_key`, except that the result is never out of
     // memory. If the memory is smaller than `minisign_opening_memory` says, the result is the error of a
-    // buffer that is too short, and no key is derived. What the memory held before makes no difference.
+    // buffer that is too short, and no key is derived. The previous contents of the memory make no
+    // difference.
     ensures opened { (result, key.new) ≡ opened_outcome
         (opened_in_place unopened.now password.now keep_every most_rows (length words.old) (length bytes.old))
         key.old }
@@ -632,9 +635,9 @@ pub extern "C" fn minisign_open_sealed_key_in_place(
 #[repr(C)]
 #[derive(Clone, Copy)]
 pub struct NewKey {
-    /// Its key ID.
+    /// The key ID.
     pub key_id: [u8; 8],
-    /// The 32 bytes of the seed, and the 32 of its public key.
+    /// The seed (32 bytes), followed by its public key (32 bytes).
     pub secret: [u8; 64],
 }
 
@@ -686,7 +689,7 @@ pub extern "C" fn minisign_public_key_of(
     }
 }
 
-// Returns the password, or nothing if `with_password` is 0.
+// Returns the password, or `None` if `with_password` is 0.
 fn given(with_password: u32, password: &[u8]) -> Option<&[u8]>
     ensures { option_copied result ≡ passed_password with_password password.now }
 {
@@ -711,7 +714,7 @@ fn password_misuse(with_password: u32, password: &[u8]) -> Option<Misuse>
     None
 }
 
-// Returns the API misuse in the password arguments or, after these, in `sealing`, if any.
+// Returns the API misuse in the password arguments or, if there is none, in `sealing`, if any.
 fn sealing_misuse(with_password: u32, password: &[u8], sealing: &Sealing) -> Option<Misuse>
     ensures { result ≡ sealing_misuse with_password password.now sealing.now }
 {
@@ -946,9 +949,10 @@ pub extern "C" fn minisign_signed_text(
 ) -> u32
     // **On success, the public key was read, and the signature file at the start of the buffer parses to a
     // signature with exactly its key ID, these comments and these signatures. If a scheme made the two
-    // signatures, that is the signature box that signing with it makes. The file is a valid signature of a
-    // message under every public key with this key ID under which both signatures are valid, and if the key
-    // is genuine, all that the headline of docs/PROMISES.md says about signing holds for it.**
+    // signatures, the file parses to the signature box that signing with this scheme makes. The file is a
+    // valid signature of a message under every public key that has this key ID and under which both
+    // signatures are valid. If the key is genuine, everything that the headline of docs/PROMISES.md says
+    // about signing holds for the file.**
     ensures text { result ≡ 0 → (is_public_key key.now ≡ true)
         × HoldsText key.now.key_id (comments_of trusted.now untrusted.now) first.now second.now text.new
         text_len.new }
@@ -973,7 +977,7 @@ pub extern "C" fn minisign_signed_text(
     }
 }
 
-// Converts the result of asking to a number.
+// Converts the result of `ListValue::ask` to a number.
 fn asked_number(answer: Result<bool, Refusal>) -> u32
     ensures { result ≡ asked_number answer }
 {
@@ -1110,7 +1114,7 @@ pub extern "C" fn minisign_list_find(
     ensures number { (result, (entry.new, line.new))
         ≡ finding_number (long_numbered long_digest) list.now text.now name.now entry.old }
 
-    // On success, the digest that `minisign_list_begin` takes from the entry is the one in the list.
+    // On success, the digest that later calls take from `entry` is the one in the list.
     ensures digest { result ≡ 0 → (long : LongDigest) (e : Entry) → long_numbered long_digest ≡ Some long
         → found_entry list.now text.now long name.now ≡ Ok e → entry_digest entry.new ≡ Ok e.digest }
 {

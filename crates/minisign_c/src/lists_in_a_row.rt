@@ -1,5 +1,5 @@
-//! Makes the calls for lists in the order in which an application makes them, so that contracts can state
-//! what the whole sequence does, however the data is split. No program calls these functions.
+//! Makes the calls for lists in a row, in the order in which an application makes them, so that contracts can
+//! state what the whole sequence does, however the data is split. No program calls these functions.
 
 ghost use Rattle.std.specs.Prelude.{◌≡◌, ◌==◌, ◌≤◌, ◌+◌, ℕ, List, [], Some, Ok, false, true, is_ok, length};
 ghost use Rattle.std.specs.Prelude.{if◌then◌else◌};
@@ -67,8 +67,8 @@ pub fn check_listed_in_a_row<S: Scheme>(
         (read_utf8 read_public_key pk_text.now) sig_text.now
         (lookup_of list_name.now list.now long_digest name.now) (joined pieces.now)) }
 
-    // **If the two files, the list and the name are UTF-8 and `long_digest` has a meaning, this verdict is
-    // `listed_verdict`, which `verify_listed` of `minisign_lists` returns.**
+    // **If the two files, the list and the name are UTF-8 and `long_digest` is a valid number, this verdict
+    // is `listed_verdict`, which `verify_listed` of `minisign_lists` returns.**
     ensures verdict { (long : LongDigest) → long_numbered long_digest ≡ Some long
         → AreUtf8 pk_text.now sig_text.now list.now name.now
         → (result == 0) ≡ is_ok (listed_verdict (strict (S.accepts scheme.now)) pk_text.now sig_text.now
@@ -96,9 +96,9 @@ pub fn check_listed_in_a_row<S: Scheme>(
 /// nothing, and exists only for its contract.
 #[tactic(auto, using(crate::proofs::ListedVerdicts::agree))]
 pub fn listed_verdicts_agree()
-    // If the two files, the list and the name are UTF-8, and the hash function of 128 digits is known, then
-    // `listed_with`, the verdict that `check_listed_in_a_row` returns as a number, equals `listed_verdict`:
-    // the trusted comment, or the first check that fails.
+    // If the two files, the list and the name are UTF-8, and the number for the meaning of digests of 128
+    // digits is valid, then `listed_with`, the verdict that `check_listed_in_a_row` returns as a number,
+    // equals `listed_verdict`: the trusted comment, or the first check that fails.
     ensures { (accepts : Verifier) (pk_text sig_text : List ℕ) (x : Lookup) (long : LongDigest) (m : List ℕ)
         → x.long ≡ Some long → AreUtf8 pk_text sig_text x.text x.name
         → listed_with accepts (read_utf8 read_public_key pk_text) sig_text x m
@@ -206,7 +206,7 @@ fn verify_read<S: Scheme>(
     minisign_list_verdict(verified, first_answer, second_answer)
 }
 
-// Returns a list that was not verified.
+// Returns a struct that holds no verified list.
 fn no_list() -> ListValue {
     ListValue {
         mark: 0,
@@ -217,7 +217,7 @@ fn no_list() -> ListValue {
     }
 }
 
-// Returns an entry that was not read.
+// Returns a struct into which no entry was read.
 fn no_entry() -> EntryValue {
     EntryValue {
         mark: 0,

@@ -33,7 +33,8 @@ answered_vouches accepts public message key_id chosen first second long answers 
           answers.to_second;
     })
 
--- A text meets IsAnsweredText if it is the signature file of the two signatures and parses to their box.
+-- If a UTF-8 text is the signature file of the two signatures and parses to their box, IsAnsweredText holds
+-- for it.
 pub answered_text : (key_id : List ℕ) (chosen : ChosenComments) (first second text : List ℕ)
     → length second ≡ 64 → IsUtf8 text
     → text ≡ signature_text (answered_signature key_id first) (answered_comments chosen second)

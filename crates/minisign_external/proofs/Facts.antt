@@ -1,5 +1,6 @@
--- Values of the definitions that are known from outside: the points that libsodium rejects, the public key
--- and the signature of RFC 8032 (section 7.1, test 1), and the equations that points of small order meet.
+-- Facts that test the definitions against values from other sources: the points that libsodium rejects, the
+-- public key and the signature of RFC 8032 (section 7.1, test 1), and the equations that points of small
+-- order meet.
 use Rattle.std.proofs.Common.{◌≡◌, refl, ℕ, ◌+◌, ◌-◌, ◌*◌, ◌^◌, ◌%◌, nat_le, Bool, if◌then◌else◌, List, []}
 use Rattle.std.proofs.Common.{◌∷◌, ◌++◌, codes, map}
 use Rattle.minisign_external.specs.StrictEd25519.{field_prime, group_order, is_strict_point}
@@ -13,7 +14,7 @@ abbrev hex : List ℕ → List ℕ
 hex (a ∷ b ∷ rest) = (16 * digit a + digit b) ∷ hex rest
 hex rest = []
 
--- The letter "y" for a point or signature that is strict, otherwise "n".
+-- The letter "y" for a point or signature that passes the strict test, otherwise "n".
 abbrev letter : Bool → ℕ
 letter is = if is then 121 else 110
 
@@ -27,7 +28,7 @@ pub order_eight_negated : 2 * 121666 * (field_prime - order_eight_y) ^ 2 % field
     ≡ (121665 * (field_prime - order_eight_y) ^ 4 + 121666) % field_prime
 order_eight_negated = refl
 
--- The order of the group, as the bytes in libsodium.
+-- The bytes of the group order in libsodium encode the group order of the definition.
 pub group_order-bytes : group_order
     ≡ number_of (hex (codes "edd3f55c1a631258d69cf7a2def9de1400000000000000000000000000000010"))
 group_order-bytes = refl

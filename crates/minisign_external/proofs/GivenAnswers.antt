@@ -45,7 +45,7 @@ of_read : (v : PublicKeyValue) (t : SignatureTextRecord) (r : Result SignatureTe
 of_read v t (Ok s) h = of_judged v s t (judge_key v.key_id s.signature false) refl h
 of_read v t (Err f) h = cc h
 
--- A signature that passes the checks under a key without legacy signatures is prehashed.
+-- A signature that passes the checks under a key is prehashed, if legacy signatures are not allowed.
 pub prehashed : (v : PublicKeyValue) (text : List ℕ) (t : SignatureTextRecord) → read_under v false text
     ≡ Ok t → is_prehashed t.signature ≡ true
 prehashed v text t h = of_read v t (read_utf8 read_signature text) h
@@ -100,7 +100,7 @@ module _ (accepts : Verifier) (v : PublicKeyValue) (text m room digest : List �
       (accepts (take q.message_len room) q.public_key q.comment_signature)) (sym is) both in
       subst (λ x. Answers accepts v text m first x) (sym also) one
 
--- A buffer that is long enough is not rejected.
+-- A buffer that is long enough does not cause an error.
 roomy : (b : Bool) (r : Refusal Fault) → b ≡ true
     → ◌≡◌ {A = Result Unit (Refusal Fault)} (Err r) (if b then Ok tt else Err (WrongUse NoRoom)) → ⊥
 roomy true r is h = cc h
@@ -115,7 +115,7 @@ module _ (accepts : Verifier) (v : PublicKeyValue) (text message : List ℕ) (ro
       (roomy (nat_le (64 + length t.comments.trusted) room) r (le-leb _ _ (fits t e)) h)
   of_asked (Err f) e h = rw e h
 
-  -- If asking a new state fails, the verdict is the same error.
+  -- If asking a new state fails, the verdict on the key and the signature file is the same error.
   pub unasked : (s : State) → is_public_key v ≡ true → IsFedState s [] → IsBlank s
       → Err r ≡ asking_under s v text false room
       → Err r ≡ given_verdict (verdict_under accepts v text message false)
@@ -127,7 +127,7 @@ module _ (accepts : Verifier) (v : PublicKeyValue) (text message : List ℕ) (ro
       ∙ ap (λ (b : Bool). if b then asked_under (read_under v false text) room else
       Err (WrongUse PublicKeyNotRead)) public)
 
--- If the signature file cannot be parsed, the verdict is the same error.
+-- If parsing the signature file fails, the verdict is the same error.
 pub unread : (accepts : Verifier) (v : PublicKeyValue) (text message : List ℕ) (e : Fault)
     → read_signature_value text ≡ Err e
     → Err (Refused e) ≡ given_verdict (verdict_under accepts v text message false)

@@ -1,4 +1,4 @@
--- Lemmas about calls that open a key: the result, and the struct afterwards.
+-- Lemmas about the errors of calls that open a key, if the key was read.
 use Rattle.std.proofs.Common.{◌≡◌, ◌⊎◌, ◌∙◌, if◌then◌else◌, ℕ, Bool, true, false, List, None, Some, Result}
 use Rattle.std.proofs.Common.{Ok, Err, ap, inl, inr, refl, subst, sym}
 use Rattle.minisign_base.specs.Fault.{Fault, Named}
@@ -27,7 +27,7 @@ refused (Err e) old new f h =
     (λ (p : Answer). p.0) h in
     let same : f ≡ Refused e = cc first in (e, same, refl)
 
--- If the key was read, the result is that of opening it.
+-- An `if` whose condition is true equals its first branch. The condition here is that the key was read.
 as_read : (b : Bool) (g : Result SecretKeyRecord (Refusal Fault)) (m : Refusal Fault) → b ≡ true
     → (if b then g else Err m) ≡ g
 as_read true g m is = refl

@@ -1,4 +1,5 @@
--- The verdict on the signature file of two accepted signatures is its trusted comment.
+-- If a scheme accepts both signatures in a signature file that the library wrote, the verdict on the file is
+-- its trusted comment.
 use Rattle.std.proofs.Common.{◌≡◌, ◌∙◌, ℕ, List, ◌++◌, Some, Result, Ok, Err, Bool, true, false}
 use Rattle.std.proofs.Common.{if◌then◌else◌, ap, sym, refl, subst, drop, take, length}
 use Rattle.std.specs.Prelude.{⊤}
@@ -28,7 +29,7 @@ boxed : (r : Result SignatureTextRecord Fault) (x : SignatureBoxRecord) → map_
 boxed (Ok t) x h = (t, refl, (let same : box_of t ≡ x = cc h in same))
 boxed (Err e) x h = cc h
 
--- If a signature passes both checks, the result is its trusted comment.
+-- If a parsed signature passes all checks, the verdict is its trusted comment.
 passes : (j : Result ⊤ Fault) (t : SignatureTextRecord) (more : SignatureTextRecord → Result ⊤ Fault)
     → and_then j (λ _. more t) ≡ Ok tt
     → and_then (and_then j (λ _. Ok t)) (λ s. and_then (more s) (λ _. Ok s.comments.trusted))
@@ -43,7 +44,7 @@ module _ (accepts : Verifier) (w : PublicKeyValue) (message text : List ℕ) (ch
     (first second : List ℕ)
     (own : IsAnsweredText w.key_id chosen first second text) (long : length second ≡ 64)
     (answers : AcceptsAnswers accepts w.key message chosen.trusted first second) where
-  -- The verdict on the signature file of two accepted signatures is the trusted comment.
+  -- If a scheme accepts the two signatures, the verdict on their signature file is the trusted comment.
   pub verified : verdict_under accepts w text message false ≡ Ok chosen.trusted
   verified =
       let (t, read, same) = boxed (read_signature text) _ own.read_back in
@@ -78,8 +79,8 @@ module _ (accepts : Verifier) (public_of : List ℕ → List ℕ) (seed : List �
       (drop-append_seam seed (public_of seed)) in
       sym behind ∙ ap (drop 32) (sym pair.secret) ∙ ap (λ x. x.key) half
 
-  -- The verdict on the signature file of two signatures that a scheme makes with the key of a seed, which the
-  -- scheme accepts by its law, is the trusted comment.
+  -- If a scheme accepts both signatures under the public key of a seed, and the signature file was written
+  -- for the key of this seed, the verdict on the file under this public key is the trusted comment.
   pub own_verdict : (message digest trusted untrusted first second bytes : List ℕ) (len : ℕ)
       → digest ≡ blake2b_digest 64 message → length second ≡ 64
       → HoldsText v.key_id (comments_of trusted untrusted) first second bytes len

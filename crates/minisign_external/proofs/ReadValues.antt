@@ -1,4 +1,4 @@
--- Lemmas about a signature that was read from a signature file: asking about the struct gives the same result
+-- Lemmas about a struct into which a signature file was read: asking about the struct gives the same result
 -- as asking about the file.
 use Rattle.std.proofs.Common.{◌≡◌, ◌∙◌, ◌==◌, ◌+◌, ℕ, Bool, true, false, if◌then◌else◌, List, length, take}
 use Rattle.std.proofs.Common.{drop, Result, Ok, Err, ap, sym, refl, subst, le-leb, IfOk, IfErr, ◌≤◌, ◌++◌}
@@ -33,7 +33,7 @@ use Rattle.minisign_external.specs.declared.state.State.{State}
 use Rattle.minisign_external.proofs.Utf8.{not_true, of_text}
 use Rattle.minisign_external.proofs.Verdicts.{opening_refusal}
 
--- The conjunction of three tests that are true is true.
+-- The conjunction of three true Booleans is true.
 all_hold : (a b c : Bool) → a ≡ true → b ≡ true → c ≡ true → (a && b && c) ≡ true
 all_hold true true true x y z = refl
 all_hold true true false x y z = cc z
@@ -106,7 +106,7 @@ module _ (s : SignatureValue) (text : List ℕ) (t : SignatureTextRecord) (from 
       (le-leb _ _ (subst (λ (n : ℕ). s.comment_offset + n ≤ length text) (sym len_is) from.comment.within))
       (sym bytes_are) from.utf8
 
-  -- The trusted comment that is found with the struct is that of the text.
+  -- The trusted comment that is found with the struct is the trusted comment of the text.
   pub comment_is : comment_of s text ≡ Ok t.comments.trusted
   comment_is = chosen (s.mark == signature_mark) (is_text_of s text) _ _
       (ap (λ (x : SignatureValue). x.mark == signature_mark) from.value) text_is bytes_are
@@ -147,11 +147,11 @@ module _ (s : SignatureValue) (text : List ℕ) (t : SignatureTextRecord) (from 
       (ap (λ r. asked_under r room) (under v legacy)
       ∙ of_public (is_public_key v) _ (sym (asked_as v legacy room) ∙ h))
 
-  -- The questions about the struct are those about the text.
+  -- The questions about the struct are the questions about the text.
   pub questions_are : (v : PublicKeyValue) → questions_about v s ≡ questions_of v t
   questions_are v = ap (questions_about v) from.value
 
-  -- The message of the second question is that of the text.
+  -- The bytes in the buffer are the message of the second question about the text.
   pub message_is : (c message : List ℕ) (len : ℕ) → comment_of s text ≡ Ok c → len ≡ 64 + length c
       → len ≤ length message
       → take len message ≡ s.signature ++ c → (c ≡ t.comments.trusted)
@@ -167,7 +167,7 @@ module _ (s : SignatureValue) (text : List ℕ) (t : SignatureTextRecord) (from 
         },
       )
 
-  -- After asking with the struct, the state was asked about the text.
+  -- A state that was asked with the struct has been asked about the text (HasAsked).
   pub has_asked : (state : State) (v : PublicKeyValue) (legacy : Bool) → read_under v legacy text ≡ Ok t
       → HasAsked (asked_about state s) v text legacy
   has_asked state v legacy read = record {
@@ -180,7 +180,7 @@ module _ (s : SignatureValue) (text : List ℕ) (t : SignatureTextRecord) (from 
 
 -- == Reading a signature from bytes ==
 
--- The result of reading a signature from UTF-8 bytes is that of reading it from the text.
+-- If reading a signature from UTF-8 bytes succeeds, the struct was read from these bytes (IsReadFrom).
 pub from_text : (r : Result SignatureValue Fault) (text bytes : List ℕ)
     → r ≡ map_ok (signature_value text) (read_signature text) → text ≡ bytes → IsUtf8 bytes
     → IfOk r (λ s. (t : SignatureTextRecord) × (read_signature text ≡ Ok t)

@@ -1,4 +1,5 @@
--- Strict Ed25519 rejects a struct exactly if it rejects the text that the struct was read from.
+-- A struct passes the test for weak keys and signatures exactly if the signature file passes that it was read
+-- from.
 use Rattle.std.proofs.Common.{◌≡◌, ◌∙◌, ◌==◌, ◌||◌, ◌&&◌, not, ℕ, Bool, true, false, if◌then◌else◌, List}
 use Rattle.std.proofs.Common.{Result, ap, refl, take}
 use Rattle.std.specs.Prelude.{replicate}

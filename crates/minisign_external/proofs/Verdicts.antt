@@ -1,5 +1,5 @@
--- The verdict on a public key and a signature file is the same for every public key file that parses to the
--- key.
+-- Lemmas about verdicts: the verdict on a public key and a signature file is the verdict on every public key
+-- file that parses to this key; and the results of the two checks decide it.
 use Rattle.std.proofs.Common.{◌≡◌, ◌⊎◌, ℕ, Bool, true, false, ◌||◌, ◌&&◌, ◌==◌, not, ◌+◌, if◌then◌else◌, List}
 use Rattle.std.proofs.Common.{◌++◌, Result, Ok, Err, IsTrue, bytes_eq, inl, inr, ap, sym, subst, refl, ◌∙◌}
 use Rattle.std.proofs.Common.{nat_le, length, take}
@@ -64,7 +64,7 @@ opened_text v legacy sig_text t h =
     (opened v legacy sig_text t h) in
     (IsUtf8-from_is_utf8 sig_text is, read)
 
--- == The four conditions ==
+-- == The four checks ==
 
 abbrev judge_two : Bool → Bool → NamedFault → Result ⊤ Fault
 judge_two a b f = require a f (require b LegacyNotAccepted (Ok tt))
@@ -81,7 +81,8 @@ pass true true false d f t u w h = cc h
 pass true false c d f t u w h = cc h
 pass false b c d f t u w h = cc h
 
--- Two orders of the same checks give the same result.
+-- The four checks give the same result, whether the last two are chained to the first two or follow them
+-- separately.
 reordered : {T : Type 0} (a b c d : Bool) (f : NamedFault) (t : T) (u : List ℕ)
     → and_then (and_then (judge_two a b f) (λ _. judge_answers c d)) (λ _. Ok u) ≡ tests a b c d f t u
 reordered true true c d f t u = refl
@@ -124,9 +125,9 @@ module _ (accepts : Verifier) (key : PublicKeyRecord) (t : SignatureTextRecord) 
         comment_signed = commented;
       }
 
--- == Two texts ==
+-- == The public key file and the signature file ==
 
--- A function that is applied after a check that returns t is applied to t.
+-- If a check returns t on success, applying a function to its result is applying the function to t.
 chained : {T W : Type 0} (j : Result ⊤ Fault) (t : T) (more : T → Result W Fault)
     → and_then (and_then j (λ _. Ok t)) more ≡ and_then (and_then j (λ _. Ok t)) (λ _. more t)
 chained (Ok _) t more = refl
@@ -168,7 +169,8 @@ module _ (accepts : Verifier) (pk_text sig_text message : List ℕ) (legacy : Bo
       ≡ Err e = rw (sym as_read ∙ read) refl in
       let no = sym g ∙ h in cc no
 
-  -- The verdict on both texts is that on the key and the signature file.
+  -- The verdict on the public key file and the signature file is the result of the four checks of the key and
+  -- the signature.
   as_verdict : (t : SignatureTextRecord) → read_signature sig_text ≡ Ok t
       → verdict accepts pk_text sig_text message legacy ≡ tested accepts key t message legacy
   unfolding verdict
@@ -206,7 +208,7 @@ module _ (accepts : Verifier) (pk_text sig_text message : List ℕ) (legacy : Bo
       refl
       (subst (λ u. verdict_under accepts u sig_text message legacy ≡ Err e) keyed.same h)
 
--- == The answers ==
+-- == The results of the two checks ==
 
 same_and : (w x y : Bool) → (w ≡ true → x ≡ y) → (w && x) ≡ (w && y)
 same_and true x y h = h refl
@@ -237,7 +239,7 @@ decided accepts v sig_text message legacy t whole first second opens is answers 
     ∙ ap (λ (x : Bool). and_then (judge_answers first x) (λ _. Ok t.comments.trusted))
     (comment_answer accepts v t whole second is (answers.to_second t read)))
 
--- == What asking rejects ==
+-- == Errors of asking ==
 
 abbrev fits : Bool → Result Unit (Refusal Fault)
 fits b = if b then Ok tt else Err (WrongUse NoRoom)
@@ -255,7 +257,8 @@ refused_text true (Ok t) room m e h = absurd (has_room (nat_le (64 + length t.co
 refused_text true (Err f) room m e h = let same : f ≡ e = cc h in ap (λ x. Err x) same
 refused_text false r room m e h = cc h
 
--- If asking a state that may be asked fails, the error is that of the text or of the buffer.
+-- If asking fails after the checks of the state and the public key, then verification fails with the same
+-- error, or the error is API misuse (IsTextRefusal).
 pub opening_refusal : (v : PublicKeyValue) (sig_text : List ℕ) (legacy : Bool) (room : ℕ) (r : Refusal Fault)
     → asked_under (read_under v legacy sig_text) room ≡ Err r → IsTextRefusal v sig_text legacy r
 opening_refusal v sig_text legacy room (WrongUse m) h = tt
@@ -263,7 +266,8 @@ opening_refusal v sig_text legacy room (Refused e) h = λ utf8 pk_text message a
     refuse accepts pk_text sig_text message legacy v keyed utf8 e
     (rw (refused_text true (read_under v legacy sig_text) room NotBegun e h) refl)
 
--- The same holds if it is first checked that the public key was read.
+-- If asking fails after the checks of the state, with the check that the public key was read first, the same
+-- holds.
 under_of : (b : Bool) (v : PublicKeyValue) (sig_text : List ℕ) (legacy : Bool) (room : ℕ) (r : Refusal Fault)
     → (if b then asked_under (read_under v legacy sig_text) room else Err (WrongUse PublicKeyNotRead)) ≡ Err r
     → IsTextRefusal v sig_text legacy r

@@ -1,5 +1,5 @@
--- Lemmas about bounds on the work: opening a key within a number of rows is opening it with the greatest
--- bound on p that allows no more rows.
+-- Lemmas about bounds on the work of scrypt, which computes N * p rows: opening a key with a bound on the
+-- number of rows is opening it with the highest bound on p that allows no more rows.
 use Rattle.std.proofs.Common.{◌≡◌, ◌⊎◌, ◌∙◌, ◌*◌, ℕ, Bool, true, false, not, bytes_eq, List, Result, Some, Ok}
 use Rattle.std.proofs.Common.{Err, IsOk, ap, if◌then◌else◌, inl, inr, refl, rules, subst, sym}
 use Rattle.std.specs.Prelude.{◌^◌, None, nat_lt}
@@ -25,7 +25,8 @@ use Rattle.minisign_external.specs.declared.state.Refusal.TheVariants.{Refused}
 use Rattle.minisign_external.specs.declared.unopened_keys.UnopenedKeyValue.{UnopenedKeyValue}
 use Rattle.minisign_external.proofs.Utf8.{of_text}
 
--- If both bounds allow the same work, opening gives the same result.
+-- If the bound `times` on p and the bound `most` on the rows both allow this key, or both reject it, opening
+-- it gives the same result with both.
 pub opens_within : (k : SecretKeyRecord) (password : List ℕ) (times most : ℕ) → allowed_work k (Some times)
     ≡ allowed_rows k most
     → and_then (sealed_by_scrypt k) (λ s. open_sealed s password (Some times)) ≡ open_within k password most
@@ -40,7 +41,7 @@ opens_within k password times most same = by_cases (not (bytes_eq k.kdf no_kdf))
     by_cases true false = refl
     by_cases false b = refl
 
--- If both bounds allow the same work, both allow the derivation of the same keys.
+-- Under the same condition, the checks before scrypt give the same result with both bounds.
 pub derives_within : (k : SecretKeyRecord) (times most : ℕ) → allowed_work k (Some times)
     ≡ allowed_rows k most
     → and_then (sealed_by_scrypt k) (λ s. allowed_work s (Some times)) ≡ and_then (sealed_by_scrypt k)
@@ -56,7 +57,8 @@ derives_within k times most same = by_cases (not (bytes_eq k.kdf no_kdf)) (bytes
     by_cases true false = refl
     by_cases false b = refl
 
--- The same for the key in a struct and for a password whose bytes are UTF-8.
+-- Under the same condition, opening gives the same result with both bounds, if the second one first checks
+-- that the password is UTF-8, which it is.
 pub opens_text : (key k : SecretKeyRecord) (bytes password : List ℕ) (times most : ℕ) → key ≡ k
     → bytes ≡ password → IsUtf8 password
     → allowed_work key (Some times) ≡ allowed_rows key most
@@ -66,7 +68,8 @@ opens_text key k bytes password times most is same utf8 work =
     opens_within key bytes times most work ∙ ap (λ (s : SecretKeyRecord). open_within s bytes most) is
     ∙ of_text (λ p. open_within k p most) password bytes same utf8
 
--- The same if the result may also be out of memory, which is possible only if a key is derived.
+-- `opens_text` for a result that may also be out of memory, which is possible only if the checks before
+-- scrypt succeed.
 pub opens_or_none : (key k : SecretKeyRecord) (bytes password : List ℕ) (times most : ℕ)
     (r : Result SecretKeyRecord Fault) → key ≡ k
     → bytes ≡ password → IsUtf8 password → allowed_work key (Some times) ≡ allowed_rows key most
@@ -85,7 +88,7 @@ opens_or_none key k bytes password times most r is same utf8 work (inr (memory, 
       (rw (derives_within key times most work) at derives),
 )
 
--- The result of the call, and the struct afterwards.
+-- The result of `open_sealed_key` and the struct afterwards are those of its contract.
 pub sealed_or_none : (v : UnopenedKeyValue) (password : List ℕ) (most : ℕ) (old : SecretKeyValue)
     (d : Result SecretKeyRecord Fault)
     (answer : Result Unit (Refusal Fault) × SecretKeyValue) → is_read v ≡ true
@@ -100,7 +103,7 @@ sealed_or_none v password most old d answer read returned (inl opened) =
 sealed_or_none v password most old d answer read returned (inr (memory, utf8, derives)) =
     inr (returned ∙ ap (λ x. opened_or_unchanged (with_refusal x) old) memory, (read, utf8, derives))
 
--- == Which keys make more rows ==
+-- == Keys that need more rows than the bound ==
 
 no_less : (n : ℕ) → not (nat_lt n 0) ≡ true
 no_less n = search rules
@@ -115,8 +118,8 @@ same_test false false f v h = refl
 abbrev work_of : {V : Type 0} → Result V Fault → (V → ℕ) → (V → ℕ) → Bool → ℕ × ℕ
 work_of l n p w = option_map_or (λ v. (n v, p v)) (if w then result_ok l else None) (0, 0)
 
--- If both bounds allow the same keys, the number of rows is within its bound exactly if p is within its
--- bound.
+-- If both bounds give the same result for these limits, the number of rows is within its bound exactly if p
+-- is within its bound.
 within_of : {V : Type 0} (l : Result V Fault) (n p : V → ℕ) (w : Bool) (times most : ℕ)
     → and_then l (λ v. require (not (nat_lt times (p v))) WorkTooHigh (Ok v))
     ≡ and_then l (λ v. require (not (nat_lt most (2 ^ n v * p v))) WorkTooHigh (Ok v))
@@ -126,14 +129,15 @@ within_of (Ok v) n p true times most same = same_test _ _ WorkTooHigh v same
 within_of (Err e) n p true times most same = no_less times ∙ sym (no_less most)
 within_of l n p false times most same = no_less times ∙ sym (no_less most)
 
--- If the bound `times` on p allows the same keys as the bound `most` on the rows, then opening a key computes
--- at most `most` rows exactly if its p is at most `times`.
+-- If the bound `times` on p and the bound `most` on the rows give the same result for a key, then opening the
+-- key computes at most `most` rows exactly if its p is at most `times`.
 pub within_times : (k : SecretKeyRecord) (times most : ℕ) → allowed_work k (Some times) ≡ allowed_rows k most
     → not (nat_lt times (opening_work k).1) ≡ computes_at_most k most
 within_times k times most same =
     within_of (key_limits k) (λ v. v.n_log2) (λ v. v.p) (wants_password k) times most same
 
--- The error for a key that needs more rows, which depends on whether the key is encrypted with scrypt.
+-- A key that needs more rows than the bound is rejected: with WorkTooHigh if it is encrypted with scrypt,
+-- otherwise with UnsupportedEncryptionAlgorithm.
 rejected_of : {V : Type 0} (l : Result V Fault) (n p : V → ℕ) (w b : Bool) (k : SecretKeyRecord) (most : ℕ)
     (next : SecretKeyRecord → V → Result SecretKeyRecord Fault)
     → not (nat_lt most (2 ^ (work_of l n p w).0 * (work_of l n p w).1)) ≡ false
@@ -165,14 +169,15 @@ too_many k password most many =
     pass true false h = h
     pass false b h = h
 
--- A key that needs more rows is rejected for its work if it is encrypted with scrypt.
+-- A key that needs more rows and is encrypted with scrypt is rejected with WorkTooHigh.
 pub too_many_of_scrypt : (k : SecretKeyRecord) (password : List ℕ) (most : ℕ)
     → bytes_eq k.kdf scrypt_kdf ≡ true → computes_at_most k most ≡ false
     → open_within k password most ≡ Err (Named WorkTooHigh)
 too_many_of_scrypt k password most is many = too_many k password most many
     ∙ ap (λ (b : Bool). Err (Named (if b then WorkTooHigh else UnsupportedEncryptionAlgorithm))) is
 
--- A key that needs more rows and is not encrypted with scrypt is rejected for its key derivation.
+-- A key that needs more rows and is not encrypted with scrypt is rejected with
+-- UnsupportedEncryptionAlgorithm.
 pub too_many_of_other : (k : SecretKeyRecord) (password : List ℕ) (most : ℕ)
     → bytes_eq k.kdf scrypt_kdf ≡ false → computes_at_most k most ≡ false
     → open_within k password most ≡ Err (Named UnsupportedEncryptionAlgorithm)

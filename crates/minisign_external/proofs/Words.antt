@@ -1,4 +1,4 @@
--- The number of 32 bytes is one of four words.
+-- The number that 32 bytes encode is below 2^256, so four 64-bit words can hold it.
 use Rattle.std.proofs.Common.{◌≡◌, ℕ, ◌^◌, ◌<◌, List, [], ◌∷◌, length}
 use Rattle.std.proofs.Common.{slice_index, arith, w8, Fits}
 use Rattle.std.proofs.lemmas.Simd.{Each1-from_get_or, below_from_Fits}

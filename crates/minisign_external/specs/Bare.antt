@@ -1,5 +1,5 @@
--- The state that is asked about a bare signature, one without comments: the only check that the caller's
--- signature scheme must make, and the verdict that follows from its result.
+-- Verifying with a bare signature, which is one without comments: the state is asked for the only Ed25519
+-- check (the question), which the caller's signature scheme makes, and gives the verdict from its result.
 use Rattle.std.specs.Prelude.{◌≡◌, ⊤, ◌==◌, ◌&&◌, nat_le, ℕ, Bool, true, if◌then◌else◌, List, replicate}
 use Rattle.std.specs.Prelude.{None, Result, Ok, Err}
 use Rattle.minisign_base.specs.Fault.{Fault}
@@ -64,14 +64,15 @@ bare_asked s = record s { asked = record { mark = bare_asked_mark; whole = 0 } }
 abbrev pub with_signature : SignatureValue → Result Unit (Refusal Fault) → Result Unit (Refusal Fault)
 with_signature s more = if has_signature s then more else Err (WrongUse SignatureNotRead)
 
--- The result of asking about a key and a signature, for any state. The errors are, in this order: the public
--- key was not read; the signature was not read; those of checking the signature under the key.
+-- The result of the checks of asking, without those of the state and without that for weak keys and
+-- signatures. The errors are, in this order: the public key was not read; the signature was not read; those
+-- of checking the signature under the key.
 abbrev pub bare_asking_checks : PublicKeyValue → SignatureValue → Bool → Result Unit (Refusal Fault)
 bare_asking_checks v s legacy = with_public_key v (with_signature s
     (after_key_check (judge_key v.key_id (signature_of_value s) legacy) (Ok tt)))
 
--- The result of asking. First, the state must accept data and must not have been asked before. It is false if
--- the only problem is that the key or the signature is weak.
+-- The result of asking: API misuse if the state cannot be asked, or else an error of `bare_asking_checks`, or
+-- else false if the key or the signature is weak, otherwise true.
 abbrev pub bare_asking : State → PublicKeyValue → SignatureValue → Bool → Result Bool (Refusal Fault)
 bare_asking state v s legacy = asked_strictly (is_strict v.key s.signature)
     (if may_ask state then bare_asking_checks v s legacy else Err (WrongUse (asking_misuse state)))
@@ -100,8 +101,8 @@ bare_verdict_outcome s first =
 
 -- == With numbers as results ==
 
--- The outcome of asking for other languages: 0 or the error number, the state and the questions afterwards.
--- First, the flag that allows legacy signatures must be 0 or 1.
+-- The outcome of asking for other languages: 0 or the error number, and the state and the questions
+-- afterwards. The flag that allows legacy signatures is checked first; it must be 0 or 1.
 abbrev pub numbered_asking : Result Bool (Refusal Fault) × State × Questions → ℕ × State × Questions
 numbered_asking (r, s, q) = (asked_number r, s, q)
 
@@ -111,8 +112,8 @@ bare_asking_outcome_number state v s legacy q =
     if nat_le 2 legacy then (misuse_number BadLegacyFlag, state, q) else
     numbered_asking (bare_asking_outcome (bare_asking state v s (legacy == 1)) v s state q)
 
--- The number of the verdict from the result of the check, and the state after it. The result must be one of
--- the two numbers that mean yes and no; otherwise the state is unchanged.
+-- The number of the verdict from the result of the check, and the state after it. If the result is neither
+-- the number for yes nor the number for no, the error is API misuse, and the state is unchanged.
 abbrev pub bare_verdict_outcome_number : State → ℕ → ℕ × State
 bare_verdict_outcome_number s first =
     if is_answer first then numbered (bare_verdict_outcome s (first == answer_yes)) else

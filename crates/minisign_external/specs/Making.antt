@@ -1,4 +1,5 @@
--- Key files that are made from a key's parts and written to the start of a buffer.
+-- Key files that are encoded from a key and written to the start of a buffer, and the errors of the calls
+-- that do this.
 use Rattle.std.specs.Prelude.{◌≡◌, ◌⊎◌, ◌<◌, ◌≤◌, ◌+◌, ℕ, Bool, true, false, List, length, take, Option}
 use Rattle.std.specs.Prelude.{Some, Ok, IfSome}
 use Rattle.std.specs.Str.{IsUtf8}
@@ -29,7 +30,8 @@ pub record IsReadInKey (comment : List ℕ) : Type 0 where
 abbrev pub IsKeyComment : List ℕ → Type 0
 IsKeyComment comment = LacksByte 10 comment × IsReadInKey comment
 
--- The first len bytes of the buffer are the secret key file of these parts, which gives back the key.
+-- The first len bytes of the buffer are the secret key file of these parts. Opening the file with the same
+-- password gives the same parts.
 pub record HoldsSecretKey (keynum secret : List ℕ) (password : Option (List ℕ)) (s : Sealing)
     (comment bytes : List ℕ)
     (len : ℕ) : Type 0 where
@@ -55,7 +57,8 @@ IsUnwritable comment more bytes m =
     ⊎ ((m ≡ UnreadableComment) × LacksByte 10 comment × ¬ (IsReadInKey comment))
     ⊎ ((m ≡ NoRoom) × IsKeyComment comment × (length bytes < length comment + more))
 
--- None of the reasons of IsUnwritable applies.
+-- A file that is `more` bytes longer than its comment can be written to the buffer: IsUnwritable does not
+-- hold.
 abbrev pub IsWritable : List ℕ → ℕ → List ℕ → Type 0
 IsWritable comment more bytes = IsKeyComment comment × (length comment + more ≤ length bytes)
 
@@ -63,15 +66,15 @@ IsWritable comment more bytes = IsKeyComment comment × (length comment + more �
 abbrev pub AreUtf8KeyTexts : List ℕ → Option (List ℕ) → Type 0
 AreUtf8KeyTexts comment password = IsUtf8 comment × IfSome password IsUtf8
 
--- The error if a secret key file is not written although its comment and password are UTF-8: API misuse as in
--- IsUnwritable; or else limits that are rejected, or out of memory.
+-- The error if no secret key file is written although the comment and the password are UTF-8: API misuse as
+-- in IsUnwritable; or else limits that are rejected, or out of memory.
 abbrev pub IsMadeRefusal : Option (List ℕ) → Sealing → List ℕ → List ℕ → Refusal Fault → Type 0
 IsMadeRefusal password s comment bytes (WrongUse m) = IsUnwritable comment 233 bytes m
 IsMadeRefusal password s comment bytes (Refused e) = IsWritable comment 233 bytes
     × (e ≡ making_fault password s)
 
--- The error if a secret key file is not written: the key is not open; or else the comment or the password is
--- not UTF-8; or else an error of IsMadeRefusal.
+-- The error if no secret key file is written: the key is not open; or else the comment or the password is not
+-- UTF-8; or else an error of IsMadeRefusal.
 abbrev pub IsMakingRefusal : SecretKeyValue → Option (List ℕ) → Sealing → List ℕ → List ℕ → Refusal Fault
     → Type 0
 IsMakingRefusal v password s comment bytes r =
@@ -79,8 +82,8 @@ IsMakingRefusal v password s comment bytes r =
     ⊎ ((r ≡ Refused (Named NotUtf8)) × (is_opened v ≡ true) × ¬ (AreUtf8KeyTexts comment password))
     ⊎ ((is_opened v ≡ true) × AreUtf8KeyTexts comment password × IsMadeRefusal password s comment bytes r)
 
--- The error if a public key file is not written: an error of IsMakingRefusal that does not concern a
--- password, in the same order.
+-- The error if no public key file is written: an error of IsMakingRefusal that does not concern a password,
+-- in the same order.
 abbrev pub IsPublicKeyRefusal : SecretKeyValue → List ℕ → List ℕ → Refusal Fault → Type 0
 IsPublicKeyRefusal v comment bytes (WrongUse m) =
     ((m ≡ KeyNotOpened) × (is_opened v ≡ false))
@@ -90,7 +93,7 @@ IsPublicKeyRefusal v comment bytes (Refused e) =
     × (((e ≡ Named NotUtf8) × ¬ (IsUtf8 comment))
     ⊎ (IsUtf8 comment × IsWritable comment 77 bytes × (e ≡ Named OutOfMemory)))
 
--- The number of such an error.
+-- n is the number of an error of IsPublicKeyRefusal.
 abbrev pub IsPublicKeyNumber : SecretKeyValue → List ℕ → List ℕ → ℕ → Type 0
 IsPublicKeyNumber v comment bytes n =
     (r : Refusal Fault) × (n ≡ refusal_number fault_number r) × IsPublicKeyRefusal v comment bytes r
@@ -123,7 +126,7 @@ IsEncodingRefusal is_read unread more comment bytes (Refused e) =
     × (((e ≡ Named NotUtf8) × ¬ (IsUtf8 comment))
     ⊎ (IsUtf8 comment × IsWritable comment more bytes × (e ≡ Named OutOfMemory)))
 
--- The number of such an error.
+-- n is the number of an error of IsEncodingRefusal.
 abbrev pub IsEncodingNumber : Bool → Misuse → ℕ → List ℕ → List ℕ → ℕ → Type 0
 IsEncodingNumber is_read unread more comment bytes n =
     (r : Refusal Fault) × (n ≡ refusal_number fault_number r)

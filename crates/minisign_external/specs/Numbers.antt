@@ -82,15 +82,15 @@ misuse_text OtherListText = codes "the text is not the list that was verified"
 misuse_text BadHash = codes "the hash function or the length of its digest is not accepted here"
 misuse_text EntryNotRead = codes "the entry has not been read from a list"
 
--- The numbers by which a caller passes in a result of its signature scheme: the letters "yes" and "no", each
--- letter a byte. They are neither 0 nor 1 nor an error number, so none of these is mistaken for a result.
+-- The numbers that a caller passes in as the result of an Ed25519 check: the letters "yes" and "no", one byte
+-- each. They are neither 0 nor 1 nor an error number, so none of these can be mistaken for a result.
 abbrev pub answer_yes : ℕ
 answer_yes = 7955827
 
 abbrev pub answer_no : ℕ
 answer_no = 28271
 
--- The number is one of these two.
+-- The number is `answer_yes` or `answer_no`.
 abbrev pub is_answer : ℕ → Bool
 is_answer n = (n == answer_yes) || (n == answer_no)
 
@@ -105,7 +105,7 @@ weak_number = 81
 abbrev pub weak_text : List ℕ
 weak_text = codes "weak or non-canonical Ed25519 public key or signature"
 
--- The numbers of kinds of errors for programs in other languages. API misuse is a kind that only they see.
+-- The numbers of the kinds of errors for programs in other languages. The kind API misuse exists only there.
 abbrev pub misuse_kind : ℕ
 misuse_kind = 1
 
@@ -132,29 +132,28 @@ abbrev pub refusal_number : {F : Type 0} → (F → ℕ) → Refusal F → ℕ
 refusal_number number (WrongUse m) = misuse_number m
 refusal_number number (Refused e) = number e
 
--- The number is neither 0 nor that of an error of this library.
+-- The number is neither 0 nor the number of an error of this library.
 pub record IsUnlisted (n : ℕ) : Type 0 where
   pub failure : n ≢ 0
   pub misuse : (m : Misuse) → n ≢ misuse_number m
   pub weak : n ≢ weak_number
   pub fault : (f : NamedFault) → n ≢ (fault_row f).number
 
--- The text is the meaning of the number, if the number is 0 or that of an error of this library.
+-- If the number is 0 or the number of an error of this library, the text is its meaning.
 pub record IsListedMeaning (n : ℕ) (text : List ℕ) : Type 0 where
   pub success : n ≡ 0 → text ≡ codes "no error"
   pub misuse : (m : Misuse) → n ≡ misuse_number m → text ≡ misuse_text m
   pub weak : n ≡ weak_number → text ≡ weak_text
   pub fault : (f : NamedFault) → n ≡ (fault_row f).number → text ≡ (fault_row f).summary
 
--- k is the number of the kind of the error that has the number n, if n is 0 or that of an error of this
--- library.
+-- If n is the number of an error of this library, k is the number of its kind. If n is 0, k is 0.
 pub record IsListedKind (n : ℕ) (k : ℕ) : Type 0 where
   pub success : n ≡ 0 → k ≡ 0
   pub misuse : (m : Misuse) → n ≡ misuse_number m → k ≡ misuse_kind
   pub weak : n ≡ weak_number → k ≡ kind_number Verify
   pub fault : (f : NamedFault) → n ≡ (fault_row f).number → k ≡ kind_number (fault_row f).kind
 
--- k is the number of the kind of the error that has the number n. For any other number it is 0.
+-- k is the number of the kind of the error that has the number n, or 0 if no error has this number.
 pub record IsKindOf (n : ℕ) (k : ℕ) : Type 0 where
   pub listed : IsListedKind n k
   pub unknown : IsUnlisted n → k ≡ 0
@@ -162,13 +161,13 @@ pub record IsKindOf (n : ℕ) (k : ℕ) : Type 0 where
 abbrev pub unknown_text : List ℕ
 unknown_text = codes "unknown error"
 
--- The text is the meaning of the number. For any other number it is the text of an unknown error.
+-- The text is the meaning of the number, or "unknown error" if the number has no meaning.
 pub record IsMeaning (n : ℕ) (text : List ℕ) : Type 0 where
   pub listed : IsListedMeaning n text
   pub unknown : IsUnlisted n → text ≡ unknown_text
 
 -- The new buffer begins with as much of the text as fits before a 0 byte, and the 0. The bytes after the 0
--- are unchanged. A buffer of no bytes stays empty.
+-- are unchanged. An empty buffer stays empty.
 abbrev pub WritesCut : List ℕ → List ℕ → List ℕ → Type 0
 WritesCut text old new =
     let n = 1 + min (length text) (length old - 1) in

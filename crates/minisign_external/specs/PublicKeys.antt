@@ -32,7 +32,8 @@ abbrev pub key_outcome : Result PublicKeyRecord Fault → PublicKeyValue → Res
 key_outcome (Ok k) old = (Ok tt, value_of k)
 key_outcome (Err e) old = (Err e, old)
 
--- The outcome of this call for other languages: 0 or the error number, and the struct afterwards.
+-- The outcome for other languages of a call that reads a key: 0 or the error number, and the struct
+-- afterwards.
 abbrev pub key_outcome_number : Result PublicKeyRecord Fault → PublicKeyValue → ℕ × PublicKeyValue
 key_outcome_number (Ok k) old = (0, value_of k)
 key_outcome_number (Err e) old = (fault_number e, old)

@@ -14,8 +14,9 @@ use Rattle.minisign_external.specs.declared.public_keys.PublicKeyValue.{PublicKe
 
 -- == Verdicts ==
 
--- Parses a signature file and makes all checks that need no scheme: UTF-8, the format, the key ID, and
--- whether a legacy signature is allowed. Gives the parsed signature, or the first check that fails.
+-- Parses a signature file and makes all checks that need no scheme: the file must be UTF-8 and well formed,
+-- the key IDs must match, and the signature must be prehashed unless legacy ones are allowed. The result is
+-- the parsed signature, or the first check that fails.
 abbrev pub read_under : PublicKeyValue → Bool → List ℕ → Result SignatureTextRecord Fault
 read_under v legacy sig_text =
     and_then (read_utf8 read_signature sig_text) (λ t.
@@ -70,7 +71,7 @@ pub record Answers (accepts : Verifier) (v : PublicKeyValue) (sig_text message :
   pub to_second : (t : SignatureTextRecord) → read_signature sig_text ≡ Ok t
       → AnswersSecond accepts v t second
 
--- This is the result of the second check.
+-- `second` is the result of the second check for the key and the signature file.
 abbrev pub AnswersComment : Verifier → PublicKeyValue → List ℕ → Bool → Type 0
 AnswersComment accepts v sig_text second =
     (t : SignatureTextRecord) → read_signature sig_text ≡ Ok t → AnswersSecond accepts v t second
@@ -82,7 +83,7 @@ pub record HoldsMessage (s : SignatureRecord) (trusted : List ℕ) (bytes : List
 
 -- == With a public key file ==
 
--- The file parses to the public key in this struct.
+-- The public key file parses to the public key in the struct.
 pub record IsKeyText (pk_text : List ℕ) (v : PublicKeyValue) : Type 0 where
   pub key : PublicKeyRecord
   pub read : read_public_key pk_text ≡ Ok key

@@ -91,8 +91,8 @@ lacks_checksum k = bytes_eq k.kdf no_kdf && bytes_eq k.checksum (replicate 32 0)
 abbrev pub open_unsealed : SecretKeyRecord → Result SecretKeyRecord Fault
 open_unsealed k = if lacks_checksum k then Ok k else unencrypted_key k
 
--- An encrypted key, decrypted with a password, or the error. It is an error if scrypt needs more than
--- `most_rows` rows of its table.
+-- The encrypted key, decrypted with a password, or the error. It is an error if scrypt computes more than
+-- `most_rows` rows in total.
 abbrev pub open_within : SecretKeyRecord → List ℕ → ℕ → Result SecretKeyRecord Fault
 open_within k password most_rows = and_then (sealed_by_scrypt k)
     (λ s. and_then (allowed_rows s most_rows) (λ _. restored_key (xored_key s password)))
@@ -110,13 +110,13 @@ abbrev pub with_refusal : Result SecretKeyRecord Fault → Result SecretKeyRecor
 with_refusal (Ok key) = Ok key
 with_refusal (Err e) = Err (Refused e)
 
--- Opens the struct without a password: it must have been read, and its key must not be encrypted.
+-- Opens the key in the struct without a password: a key must have been read, and it must not be encrypted.
 abbrev pub opened_unsealed : UnopenedKeyValue → Result SecretKeyRecord (Refusal Fault)
 opened_unsealed v = if is_read v then with_refusal (open_unsealed (unopened_record v)) else
     Err (WrongUse KeyNotRead)
 
--- Opens the struct with a password, if scrypt needs at most `most_rows` rows: it must have been read, the
--- password must be UTF-8, and the key must be encrypted.
+-- Opens the key in the struct with a password, if scrypt computes at most `most_rows` rows: a key must have
+-- been read, the password must be UTF-8, and the key must be encrypted.
 abbrev pub opened_sealed : UnopenedKeyValue → List ℕ → ℕ → Result SecretKeyRecord (Refusal Fault)
 opened_sealed v password most_rows =
     if is_read v then with_refusal (read_utf8 (λ p. open_within (unopened_record v) p most_rows) password)
@@ -127,15 +127,14 @@ opened_sealed v password most_rows =
 abbrev pub sealed_within : SecretKeyRecord → ℕ → Result Numbers Fault
 sealed_within k most_rows = and_then (sealed_by_scrypt k) (λ s. allowed_rows s most_rows)
 
--- The result of checking the encrypted key in the struct without its password. The struct must have been
--- read.
+-- The result of checking the encrypted key in the struct without its password. A key must have been read.
 abbrev pub checked_sealed_key : UnopenedKeyValue → ℕ → Result Unit (Refusal Fault)
 checked_sealed_key v most_rows =
     if is_read v then decision (without_value (sealed_within (unopened_record v) most_rows)) else
     Err (WrongUse KeyNotRead)
 
--- Opening the struct with a password runs scrypt: it was read, the password is UTF-8, and the key is
--- encrypted by scrypt with limits that are allowed and need at most `most_rows` rows.
+-- Opening the key in the struct with a password runs scrypt: a key was read, the password is UTF-8, and the
+-- key is encrypted with scrypt, with limits that are allowed and need at most `most_rows` rows.
 abbrev pub DerivesWithin : UnopenedKeyValue → List ℕ → ℕ → Type 0
 DerivesWithin v password most_rows = (is_read v ≡ true) × IsUtf8 password
     × IsOk (and_then (sealed_by_scrypt (unopened_record v)) (λ s. allowed_rows s most_rows))
@@ -145,21 +144,21 @@ DerivesWithin v password most_rows = (is_read v ≡ true) × IsUtf8 password
 abbrev pub computes_at_most : SecretKeyRecord → ℕ → Bool
 computes_at_most k most = not (nat_lt most (2 ^ (opening_work k).0 * (opening_work k).1))
 
--- The memory for opening the struct in place if every k-th row is kept (0 counts as 1): 32-bit words, and
--- bytes. A key that needs more than `most_rows` rows needs no memory, because it is rejected before scrypt
--- begins.
+-- The memory for opening the key in the struct in place, if only every k-th row of scrypt is kept (k = 0
+-- means 1): the number of 32-bit words, and the number of bytes. A key that needs more than `most_rows` rows
+-- needs no memory, because it is rejected before scrypt begins.
 abbrev pub value_memory : UnopenedKeyValue → ℕ → ℕ → ℕ × ℕ
 value_memory v k most_rows =
     if computes_at_most (unopened_record v) most_rows then opening_memory (unopened_record v) (max k 1) else
     (0, 0)
 
--- This number of words and bytes is sufficient for opening the struct in place.
+-- This number of words and bytes is sufficient for opening the key in the struct in place.
 abbrev pub is_enough : UnopenedKeyValue → ℕ → ℕ → ℕ → ℕ → Bool
 is_enough v k most_rows words bytes =
     nat_le (value_memory v k most_rows).0 words && nat_le (value_memory v k most_rows).1 bytes
 
--- Opens the struct with a password in memory of this number of words and bytes. The errors are, in this
--- order: the key was not read; the memory is not sufficient; those of `opened_sealed`.
+-- Opens the key in the struct with a password, in memory of this number of words and bytes. The errors are,
+-- in this order: the key was not read; the memory is not sufficient; those of `opened_sealed`.
 abbrev pub opened_in_place : UnopenedKeyValue → List ℕ → ℕ → ℕ → ℕ → ℕ
     → Result SecretKeyRecord (Refusal Fault)
 opened_in_place v password k most_rows words bytes =

@@ -69,7 +69,8 @@ is_text_of s text =
     bytes_eq (blake2b_digest 32 text) s.text_digest && nat_le (s.comment_offset + s.comment_len) (length text)
     && is_utf8 (comment_bytes s text)
 
--- The trusted comment in the text that a struct was read from, or else the API misuse.
+-- The trusted comment in the text that the struct was read from. It is API misuse if no signature file was
+-- read into the struct, or if the text is a different one.
 abbrev pub comment_of : SignatureValue → List ℕ → Result (List ℕ) Misuse
 comment_of s text =
     if s.mark == signature_mark then if is_text_of s text then Ok (comment_bytes s text) else

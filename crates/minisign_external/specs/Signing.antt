@@ -53,7 +53,8 @@ pub record SchemeMakesSignatures (sign : Signer) (key : SecretKeyRecord)
   pub to_first : sign (blake2b_digest 64 message) key.secret (Some z1) ≡ first
   pub to_second : sign (first ++ trusted) key.secret (Some z2) ≡ second
 
--- The scheme accepts the two signatures of these messages under a public key of 32 bytes.
+-- Under this public key (32 bytes), the scheme accepts `first` as a signature of the digest of the message,
+-- and `second` as a signature of `first` followed by the trusted comment.
 pub record AcceptsAnswers (accepts : Verifier) (public message trusted first second : List ℕ) : Type 0 where
   pub to_first : accepts (blake2b_digest 64 message) public first ≡ true
   pub to_second : accepts (first ++ trusted) public second ≡ true
@@ -106,8 +107,8 @@ pub record AreReadByMinisign (chosen : ChosenComments) : Type 0 where
   pub untrusted_return : LacksByte 13 chosen.untrusted
   pub trusted_return : LacksByte 13 chosen.trusted
 
--- The API misuse if comments are rejected: this library would not read one back unchanged, or else Minisign
--- would not.
+-- The API misuse for comments that are rejected: BadComment if this library would not read them back
+-- unchanged, or else UnreadableComment if Minisign 0.11 would not.
 abbrev pub IsCommentMisuse : ChosenComments → Misuse → Type 0
 IsCommentMisuse chosen m =
     ((m ≡ BadComment) × ¬ (AreChosenReadBack chosen))
@@ -128,9 +129,9 @@ abbrev pub BufferIsTooSmall : List ℕ → ChosenComments → List ℕ → List 
 BufferIsTooSmall key_id chosen first second bytes =
     length bytes < length (signature_text (answered_signature key_id first) (answered_comments chosen second))
 
--- The error if a signature file is not written, the first one that applies: the public key was not read; a
--- comment is not UTF-8; a comment is rejected; the buffer is too short. Out of memory is possible only if no
--- comment is rejected.
+-- The error if no signature file is written, which is the first one that applies: the public key was not
+-- read; a comment is not UTF-8; a comment is rejected; the buffer is too short. Out of memory is possible
+-- only if no comment is rejected.
 abbrev pub IsWritingRefusal : PublicKeyValue → ChosenComments → List ℕ → List ℕ → List ℕ → Refusal Fault
     → Type 0
 IsWritingRefusal v chosen first second bytes (WrongUse m) =
@@ -144,7 +145,7 @@ IsWritingRefusal v chosen first second bytes (Refused e) =
     × (((e ≡ Named OutOfMemory) × AreUtf8 chosen × AreChosenReadBack chosen × AreReadByMinisign chosen)
     ⊎ ((e ≡ Named NotUtf8) × ¬ (AreUtf8 chosen)))
 
--- The number of an error of IsWritingRefusal.
+-- n is the number of an error of IsWritingRefusal.
 abbrev pub IsWritingNumber : PublicKeyValue → ChosenComments → List ℕ → List ℕ → List ℕ → ℕ → Type 0
 IsWritingNumber v chosen first second bytes n =
     (r : Refusal Fault) × (n ≡ refusal_number fault_number r) × IsWritingRefusal v chosen first second bytes r
@@ -164,8 +165,8 @@ HoldsOwnText s scheme v chosen message bytes len = (is_opened v ≡ true)
     × HoldsText v.key_id chosen (first_signature (s.signature_of scheme) v.secret message)
     (second_signature (s.signature_of scheme) v.secret message chosen.trusted) bytes len
 
--- The error if this signature file is not written: the key is not open, or else an error of IsWritingRefusal
--- for its public key.
+-- The error if the signature file of HoldsOwnText is not written: the key is not open, or else an error of
+-- IsWritingRefusal for its public key.
 abbrev pub IsOwnRefusal : {S : Type 0} → SchemeOf S → S → SecretKeyValue → ChosenComments → List ℕ → List ℕ
     → Refusal Fault → Type 0
 IsOwnRefusal s scheme v chosen message bytes r =
@@ -174,8 +175,8 @@ IsOwnRefusal s scheme v chosen message bytes r =
     × IsWritingRefusal w chosen (first_signature (s.signature_of scheme) v.secret message)
     (second_signature (s.signature_of scheme) v.secret message chosen.trusted) bytes r)
 
--- The error if a signature file is not written with the key of a secret key file. Opening this key may also
--- fail.
+-- The error if no signature file is written with the key of a secret key file: an error of opening this key,
+-- or else an error of IsOwnRefusal.
 abbrev pub IsTextSigningRefusal : {S : Type 0} → SchemeOf S → S → List ℕ → Option (List ℕ) → ℕ
     → ChosenComments → List ℕ → List ℕ → Refusal Fault → Type 0
 IsTextSigningRefusal s scheme text password most_rows chosen message bytes r =

@@ -1,5 +1,7 @@
--- The state of verifying or signing one file, which a program in another language holds: the data that was
--- fed, the Ed25519 checks that were asked for, and the verdict.
+-- The state of verifying or signing one file, which a program in another language holds: the data that it was
+-- fed, the questions that it was asked, and the verdict. A question is the inputs of an Ed25519 check, which
+-- the caller makes. To ask the state about a key and a signature means to get the questions for them
+-- (`State::ask`).
 use Rattle.std.specs.Prelude.{◌≡◌, ⊤, ◌==◌, ◌⊎◌, ◌<◌, ◌||◌, ◌&&◌, not, nat_le, ℕ, Bool, if◌then◌else◌, List}
 use Rattle.std.specs.Prelude.{◌+◌, length, replicate, MatchResult, Result, Ok, Err}
 use Rattle.std.specs.Str.{IsUtf8}
@@ -59,14 +61,15 @@ pub record HasAsked (s : State) (v : PublicKeyValue) (sig_text : List ℕ) (lega
   pub read : read_under v legacy sig_text ≡ Ok signed
   pub whole : (s.asked.whole == 1) ≡ has_whole_signature signed.comments
 
--- The questions in the state are unchanged.
+-- The record of the questions that were asked is unchanged.
 abbrev pub KeepsQuestions : State → State → Type 0
 KeepsQuestions old new = new.asked ≡ old.asked
 
--- The state has the mark of one that accepts data, or of one whose digest was returned.
+-- The state has the mark of a state that accepts data.
 abbrev pub IsMarkedFed : State → Type 0
 IsMarkedFed s = s.mark ≡ fed_mark
 
+-- The state has the mark of a state whose digest was returned.
 abbrev pub IsMarkedFinalized : State → Type 0
 IsMarkedFinalized s = s.mark ≡ finalized_mark
 
@@ -74,11 +77,11 @@ IsMarkedFinalized s = s.mark ≡ finalized_mark
 abbrev pub is_begun : State → Bool
 is_begun s = (s.mark == fed_mark) || (s.mark == finalized_mark)
 
--- The state was asked about a key and a signature.
+-- The state was asked about a signature file, whatever the key and the file.
 abbrev pub is_asked : State → Bool
 is_asked s = s.asked.mark == asked_mark
 
--- The state was asked about a key and a bare signature.
+-- The state was asked about a bare signature, whatever the key and the signature.
 abbrev pub is_asked_bare : State → Bool
 is_asked_bare s = s.asked.mark == bare_asked_mark
 
@@ -129,11 +132,13 @@ questions_about v s = record {
 abbrev pub asked_about : State → SignatureValue → State
 asked_about state s = record state { asked = record { mark = asked_mark; whole = s.whole } }
 
--- The API misuse if a state accepts no data: its digest was returned, or else it is not initialized.
+-- The API misuse for feeding a state that accepts no data: its digest was returned, or else it is not
+-- initialized.
 abbrev pub feeding_misuse : State → Misuse
 feeding_misuse s = if s.mark == finalized_mark then AlreadyAsked else NotBegun
 
--- The state accepts no data, for this reason. It was not fed any message, not even an empty one.
+-- The state accepts no data, and e is the API misuse for this. `IsFedState` holds for no message, not even
+-- the empty one.
 abbrev pub IsNotFed : State → Misuse → Type 0
 IsNotFed s e = (e ≡ feeding_misuse s) × ((m : List ℕ) → ¬ (IsFedState s m))
 
@@ -160,9 +165,9 @@ AreQuestionsWithoutDigest q bytes v t = (q ≡ questions_of v t)
 abbrev pub check_buffer : ℕ → ℕ → Result Unit (Refusal Fault)
 check_buffer len room = if nat_le (64 + len) room then Ok tt else Err (WrongUse NoRoom)
 
--- Chains checks: if the first result, that of checking the key ID and the algorithm, is an error, asking
--- fails with this error; otherwise the second result decides. `after_comment_check` does the same for the
--- result of finding the trusted comment.
+-- Chains two checks. The first one compares the key IDs and checks that a legacy signature is allowed; if it
+-- failed, the result is its error, otherwise the second result. `after_comment_check` does the same for a
+-- first check that finds the trusted comment.
 abbrev pub after_key_check : Result ⊤ Fault → Result Unit (Refusal Fault) → Result Unit (Refusal Fault)
 after_key_check (Ok t) more = more
 after_key_check (Err e) more = Err (Refused e)
@@ -176,31 +181,31 @@ after_comment_check (Err m) more = Err (WrongUse m)
 abbrev pub with_public_key : PublicKeyValue → Result Unit (Refusal Fault) → Result Unit (Refusal Fault)
 with_public_key v more = if is_public_key v then more else Err (WrongUse PublicKeyNotRead)
 
--- The result of asking about a key, a signature and its text, for any state. The errors are, in this order:
--- the public key was not read; the signature was not read, or not from this text; those of checking the
--- signature under the key; the buffer is too short.
+-- The result of the checks of asking that do not depend on the state, for a key, a signature and its text.
+-- The errors are, in this order: the public key was not read; the signature was not read, or not from this
+-- text; those of checking the signature under the key; the buffer is too short.
 abbrev pub asking_checks : PublicKeyValue → SignatureValue → List ℕ → Bool → ℕ → Result Unit (Refusal Fault)
 asking_checks v s text legacy room = with_public_key v (after_comment_check (comment_of s text)
     (after_key_check (judge_key v.key_id (signature_of_value s) legacy) (check_buffer s.comment_len room)))
 
--- The API misuse if a state cannot be asked: it was asked before or its digest was returned, or else it is
--- not initialized.
+-- The API misuse for asking a state that cannot be asked: it was asked before or its digest was returned, or
+-- else it is not initialized.
 abbrev pub asking_misuse : State → Misuse
 asking_misuse s = if is_begun s then AlreadyAsked else NotBegun
 
--- The state can be asked.
+-- The state can be asked: it accepts data and was not asked before.
 abbrev pub may_ask : State → Bool
 may_ask s = (s.mark == fed_mark) && not (is_asked s) && not (is_asked_bare s)
 
--- The result of asking. First, the state must accept data and must not have been asked before.
+-- The result of asking: API misuse if the state cannot be asked, otherwise the result of `asking_checks`.
 abbrev pub asking_result : State → PublicKeyValue → SignatureValue → List ℕ → Bool → ℕ
     → Result Unit (Refusal Fault)
 asking_result s v signature text legacy room =
     if may_ask s then asking_checks v signature text legacy room else Err (WrongUse (asking_misuse s))
 
--- The result of asking about a signature that was read from this text, in terms of the text. After the state
--- and the public key come the errors of parsing the text and checking it under the key, then a buffer that is
--- too short.
+-- The result of asking about a signature that was read from this text, computed from the text. The errors
+-- are, in this order: those of the state; the public key was not read; those of parsing the text and checking
+-- it under the key (`asked_under`); the buffer is too short.
 abbrev pub asked_under : Result SignatureTextRecord Fault → ℕ → Result Unit (Refusal Fault)
 asked_under (Ok t) room = check_buffer (length t.comments.trusted) room
 asked_under (Err e) room = Err (Refused e)
@@ -210,8 +215,8 @@ asking_under s v text legacy room =
     if may_ask s then with_public_key v (asked_under (read_under v legacy text) room) else
     Err (WrongUse (asking_misuse s))
 
--- The API misuse if a state gives no verdict: it was not asked or its digest was not returned, or else it is
--- not initialized.
+-- The API misuse for a state that gives no verdict: nothing was asked or its digest was not returned, or else
+-- it is not initialized.
 abbrev pub verdict_misuse : State → Misuse
 verdict_misuse s = if is_begun s then NotAsked else NotBegun
 
@@ -240,13 +245,13 @@ comment_result s second =
     then decision (require (has_asked_whole s && second) CommentSignatureRefused (Ok tt))
     else Err (WrongUse (verdict_misuse s))
 
--- The error is one of the library and not API misuse, and it has this property.
+-- The error is an error of the library, not API misuse, and it has the property `holds`.
 abbrev pub IsFaultOf : (Fault → Type 0) → Refusal Fault → Type 0
 IsFaultOf holds (WrongUse m) = ⊥
 IsFaultOf holds (Refused e) = holds e
 
--- The error of asking about all data that a state was fed: the state accepts no data; or else the key, the
--- signature, the text or the buffer is rejected as above.
+-- An error of `State::ask_fed`: the state accepts no data (`IsNotFedRefusal`), or else an error of
+-- `asking_checks`.
 abbrev pub IsNotFedRefusal : State → Refusal Fault → Type 0
 IsNotFedRefusal s (WrongUse m) = IsNotFed s m
 IsNotFedRefusal s (Refused e) = ⊥
@@ -272,13 +277,13 @@ GivesVerdict accepts pk_text sig_text message legacy r =
     MatchResult r (λ _. TextsVouchFor accepts pk_text sig_text message legacy)
     (IsFaultOf (λ e. verdict accepts pk_text sig_text message legacy ≡ Err e))
 
--- The verdict without the trusted comment, which the caller already has.
+-- The verdict as a result without the trusted comment, which the caller already has.
 abbrev pub given_verdict : Result (List ℕ) Fault → Result Unit (Refusal Fault)
 given_verdict (Ok trusted) = Ok tt
 given_verdict (Err e) = Err (Refused e)
 
--- The state was asked about the key and the signature file, its digest was returned, and the two numbers say
--- what the scheme returned for both checks.
+-- The state was asked about the key and the signature file, its digest was returned, and the two numbers are
+-- the results of the scheme for both checks.
 pub record IsAnswered (s : State) (accepts : Verifier) (v : PublicKeyValue) (sig_text message : List ℕ)
     (legacy : Bool)
     (first second : ℕ) : Type 0 where
@@ -288,7 +293,8 @@ pub record IsAnswered (s : State) (accepts : Verifier) (v : PublicKeyValue) (sig
   pub second_known : IsAnswer second
   pub answers : Answers accepts v sig_text message (first == answer_yes) (second == answer_yes)
 
--- The two numbers say what the scheme returned for both checks of the two files.
+-- The two numbers are the results of the scheme for both checks of the public key file and the signature
+-- file.
 abbrev pub AnswersTextsBy : Verifier → List ℕ → List ℕ → List ℕ → ℕ → ℕ → Type 0
 AnswersTextsBy accepts pk_text sig_text message first second =
     IsAnswer first × IsAnswer second
@@ -301,23 +307,23 @@ abbrev pub result_number : Result Unit (Refusal Fault) → ℕ
 result_number (Ok t) = 0
 result_number (Err r) = refusal_number fault_number r
 
--- The number is that of the verdict on the two files and the message: 0 if the signature is valid, otherwise
--- the number of the first check that fails.
+-- n is the number of the verdict on the two files and the message: 0 if the signature is valid, otherwise the
+-- number of the first check that fails.
 abbrev pub GivesNumber : Verifier → List ℕ → List ℕ → List ℕ → Bool → ℕ → Type 0
 GivesNumber accepts pk_text sig_text message legacy n =
     ((n ≡ 0) × TextsVouchFor accepts pk_text sig_text message legacy)
     ⊎ ((0 < n) × (e : Fault) × (n ≡ fault_number e)
     × (verdict accepts pk_text sig_text message legacy ≡ Err e))
 
--- The number of the verdict on the comment signature only. First, the result of the check must be one of the
--- two numbers that mean yes and no.
+-- The number of the verdict on the comment signature only. The error is API misuse if `second` is neither the
+-- number for yes nor the number for no.
 abbrev pub comment_number : State → ℕ → ℕ
 comment_number s second =
     if is_answer second then result_number (comment_result s (second == answer_yes)) else
     misuse_number BadAnswer
 
--- The number of the result of asking. The flag that allows legacy signatures is checked first; it must be 0
--- or 1.
+-- The result of asking as a number. The flag that allows legacy signatures is checked first; it must be 0 or
+-- 1.
 abbrev pub asking_number : State → PublicKeyValue → SignatureValue → List ℕ → ℕ → ℕ → ℕ
 asking_number s v signature text legacy room =
     if nat_le 2 legacy then misuse_number BadLegacyFlag else result_number
@@ -328,8 +334,8 @@ abbrev pub verdict_number : Result (List ℕ) Fault → ℕ
 verdict_number (Ok trusted) = 0
 verdict_number (Err e) = fault_number e
 
--- The number of the verdict from the results of the two checks, and the state after it. A result must be one
--- of the two numbers that mean yes and no; otherwise the state is unchanged.
+-- The number of the verdict from the results of the two checks, and the state after it. If a result is
+-- neither the number for yes nor the number for no, the error is API misuse, and the state is unchanged.
 abbrev pub numbered : Result Unit (Refusal Fault) × State → ℕ × State
 numbered (r, s) = (result_number r, s)
 

@@ -21,7 +21,8 @@ use Rattle.minisign_external.specs.declared.state.Misuse.TheVariants.{BadLegacyF
 use Rattle.minisign_external.specs.declared.state.Refusal.{Refusal}
 use Rattle.minisign_external.specs.declared.state.State.{State}
 
--- The scheme that also rejects weak public keys and signatures.
+-- The scheme that accepts what the given scheme accepts, except under weak public keys and with weak
+-- signatures.
 abbrev pub strict : Verifier → Verifier
 strict accepts message key signature = is_strict key signature && accepts message key signature
 
@@ -51,7 +52,7 @@ abbrev pub asked_number : Result Bool (Refusal Fault) → ℕ
 asked_number (Ok is_strict) = if is_strict then 0 else weak_number
 asked_number (Err r) = refusal_number fault_number r
 
--- The result of `minisign_ask`: the number of the result of `ask_strictly`, for a buffer of `room` bytes. The
+-- The result of `minisign_ask` for a buffer of `room` bytes: the result of `ask_strictly` as a number. The
 -- flag that allows legacy signatures is checked first; it must be 0 or 1.
 abbrev pub strict_asking_number : State → PublicKeyValue → SignatureValue → List ℕ → ℕ → ℕ → ℕ
 strict_asking_number s v signature text legacy room =
@@ -59,15 +60,15 @@ strict_asking_number s v signature text legacy room =
     asked_number (asked_strictly (is_strict_value v signature) (asking_result s v signature text (legacy == 1)
     room))
 
--- The number n of a verdict, unless the signature file was parsed, and the key or a signature is weak: then
--- it is the number of that error.
+-- The number n of a verdict, or, if the signature file was parsed and the key or a signature is weak, the
+-- number of the error for a weak key or signature.
 abbrev pub strict_read : PublicKeyValue → Result SignatureTextRecord Fault → ℕ → ℕ
 strict_read v (Ok t) n = if is_strict_text v t then n else weak_number
 strict_read v (Err e) n = n
 
 -- The number of the verdict of the scheme that also rejects weak public keys and signatures: 0 if the
--- signature is valid, otherwise the number of the first check that fails. A weak key or signature is such a
--- check, with a number of its own.
+-- signature is valid, otherwise the number of the first check that fails. One of these checks is that neither
+-- the key nor a signature is weak; its error has a number that no other error has.
 abbrev pub strict_verdict_number : Verifier → PublicKeyValue → List ℕ → List ℕ → Bool → ℕ
 strict_verdict_number accepts v sig_text message legacy =
     strict_read v (read_under v legacy sig_text)

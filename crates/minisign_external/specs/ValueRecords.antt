@@ -1,5 +1,5 @@
--- The records that the base64 in key and signature files encodes: how the structs are read from them and
--- written to them.
+-- The records of keys and signatures, which are the bytes that the base64 in their files encodes: how the
+-- structs are read from records and written to them.
 use Rattle.std.specs.Prelude.{◌==◌, ◌||◌, ℕ, nat_le, Bool, if◌then◌else◌, bytes_eq, List, ◌++◌, codes}
 use Rattle.std.specs.Prelude.{length, take, drop, replicate, Result, Ok, Err}
 use Rattle.minisign_base.specs.Fault.{Fault}
@@ -108,7 +108,7 @@ abbrev pub secret_key_record : SecretKeyValue → Result (List ℕ) Misuse
 secret_key_record v =
     if is_opened v then Ok (secret_key_bytes (unsealed_key v.key_id v.secret)) else Err KeyNotOpened
 
--- == What the calls return and write ==
+-- == Outcomes of the calls ==
 
 -- The result of a call that reads a secret key, and the struct afterwards, which is unchanged after an error.
 abbrev pub unopened_outcome : Result UnopenedKeyValue Fault → UnopenedKeyValue
@@ -116,8 +116,7 @@ abbrev pub unopened_outcome : Result UnopenedKeyValue Fault → UnopenedKeyValue
 unopened_outcome (Ok v) old = (Ok tt, v)
 unopened_outcome (Err e) old = (Err e, old)
 
--- The outcome of this call for other languages: 0 or the error number, and the struct or the buffer
--- afterwards.
+-- The outcome of such a call for other languages: 0 or the error number, and the struct afterwards.
 abbrev pub unopened_outcome_number : Result UnopenedKeyValue Fault → UnopenedKeyValue → ℕ × UnopenedKeyValue
 unopened_outcome_number (Ok v) old = (0, v)
 unopened_outcome_number (Err e) old = (fault_number e, old)
@@ -128,8 +127,7 @@ abbrev pub record_outcome : Result (List ℕ) Misuse → List ℕ → Result Uni
 record_outcome (Ok bytes) old = (Ok tt, bytes)
 record_outcome (Err m) old = (Err m, old)
 
--- The outcome of this call for other languages: 0 or the error number, and the struct or the buffer
--- afterwards.
+-- The outcome of such a call for other languages: 0 or the error number, and the buffer afterwards.
 abbrev pub record_outcome_number : Result (List ℕ) Misuse → List ℕ → ℕ × List ℕ
 record_outcome_number (Ok bytes) old = (0, bytes)
 record_outcome_number (Err m) old = (misuse_number m, old)

@@ -1,5 +1,5 @@
-//! Writes the inputs of the two Ed25519 checks and returns the verdict from their results, for the state that
-//! a program in another language holds.
+//! Verifies with a signature file, for a program in another language that holds the state: writes the inputs
+//! of the two Ed25519 checks (the questions), and returns the verdict from their results.
 
 ghost use Rattle.std.specs.Prelude.{◌≡◌, ◌≢◌, ◌<◌, ◌≤◌, ◌+◌, ℕ, Bool, List, Ok, Err, true, OnOk};
 ghost use Rattle.std.specs.Prelude.{OnErr, IfOk, IfErr, MatchResult, ◌++◌, length, drop, take};
@@ -160,9 +160,10 @@ impl State {
         check_questions(key, signature, sig_text, allow_legacy, room)
     }
 
-    /// Asks about all data that the state was fed so far, even if it was asked before: the digest is computed
-    /// too, and the state then accepts no more data. Returns the trusted comment, which is not verified yet.
-    /// After an error everything is unchanged.
+    /// Asks as `ask` does, but after the data was fed, and even if the state was asked before. Also finalizes
+    /// the digest and writes it to the questions; the state then accepts no more data. Returns the trusted
+    /// comment, which is not verified yet. After an error, the state, the questions and the buffer are
+    /// unchanged.
     pub fn ask_fed<'a>(
         &mut self,
         key: &PublicKeyValue,
@@ -216,7 +217,8 @@ impl State {
         Ok(comment)
     }
 
-    // Writes the questions for any state, and returns the trusted comment.
+    // Makes the checks of `ask` that do not depend on the state, writes the questions, and returns the
+    // trusted comment.
     fn open_questions<'a>(
         &mut self,
         key: &PublicKeyValue,
@@ -316,8 +318,8 @@ impl State {
         }
     }
 
-    // Returns the API misuse if a state cannot be asked: it was asked or its digest was returned, or it is
-    // not initialized.
+    // Returns the API misuse for a state that cannot be asked: `AlreadyAsked` if it was asked before or its
+    // digest was returned, `NotBegun` if it is not initialized or is finished.
     pub(crate) fn asking_misuse(&self) -> Misuse
         ensures { result ≡ asking_misuse self.now }
     {
@@ -328,8 +330,8 @@ impl State {
         }
     }
 
-    // Returns the API misuse if a state gives no verdict: it was not asked or its digest was not returned, or
-    // it is not initialized.
+    // Returns the API misuse for a state that gives no verdict: `NotAsked` if nothing was asked or its digest
+    // was not returned, `NotBegun` if it is not initialized or is finished.
     pub(crate) fn verdict_misuse(&self) -> Misuse
         ensures { result ≡ verdict_misuse self.now }
     {
@@ -341,7 +343,7 @@ impl State {
     }
 }
 
-// Returns what asking about a key and a signature would return for any state, with a buffer of this size.
+// Makes the checks of `ask` that do not depend on the state, for a buffer of `room` bytes.
 fn check_questions(
     key: &PublicKeyValue,
     signature: &SignatureValue,
@@ -373,7 +375,8 @@ fn check_buffers(comment_len: u64, room: usize) -> Result<(), Refusal>
     Ok(())
 }
 
-// Returns the questions about a key and a signature. The message of the second has this length.
+// Returns the questions about a key and a signature, with zeros in place of the digest. `message_len` is the
+// length of the message of the second question.
 fn questions_about(key: &PublicKeyValue, signature: &SignatureValue, message_len: u64) -> Questions
     ensures { result ≡ record (questions_about key.now signature.now) { message_len = message_len } }
 {

@@ -1,6 +1,6 @@
-//! Writes the inputs of the Ed25519 check for a bare signature, which is one without comments, and returns
-//! the verdict from its result, for the state that a program in another language holds. Nothing here
-//! allocates.
+//! Verifies with a bare signature, which is one without comments, for a program in another language that
+//! holds the state: writes the inputs of the only Ed25519 check, and returns the verdict from its result.
+//! Nothing here allocates.
 
 ghost use Rattle.std.specs.Prelude.{◌≡◌, ℕ, Bool, List, Ok, true};
 ghost use Rattle.minisign.specs.Acceptance.{Verifier};
@@ -20,9 +20,10 @@ use crate::verdict::verdict;
 use minisign::judge_key;
 
 impl State {
-    /// Writes the only question that a scheme must answer to verify the data with a bare signature, or with
-    /// the signature of a text if its comments are not verified. Returns true if it asked, and false if the
-    /// only problem is that the key or the signature is weak.
+    /// Writes the only question for verifying the data with a bare signature: the inputs of one Ed25519
+    /// check. The signature may also come from a signature file; then its comments are not verified. Returns
+    /// true if the question was written, and false if the only problem is that the key or the signature is
+    /// weak.
     ///
     /// The errors are, in this order: the state was already asked or its digest returned (`AlreadyAsked`),
     /// or it was never initialized (`NotBegun`); `PublicKeyNotRead`; `SignatureNotRead`; `DifferentKeyIds`;
@@ -36,8 +37,8 @@ impl State {
     ) -> Result<bool, Refusal>
         // If the result is true, `questions` holds the question about the key and the signature, with zeros
         // in place of the digest and in the fields about a comment, and the state records that it was asked
-        // about a bare signature. Otherwise the state and the questions are unchanged: the result is false if
-        // the key or the signature is weak, and before that the first error that applies.
+        // about a bare signature. Otherwise the state and the questions are unchanged, and the result is the
+        // first error that applies or, if there is no error, false, because the key or the signature is weak.
         ensures value { (result, self.new, questions.new) ≡ bare_asking_outcome
             (bare_asking self.old key.now signature.now allow_legacy) key.now signature.now self.old
             questions.old }
@@ -94,7 +95,8 @@ impl State {
     }
 }
 
-// Returns what asking about a key and a signature would return for any state.
+// Makes the checks of `ask_bare` that do not depend on the state, except the check for weak keys and
+// signatures.
 fn check_bare(
     key: &PublicKeyValue,
     signature: &SignatureValue,
@@ -114,7 +116,7 @@ fn check_bare(
     }
 }
 
-// Returns the question about a key and a signature.
+// Returns the question about a key and a signature, with zeros in place of the digest.
 fn bare_question(key: &PublicKeyValue, signature: &SignatureValue) -> Questions
     ensures { result ≡ bare_question key.now signature.now }
 {

@@ -1,5 +1,5 @@
-//! Verifies and signs with a signature scheme outside of the library: returns the questions for the scheme,
-//! and decides from its results.
+//! Verifies and signs for a caller that has its own Ed25519: returns the inputs of the Ed25519 checks (the
+//! questions), and decides from their results (the answers).
 
 #![tactic(auto)]
 

@@ -30,9 +30,10 @@ use std::alloc::Global;
 // Minisign does not read all of a comment that has this many bytes or more.
 const COMMENT_BYTES: usize = 1004;
 
-// The number of bytes by which a secret key file, and a public key file, are longer than their comments.
+// The length of a secret key file without its comment.
 const SECRET_KEY_BYTES: usize = 233;
 
+// The length of a public key file without its comment.
 const PUBLIC_KEY_BYTES: usize = 77;
 
 /// Writes a secret key file to the start of `to`, and returns its length, which is 233 bytes more than that
@@ -216,8 +217,8 @@ fn public_key_text(alloc: Global, key: &PublicKeyValue, comment: &str) -> minisi
     Ok(text.into_string())
 }
 
-// Returns the public key in a struct, with the algorithm `Ed`. It is that of every secret key with this
-// public half.
+// Converts the struct to a public key with the algorithm `Ed`: takes it from a secret key with this public
+// half, whose seed does not matter.
 #[tactic(auto, unfolding(minisign::specs::Generation::unsealed_key))]
 fn public_key_of(key: &PublicKeyValue) -> minisign::Result<PublicKey>
     ensures { result ≡ Ok (written_public_key key.now) }
@@ -226,7 +227,7 @@ fn public_key_of(key: &PublicKeyValue) -> minisign::Result<PublicKey>
     PublicKey::from_secret_key(&secret)
 }
 
-// Returns 64 bytes of which the last 32 are these.
+// Returns the 64 bytes of a secret: a seed of zeros, followed by this public key.
 fn with_public_half(key: &[u8; 32]) -> [u8; 64]
     ensures { drop 32 result ≡ key.now }
 {

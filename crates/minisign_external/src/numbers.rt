@@ -9,11 +9,11 @@ ghost use Rattle.minisign_external.specs.Numbers.{misuse_number, misuse_text, re
 use crate::state::{Misuse, Refusal};
 use minisign_base::{ErrorKind, NamedFault, PError};
 
-/// The number by which a caller passes the result of a check by its signature scheme if the signature is
-/// valid: the letters `yes`, one byte each. It is neither 0 nor 1, nor an error number.
+/// The number that a caller passes in as the result of an Ed25519 check if the signature is valid: the
+/// letters `yes`, one byte each. It is neither 0 nor 1, nor an error number.
 pub const ANSWER_YES: u32 = 7955827;
 
-/// The number for a signature that is not valid: the letters `no`, one byte each.
+/// The number that a caller passes in if the signature is not valid: the letters `no`, one byte each.
 pub const ANSWER_NO: u32 = 28271;
 
 /// Returns true if the number is `ANSWER_YES` or `ANSWER_NO`.

@@ -250,8 +250,8 @@ fn sign_both<S: Scheme>(
     Ok((first, second))
 }
 
-/// A law (its body does nothing): what the scheme's results mean for an application that asks these
-/// questions.
+/// States that the results of a scheme for the two questions are the results that decide the verdict. This
+/// function is a law: it does nothing, and exists only for its contract.
 #[tactic(auto, using(crate::proofs::GivenAnswers::given, crate::proofs::OwnTexts::own_verdict))]
 pub fn answers_decide()
     // If the application asks its scheme the two questions, with the digest of a message in the first, then

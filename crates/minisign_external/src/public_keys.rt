@@ -16,9 +16,9 @@ pub(crate) const PUBLIC: u64 = 7094700428984478061;
 pub struct PublicKeyValue {
     /// The mark of a public key that was read, or obtained from a secret key.
     pub mark: u64,
-    /// Its 32 bytes.
+    /// The 32 bytes of the key.
     pub key: [u8; 32],
-    /// Its key ID.
+    /// The key ID.
     pub key_id: [u8; 8],
 }
 

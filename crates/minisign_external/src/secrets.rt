@@ -15,9 +15,9 @@ const OPENED: u64 = 7162257721929918829;
 pub struct SecretKeyValue {
     /// The mark of an open key.
     pub mark: u64,
-    /// Its key ID.
+    /// The key ID.
     pub key_id: [u8; 8],
-    /// The 32 bytes of the seed, and the 32 of its public key.
+    /// The seed (32 bytes), followed by its public key (32 bytes).
     pub secret: [u8; 64],
 }
 

@@ -1,4 +1,4 @@
-//! A signature that was read once from its file. It has all that `State::ask` needs except the trusted
+//! A signature that was read from its file. It contains everything that `State::ask` needs except the trusted
 //! comment, which it does not copy from the file. Nothing here allocates.
 
 ghost use Rattle.std.specs.Prelude.{◌≡◌, ◌+◌, ◌≤◌, Bool, Ok, Err, false, true, IfOk, IfErr, MatchOption};
@@ -166,7 +166,7 @@ impl SignatureValue {
     }
 }
 
-// Returns len bytes of a text from this position on, if it has them.
+// Returns `len` bytes of a text from `offset` on, or `None` if the text is shorter.
 fn part_of(text: &[u8], offset: u64, len: u64) -> Option<&[u8]>
     ensures { MatchOption result (nat_le (offset + len) (length text.now) ≡ false)
         (λ part. (nat_le (offset + len) (length text.now) ≡ true)

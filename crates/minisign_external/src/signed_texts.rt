@@ -33,10 +33,10 @@ pub fn signed_text(
     untrusted: &str,
 ) -> std::result::Result<String, Refusal>
     // On success, the result parses to a signature with exactly this key ID, these comments and these
-    // signatures. If a scheme made the two signatures, that is the signature box that signing with it makes.
-    // The result is a valid signature of a message under every public key with this key ID under which both
-    // signatures are valid, and if the key is genuine, all that the headline of docs/PROMISES.md says about
-    // signing holds for it.
+    // signatures. If a scheme made the two signatures, the result parses to the signature box that signing
+    // with this scheme makes. The result is a valid signature of a message under every public key that has
+    // this key ID and under which both signatures are valid. If the key is genuine, everything that the
+    // headline of docs/PROMISES.md says about signing holds for the result.
     ensures text { IfOk result (λ t.
         IsAnsweredText key_id.now (comments_of trusted.now untrusted.now) first.now second.now
         (string_bytes t)) }
@@ -96,7 +96,7 @@ pub fn write_signed_text(
     }
 }
 
-// Writes the bytes to the start of `to` and returns their number, or nothing if they do not fit.
+// Writes the bytes to the start of `to` and returns their number, or `None` if they do not fit.
 pub(crate) fn write_front(bytes: &[u8], to: &mut [u8]) -> Option<usize>
     ensures written { MatchOption result (length to.old < length bytes.now)
         (λ n. (n ≤ length to.new) × (take n to.new ≡ bytes.now)) }

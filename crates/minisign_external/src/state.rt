@@ -1,7 +1,7 @@
 //! The state of verifying or signing one file, a struct of fixed size for programs in other languages. To
-//! verify, the program asks about a key and a signature, feeds the data in pieces, finalizes the digest,
-//! makes the two Ed25519 checks itself, and passes in their results for the verdict. To sign, it feeds the
-//! data and finalizes the digest.
+//! verify, the program asks the state about a key and a signature, which returns the inputs of two Ed25519
+//! checks (the questions). Then it feeds the data in pieces, finalizes the digest, makes the two checks
+//! itself, and passes in their results for the verdict. To sign, it feeds the data and finalizes the digest.
 
 ghost use Rattle.std.specs.Prelude.{◌≡◌, ◌++◌, ℕ, List, [], false, Ok, OnOk, IfOk, IfErr, MatchResult};
 ghost use Rattle.std.specs.Prelude.{length};
@@ -18,15 +18,16 @@ use minisign_base::PError;
 use minisign_hash::blake2b::Blake2b;
 use minisign_hash::blake2b::stored::StoredBlake2b;
 
-// The marks (magic numbers), as eight letters in little endian: `FED`, `minisign`: the state accepts data.
-// `FINALIZED`, `minissum`: its digest was returned. `ASKED`, `minisask`: it was asked about a signature file.
-// `BARE_ASKED`, `minisbar`: it was asked about a bare signature.
+// The mark (magic number) of a state that accepts data: the letters `minisign`, little endian.
 pub(crate) const FED: u64 = 7955443211184269677;
 
+// The mark of a state whose digest was returned: the letters `minissum`.
 pub(crate) const FINALIZED: u64 = 7887337261936568685;
 
+// The mark in a state that was asked about a signature file: the letters `minisask`.
 pub(crate) const ASKED: u64 = 7742639332697991533;
 
+// The mark in a state that was asked about a bare signature: the letters `minisbar`.
 pub(crate) const BARE_ASKED: u64 = 8241977040894323053;
 
 /// The state of verifying or signing one file, 512 bytes with the layout of C.
@@ -39,7 +40,8 @@ pub struct State {
     reserved: [u64; 18],
 }
 
-// The questions in a state. They are written when they are asked; before that they are the default, zeros.
+// Records in a state that questions were asked, and about which kind of signature. All fields are 0 before
+// that.
 #[repr(C)]
 #[derive(Clone, Copy, Default)]
 pub(crate) struct Asked {
@@ -159,7 +161,7 @@ impl<F> From<Misuse> for Refusal<F> {
 }
 
 impl Questions {
-    /// Returns questions with all fields 0, which a call that asks overwrites. Does not allocate.
+    /// Returns a value with all fields 0, for `State::ask` to overwrite. Does not allocate.
     pub fn none() -> Questions
         // All fields of the result are 0.
         ensures { result ≡ no_questions }
@@ -196,9 +198,9 @@ impl State {
     /// Feeds the next bytes of the data. Fails if the state was never initialized, was finished by a verdict,
     /// or its digest was already returned. Then the state is unchanged. Does not allocate.
     pub fn update(&mut self, piece: &[u8]) -> Result<(), Misuse>
-        // On success, the piece is appended to the data that the state was fed. What was asked is unchanged.
-        // The call fails only if the digest was already returned, or if the state was never initialized or
-        // was finished by a verdict. Then the state is unchanged.
+        // On success, the piece is appended to the data that the state was fed. The record of the questions
+        // that were asked is unchanged. The call fails only if the digest was already returned, or if the
+        // state was never initialized or was finished by a verdict. After an error, the state is unchanged.
         ensures fed { (m : List ℕ) → IsFedState self.old m
             → MatchResult result (λ _. IsFedState self.new (m ++ piece.now)) (λ _. ⊥) }
         ensures asked { KeepsQuestions self.old self.new }
@@ -216,9 +218,9 @@ impl State {
     /// errors are those of `update`. After an error, the state and `digest` are unchanged.
     pub fn digest(&mut self, digest: &mut [u8; 64]) -> Result<(), Misuse>
         // On success, the digest is the Blake2b digest (64 bytes) of all data that the state was fed, and the
-        // state accepts no more data. What was asked is unchanged. The call fails only if the digest was
-        // already returned, or if the state was never initialized or was finished by a verdict. Then the
-        // state and the digest are unchanged.
+        // state accepts no more data. The record of the questions that were asked is unchanged. The call
+        // fails only if the digest was already returned, or if the state was never initialized or was
+        // finished by a verdict. After an error, the state and the digest are unchanged.
         ensures digest { (m : List ℕ) → IsFedState self.old m
             → MatchResult result (λ _. (digest.new ≡ blake2b_digest 64 m) × HasReturnedDigest self.new m)
             (λ _. ⊥) }
@@ -255,7 +257,7 @@ impl State {
         self.asked.mark == BARE_ASKED
     }
 
-    // Restores the hash of the data that the state was fed.
+    // Returns the hasher, restored to the data that the state was fed. Fails if the state accepts no data.
     fn hasher(&self) -> Result<Blake2b, Misuse>
         ensures fed { (m : List ℕ) → IsFedState self.now m → MatchResult result (λ b. IsFed b m) (λ _. ⊥) }
         ensures length { IfOk result (λ b. output_length b ≡ 64) }

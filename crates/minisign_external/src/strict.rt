@@ -56,7 +56,7 @@ const ORDER_EIGHT_NEGATED: [u64; 4] = [
     0x05fc_536d_8802_38b1,
 ];
 
-/// Returns true if neither the key nor the data signature is weak, nor the comment signature, if it has at
+/// Returns true if neither the key nor a signature is weak. The comment signature is only tested if it has at
 /// least 64 bytes.
 pub fn is_strict_value(key: &PublicKeyValue, signature: &SignatureValue) -> bool
     // The result is true exactly if `is_strict` is true of the public key and the data signature and, if the

@@ -1,5 +1,5 @@
-//! A secret key as its file contains it: a struct that is read once, says how much work opening takes, and
-//! can be opened.
+//! A secret key as its file contains it, encrypted or not. The struct is read from the file once. It says how
+//! much work opening (decrypting) the key takes, and the key is opened from it.
 
 ghost use Rattle.std.specs.Prelude.{◌≡◌, ◌≤◌, ◌⊎◌, ℕ, List, if◌then◌else◌, true, false, None, Some, Ok, Err};
 ghost use Rattle.std.specs.Prelude.{MatchResult};
@@ -42,10 +42,10 @@ use std::alloc::Global;
 // The mark of a key that was read and is not opened yet: the letters `minisrec`.
 const READ: u64 = 7162256622418291053;
 
-// The greatest memory limit of a sealed (encrypted) key, in bytes, and the base-2 logarithm of the greatest
-// number of rows.
+// The highest memory limit of a sealed (encrypted) key that is accepted, in bytes.
 const MAX_MEMORY: u64 = 1_073_741_824;
 
+// The base-2 logarithm of the highest number of rows of scrypt that is accepted.
 const MAX_ROWS_LOG2: u8 = 20;
 
 // The key derivation of a sealed (encrypted) key: scrypt.
@@ -321,7 +321,7 @@ fn number_at(bytes: &[u8; 158], at: usize) -> u64
     load_u64_le(&array_of::<8>(number))
 }
 
-// Checks that scrypt takes the parameters that these limits give, and that they are not too high.
+// Checks that the limits are not too high, and that they give valid parameters of scrypt.
 fn check_sealing_limits(memory_limit: u64, operations_limit: u64) -> Result<()>
     ensures { result ≡ without_value (sealing_limits memory_limit operations_limit) }
 {
@@ -440,7 +440,8 @@ fn computes_at_most(key: &SecretKey, most_rows: u64) -> bool
     !(times < work)
 }
 
-// Returns the error for a key that needs more than `most_rows` rows.
+// Returns the error for a key that needs more than `most_rows` rows. A key derivation other than scrypt is
+// rejected before that.
 #[tactic(auto, using(crate::proofs::WithinRows::too_many_of_scrypt, crate::proofs::WithinRows::too_many_of_other))]
 fn too_many_rows_error(key: &SecretKey, most_rows: u64) -> PError
     requires { computes_at_most key.now most_rows ≡ false }
@@ -471,8 +472,8 @@ pub fn open_sealed_key_in_place(
 ) -> std::result::Result<(), Refusal>
     // The call succeeds exactly if the key was read, the memory is sufficient, and the password decrypts the
     // key with at most `most_rows` rows. Then `value` holds the decrypted key and is marked as open.
-    // Otherwise the error is the first check that fails, never out of memory, and `value` is unchanged. What
-    // the memory held before makes no difference.
+    // Otherwise the error is the first check that fails, never out of memory, and `value` is unchanged. The
+    // previous contents of the memory make no difference.
     ensures opened { (result, value.new) ≡ opened_or_unchanged (opened_in_place unopened.now password.now
         keep_every most_rows (length words.old) (length bytes.old)) value.old }
 

@@ -1,4 +1,4 @@
-//! Reads keys and signatures from their records, and writes these: a record is what the base64 in a file
+//! Reads and writes the records of keys and signatures. A record is the bytes that the base64 in a file
 //! encodes. Nothing here allocates.
 
 ghost use Rattle.std.specs.Prelude.{◌≡◌, ◌+◌, ◌++◌, length, replicate, if◌then◌else◌, Ok};
@@ -200,7 +200,7 @@ fn legacy_number(signature: &Signature) -> u8
     }
 }
 
-// Returns the bytes as an array of their length.
+// Copies `N` bytes to an array.
 pub(crate) fn array_of<const N: usize>(bytes: &[u8]) -> [u8; N]
     requires { length bytes.now ≡ N }
     ensures { result ≡ bytes.now }

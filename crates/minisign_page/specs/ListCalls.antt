@@ -48,9 +48,9 @@ list_result (Err r) = list_refusal r
 
 -- == The verdict on a list ==
 
--- The number of asking about a list with this signature file, in terms of the file, which parses to t. After
--- the public key come the errors of parsing the file and checking it under the key, then a buffer that is too
--- short, and then a weak key or signature.
+-- The result as a number of asking about a list with a signature file that parses to t. The errors are, in
+-- this order: the public key was not read; those of parsing the file and checking it under the key; the
+-- buffer is too short; the key or a signature is weak.
 abbrev pub asking_list_number : PublicKeyValue → List ℕ → SignatureTextRecord → ℕ → ℕ
 asking_list_number v sig_text t room =
     asked_number (asked_strictly (is_strict_text v t)
@@ -79,8 +79,8 @@ list_verdict_number (Err e) = list_number e
 abbrev pub numbered_list : Result ⊤ (Refusal ListFault) × ListValue → ℕ × ListValue
 numbered_list p = (list_result p.0, p.1)
 
--- The number of the verdict on a list, and the list after it. The results of the two checks must be
--- numbers that mean yes or no.
+-- The number of the verdict on a list, and the list after it. If a result is neither the number for yes nor
+-- the number for no, the error is API misuse, and the list is unchanged.
 abbrev pub list_outcome_number : ListValue → ℕ → ℕ → ℕ × ListValue
 list_outcome_number l first second =
     if is_answer first && is_answer second
@@ -89,7 +89,7 @@ list_outcome_number l first second =
 
 -- == Entries ==
 
--- The number of a lookup, the entry after it, and the line at fault.
+-- The result of finding an entry as a number, the entry after the call, and the line at fault.
 abbrev pub found_number : Result ⊤ (Refusal ListFault) → EntryValue → ℕ × (EntryValue × ℕ)
 found_number (Ok t) entry = (0, (entry, 0))
 found_number (Err r) entry = (list_refusal r, (entry, line_at_fault r))
@@ -97,15 +97,16 @@ found_number (Err r) entry = (list_refusal r, (entry, line_at_fault r))
 abbrev pub entry_outcome_number : Result ⊤ (Refusal ListFault) × EntryValue → ℕ × (EntryValue × ℕ)
 entry_outcome_number p = found_number p.0 p.1
 
--- The outcome of this call for other languages. First, the number that the caller passes for the meaning of
--- 128 digits must be valid.
+-- The outcome of finding an entry. The caller's number for the meaning of digests of 128 digits is checked
+-- first.
 abbrev pub finding_number : Option LongDigest → ListValue → List ℕ → List ℕ → EntryValue
     → ℕ × (EntryValue × ℕ)
 finding_number None l text name old = (misuse_number BadHash, (old, 0))
 finding_number (Some long) l text name old =
     entry_outcome_number (entry_outcome (found_entry l text long name) text old)
 
--- The number of asking for all entries, the buffer after it, the number of entries, and the line at fault.
+-- The result of getting all entries as a number, the buffer and the number of entries after the call, and the
+-- line at fault.
 abbrev pub entries_number : Result ℕ (Refusal ListFault) → List EntryValue → ℕ
     → ℕ × (List EntryValue × (ℕ × ℕ))
 entries_number (Ok n) to count = (0, (to, (n, 0)))
@@ -115,8 +116,8 @@ abbrev pub entries_outcome_number : Result ℕ (Refusal ListFault) × List Entry
     → ℕ × (List EntryValue × (ℕ × ℕ))
 entries_outcome_number p count = entries_number p.0 p.1 count
 
--- The outcome of this call for other languages. First, the number that the caller passes for the meaning of
--- 128 digits must be valid.
+-- The outcome of getting all entries. The caller's number for the meaning of digests of 128 digits is checked
+-- first.
 abbrev pub all_entries_number : Option LongDigest → ListValue → List ℕ → List EntryValue → ℕ
     → ℕ × (List EntryValue × (ℕ × ℕ))
 all_entries_number None l text old count = (misuse_number BadHash, (old, (count, 0)))

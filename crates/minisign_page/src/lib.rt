@@ -89,9 +89,10 @@ pub extern "C" fn page_init(state: &mut State)
 /// Feeds the next bytes of the data.
 #[unsafe(no_mangle)]
 pub extern "C" fn page_update(state: &mut State, piece: &[u8]) -> u32
-    // On success, the piece is appended to the data that the state was fed. What was asked is unchanged. The
-    // call fails only if the digest was already returned, or if the state was never initialized or was
-    // finished by a verdict. Then the result is the number of that error, and the state is unchanged.
+    // On success, the piece is appended to the data that the state was fed. The record of the questions that
+    // were asked is unchanged. The call fails only if the digest was already returned, or if the state was
+    // never initialized or was finished by a verdict. Then the result is the number of that error, and the
+    // state is unchanged.
     ensures fed { (m : List ℕ) → IsFedState state.old m → (result ≡ 0)
         × IsFedState state.new (m ++ piece.now) }
     ensures asked { KeepsQuestions state.old state.new }
@@ -109,9 +110,9 @@ pub extern "C" fn page_update(state: &mut State, piece: &[u8]) -> u32
 #[unsafe(no_mangle)]
 pub extern "C" fn page_digest(state: &mut State, digest: &mut [u8; 64]) -> u32
     // On success, the digest is the Blake2b digest (64 bytes) of all data that the state was fed, and the
-    // state accepts no more data. What was asked is unchanged. The call fails only if the digest was already
-    // returned, or if the state was never initialized or was finished by a verdict. Then the result is the
-    // number of that error, and the state and the digest are unchanged.
+    // state accepts no more data. The record of the questions that were asked is unchanged. The call fails
+    // only if the digest was already returned, or if the state was never initialized or was finished by a
+    // verdict. Then the result is the number of that error, and the state and the digest are unchanged.
     ensures digest { (m : List ℕ) → IsFedState state.old m
         → (result ≡ 0) × (digest.new ≡ blake2b_digest 64 m) × HasReturnedDigest state.new m }
     ensures asked { KeepsQuestions state.old state.new }
@@ -405,7 +406,7 @@ pub extern "C" fn page_list_find(
     ensures number { (result, (entry.new, line.new))
         ≡ finding_number (long_numbered long_digest) list.now text.now name.now entry.old }
 
-    // On success, the digest that `minisign_list_begin` takes from the entry is the one in the list.
+    // On success, the digest that later calls take from `entry` is the one in the list.
     ensures digest { result ≡ 0 → (long : LongDigest) (e : Entry) → long_numbered long_digest ≡ Some long
         → found_entry list.now text.now long name.now ≡ Ok e → entry_digest entry.new ≡ Ok e.digest }
 {

@@ -10,7 +10,7 @@ use Rattle.minisign_external.specs.declared.state.Refusal.TheVariants.{Refused, 
 use Rattle.minisign_c.proofs.Positive.{positive}
 use Rattle.minisign_c.proofs.minisign_verdict.Goals as goal
 
--- a verdict that is no success has the number of its error
+-- If the verdict is an error, GivesNumber holds for the number of this error.
 given_number : (accepts : Verifier) (pk_text sig_text message : List ℕ) (legacy : Bool) (r : Refusal Fault)
     (n : ℕ) → n ≡ refusal_number fault_number r
     → IsFaultOf (λ f. verdict accepts pk_text sig_text message legacy ≡ Err f) r
@@ -19,7 +19,7 @@ given_number accepts pk_text sig_text message legacy (WrongUse m) n is refuses =
 given_number accepts pk_text sig_text message legacy (Refused e) n is refuses =
     inr (rw is (positive e), e, is, refuses)
 
--- the number of a verdict
+-- If the verdict is an error, the number of the verdict is the number of this error.
 refused_number : (v : Result (List ℕ) Fault) (r : Refusal Fault) → Err r ≡ given_verdict v
     → refusal_number fault_number r ≡ verdict_number v
 refused_number (Ok t) r h = cc h

@@ -13,7 +13,7 @@ use Rattle.minisign_external.specs.declared.state.Refusal.{Refusal}
 use Rattle.minisign_external.specs.declared.state.Refusal.TheVariants.{Refused, WrongUse}
 use Rattle.minisign_page.proofs.page_verdict.Goals as goal
 
--- no error has the number of success
+-- No error of the library has the number 0, which means success.
 named_positive : (f : NamedFault) → 0 < (fault_row f).number
 named_positive OutOfMemory = lit< tt
 named_positive _ = lit< tt
@@ -22,7 +22,7 @@ positive : (e : Fault) → 0 < fault_number e
 positive (Named f) = named_positive f
 positive (Custom kind text) = lit< tt
 
--- a verdict that is no success has the number of its error
+-- If the verdict is an error, GivesNumber holds for the number of this error.
 given_number : (accepts : Verifier) (pk_text sig_text message : List ℕ) (legacy : Bool) (r : Refusal Fault)
     (n : ℕ) → n ≡ refusal_number fault_number r
     → IsFaultOf (λ f. verdict accepts pk_text sig_text message legacy ≡ Err f) r
@@ -31,7 +31,7 @@ given_number accepts pk_text sig_text message legacy (WrongUse m) n is refuses =
 given_number accepts pk_text sig_text message legacy (Refused e) n is refuses =
     inr (subst (λ k. 0 < k) (sym is) (positive e), e, is, refuses)
 
--- the number of a verdict
+-- If the verdict is an error, the number of the verdict is the number of this error.
 refused_number : (v : Result (List ℕ) Fault) (r : Refusal Fault) → Err r ≡ given_verdict v
     → refusal_number fault_number r ≡ verdict_number v
 refused_number (Ok t) r h = cc h
