@@ -13,7 +13,7 @@ use minisign::base::prompt::Prompt;
 use minisign_fixtures::devices::sinks::LimitedSink;
 use std::alloc::Global;
 
-// The number of random bytes that `c` stands for, which is more than any call takes.
+// The number of random bytes that a word with `c` describes, which is more than any call takes.
 const COUNTED_BYTES: u16 = 512;
 
 /// The data of a request: `x..[,pos=P][,chunk=C][,fail=N][,second=x..]`. `x` and hexadecimal digits are the
@@ -247,8 +247,8 @@ impl<'a> RandomSource for CountedRandom<'a> {
     }
 }
 
-/// Parses random bytes: `c` and a first byte for a counter that wraps around, or else a list of
-/// bytes.
+/// Parses random bytes: `c` and a decimal number for bytes that count up from this number and wrap
+/// around after 255, or else `x` and the bytes in hexadecimal.
 pub fn random_bytes(alloc: Global, word: &str) -> Result<Vec<u8>, Refusal> {
     match word.strip_prefix("c") {
         Some(first) => counted_bytes(alloc, number_of(first)?),

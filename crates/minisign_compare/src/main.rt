@@ -1,6 +1,7 @@
 //! The program `minisign_compare`: reads requests from standard input, one on each line, calls the
-//! library, and prints one line for each. A program over the Rust crate answers the same requests
-//! in the same format. `compare/README.md` describes both.
+//! library, and prints one line for each. The program in `compare/oracle`, which calls the Rust
+//! crate `minisign`, answers the same requests in the same format. `compare/README.md` describes
+//! both.
 #![tactic(auto)]
 
 mod building_blocks;
@@ -31,7 +32,7 @@ fn main(rt: HostRuntime) -> io::Result<ExitCode> {
     Ok(code)
 }
 
-// Answers each line until one is not a request.
+// Answers each line. Stops with exit status 3 at a line that is not a request.
 fn answer_all<W: Write>(rt: &HostRuntime, answers: &mut W) -> io::Result<ExitCode> {
     let mut table = Table::new(rt.alloc());
     for line in BufReader::new(rt.alloc(), rt.reader())?.lines(rt.alloc()) {
@@ -42,8 +43,8 @@ fn answer_all<W: Write>(rt: &HostRuntime, answers: &mut W) -> io::Result<ExitCod
     Ok(ExitCode::SUCCESS)
 }
 
-// Answers a line. Returns false if it is not a request, which is reported after the answers to the
-// lines before.
+// Answers a line. If it is not a request, returns false, and reports the line on standard error
+// after the answers to the lines before it have been written.
 fn answer_read<W: Write>(
     rt: &HostRuntime,
     table: &mut Table,
@@ -78,6 +79,7 @@ fn answer_line<W: Write>(
     print(rt, answers, answer, &mut reply)
 }
 
+// Makes the call that a request names, and adds its results to the reply.
 fn answer(
     rt: &HostRuntime,
     table: &mut Table,

@@ -141,8 +141,8 @@ fn written_sealed(
     )
 }
 
-// Adds what the prompt shows, the number of random bytes that were taken, and what the two sinks
-// received if the pair was written.
+// Adds the output of the prompt, the number of random bytes that were taken and, if the pair was
+// written, the bytes that the two sinks received.
 fn show_devices(alloc: Global, request: &PairRequest, devices: Devices<'_>, reply: &mut Reply) {
     reply.end_prompt(alloc, devices.prompt);
     reply.tail.number("drawn", devices.random.drawn());

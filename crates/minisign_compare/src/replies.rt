@@ -15,8 +15,8 @@ use minisign::base::prompt::Prompt;
 use minisign::reading::read_to_end;
 use std::alloc::{AllocError, Global};
 
-/// Fields `NAME=VALUE`, separated by single spaces, and whether an allocation failed for one of
-/// them.
+/// Fields `NAME=VALUE`, separated by single spaces. `is_short` is true if a field is missing or
+/// incomplete because an allocation failed.
 #[derive(Drop)]
 pub struct Fields {
     alloc: Global,
@@ -104,9 +104,10 @@ pub struct Reply {
     pub tail: Fields,
     /// The fields with the bytes that the call wrote, and with the number of unread typed lines.
     pub deeds: Fields,
-    /// The bytes that the Rust crate writes to standard output: a prompt's texts, or a copy.
+    /// The bytes that the Rust crate would write to standard output: the texts of a prompt, or a
+    /// copy of the data.
     pub stdout: Vec<u8>,
-    /// The bytes that the Rust crate writes to standard error: the status.
+    /// The bytes that the Rust crate would write to standard error: the status lines.
     pub stderr: Vec<u8>,
     /// The number of unread typed lines.
     pub typed_left: u64,
@@ -151,7 +152,7 @@ impl Reply {
         }
     }
 
-    /// Stores what a prompt received and the number of unread typed lines.
+    /// Stores the bytes that a prompt wrote, and the number of typed lines that it did not read.
     pub fn end_prompt(&mut self, alloc: Global, prompt: Prompt<SliceSource<'_>, VecSink>) {
         let (mut reader, writer) = prompt.into_parts();
         self.stdout = writer.into_vec();

@@ -1,4 +1,4 @@
-//! The names of the requests and their numbers of words.
+//! The requests: their names, and the number of words of each.
 
 use crate::words::{times_in, word};
 
@@ -47,7 +47,8 @@ pub enum SecretKeyRequest {
     Equal,
 }
 
-/// The requests whose names begin with `sig_` or `bones_`.
+/// The requests whose names begin with `sig_` or `bones_`. The Rust crate calls a bare signature
+/// bones.
 pub enum SignatureRequest {
     FromString,
     FromFile,

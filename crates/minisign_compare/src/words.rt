@@ -44,7 +44,7 @@ pub fn bytes_of(alloc: Global, word: &str) -> Result<Vec<u8>, Refusal>
     }
 }
 
-/// Parses a text, which is written as its UTF-8 bytes.
+/// Parses a text, which is written as the bytes of its UTF-8 encoding.
 pub fn text_of(alloc: Global, word: &str) -> Result<String, Refusal>
     ensures { IfOk result (λ t. (digits : List ℕ) × (word.now ≡ codes "x" ++ digits)
         × (decode_of digits ≡ Ok (string_bytes t))) }

@@ -20,7 +20,7 @@ pub const CHECKSUM: [u8; 32] = [
     0xfd, 0x75, 0x53, 0xf5, 0x83, 0x3d, 0xd6, 0x56, 0x49, 0xd6, 0x4a, 0x12, 0x7c, 0x7a, 0x89, 0xf8,
 ];
 
-/// The second half of the signature of the digest of `abc`. The first half is 32 zeros.
+/// The second half of key A's signature of the digest of `abc`. The first half is 32 zeros.
 pub const TIED_TO_ABC: [u8; 32] = [
     0x9d, 0x5d, 0x3a, 0x5c, 0xe8, 0xed, 0x6e, 0x7a, 0xf2, 0x2f, 0x18, 0x32, 0x80, 0x7b, 0x60, 0x26,
     0x0e, 0xa8, 0xff, 0xe6, 0xe9, 0xf1, 0x0c, 0xb7, 0xa8, 0x6b, 0x67, 0xd8, 0x55, 0xa5, 0x61, 0xa8,
@@ -36,8 +36,8 @@ pub fn signature_record(algorithm: &[u8; 2], key_id: &[u8; 8], tied: &[u8; 32]) 
     joined(&[algorithm, key_id, &[0; 32], tied])
 }
 
-/// Returns key A's secret record with this key derivation and this checksum. The salt, the limits
-/// and the seed are zeros.
+/// Returns the record of key A's secret key, with this key derivation and this checksum. The salt,
+/// the limits and the seed are zeros.
 pub fn secret_record(kdf: &[u8; 2], checksum: &[u8; 32]) -> [u8; 158] {
     joined(&[
         b"Ed",

@@ -1,5 +1,6 @@
-//! Code that the tests and `minisign_compare` share: key A with its encoded keys and signatures,
-//! devices that fail, and files. It has no tests of its own.
+//! Code that the tests in `minisign_vectors` and the program `minisign_compare` share: key A with
+//! its encoded keys and signatures, devices that fail, and paths of temporary files. It has no
+//! tests of its own.
 
 #![tactic(auto)]
 

@@ -12,7 +12,7 @@ pub fn typed<'a>(alloc: Global, bytes: &'a [u8]) -> Prompt<OneBytePerRead<'a>, V
     Prompt::new(OneBytePerRead::new(bytes), VecSink::new(alloc))
 }
 
-/// Returns the given password, if there is one.
+/// Returns a copy of the password, if there is one.
 pub fn password_copy(alloc: Global, password: Option<&str>) -> Result<Option<String>> {
     match password {
         Some(password) => Ok(Some(String::from_str(alloc, password)?)),

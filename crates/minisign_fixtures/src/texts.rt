@@ -1,9 +1,9 @@
-//! Key files and signature files as texts: of key A, of encrypted keys, and of the pair that is generated
-//! from the random bytes 0, 1, 2 and so on.
+//! Key files and signature files as texts: those of key A, which `keys` describes, and those of the
+//! pair that is generated from the random bytes 0, 1, 2 and so on.
 //!
-//! The base64 is from Python's base64 module. Encrypted bytes were xored with scrypt output of
-//! Python's hashlib. Key A is encrypted with the salt whose bytes count up from 0x20, by
-//! `tests/library/sealed_keys.py`.
+//! The base64 is from Python's base64 module. The encrypted bytes are the bytes of the key, xored
+//! with the scrypt output of Python's hashlib. Key A is encrypted with the salt whose bytes count
+//! up from 0x20, by `tests/library/sealed_keys.py`.
 
 /// Key A's public key file: 114 bytes, 57 of them in the first line.
 pub const KEY_TEXT: &str =
@@ -13,22 +13,22 @@ pub const KEY_TEXT: &str =
 pub const SECRET_TEXT: &str =
     "untrusted comment: rsign encrypted secret key\nRWQAAEIyAAAAAAAAAAAAAAAAAAAAAAAAAAAAAAAAAAAAAAAAAAAAAAAAAAAAAAAAAAAAAAAAAQIDBAUGBwgAAAAAAAAAAAAAAAAAAAAAAAAAAAAAAAAAAAAAAAAAAFpaWlpaWlpaWlpaWlpaWlpaWlpaWlpaWlpaWlpaWlpazoeDdHm2Hr/pRluKO3DYzP11U/WDPdZWSdZKEnx6ifg=\n";
 
-/// Encrypted with `password`. The memory limit is 1048576 and the operations limit 0, so N is 1024
-/// and p is 1.
+/// Key A's secret key file, encrypted with `password`. The memory limit is 1048576 and the
+/// operations limit 0, so N is 1024 and p is 1.
 pub const SEALED: &str =
     "c\nRWRTY0IyICEiIyQlJicoKSorLC0uLzAxMjM0NTY3ODk6Ozw9Pj8AAAAAAAAAAAAAEAAAAAAANzLJ/MLV6VpKMIMxcHP/PKMk4Bi0eFdmecBNpsg4ynwt/HpMxIwJcRDauwXAlysg905AtUdJ1s3zc9686k8nFa2Pz7MgLfQOna+YbhXPDg/sopzDAu0uhPc67LTI7waUd6Z1TNToWRQ=\n";
 
-/// Encrypted in the same way, with the empty password.
+/// The same as `SEALED`, but encrypted with the empty password.
 pub const SEALED_WITH_NOTHING: &str =
     "c\nRWRTY0IyICEiIyQlJicoKSorLC0uLzAxMjM0NTY3ODk6Ozw9Pj8AAAAAAAAAAAAAEAAAAAAA1DkFeSFrLVKcwd/U0CI9mSavW9NxS4F4EQL92MDkC8uWs0JuRQz6LvKq8SxCaEzQ9atdFcGf+AzNzb5P/9sKQMB2AMmAjhrMMVLg/zh9xJgdEhLMHykwaQZcV4+yRqrbnzM9EwHWjT8=\n";
 
-/// Encrypted with `password`. The memory limit is 33554432 and the operations limit 1048576, so N
-/// is 32768 and p is 1.
+/// Key A's secret key file, encrypted with `password` and the limits of the Rust crate `minisign`:
+/// the memory limit is 33554432 and the operations limit 1048576, so N is 32768 and p is 1.
 pub const SEALED_AS_USUAL: &str =
     "c\nRWRTY0IyICEiIyQlJicoKSorLC0uLzAxMjM0NTY3ODk6Ozw9Pj8AABAAAAAAAAAAAAIAAAAAjUss1iTpx2jHan0ASsaZQwP1dCaRM+oU2FIKEwvLutgH2C0JcjxT/CuY4tv6CM1b3wkKEKHGEe71QgwDScCLEz6+FcNBj3NBoDjmf+b5TY9u8fOF0PBBHUDJaJTqFTelg2U253BVfy0=\n";
 
-/// Encrypted with `password` and the limits of the C program, 1073741824 and 33554432, so N is
-/// 1048576 and p is 1.
+/// Key A's secret key file, encrypted with `password` and the limits of Minisign, the C program:
+/// the memory limit is 1073741824 and the operations limit 33554432, so N is 1048576 and p is 1.
 pub const SEALED_AS_MINISIGN: &str =
     "c\nRWRTY0IyICEiIyQlJicoKSorLC0uLzAxMjM0NTY3ODk6Ozw9Pj8AAAACAAAAAAAAAEAAAAAAfNjz++TIKpp4IyGrjJGmCSx73rDg3YioSercimsbLYSEmCVnqNXlkhOlMnO28DQkrhqE6TPG4CHMRLKTyPTH/aM8cigR6hHlyOu2QlHuGt7c7Ymi2nZ4nmOlTg5ZxOkXvKWEU0RI3L4=\n";
 

@@ -1,6 +1,7 @@
 //! Decides which call of a device fails.
 
-/// The number of calls that succeed before one fails, and whether all later calls fail too.
+/// A schedule of failures: the number of calls that succeed before the first failure (`None` if no
+/// call fails), and whether all later calls fail too.
 #[derive(Drop)]
 pub struct Turn {
     passing: Option<usize>,
@@ -8,7 +9,8 @@ pub struct Turn {
 }
 
 impl Turn {
-    /// Returns a turn with which this number of calls succeeds, one fails, and all later ones succeed.
+    /// Returns a schedule in which this number of calls succeeds, the next one fails, and all later
+    /// ones succeed.
     pub fn after(calls: usize) -> Turn {
         Turn {
             passing: Some(calls),
@@ -16,7 +18,7 @@ impl Turn {
         }
     }
 
-    /// Returns a turn with which this number of calls succeeds, and then all fail.
+    /// Returns a schedule in which this number of calls succeeds, and all later ones fail.
     pub fn from(calls: usize) -> Turn {
         Turn {
             passing: Some(calls),
@@ -24,7 +26,7 @@ impl Turn {
         }
     }
 
-    /// Returns a turn with which no call fails.
+    /// Returns a schedule in which no call fails.
     pub fn never() -> Turn {
         Turn {
             passing: None,
@@ -32,7 +34,7 @@ impl Turn {
         }
     }
 
-    /// Returns true if this call succeeds.
+    /// Counts a call of the device, and returns true if it succeeds.
     pub fn passes(&mut self) -> bool {
         match self.passing {
             Some(0) => {
