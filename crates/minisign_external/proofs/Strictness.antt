@@ -1,5 +1,5 @@
--- A struct passes the test for weak keys and signatures exactly if the signature file passes that it was read
--- from.
+-- The test for weak keys and signatures gives the same result for a struct as for the signature file from
+-- which the struct was read.
 use Rattle.std.proofs.Common.{◌≡◌, ◌∙◌, ◌==◌, ◌||◌, ◌&&◌, not, ℕ, Bool, true, false, if◌then◌else◌, List}
 use Rattle.std.proofs.Common.{Result, ap, refl, take}
 use Rattle.std.specs.Prelude.{replicate}

@@ -25,8 +25,8 @@ use Rattle.minisign_external.specs.declared.state.Refusal.TheVariants.{Refused}
 use Rattle.minisign_external.specs.declared.unopened_keys.UnopenedKeyValue.{UnopenedKeyValue}
 use Rattle.minisign_external.proofs.Utf8.{of_text}
 
--- If the bound `times` on p and the bound `most` on the rows both allow this key, or both reject it, opening
--- it gives the same result with both.
+-- If checking the key against the bound `times` on p gives the same result as checking it against the bound
+-- `most` on the rows, then opening it gives the same result with both bounds.
 pub opens_within : (k : SecretKeyRecord) (password : List ℕ) (times most : ℕ) → allowed_work k (Some times)
     ≡ allowed_rows k most
     → and_then (sealed_by_scrypt k) (λ s. open_sealed s password (Some times)) ≡ open_within k password most
@@ -41,7 +41,7 @@ opens_within k password times most same = by_cases (not (bytes_eq k.kdf no_kdf))
     by_cases true false = refl
     by_cases false b = refl
 
--- Under the same condition, the checks before scrypt give the same result with both bounds.
+-- Under the same condition, all checks before scrypt give the same result with both bounds.
 pub derives_within : (k : SecretKeyRecord) (times most : ℕ) → allowed_work k (Some times)
     ≡ allowed_rows k most
     → and_then (sealed_by_scrypt k) (λ s. allowed_work s (Some times)) ≡ and_then (sealed_by_scrypt k)
@@ -57,8 +57,7 @@ derives_within k times most same = by_cases (not (bytes_eq k.kdf no_kdf)) (bytes
     by_cases true false = refl
     by_cases false b = refl
 
--- Under the same condition, opening gives the same result with both bounds, if the second one first checks
--- that the password is UTF-8, which it is.
+-- `opens_within` for a password that is UTF-8, where the second way of opening also checks this.
 pub opens_text : (key k : SecretKeyRecord) (bytes password : List ℕ) (times most : ℕ) → key ≡ k
     → bytes ≡ password → IsUtf8 password
     → allowed_work key (Some times) ≡ allowed_rows key most

@@ -167,7 +167,7 @@ pub record IsMeaning (n : ℕ) (text : List ℕ) : Type 0 where
   pub unknown : IsUnlisted n → text ≡ unknown_text
 
 -- The new buffer begins with as much of the text as fits before a 0 byte, and the 0. The bytes after the 0
--- are unchanged. An empty buffer stays empty.
+-- are unchanged. An empty buffer is unchanged.
 abbrev pub WritesCut : List ℕ → List ℕ → List ℕ → Type 0
 WritesCut text old new =
     let n = 1 + min (length text) (length old - 1) in
