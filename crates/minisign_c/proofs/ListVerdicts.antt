@@ -166,7 +166,7 @@ weak_chosen : (s : Bool) (n m : ℕ) → n ≡ (if s then 0 else weak_number) �
 weak_chosen true n m is some = absurd (omega (arith, is, some))
 weak_chosen false n m is some = is
 
--- If the verdict on the list is an error, the whole check fails with the same error number.
+-- If checking the list returns a number other than 0, the whole check returns the same number.
 pub failed_list : (v : PublicKeyValue) (r : Result SignatureTextRecord Fault) (l : Result (List ℕ) ListFault)
     (more : List ℕ → Result (List ℕ) (Refusal ListFault)) (n : ℕ)
     → n ≡ strict_read v r (list_verdict_number l) → 0 < n

@@ -63,7 +63,7 @@ listed_under accepts v sig_text x m =
     go_on (looked_up x) (λ entry.
     go_on (of_lists (check_digest entry.digest m)) (λ _. Ok comment)))
 
--- The same verdict for the result of parsing the public key file, whose error comes first.
+-- `listed_under` for the result of parsing the public key file, whose error comes first.
 abbrev pub listed_with : Verifier → Result PublicKeyRecord Fault → List ℕ → Lookup → List ℕ
     → Result (List ℕ) (Refusal ListFault)
 listed_with accepts key sig_text x m =

@@ -63,7 +63,7 @@ AnswersSecond accepts v t second =
     IsTrue (has_whole_signature t.comments)
     → accepts (t.signature.signature ++ t.comments.trusted) v.key (take 64 t.comments.signature) ≡ second
 
--- These are the results of both checks for the key and the signature file.
+-- `first` and `second` are the results of both checks for the key and the signature file.
 pub record Answers (accepts : Verifier) (v : PublicKeyValue) (sig_text message : List ℕ)
     (first second : Bool) : Type 0 where
   pub to_first : (t : SignatureTextRecord) → read_signature sig_text ≡ Ok t
@@ -89,7 +89,7 @@ pub record IsKeyText (pk_text : List ℕ) (v : PublicKeyValue) : Type 0 where
   pub read : read_public_key pk_text ≡ Ok key
   pub same : v ≡ value_of key
 
--- These are the results of both checks for the public key file and the signature file.
+-- `first` and `second` are the results of both checks for the public key file and the signature file.
 abbrev pub AnswersTexts : Verifier → List ℕ → List ℕ → List ℕ → Bool → Bool → Type 0
 AnswersTexts accepts pk_text sig_text message first second =
     (v : PublicKeyValue) → IsKeyText pk_text v → Answers accepts v sig_text message first second

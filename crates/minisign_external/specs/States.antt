@@ -269,8 +269,8 @@ IsTextRefusal v sig_text legacy (Refused e) =
     IsUtf8 sig_text → (pk_text message : List ℕ) (accepts : Verifier) → IsKeyText pk_text v
     → verdict accepts pk_text sig_text message legacy ≡ Err e
 
--- This is the verdict on the two files and the message: success if the signature is valid, otherwise the
--- first check that fails.
+-- The result r is the verdict on the public key file, the signature file and the message: success if the
+-- signature is valid, otherwise the first check that fails.
 abbrev pub GivesVerdict : {T : Type 0} → Verifier → List ℕ → List ℕ → List ℕ → Bool → Result T (Refusal Fault)
     → Type 0
 GivesVerdict accepts pk_text sig_text message legacy r =
@@ -307,8 +307,8 @@ abbrev pub result_number : Result Unit (Refusal Fault) → ℕ
 result_number (Ok t) = 0
 result_number (Err r) = refusal_number fault_number r
 
--- n is the number of the verdict on the two files and the message: 0 if the signature is valid, otherwise the
--- number of the first check that fails.
+-- n is the number of the verdict on the public key file, the signature file and the message: 0 if the
+-- signature is valid, otherwise the number of the first check that fails.
 abbrev pub GivesNumber : Verifier → List ℕ → List ℕ → List ℕ → Bool → ℕ → Type 0
 GivesNumber accepts pk_text sig_text message legacy n =
     ((n ≡ 0) × TextsVouchFor accepts pk_text sig_text message legacy)
