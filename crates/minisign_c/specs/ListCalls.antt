@@ -62,7 +62,7 @@ asking_list_number v sig_text t room =
     asked_number (asked_strictly (is_strict_text v t)
     (with_public_key v (asked_under (read_under v false sig_text) room)))
 
--- These are the questions about the key and the parsed signature file, with the digest of the list. The bytes
+-- q holds the questions about the key and the parsed signature file, with the digest of the list. The bytes
 -- begin with the message of the second question.
 abbrev pub AreListQuestions : Questions → List ℕ → PublicKeyValue → SignatureTextRecord → List ℕ → Type 0
 AreListQuestions q bytes v t text = AreQuestions q bytes v t × (q.digest ≡ blake2b_digest 64 text)

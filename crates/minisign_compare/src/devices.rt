@@ -267,7 +267,7 @@ fn counted_bytes(alloc: Global, first: u8) -> Result<Vec<u8>, Refusal> {
     Ok(bytes)
 }
 
-/// Returns a prompt with this input, which keeps what is written to it.
+/// Returns a prompt that reads these typed lines and stores its output.
 pub fn typed_prompt(alloc: Global, typed: &[u8]) -> Prompt<SliceSource<'_>, VecSink> {
     Prompt::new(SliceSource::new(typed), VecSink::new(alloc))
 }

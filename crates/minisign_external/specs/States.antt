@@ -147,15 +147,15 @@ pub record IsBlank (s : State) : Type 0 where
   pub asked : s.asked ≡ record { mark = 0; whole = 0 }
   pub reserved : s.reserved ≡ replicate 18 0
 
--- These are the questions about the key and the parsed signature file, with any digest. The bytes begin with
+-- q holds the questions about the key and the parsed signature file, with any digest. The bytes begin with
 -- the message of the second question.
 pub record AreQuestions (q : Questions) (bytes : List ℕ) (v : PublicKeyValue) (t : SignatureTextRecord)
     : Type 0 where
   pub questions : q ≡ record (questions_of v t) { digest = q.digest }
   pub message : HoldsMessage t.signature t.comments.trusted bytes q.message_len
 
--- These are the questions about the key and the parsed signature file, with zeros as the digest, as asking
--- writes them. The bytes begin with the message of the second question.
+-- q holds the questions about the key and the parsed signature file as `State::ask` writes them, with zeros
+-- as the digest. The bytes begin with the message of the second question.
 abbrev pub AreQuestionsWithoutDigest : Questions → List ℕ → PublicKeyValue → SignatureTextRecord → Type 0
 AreQuestionsWithoutDigest q bytes v t = (q ≡ questions_of v t)
     × HoldsMessage t.signature t.comments.trusted bytes q.message_len

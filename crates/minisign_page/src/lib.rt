@@ -343,8 +343,8 @@ pub extern "C" fn page_list_ask_any(
     questions: &mut Questions,
     message: &mut [u8],
 ) -> u32
-    // As for `page_list_ask`, except that the name of the list is not checked: any trusted comment counts
-    // as naming it.
+    // The promises are those of `page_list_ask`, except that the name of the list is not checked: `list`
+    // records for every trusted comment that it names the list.
     ensures number { result ≡ asked_number (asked_strictly (is_strict_value key.now signature.now)
         (asking_checks key.now signature.now sig_text.now false (length message.old))) }
     ensures text { (t : SignatureTextRecord) → IsReadFrom signature.now sig_text.now t
