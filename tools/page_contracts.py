@@ -29,8 +29,8 @@ PAGE_ONLY = ("sha256_begin", "sha256_update", "sha256_digest", "sha512_begin", "
 # The definitions for lists: those of the library, and of them the part that is copied, from the first text to the second one.
 PAGE_SPECS, SPECS = "crates/minisign_page/specs/ListCalls.antt", "crates/minisign_c/specs/ListCalls.antt"
 BEGIN, END = "-- The error number of a failed call.\n", "-- == Writing ==\n"
-MEANING = """-- The text is the meaning of the number, of an error of lists or of any other number. Numbers of errors
--- of installations have no meaning here.
+MEANING = """-- The text is that of the list error with this number, or else of any other error with this number. The page
+-- has no installation errors, so their numbers have no meaning.
 abbrev pub IsListMeaning : ℕ → List ℕ → Type 0
 IsListMeaning n text =
     MatchOption (list_fault_numbered n) (IsMeaning n text) (λ e. text ≡ (list_row e).summary)

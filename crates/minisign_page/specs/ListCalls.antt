@@ -26,8 +26,8 @@ use Rattle.minisign_lists.specs.Values.{list_verdict_outcome}
 use Rattle.minisign_lists.specs.declared.values.EntryValue.{EntryValue}
 use Rattle.minisign_lists.specs.declared.values.ListValue.{ListValue}
 
--- The text is the meaning of the number, of an error of lists or of any other number. Numbers of errors
--- of installations have no meaning here.
+-- The text is that of the list error with this number, or else of any other error with this number. The page
+-- has no installation errors, so their numbers have no meaning.
 abbrev pub IsListMeaning : ℕ → List ℕ → Type 0
 IsListMeaning n text =
     MatchOption (list_fault_numbered n) (IsMeaning n text) (λ e. text ≡ (list_row e).summary)
