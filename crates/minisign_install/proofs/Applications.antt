@@ -1,4 +1,4 @@
--- The laws about runs of events hold for lawful applications.
+-- Derives laws about lawful applications from those about lists of events.
 use Rattle.std.specs.Prelude.{◌≡◌, ◌≤◌, ◌+◌, ◌*◌, ℕ, List, [], ◌∷◌, length, map, true}
 use Rattle.std.proofs.Common.{refl, suc, sym, ap}
 use Rattle.minisign_install.specs.Applications.{Applies, Call, Snapshot}
@@ -29,7 +29,7 @@ both w P n s [] t run each = run
 both w P n s (c ∷ more) t (is, run) (holds, each) =
     ((is, holds), both w P (count n c.event) (step s c.event).1 more t run each)
 
--- If no operation fails, and the update is good, a run that has ended has installed it.
+-- If the update is good and no event is a failure, a run that has ended has installed the update.
 pub good_update_is_installed : (w : World) (o : Options) (g : IsGoodUpdate w o) (m : Snapshot)
     (calls : List Call) (t : State) (end : Snapshot) → Applies w (begin o) m calls t end
     → AllEvents (IsAcceptable g) calls → has_ended t.due ≡ true → t.due ≡ Installed
@@ -37,7 +37,7 @@ good_update_is_installed w o g m calls t end run fine ended =
     good_update_gets_installed w o g (map event_of calls) t
     (both w (IsAcceptable g) 0 (begin o) calls t (true_run w o m calls t end run) fine) ended
 
--- An end that is reported is true.
+-- If a run ends as installed, already installed or would install, then IsEnd holds.
 pub reported_ends_are_true : (w : World) (o : Options) (times : Option ℕ → Bool) (m : Snapshot)
     (calls : List Call) (t : State) (end : Snapshot) → Applies w (begin o) m calls t end
     → AllEvents (IsAtOneOf times) calls → IsEnd w o times t.due
@@ -49,7 +49,7 @@ length_map : (calls : List Call) → length (map event_of calls) ≡ length call
 length_map [] = refl
 length_map (c ∷ more) = ap suc (length_map more)
 
--- A run ends.
+-- The length of a run is bounded by the lengths of the data and of the installed file.
 pub application_ends : (w : World) (o : Options) (m : Snapshot) (calls : List Call) (t : State)
     (end : Snapshot) → Applies w (begin o) m calls t end
     → length calls ≤ 23 + length o.keys + w.most + 2 * length w.update
@@ -66,7 +66,7 @@ last_true w o n s m (d ∷ more) t end c known (others, fits, is, run) later fit
     last_true w o (count n d.event) (step s d.event).1 d.after more t end c
     (next w o ⊤ ⊥ n s m d known others (λ q. absurd q) fits is (λ found. tt)) run later fit done
 
--- An error that is returned is true.
+-- If a call returns an error, its event is a failure, the lock is in use, or the run has found the cause.
 pub reported_errors_are_true : (w : World) (o : Options) (times : Option ℕ → Bool) (m : Snapshot)
     (calls : List Call) (s : State) (end : Snapshot) (c : Call) (fault : InstallFault)
     → Applies w (begin o) m calls s end → AllEvents (IsAtOneOf times) calls → IsAtOneOf times c.event

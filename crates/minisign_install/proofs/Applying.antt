@@ -1,5 +1,5 @@
--- Invariants of a run of a lawful application: each event is true, the temporary files hold what
--- they should, and the record is on the disk before the update gets to the target.
+-- Invariants of a run of a lawful application: each event is true, the temporary files have the right
+-- content, and the record is on the disk before the update is renamed to the target.
 use Rattle.std.specs.Prelude.{◌≡◌, ◌≤◌, ◌&&◌, ◌||◌, ◌==◌, ◌+◌, ◌++◌, ⊤, ℕ, Bool, true, false, List, [], ◌∷◌}
 use Rattle.std.specs.Prelude.{Option, Some, None, Result, Ok, Err, IfSome, is_some, if◌then◌else◌, length}
 use Rattle.std.specs.Prelude.{nat_le, not, ◌⊎◌}
@@ -19,47 +19,50 @@ use Rattle.minisign_install.specs.StepRuns.{asks}
 use Rattle.minisign_install.specs.StepRuns.{IsTrueEvent, World, count}
 use Rattle.minisign_install.proofs.StepSafety.{Passed}
 
--- There is a file, and it holds these bytes.
+-- There is a file with these bytes.
 abbrev pub HasBytes : Option File → List ℕ → Type 0
 HasBytes place bytes = (file : File) × (place ≡ Some file) × (file.bytes ≡ bytes)
 
--- They are on the disk too.
+-- There is a file with these bytes, and it is synced.
 abbrev pub IsOnDisk : Option File → List ℕ → Type 0
 IsOnDisk place bytes =
     (file : File) × (place ≡ Some file) × (file.bytes ≡ bytes) × (file.synced ≡ true)
 
--- And the file has the permissions of the installed one.
+-- There is a file with these bytes, it is synced, and its permissions were set.
 abbrev pub IsComplete : Option File → List ℕ → Type 0
 IsComplete place bytes =
     (file : File) × (place ≡ Some file) × (file.bytes ≡ bytes) × (file.permissions ≡ true)
     × (file.synced ≡ true)
 
+-- F is any property that follows from reading the record. Q is the assumption that other processes leave the
+-- target alone.
 module _ (w : World) (F Q : Type 0) where
-  -- A check holds no lock.
+  -- The run is a check, or it holds the lock.
   abbrev IsHeld : State → Snapshot → Type 0
   IsHeld s m = (s.options.check ≡ true) ⊎ (m.locked ≡ true)
 
-  -- The record was read, and n bytes were copied.
+  -- The record was read, and no bytes were copied yet.
   abbrev pub IsEarly : ℕ → State → Snapshot → Type 0
   IsEarly n s m = (n ≡ 0) × IsHeld s m × F
 
+  -- The run holds the lock, and the record was read.
   abbrev pub IsLocked : Snapshot → Type 0
   IsLocked m = (m.locked ≡ true) × F
 
-  -- And leftovers of killed runs were removed.
+  -- The run holds the lock, the record was read, and temporary files of killed runs were removed.
   abbrev pub IsClear : Snapshot → Type 0
   IsClear m = (m.locked ≡ true) × F × (m.leftovers ≡ false)
 
-  -- The installed file was read, and opened is its number.
+  -- The bytes that were read are those of the file at the target, and `opened` is its number.
   abbrev pub IsOpened : State → Snapshot → Type 0
   IsOpened s m =
       (file : File) × (m.target ≡ Some file) × (file.bytes ≡ s.read) × (m.opened ≡ Some file.number)
 
-  -- The bytes that were read are the update.
+  -- The signature is valid for the bytes that were read.
   abbrev pub IsSigned : State → Type 0
   IsSigned s = asks w (data_question due.CheckTarget s) ≡ true
 
-  -- The files at each operation. F is what is known of the record that was read.
+  -- The invariant of the files, for each operation.
   abbrev pub Has : ℕ → Operation → State → Snapshot → Type 0
   Has n due.Lock s m = (n ≡ 0) × (s.options.check ≡ false)
   Has n due.ReadRecord s m = (n ≡ 0) × IsHeld s m
@@ -101,7 +104,7 @@ module _ (w : World) (F Q : Type 0) where
       × (Q → IsComplete m.target s.read × (m.target_left ≡ []))
   Has n op s m = ⊤
 
-  -- Others leave it so. Q says that they leave the target alone.
+  -- The invariant still holds after changes by other processes.
   pub stays : (n : ℕ) (op : Operation) (s : State) (old new : Snapshot) → Others old new
       → (Q → LeavesTarget old new) → Has n op s old → Has n op s new
   stays n due.SyncRecordName s old new others target (lock_held, whole, recorded) =
@@ -177,7 +180,7 @@ module _ (w : World) (F Q : Type 0) where
 
   -- == Each event is true ==
 
-  -- Pieces are part of the data.
+  -- After a piece of the data was copied, the number of copied bytes is at most the length of the data.
   piece_fits : (k n : ℕ) (file : File) (place : Option File) (piece rest : List ℕ) → place ≡ Some file
       → length file.bytes ≡ n → length piece ≡ k → w.update ≡ (bytes_of place ++ piece) ++ rest
       → n + k ≤ length w.update
@@ -313,7 +316,7 @@ module _ (w : World) (F Q : Type 0) where
         ),
       )
 
-  -- The file that was opened is the installed one.
+  -- If the file that was read is at the target, it is on the disk after it was synced.
   opened_synced : (s : State) (m : Snapshot) → IsOpened s m → IsOnDisk (synced_if m.opened m.target) s.read
   opened_synced s m (file, present, holds, opened) =
       rw (opened, present, eq-eqb file.number file.number refl)

@@ -1,4 +1,4 @@
--- A check changes nothing, and takes no lock.
+-- Proves that a check changes nothing and takes no lock.
 use Rattle.std.specs.Prelude.{◌≡◌, ◌&&◌, ◌||◌, ℕ, Bool, true, false, List, [], ◌∷◌, Option, Some, None}
 use Rattle.std.specs.Prelude.{Result, Ok, Err, IfSome, is_some, if◌then◌else◌, not}
 use Rattle.std.proofs.Common.{refl, sym, true≢false}
@@ -14,7 +14,7 @@ use Rattle.minisign_install.specs.Step as due
 use Rattle.minisign_install.specs.StepRuns.{World}
 use Rattle.minisign_install.proofs.StepSafety.{Passed}
 
--- The operations of a check.
+-- The run is a check, and this is one of its operations.
 abbrev Reads : Operation → State → Type 0
 Reads due.ReadRecord s = s.options.check ≡ true
 Reads due.ReadSignature s = s.options.check ≡ true
@@ -30,7 +30,7 @@ Reads op s = ⊥
 abbrev Holds : State → Type 0
 Holds s = Reads s.due s
 
--- A check makes no temporary files.
+-- A check that is rejected ends at once, because it has no temporary files.
 reject : (op : Operation) (fault : InstallFault) (s : State) → s.due ≡ op → Reads op s
     → Holds (due.reject fault s)
 reject due.ReadRecord fault s at is = rw at is
@@ -173,7 +173,7 @@ all_left w s m (c ∷ more) t end holds (others, fits, is, run) = (
 begins : (o : Options) → o.check ≡ true → Holds (begin o)
 begins o is = rw is refl
 
--- A check changes neither files nor names, and takes no lock.
+-- No operation of a check changes a file or a name, or takes the lock.
 pub check_changes_nothing : (w : World) (o : Options) (m : Snapshot) (calls : List Call) (t : State)
     (end : Snapshot) → o.check ≡ true → Applies w (begin o) m calls t end → AllCalls LeavesAll calls
 check_changes_nothing w o m calls t end check run =

@@ -1,4 +1,5 @@
--- The functions of Decisions decide what the relations on comments and records say.
+-- Proves that the functions in Decisions.antt decide the properties of comments and records in
+-- CommentChecks.antt and RecordTexts.antt.
 use Rattle.std.specs.Prelude.{◌≡◌, ◌≢◌, ◌⊎◌, ◌<◌, ◌≤◌, ◌^◌, ℕ, Bool, true, false, List, [], ◌∷◌, length}
 use Rattle.std.specs.Prelude.{Option, Some, None, nat_lt, ◌&&◌, ◌-◌, not, is_some, bytes_eq, if◌then◌else◌}
 use Rattle.std.specs.Option.{unwrap_or}
@@ -157,7 +158,8 @@ says_of o time comment file number expiry size =
       },
     )
 
--- A comment that is not rejected says what is wanted.
+-- A comment that is not rejected names the file, has a version number and has not expired (CommentSays), and
+-- the version is not too old.
 pub comment_says : (o : Options) (recorded time : Option ℕ) (comment : List ℕ)
     → comment_fault o recorded time comment ≡ None
     → (n : ℕ) × (version_in o.numbering comment ≡ Some n) × CommentSays o time comment n
@@ -271,7 +273,8 @@ last_first : (first : Option InstallFault) (e : InstallFault) → first_of (firs
 last_first None e is = absurd (none-some e is)
 last_first (Some f) e is = is
 
--- A comment is rejected for the first of these reasons that is true.
+-- If a comment is rejected, it fails the check that belongs to the error, and has passed all checks before
+-- it.
 pub comment_refused : (o : Options) (recorded time : Option ℕ) (comment : List ℕ) (e : InstallFault)
     → comment_fault o recorded time comment ≡ Some e
     → IsCommentRefused o recorded time comment e

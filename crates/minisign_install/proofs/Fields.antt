@@ -1,4 +1,4 @@
--- The fields of a comment, and the values after their labels.
+-- Lemmas for the functions that find the fields of a comment and the values after their labels.
 use Rattle.std.specs.Prelude.{is_some, filter_map, MatchOption}
 use Rattle.std.proofs.Common.{Bool, true, false, ◌≡◌, ◌≢◌, ◌<◌, ◌==◌, ℕ, List, [], ◌∷◌, ◌++◌, Some, None}
 use Rattle.std.proofs.Common.{length, ap, sym, ◌∙◌, refl, cond, arith, drop, Bor, Option, option_map, inl}
@@ -22,7 +22,7 @@ lacks (b ∷ label) (c ∷ text) other = elim (cases_Bool (c == b)) [
   | inr apart ↦ ap (λ t. cond t (strip label text) None) apart
 ]
 
--- takes the clause of `strip_prefix`
+-- If a result satisfies the contract of `strip_prefix`, it is the text after the label.
 pub strip_answers : (label text : List ℕ) (r : Option (Bor (List ℕ)))
     → MatchOption r (FindsTextPrefix label text None) (λ v. StripsPrefix (FindsTextPrefix label) text v.now)
     → option_map (λ v. v.now) r ≡ strip label text
@@ -30,13 +30,13 @@ strip_answers label text None none = sym (lacks label text none)
 strip_answers label text (Some v) (n, (is, begin, boundary), rest, long) =
     ap Some rest ∙ sym (ap (strip label) begin ∙ strips label (drop n text))
 
--- a comment of no bytes has one field, which begins with no label
+-- An empty comment has no field with a label.
 pub nothing : (label text : List ℕ) → 0 < length label → length text ≡ 0 → values_of label text ≡ []
 nothing [] text some none = absurd (omega arith)
 nothing (b ∷ label) [] some none = refl
 nothing (b ∷ label) (c ∷ text) some none = absurd (omega arith)
 
--- in a comment of no bytes nothing is read that an empty field does not have
+-- If a function finds nothing in an empty field, it finds nothing in an empty comment.
 pub none_read : (reads : List ℕ → Option (List ℕ)) → reads [] ≡ None → filter_map reads (fields []) ≡ []
 none_read reads none = ap (λ r. cons_option r []) none
 
@@ -56,9 +56,9 @@ pub none_of : {A : Type 0} (o : Option A) → is_some o ≡ false → o ≡ None
 none_of (Some v) h = cc h
 none_of None h = refl
 
--- == Letters, whatever their case, and white space ==
+-- == Labels in any case, with white space ==
 
--- of no letters that are left a label begins with none
+-- An empty text begins with a label only if the label is empty.
 pub ended : (label text : List ℕ) → length text ≡ 0
     → is_some (strip label (folded text)) ≡ (length label == 0)
 ended [] [] none = refl

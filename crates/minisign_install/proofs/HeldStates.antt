@@ -1,4 +1,4 @@
--- The struct and its state after each event.
+-- Lemmas for the functions of Progress: after each event the new struct represents the state after the step.
 use Rattle.std.specs.Prelude.{◌≡◌, ◌<◌, ◌==◌, ◌++◌, ℕ, Bool, true, false, List, Option, Some, None, Result}
 use Rattle.std.specs.Prelude.{Ok, Err}
 use Rattle.std.specs.Prelude.{if◌then◌else◌, ◌≢◌, ◌&&◌, not, is_some, IfSome, [], ◌∷◌, option_map, ◌≤◌}
@@ -82,12 +82,13 @@ positive (Library f) = library_positive f
 positive TargetInUse = lit< tt
 positive _ = lit< tt
 
--- The first error is returned.
+-- If the run had no error yet, an error is returned.
 pub first_error : (e : Option InstallFault) (fault : InstallFault) → error_number e ≡ 0
     → Err (Refused fault) ≡ result_of e (Some fault)
 first_error None fault none = refl
 first_error (Some f) fault none = absurd (omega (arith, none, positive f))
 
+-- If the run already had an error, a further error is not returned.
 pub later_error : (e : Option InstallFault) (fault : InstallFault) → error_number e ≢ 0
     → Ok tt ≡ result_of e (Some fault)
 later_error None fault some = absurd (some refl)
@@ -105,7 +106,7 @@ rejected p q s fault op state_held is after_it =
     (is ∙ ap (λ (d : Operation). if has_files d then due.RemoveFiles else due.Rejected)
     (sym (due_is p s state_held))) after_it
 
--- A state that is reached without an error.
+-- If a step does not change the error, its result is Ok.
 pub quiet : (s t : State) → t.error ≡ s.error → Ok tt ≡ result_of s.error t.error
 quiet s t is = calm s.error ∙ ap (result_of s.error) (sym is)
 
@@ -153,7 +154,7 @@ digest_no q s a is old state_held =
     HoldsState q (if b then install s else record s { due = due.ReadTarget; is_recorded = false }))
     (sym old) state_held)
 
--- The record was read.
+-- The new struct represents the state after the record was read.
 pub recorded_with : (p : Progress) (s : State) (r : RecordedValue) → HoldsState p s
     → HoldsState (record p { recorded = r }) (record s { recorded = recorded_of r })
 recorded_with p s r state_held = record {
@@ -341,7 +342,7 @@ pub data_no : (op : Operation) (a : Bool) (s : State) → op ≡ due.CheckData �
     → after op (Answered a) s ≡ Some (reject (Library (Named SignatureRefused)) s)
 data_no op a s at is = rw (at, is) refl
 
--- The operations that ask Ed25519.
+-- At an operation without a question for Ed25519, a result of Ed25519 does not fit.
 pub no_answer_at : (op : Operation) (a : Bool) (s : State) → op ≢ due.CheckComment → op ≢ due.CheckRecord
     → op ≢ due.CheckTarget → op ≢ due.CheckData → after op (Answered a) s ≡ None
 no_answer_at due.CheckComment a s comment recorded target data_is = absurd (comment refl)

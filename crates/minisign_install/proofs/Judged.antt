@@ -1,4 +1,4 @@
--- The functions of the code find the fields of a trusted comment.
+-- Lemmas for the functions that check a trusted comment: they return what the definitions say.
 use Rattle.std.specs.Prelude.{◌≡◌, ℕ, List, [], ◌∷◌, Option, Some, None, Err, MatchOption}
 use Rattle.std.specs.Str.{IsUtf8}
 use Rattle.std.proofs.Common.{refl, sym, ap, ◌∙◌}

@@ -1,4 +1,4 @@
--- A lawful application whose run has ended without a failure leaves no temporary files of its own.
+-- Proves that a lawful application whose run has ended without a failure has no temporary files.
 use Rattle.std.specs.Prelude.{◌≡◌, ◌==◌, ◌&&◌, ◌||◌, ◌-◌, ⊤, ℕ, Bool, true, false, not, List, [], ◌∷◌, Option}
 use Rattle.std.specs.Prelude.{Some, None, Result, Ok, Err, IfSome, is_some, nat_le, if◌then◌else◌}
 use Rattle.std.proofs.Common.{refl, sym, ◌∙◌, true≢false}
@@ -19,7 +19,8 @@ use Rattle.minisign_install.proofs.StepSafety.{Passed}
 abbrev NoRecord : Snapshot → Type 0
 NoRecord m = m.record_file ≡ None
 
--- Which of the temporary files there are not, at each operation.
+-- When this operation is due, these temporary files do not exist: both, or only that of the record. With ⊤,
+-- both may exist.
 abbrev Lacks : Operation → Snapshot → Type 0
 Lacks due.CopyData m = NoRecord m
 Lacks due.ReadBack m = NoRecord m
@@ -92,7 +93,7 @@ after_target false s m none =
     either (s.is_recorded || s.options.again) (due.install s) (due.reject SameNumber s) m (install s m none)
     (reject SameNumber s m none)
 
--- While data is copied, the run has a temporary file, which is removed.
+-- Lacks still holds after a piece was copied.
 after_piece : (k : ℕ) (left : Option ℕ) (s : State) (m : Snapshot) → s.due ≡ due.CopyData → NoRecord m
     → Lacks (due.after_piece k left s).due m
 after_piece k None s m at none = rw at none
@@ -166,7 +167,7 @@ moves : (s : State) (new : Snapshot) (next : Option State) → is_some next ≡ 
 moves s new (Some t) fits holds = holds
 moves s new None fits holds = absurd (true≢false (sym fits))
 
--- Other processes leave them alone.
+-- Lacks still holds after changes by other processes.
 stays : (op : Operation) (old new : Snapshot) → Others old new → Lacks op old → Lacks op new
 stays due.CopyData old new others none = others.record_stays ∙ none
 stays due.ReadBack old new others none = others.record_stays ∙ none
@@ -197,7 +198,7 @@ at_end due.WouldInstall m is none = none
 at_end due.Rejected m is none = none
 at_end op m is none = absurd (true≢false (sym is))
 
--- A run that has ended without a failure has no temporary files.
+-- If no operation fails and the lock is free, a run that has ended has no temporary files.
 pub no_files_left : (w : World) (o : Options) (m : Snapshot) (calls : List Call) (t : State) (end : Snapshot)
     → IsBeforeRun m → Applies w (begin o) m calls t end → AllEvents Succeeds calls → has_ended t.due ≡ true
     → HasNoFiles end

@@ -1,4 +1,4 @@
--- The effects of --new-key and --roll-back on the record.
+-- Proves the laws of `any_record_is_judged` about --new-key and about the record after a roll-back.
 use Rattle.std.specs.Prelude.{◌≡◌, ◌<◌, ◌||◌, ℕ, true, false, List, Some, None, Ok, Err}
 use Rattle.std.proofs.Common.{refl, lt-ltb}
 use Rattle.minisign_install.specs.Decisions.{Options, judge_record, names_other_key}

@@ -1,4 +1,5 @@
--- A trace that is recorded in full is accepted.
+-- Proves that `first_unlawful_line` accepts a trace of a lawful application that records each report and
+-- effect.
 use Rattle.std.specs.Prelude.{◌≡◌, ◌<◌, ◌≤◌, ◌==◌, ◌&&◌, ◌||◌, ◌++◌, ◌⊎◌, ◌-◌, ℕ, Bool, true, false, not}
 use Rattle.std.specs.Prelude.{List, [], ◌∷◌, Option, Some, None, option_map, is_some, Result, Ok, Err}
 use Rattle.std.specs.Prelude.{bytes_eq, length, nat_le, IfSome, if◌then◌else◌}
@@ -53,7 +54,7 @@ both_are : (a b : Bool) → a ≡ true → b ≡ true → (a && b) ≡ true
 both_are true b one other = other
 both_are false b one other = absurd (true≢false (sym one))
 
--- The front and the piece, as they are cut out of the bytes.
+-- If the bytes begin with `front` and `piece`, then both can be cut out of them at these lengths.
 pub piece_cut : (whole front piece : List ℕ) → IsPieceOf whole front piece
     → (take (length front) (take (length front + length piece) whole) ≡ front)
     × (drop (length front) (take (length front + length piece) whole) ≡ piece)
@@ -173,7 +174,7 @@ piece_due w s op bytes old new is = absurd is
 
 -- == Events ==
 
--- The signature file is read by another event.
+-- The event is that the signature file was read.
 abbrev pub is_text : Event → Bool
 is_text (due.SignatureRead text time) = true
 is_text e = false
@@ -363,7 +364,8 @@ moved : (s : State) (next : Option State) → is_some next ≡ true → IfSome n
 moved s (Some t) is holds = holds
 moved s None is holds = absurd (true≢false (sym is))
 
--- The question about the comment is due before each event but this one, if it is due afterwards.
+-- If the question about the comment is due after an event, it was due before it, unless the event is that the
+-- signature file was read.
 pub stays_asked : (s : State) (e : Event) → is_some (after s.due e s) ≡ true → is_text e ≡ false
     → (step s e).1.due ≡ due.CheckComment → s.due ≡ due.CheckComment
 stays_asked s e fits other is = moved s (after s.due e s) fits (stays s.due e s refl other) is
@@ -380,7 +382,7 @@ taken_at : (s : State) (next : Option State) (r : Result Unit (Refusal InstallFa
 taken_at s (Some t) r same is m wrong = result_proper s.error t.error m (sym same ∙ wrong)
 taken_at s None r same is m wrong = true≢false (sym is)
 
--- An event that fits is taken.
+-- The result of an event that fits is not an API misuse.
 pub taken_result : (s : State) (e : Event) (r : Result Unit (Refusal InstallFault)) → r ≡ (step s e).0
     → is_some (after s.due e s) ≡ true → (m : Misuse) → r ≡ Err (WrongUse m) → ⊥
 taken_result s e r same is m wrong = taken_at s (after s.due e s) r same is m wrong
@@ -420,7 +422,7 @@ too_long w o text (Ok (t, keys)) m message is judged room at long =
     omega (arith, room t parsed, long, ap length (same_Some _ m at))
 too_long w o text (Err e) m message is judged room at long = absurd (none-some m at)
 
--- The signature file was taken: the message was written, or the run is rejected.
+-- If reporting the signature file does not return NotDue, then reading it was due.
 pub text_taken : (w : World) (s : State) (text : List ℕ) (time : Option ℕ)
     (r : Result Unit (Refusal InstallFault)) → r ≡ (step s (signature_read text time)).0
     → (r ≡ Err (WrongUse NotDue) → ⊥)
@@ -429,6 +431,7 @@ text_taken w s text time r same proper =
     let fits = taken_fits s (after s.due (signature_read text time) s) r same proper in
     (text_due s.due _ time s fits, fits)
 
+-- If the run is rejected at the signature file, no message is needed.
 pub text_refused : (w : World) (s : State) (text : List ℕ) (time : Option ℕ) (r : Refusal InstallFault)
     (n : ℕ) (message : List ℕ) → s.due ≡ due.ReadSignature
     → (step s (signature_read text time)).0 ≡ Err r
@@ -436,7 +439,7 @@ pub text_refused : (w : World) (s : State) (text : List ℕ) (time : Option ℕ)
 text_refused w s text time r n message at is =
     λ asked t parsed. absurd (not_due s.due _ time s r at is asked)
 
--- The message fits into the buffer.
+-- The message of a signature file that passes the checks fits into the buffer.
 pub room_enough : (w : World) (s : State) (text : List ℕ) (message : List ℕ)
     → w.text ≡ read_utf8 read_signature text → MessageFits w message
     → IsTooLong (comment_message (reads_into s text)) (length message) → ⊥
@@ -494,7 +497,8 @@ answered_at : (w : World) (s : State) (op : Operation) (accepted : Bool) → op 
 answered_at w s due.CheckComment accepted at is = is
 answered_at w s op accepted at is = cc at
 
--- The question is about the comment: the message has been written, and the answer is about it.
+-- If the question about the comment is due, its message is in the buffer, and the result of Ed25519 is about
+-- this message.
 pub comment_asked : (w : World) (file : List ℕ) (s : State) (n : ℕ) (message : List ℕ) (q : Question)
     (accepted : Bool) (old new : Snapshot) → StateKnows w file s → IsWhole w s.due n message
     → IsAsked w n message

@@ -1,4 +1,5 @@
--- A record reads as it was written, and holds one number at most for a field.
+-- Proves that the version number, the key and the digest of a record can be read back, and that a record has
+-- at most one version number for a field.
 use Rattle.std.specs.Prelude.{codes, slice_index, ◌*◌}
 use Rattle.std.proofs.Common.{List, Some, [], ap, append_assoc, arith, drop, get_or, length, length-append}
 use Rattle.std.proofs.Common.{refl, subst, suc, sym, take, true, zero, ℕ, ◌++◌, ◌+◌, ◌-◌, ◌<◌, ◌^◌, ◌∙◌, ◌∷◌}
@@ -98,7 +99,7 @@ module _ (numbering : Numbering) (n : ℕ) (bound : n < 2 ^ 64) (key digest : Li
     digest_whole,
   )
 
-  -- a line feed follows the first line
+  -- A line feed follows the first line.
   ends : slice_index (line ++ mark_text key digest) (length (line ++ mark_text key digest) - 194) ≡ 10
   ends =
       let at : length (line ++ mark_text key digest) - 194 - length line ≡ 0 = omega (arith, len) in
@@ -141,7 +142,7 @@ record_reads numbering n bound key digest key_whole digest_whole =
           (sym (strips (number_label numbering) (decimal n))) number);
     }
 
--- the digest of the data is read as it was written
+-- record_digest returns the digest that the record was written with.
 pub digest_reads : (numbering : Numbering) (n : ℕ) → n < 2 ^ 64 → (key digest : List ℕ) → length key ≡ 32
     → length digest ≡ 64 → IsBytes digest → record_digest (record_of numbering n key digest) ≡ Some digest
 digest_reads numbering n bound key digest key_whole digest_whole bytes =
@@ -165,7 +166,7 @@ digest_reads numbering n bound key digest key_whole digest_whole bytes =
       decode_sized-encode_lower digest 64 digest_whole bytes,
     ) refl
 
--- so is the key
+-- record_key returns the key that the record was written with.
 pub key_reads : (numbering : Numbering) (n : ℕ) → n < 2 ^ 64 → (key digest : List ℕ) → length key ≡ 32
     → length digest ≡ 64 → IsBytes key → record_key (record_of numbering n key digest) ≡ Some key
 key_reads numbering n bound key digest key_whole digest_whole bytes =
@@ -190,7 +191,7 @@ key_reads numbering n bound key digest key_whole digest_whole bytes =
       decode_sized-encode_lower key 32 key_whole bytes,
     ) refl
 
--- all of a record is read as it was written
+-- A record has the version number, the key and the digest that it was written with.
 pub reads_back : (numbering : Numbering) (n : ℕ) → n < 2 ^ 64 → (key digest : List ℕ) → length key ≡ 32
     → length digest ≡ 64 → IsBytes key → IsBytes digest
     → IsRecordOf numbering n key digest (record_of numbering n key digest)

@@ -1,4 +1,4 @@
--- The version number in a record is found by the functions of the code.
+-- Lemmas for the functions that read the version number of a record.
 use Rattle.std.specs.Prelude.{◌≡◌, ◌⊎◌, ◌==◌, ◌++◌, ℕ, Bool, true, false, List, [], ◌∷◌, Option, Some, None}
 use Rattle.std.specs.Prelude.{MatchOption, is_some, if◌then◌else◌}
 use Rattle.std.specs.Option.{unwrap_or}
@@ -37,7 +37,7 @@ text_utf8 numbering text n (Some rest) is number =
     subst IsUtf8 (sym (strip_is (number_label numbering) text rest is))
     (IsUtf8-append (number_label numbering) rest (label_utf8 numbering) (digits_utf8 rest n number))
 
--- A number that is read is one that the record holds.
+-- If recorded_version returns a number, the record has this version number for the field.
 pub recorded_holds : (numbering : Numbering) (bytes : List ℕ) (n : ℕ) → recorded_version numbering bytes
     ≡ Some n
     → IsNumberFor numbering bytes n

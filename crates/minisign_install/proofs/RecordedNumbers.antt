@@ -1,4 +1,4 @@
--- The part of a record that applies is the same as in version 0.2.
+-- Proves that a record which version 0.2 accepted is accepted with the same version number.
 use Rattle.std.specs.Prelude.{◌≡◌, ◌&&◌, ◌||◌, ℕ, Bool, true, false, List, Option}
 use Rattle.std.specs.Prelude.{Some, None, Result, Ok, Err, if◌then◌else◌}
 use Rattle.std.proofs.Common.{refl, sym, ap, ◌∙◌, true≢false}
@@ -11,7 +11,7 @@ use Rattle.minisign_install.specs.Histories.{AppliesAs, counted_for}
 use Rattle.minisign_install.proofs.Recorded.{recorded_holds}
 use Rattle.minisign_install.proofs.StepRecords.{recorded_reads}
 
--- The record is accepted, and this is the version that applies.
+-- The record is accepted, and the update is compared with this version number (None: with none).
 abbrev version_of : Result Recorded InstallFault → Option ℕ → Type 0
 version_of judged applicable = (r : Recorded) × (judged ≡ Ok r) × (r.version ≡ applicable)
 
@@ -19,7 +19,7 @@ module _ (o : Options) (no_new_key : o.new_key ≡ false) where
   abbrev Same : Option (List ℕ) → Option ℕ → Type 0
   Same found applicable = version_of (judge_record o found) applicable
 
-  -- With a number in the record.
+  -- For a record with a version number for the field.
   with_number : (bytes : List ℕ) (first new other : Bool) (n : ℕ) (key digest : Option (List ℕ))
       (applicable : Option ℕ) → new ≡ false → recorded_version o.numbering bytes ≡ Some n
       → AppliesAs o.numbering first (if first && other then None else Some bytes) applicable
@@ -46,7 +46,7 @@ module _ (o : Options) (no_new_key : o.new_key ≡ false) where
         sym reads ∙ ap (recorded_version o.numbering) same ∙ recorded_reads o.numbering all k holds,
       )
 
-  -- Without one.
+  -- For a record without a version number for the field.
   without_number : (bytes : List ℕ) (first other : Bool) (fault : InstallFault) (applicable : Option ℕ)
       → recorded_version o.numbering bytes ≡ None
       → AppliesAs o.numbering first (if first && other then None else Some bytes) applicable
@@ -85,7 +85,8 @@ module _ (o : Options) (no_new_key : o.new_key ≡ false) where
   counted_same (Some bytes) applicable record_applies =
       by_version bytes (recorded_version o.numbering bytes) applicable refl record_applies
 
--- The version number that version 0.2 took from a record still applies, even if it has no label.
+-- The update is compared with the version number that version 0.2 took from the record, even if the number
+-- has no label.
 pub applies_as_before : (o : Options) (found : Option (List ℕ)) (applicable : Option ℕ) → o.new_key ≡ false
     → AppliesAs o.numbering o.first (counted_for o found) applicable
     → (r : Recorded) × (judge_record o found ≡ Ok r) × (r.version ≡ applicable)

@@ -1,5 +1,5 @@
--- A lawful application whose run is rejected although no operation failed leaves target and record as they
--- were.
+-- Proves that a lawful application leaves the content of the target and of the record unchanged if its run is
+-- rejected although no operation failed.
 use Rattle.std.specs.Prelude.{◌≡◌, ◌==◌, ℕ, Bool, true, false, List, [], ◌∷◌, Option, Some, None, map}
 use Rattle.std.specs.Prelude.{if◌then◌else◌}
 use Rattle.std.proofs.Common.{refl, sym, ap}
@@ -19,7 +19,8 @@ use Rattle.minisign_install.proofs.Applications.{event_of}
 use Rattle.minisign_install.proofs.SafeCalls.{true_run}
 use Rattle.minisign_install.proofs.StepRefusals.{rejected_changes_nothing}
 
--- A rename puts something on this disk, and nothing takes it away.
+-- A disk without files. In the proof, a run starts with this disk; a rename adds a file to it, and no
+-- operation removes one. So if the disk is empty after the run, no file was renamed.
 abbrev nothing : Disk
 nothing = record { target = None; record_bytes = None }
 
@@ -51,7 +52,8 @@ synced_content None place = refl
 unchanged : (old new : Snapshot) → new ≡ old → LeavesContent old new
 unchanged old new is = rw is (refl, refl)
 
--- An operation that has succeeded renames, or leaves both.
+-- If an operation succeeds and the disk is empty after it, the disk was empty before it, and the operation
+-- leaves the content of the target and of the record unchanged.
 leaves : (w : World) (s : State) (op : Operation) (e : Event) (old new : Snapshot) (d : Disk)
     → Performs w s op e old new → Succeeds e → disk_after op e s d ≡ nothing
     → (d ≡ nothing) × LeavesContent old new
@@ -89,7 +91,8 @@ leaves w s due.CheckComment (Answered accepted) old new d is fine none = (none, 
 leaves w s op (Answered accepted) old new d is fine none = (none, unchanged old new is.1)
 leaves w s op e old new d is fine none = absurd is
 
--- The run, with such a disk after each event. If nothing is on it at the end, each operation leaves both.
+-- The same for a run: if the disk is empty at its end, each operation leaves the content of the target and of
+-- the record unchanged.
 from : (w : World) (n : ℕ) (s : State) (d : Disk) (m : Snapshot) (calls : List Call) (t : State)
     (end : Snapshot)
     → IsRun (EventIsTrue w) n s (map event_of calls) t → Applies w s m calls t end → AllEvents Succeeds calls
@@ -110,7 +113,8 @@ from w n s d m (c ∷ more) t end (holds, later) (others, fits, is, run) (fine, 
           (first, (leave, others_leave)),
     )
 
--- If no operation fails, a run that is rejected leaves target and record as they were.
+-- If no operation fails and the lock is free, a run that is rejected leaves the content of the target and of
+-- the record unchanged.
 pub rejected_leaves : (w : World) (o : Options) (m : Snapshot) (calls : List Call) (t : State)
     (end : Snapshot)
     → Applies w (begin o) m calls t end → AllEvents Succeeds calls → t.due ≡ due.Rejected

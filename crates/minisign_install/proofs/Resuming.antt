@@ -1,4 +1,5 @@
--- An interrupted run is finished by the next one, and a roll-back installs.
+-- Proves that a run finishes the installation of an earlier run that was interrupted, and that a roll-back
+-- installs the older update.
 use Rattle.std.specs.Prelude.{◌≡◌, ◌<◌, ◌≤◌, ◌+◌, ◌⊎◌, ⊤, ℕ, Bool, true, false, List, [], ◌∷◌, length}
 use Rattle.std.specs.Prelude.{Option}
 use Rattle.std.specs.Prelude.{Some, None, Result, IfSome, ◌++◌, ◌||◌, not, is_some, take, if◌then◌else◌}
@@ -23,24 +24,24 @@ use Rattle.minisign_install.proofs.SafeCalls.{Invariant, next, true_event}
 use Rattle.minisign_install.proofs.SafeCalls as safe_calls
 
 module _ (w : World) (o : Options) (g : IsOwnUpdate w o) where
-  -- n bytes were copied, and this many of the signed size are left.
+  -- After n bytes were copied, the rest of the signed size is the length of the data that is left.
   abbrev Left : ℕ → Option ℕ → Type 0
   Left n None = ⊤
   Left n (Some left) = left + n ≡ length w.update
 
-  -- The signature and the key of the update are known.
+  -- The state has the signature of the update, and the key that signed it.
   abbrev StateKnows : State → Type 0
   StateKnows s = (s.signature ≡ g.text.signature.signature) × (key_of s.signers ≡ g.key)
 
-  -- The data can be copied.
+  -- The data is being copied, and n bytes of it were copied.
   abbrev IsReady : ℕ → State → Type 0
   IsReady n s = StateKnows s × Left n s.left × (s.read ≡ []) × (n ≤ length w.update)
 
-  -- The update can be installed.
+  -- No bytes were copied yet, and the run is not a check, so the update can be installed.
   abbrev CanInstall : ℕ → State → Type 0
   CanInstall n s = StateKnows s × Left n s.left × (n ≡ 0) × (s.options.check ≡ false)
 
-  -- The installed file is compared with the update.
+  -- The installed file is compared with the update, and the record is that of the update.
   abbrev Compares : ℕ → State → Type 0
   Compares n s = CanInstall n s × (s.is_recorded ≡ true)
 
@@ -80,7 +81,7 @@ module _ (w : World) (o : Options) (g : IsOwnUpdate w o) where
   OnTrack n due.Installed s = ⊤
   OnTrack n op s = ⊥
 
-  -- So it stays after an event that fits.
+  -- The invariant holds after this event, if the event fits.
   abbrev Stays : ℕ → Operation → Event → State → Type 0
   Stays n op e s = IfSome (after op e s) (λ t. OnTrack (count n e) t.due t)
 
@@ -88,7 +89,7 @@ module _ (w : World) (o : Options) (g : IsOwnUpdate w o) where
   left_at n None none is = tt
   left_at n (Some k) none is = omega (arith, none, is k refl)
 
-  -- The update is not newer than the recorded version, and the record has a digest.
+  -- If the version is at most the recorded one, the update is not newer.
   is_not_newer : (r : Option ℕ) (v last : ℕ) → r ≡ Some last → v ≤ last
       → (not (is_some r) || is_below r (Some v)) ≡ false
   is_not_newer None v last is most = cc is
@@ -113,7 +114,7 @@ module _ (w : World) (o : Options) (g : IsOwnUpdate w o) where
   last_two n false false true x y z u is back one other = other
   last_two n false false false x y z u is back one other = absurd (true≢false (sym back))
 
-  -- The update is older.
+  -- If the version is below the recorded one, the update is older.
   rolls_back : (r : Option ℕ) (v last : ℕ) → r ≡ Some last → v < last → is_below (Some v) r ≡ true
   rolls_back None v last is less = cc is
   rolls_back (Some k) v last is less = lt-ltb v k (omega (arith, same_Some k last is, less))
@@ -263,7 +264,7 @@ module _ (w : World) (o : Options) (g : IsOwnUpdate w o) where
   begins true = (refl, refl)
   begins false = (refl, refl)
 
-  -- In a run of an application.
+  -- The invariant holds at the end of a run of an application.
   stays_on : (n : ℕ) (s : State) (m : Snapshot) (calls : List Call) (t : State) (end : Snapshot)
       → OnTrack n s.due s → Invariant w o ⊤ ⊥ n s m → Applies w s m calls t end
       → AllEvents (IsAcceptableFor g) calls → (k : ℕ) × OnTrack k t.due t
@@ -283,8 +284,8 @@ module _ (w : World) (o : Options) (g : IsOwnUpdate w o) where
   installed_at_end n due.Rejected s on ended = absurd on
   installed_at_end n op s on ended = absurd (true≢false (sym ended))
 
--- If nothing fails, and the record was written for this update or the update is older, a run that has ended
--- has installed it, or it was installed before.
+-- If nothing fails, and the record was written for this update or the update is older, then a run that has
+-- ended has installed the update or found it installed.
 pub interrupted_run_is_finished : (w : World) (o : Options) (g : IsOwnUpdate w o) (m : Snapshot)
     (calls : List Call) (t : State) (end : Snapshot) → Applies w (begin o) m calls t end
     → AllEvents (IsAcceptableFor g) calls → has_ended t.due ≡ true → IsInstalled t.due

@@ -1,4 +1,4 @@
--- No later run undoes a roll-back.
+-- Proves that no later run undoes a roll-back.
 use Rattle.std.specs.Prelude.{◌≡◌, ◌<◌, ◌||◌, ⊤, ℕ, Bool, true, false, not, List, [], ◌∷◌, Option}
 use Rattle.std.specs.Prelude.{Some, None, Result, Ok, Err, IfSome, is_some, nat_lt, if◌then◌else◌}
 use Rattle.std.specs.Option.{unwrap_or}
@@ -33,7 +33,7 @@ module _ (v : World) (p : Options) (k : ℕ) (digest : List ℕ) (r : Recorded)
     (record_applies : judge_record p v.found_record ≡ Ok r) (version : r.version ≡ Some k)
     (written : r.digest ≡ Some digest) (whole : AcceptsWholeKeys v.accepts)
     (update : IsOtherUpdate v p k digest) (once : p.again ≡ false) where
-  -- == What is known ==
+  -- == Facts about the later run ==
 
   recorded_is : (s : State) → IsJudged v p s → s.recorded ≡ r
   recorded_is s judged = same_ok s.recorded r (sym judged.5 ∙ record_applies)
@@ -52,7 +52,7 @@ module _ (v : World) (p : Options) (k : ℕ) (digest : List ℕ) (r : Recorded)
   pub has_digest : (s : State) → IsJudged v p s → s.recorded.digest ≡ Some digest
   has_digest s judged = ap (λ (x : Recorded). x.digest) (recorded_is s judged) ∙ written
 
-  -- No key has signed the data of the recorded digest.
+  -- The signature is not valid for the recorded digest under the first of the signers.
   pub not_signed : (s : State) (signers : List PublicKeyValue) → s.signers ≡ signers → IsAccepted v p s
       → v.accepts digest (due.key_of signers) s.signature ≡ false
   not_signed s [] none (judged, fine, comment) =
@@ -266,7 +266,7 @@ module _ (v : World) (p : Options) (k : ℕ) (digest : List ℕ) (r : Recorded)
       ended t.due t end
       (past_from 0 (begin p) m calls t end (begins v p ⊤ ⊥ m) (starts p.check m has_target) run leaves)
 
--- A later run reads the version again.
+-- A later run reads the version number that was recorded before the roll-back.
 pub version_reads_back : (w : World) (o : Options) → AcceptsWholeKeys w.accepts → (s : State)
     → IsUpdate w o s → (k : ℕ) → s.recorded.version ≡ Some k → s.version < k → (v : World) (p : Options)
     → IsLaterRun v p o.numbering s
@@ -284,7 +284,7 @@ version_reads_back w o whole s update k is less v p later =
       digest = Some (blake2b_digest 64 s.read);
     })) (version_is_kept s k is less)
 
--- No later run installs other data of the version that was rolled back from.
+-- No later run installs other data of the version before the roll-back.
 pub roll_back_stays : (w : World) (o : Options) → AcceptsWholeKeys w.accepts → (s : State) → IsUpdate w o s
     → (k : ℕ) → s.recorded.version ≡ Some k → s.version < k → (v : World) (p : Options)
     → AcceptsWholeKeys v.accepts → IsLaterRun v p o.numbering s

@@ -1,4 +1,5 @@
--- A run that is to undo a roll-back is rejected, and the error says that the version is the recorded one.
+-- Proves that a run which would undo a roll-back ends with the error SameNumber, unless its update is
+-- installed already.
 use Rattle.std.specs.Prelude.{◌≡◌, ◌<◌, ◌++◌, ◌||◌, ◌⊎◌, ⊤, ℕ, Bool, true, false, List, [], ◌∷◌, Option, take}
 use Rattle.std.specs.Prelude.{Some, None, Ok, IfSome, is_some, if◌then◌else◌}
 use Rattle.std.proofs.Common.{refl, sym, ap, inl, inr, ◌∙◌, true≢false}
@@ -31,7 +32,7 @@ module _ (v : World) (p : Options) (k : ℕ) (digest : List ℕ) (r : Recorded)
       × (s.signature ≡ g.text.signature.signature)
       × (s.comment_signature ≡ take 64 g.text.comments.signature)
 
-  -- What is so if the run is on its way to this error, or finds the update installed.
+  -- Invariant of a run that ends with this error or finds the update installed.
   abbrev OnTrack : Operation → State → Snapshot → Type 0
   OnTrack due.Lock s m = IsInstalled m
   OnTrack due.ReadRecord s m = IsInstalled m
@@ -209,7 +210,7 @@ module _ (v : World) (p : Options) (k : ℕ) (digest : List ℕ) (r : Recorded)
       ended t.due t end
       (on_from 0 (begin p) m calls t end (begins v p ⊤ ⊥ m) (starts p.check m present) run leaves fine) over
 
--- A later run with the version that was rolled back from ends with this error.
+-- A later run with the version before the roll-back ends with this error, or finds the update installed.
 pub roll_back_is_named : (w : World) (o : Options) → AcceptsWholeKeys w.accepts → (s : State)
     → IsUpdate w o s → (k : ℕ) → s.recorded.version ≡ Some k → s.version < k → (v : World) (p : Options)
     → AcceptsWholeKeys v.accepts → IsLaterRun v p o.numbering s

@@ -1,4 +1,4 @@
--- Each operation of a lawful application is safe, also if the machine crashes then.
+-- Proves that each operation of a lawful application is safe, even if the machine crashes after it.
 use Rattle.std.specs.Prelude.{◌≡◌, ◌==◌, ◌⊎◌, ⊤, ℕ, Bool, true, false, List, [], ◌∷◌, Option, Some, None}
 use Rattle.std.specs.Prelude.{is_some, map, if◌then◌else◌}
 use Rattle.std.proofs.Common.{refl, inl, inr, ap, ◌∙◌}
@@ -18,9 +18,9 @@ use Rattle.minisign_install.proofs.Applying as applying
 use Rattle.minisign_install.proofs.StepSafety.{Known, update_of}
 use Rattle.minisign_install.proofs.StepSafety as known
 
--- == What can be found ==
+-- == Files that a crash may leave ==
 
--- A file that is on disk keeps its bytes after a crash.
+-- A file that is synced keeps its bytes after a crash.
 remains_whole : (place : Option File) (bytes : List ℕ) (found : Option (List ℕ)) → IsOnDisk place bytes
     → CrashMayLeave place found → found ≡ Some bytes
 remains_whole (Some file) bytes found (other, at, holds, synced) (left, is, same) =
@@ -29,7 +29,7 @@ remains_whole (Some file) bytes found (other, at, holds, synced) (left, is, same
     ∙ ap (λ (f : File). f.bytes) one ∙ holds)
 remains_whole None bytes found (other, at, holds, synced) remains = cc at
 
--- Syncing leaves no more.
+-- Whatever a crash may leave of a synced file, it may also leave of the file before it was synced.
 if_synced : (is : Bool) (file : File) (found : Option (List ℕ))
     → CrashMayLeave (if is then Some (record file { synced = true }) else Some file) found
     → CrashMayLeave (Some file) found
@@ -47,7 +47,7 @@ only_one : (place : Option File) (found : Option (List ℕ)) (more : List (Optio
 only_one place found more (inl is) = inl is
 only_one place found more (inr none) = absurd none
 
--- All that can be found at the record is this.
+-- If the file and its name are synced, only these bytes can be found.
 only_this : (place : Option File) (left : List (Option File)) (bytes : List ℕ) (other : Option (List ℕ))
     → IsOnDisk place bytes → left ≡ [] → CrashMayLeaveOneOf (place ∷ left) other → other ≡ Some bytes
 only_this place [] bytes other is none (inl remains) = remains_whole place bytes other is remains
@@ -175,7 +175,7 @@ module _ (w : World) (o : Options) (F Q : Type 0) where
 
   -- == From one operation to the next ==
 
-  -- The disk of this run alone.
+  -- The disk as this run changes it, without the changes of other processes.
   abbrev changed : Operation → Event → State → Disk → Disk
   changed due.RenameRecord Done s d = record d { record_bytes = Some (new_record s) }
   changed due.RenameFile Done s d = record d { target = Some s.read }
@@ -254,8 +254,9 @@ safe_from w o n s m (c ∷ more) t end known (others, fits, is, run) = (
       (next w o ⊤ ⊥ n s m c known others (λ q. absurd q) fits is (λ found. tt)) run,
 )
 
--- Whatever any operation of a run leaves at the target or at the record, now or after a crash, was there
--- before, or is an update that a given key has signed and its record, and the record is on the disk first.
+-- Every operation of a run is safe: everything that can be found at the target or at the record after it, at
+-- once or after a crash, could be found there before, or is an update that a given key has signed or its
+-- record. When an update can be found at the target, only its record can be found at the record.
 pub safe_calls : (w : World) (o : Options) (m : Snapshot) (calls : List Call) (t : State) (end : Snapshot)
     → Applies w (begin o) m calls t end → AllCalls (IsSafeCall w o) calls
 safe_calls w o m calls t end run = safe_from w o 0 (begin o) m calls t end (begins w o ⊤ ⊥ m) run
@@ -270,7 +271,7 @@ true_from w o n s m (c ∷ more) t end known (others, fits, is, run) = (
       (next w o ⊤ ⊥ n s m c known others (λ q. absurd q) fits is (λ found. tt)) run,
 )
 
--- The events of a lawful application are those of a run in this world. So all laws on such runs hold.
+-- The events of a lawful application are lawful events. So all laws about runs of such events hold for it.
 pub true_run : (w : World) (o : Options) (m : Snapshot) (calls : List Call) (t : State) (end : Snapshot)
     → Applies w (begin o) m calls t end
     → IsRun (EventIsTrue w) 0 (begin o) (map (λ (c : Call). c.event) calls) t
@@ -302,7 +303,8 @@ lasts w o n due.AlreadyInstalled s m knows (signed, inr holds) =
     let (present, left) = holds tt in (signed, inr (on_disk present left))
 lasts w o n op s m knows has = tt
 
--- A run that has ended with Installed or AlreadyInstalled has put the update on the disk.
+-- If other processes leave the target alone, no crash can undo a run that has ended with Installed or
+-- AlreadyInstalled.
 pub ends_last : (w : World) (o : Options) (m : Snapshot) (calls : List Call) (t : State) (end : Snapshot)
     → Applies w (begin o) m calls t end → OthersLeaveTarget m calls → EndLasts w o t.due t end
 ends_last w o m calls t end run leaves =

@@ -1,4 +1,4 @@
--- The struct and its state after the signature file was read.
+-- Lemmas for the call `signature`: the new struct represents the state after the step.
 use Rattle.std.specs.Prelude.{◌≡◌, ◌≢◌, ◌==◌, ◌++◌, ℕ, Bool, true, false, if◌then◌else◌, List, [], ◌∷◌}
 use Rattle.std.specs.Prelude.{Option, Some, None, Result, Ok, Err, IfOk, IfErr, bytes_eq}
 use Rattle.std.specs.Prelude.{filter}
@@ -189,7 +189,7 @@ file_is p s state_held file is = sym is ∙ ap (λ (x : State). x.options.file) 
 
 -- == The call ==
 
--- The run is rejected.
+-- If the run is rejected, no message is written.
 none_written : (r : Result ℕ (Refusal InstallFault)) (m : List ℕ) → IfOk r (λ n. n ≡ 0)
     → IfOk r (λ n. HasMessage None n m m)
 none_written (Ok n) m is = (is, refl)

@@ -1,4 +1,4 @@
--- A good update gets installed.
+-- Proves that a good update is installed if nothing fails.
 use Rattle.std.specs.Prelude.{◌≡◌, ◌<◌, ◌≤◌, ◌+◌, ⊤, ℕ, Bool, true, false, List, [], ◌∷◌, length, Option}
 use Rattle.std.specs.Prelude.{Some, None, Result, IfSome, ◌++◌, ◌||◌, not, is_some, take, if◌then◌else◌}
 use Rattle.std.specs.Prelude.{◌⊎◌, ◌-◌, Ok}
@@ -20,16 +20,16 @@ use Rattle.minisign_install.specs.StepRuns.{IsGoodRun, asks, first_signer}
 use Rattle.minisign_install.proofs.StepEnds.{left, step_less}
 
 module _ (w : World) (o : Options) (g : IsGoodUpdate w o) where
-  -- n bytes were copied, and this many of the signed size are left.
+  -- After n bytes were copied, the rest of the signed size is the length of the data that is left.
   abbrev Left : ℕ → Option ℕ → Type 0
   Left n None = ⊤
   Left n (Some left) = left + n ≡ length w.update
 
-  -- The signature and the key of the update are known.
+  -- The state has the signature of the update, and the key that signed it.
   abbrev StateKnows : State → Type 0
   StateKnows s = (s.signature ≡ g.text.signature.signature) × (key_of s.signers ≡ g.key)
 
-  -- The data can be copied.
+  -- The data is being copied, and n bytes of it were copied.
   abbrev IsReady : ℕ → State → Type 0
   IsReady n s = StateKnows s × Left n s.left × (s.read ≡ []) × (n ≤ length w.update)
 
@@ -61,7 +61,7 @@ module _ (w : World) (o : Options) (g : IsGoodUpdate w o) where
   OnTrack n due.Installed s = ⊤
   OnTrack n op s = ⊥
 
-  -- So it stays after an event that fits.
+  -- The invariant holds after this event, if the event fits.
   abbrev Stays : ℕ → Operation → Event → State → Type 0
   Stays n op e s = IfSome (after op e s) (λ t. OnTrack (count n e) t.due t)
 
@@ -199,7 +199,7 @@ module _ (w : World) (o : Options) (g : IsGoodUpdate w o) where
   installed n due.Rejected s on ended = absurd on
   installed n op s on ended = absurd (true≢false (sym ended))
 
-  -- An answer always fits.
+  -- Both results of Ed25519 fit the question about the comment.
   fits_comment : (s : State) (accepted : Bool)
       → is_some (after due.CheckComment (Answered accepted) s) ≡ true
   fits_comment s true = refl
@@ -209,7 +209,7 @@ module _ (w : World) (o : Options) (g : IsGoodUpdate w o) where
   fits_data s true = refl
   fits_data s false = refl
 
-  -- The application has an event to report at each operation.
+  -- There is an event that the application may report at this operation, and that is not a failure.
   abbrev HasNext : ℕ → Operation → State → Type 0
   HasNext n op s =
       (e : Event) × (is_some (after op e s) ≡ true) × IsTrueEvent w n s op e × IsAcceptable g e
@@ -260,7 +260,7 @@ module _ (w : World) (o : Options) (g : IsGoodUpdate w o) where
     has_next n due.Installed s on = inl refl
     has_next n op s on = absurd on
 
-    -- With this many steps left.
+    -- If at most `most` steps are left, there is a run from this state that installs the update.
     arrives : (most n : ℕ) (s : State) → left w n s.due s ≤ most → OnTrack n s.due s
         → (events : List Event) × (t : State)
         × IsRun (λ n s e. EventIsTrue w n s e × IsAcceptable g e) n s events t × (t.due ≡ due.Installed)
@@ -278,7 +278,7 @@ module _ (w : World) (o : Options) (g : IsGoodUpdate w o) where
           (e ∷ more, t, (((fits, is), fine), run), done)
     ]
 
--- If nothing fails and the update is good, a run that has ended has installed it.
+-- If nothing fails and the update is good, a run that has ended has installed the update.
 pub good_update_gets_installed : (w : World) (o : Options) (g : IsGoodUpdate w o) (events : List Event)
     (t : State)
     → IsGoodRun g events t → has_ended t.due ≡ true → t.due ≡ due.Installed
@@ -286,7 +286,7 @@ good_update_gets_installed w o g events t run ended =
     let (n, on) = stays_on w o g 0 (begin o) events t (begins w o g o.check) run in
     installed w o g n t.due t on ended
 
--- There is such a run, if the comment is not rejected at some time.
+-- If the comment is not rejected at some time, there is a run without failures that installs the good update.
 pub good_update_has_run : (w : World) (o : Options) (g : IsGoodUpdate w o) (time : Option ℕ)
     → comment_fault o g.recorded.version time g.text.comments.trusted ≡ None
     → (events : List Event) × (t : State) × IsGoodRun g events t × (t.due ≡ due.Installed)

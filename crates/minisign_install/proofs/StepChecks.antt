@@ -1,4 +1,4 @@
--- A check decides as an installation with the same options and events does.
+-- Proves that a check decides as an installation with otherwise the same options and the same events does.
 use Rattle.std.specs.Prelude.{◌≡◌, ℕ, Bool, true, false, List, [], ◌∷◌, Option, Some, None, Result, Ok, Err}
 use Rattle.std.specs.Prelude.{◌||◌, is_some, if◌then◌else◌}
 use Rattle.std.proofs.Common.{refl, sym, ap, ◌∙◌, true≢false, option_map}
@@ -121,9 +121,9 @@ same_answer : (s : State) (next : Option State)
 same_answer s (Some t) = refl
 same_answer s None = refl
 
--- As long as nothing is written, a check and an installation return the same result for each event. Where
--- the installation goes on to remove leftovers, the check ends with WouldInstall; where it goes on to
--- sync the target, the check ends with AlreadyInstalled; and both are rejected for the same error.
+-- Before anything is written, a check and an installation return the same result for each event. When the
+-- installation starts to remove leftovers, the check ends with WouldInstall. When the installation starts to
+-- sync the target, the check ends with AlreadyInstalled. Both are rejected with the same errors.
 pub check_decides_alike : (s : State) (e : Event) → decides s.due ≡ true → s.options.check ≡ false
     → step (as_check s) e ≡ ((step s e).0, as_check (step s e).1)
 check_decides_alike s e is installs =

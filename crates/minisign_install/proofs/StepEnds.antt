@@ -1,4 +1,4 @@
--- A run ends after a number of events that the lengths of the data and of the installed file bound.
+-- Proves that the number of events in a run is bounded by the lengths of the data and of the installed file.
 use Rattle.std.specs.Prelude.{◌≡◌, ◌<◌, ◌≤◌, ◌+◌, ◌-◌, ◌++◌, ℕ, Bool, true, false, List, [], ◌∷◌, length}
 use Rattle.std.specs.Prelude.{Option, Some, None, Result, Ok, Err, IfSome, is_some, if◌then◌else◌, filter}
 use Rattle.std.specs.Prelude.{bytes_eq, ◌*◌, ◌&&◌, ◌||◌, ◌==◌, not, nat_le}
@@ -19,7 +19,7 @@ use Rattle.minisign_install.specs.Step.{answer, begin, has_files, step}
 use Rattle.minisign_install.specs.Step as due
 use Rattle.minisign_install.specs.StepRuns.{IsRun, EventIsTrue, IsTrueEvent, World, count}
 
--- The greatest number of operations from this one on.
+-- The maximum number of operations from this one on, not counting repeated ones.
 abbrev rank : Operation → ℕ
 rank due.Lock = 23
 rank due.ReadRecord = 22
@@ -47,7 +47,7 @@ rank due.SyncFileName = 3
 rank due.RemoveFiles = 1
 rank op = 0
 
--- The result of judge_text, and the number of its keys.
+-- The type of the results of judge_text.
 abbrev Passed : Type 0
 Passed = Result (SignatureTextRecord × List PublicKeyValue) Fault
 
@@ -136,7 +136,7 @@ module _ (w : World) where
   removal n true s = omega arith
   removal n false s = omega arith
 
-  -- After a rejection at most the temporary files are removed.
+  -- After a rejection, at most one operation is left: removing the temporary files.
   reject : (n m : ℕ) (fault : InstallFault) (s : State) → 1 < m
       → left n (due.reject fault s).due (due.reject fault s) < m
   reject n m fault s more = let few = removal n (has_files s.due) (due.reject fault s) in omega
@@ -293,7 +293,7 @@ module _ (w : World) where
   at_first true o = omega arith
   at_first false o = omega arith
 
--- A run ends, because only a bounded number of events fit.
+-- The number of events in a run is bounded.
 pub run_ends : (w : World) (o : Options) (events : List Event) (t : State)
     → IsRun (EventIsTrue w) 0 (begin o) events t
     → length events ≤ 23 + length o.keys + w.most + 2 * length w.update

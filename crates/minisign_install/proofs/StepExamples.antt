@@ -1,4 +1,4 @@
--- A good update, so that the laws on good updates are about something.
+-- An example of a good update, so that the laws about good updates are not empty.
 use Rattle.std.specs.Prelude.{◌≡◌, ◌<◌, ℕ, true, false, List, [], ◌∷◌, ◌++◌, codes, replicate, Option, Some}
 use Rattle.std.specs.Prelude.{None, Ok}
 use Rattle.std.specs.Str.{chars, is_utf8}
@@ -16,7 +16,7 @@ use Rattle.minisign_install.specs.StepRuns.{IsGoodUpdate, World}
 abbrev key : PublicKeyValue
 key = record { mark = 0; key = replicate 32 0; key_id = 1 ∷ [] }
 
--- --numbering version
+-- The options `--numbering version`.
 abbrev options : Options
 options = record {
   keys = key ∷ [];
@@ -40,7 +40,7 @@ signature_file = record {
   };
 }
 
--- The record of version 2.
+-- A record with version 2, a key of zeros and a digest of bytes 0x22.
 abbrev recorded_2 : List ℕ
 recorded_2 = codes "version:2" ++ 10 ∷ replicate 64 48 ++ 10 ∷ replicate 128 50
 
@@ -54,7 +54,7 @@ world = record {
   most = 0;
 }
 
--- The signature file passes the checks without Ed25519.
+-- The signature file passes the checks that need no Ed25519.
 passes : judge_text options (Ok signature_file) ≡ Ok (signature_file, key ∷ [])
 unfolding is_utf8 chars encode
 passes = refl

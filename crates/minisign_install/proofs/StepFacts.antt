@@ -1,6 +1,6 @@
 -- Whole runs of the installer. Each fact gives the options and the events of a run, and says which operations
 -- were due and how the run ended. The expected results are those of docs/INSTALLING.md. The keys, digests and
--- signatures are too simple to be real: Ed25519 answers what the events say.
+-- signatures are not real: the events say whether Ed25519 accepts a signature.
 use Rattle.std.proofs.Common.{◌≡◌, refl, ℕ, true, false, List, [], ◌∷◌, ◌++◌, codes}
 use Rattle.std.specs.Prelude.{Option, Some, None, Result, Ok, Err, replicate, take}
 use Rattle.std.specs.Str.{chars, is_utf8}
@@ -68,7 +68,7 @@ version_3 = both (codes "version:3") (codes "file:app")
 abbrev record_2 : List ℕ
 record_2 = codes "version:2" ++ 10 ∷ replicate 64 48 ++ 10 ∷ replicate 128 50
 
--- The same with the key of bytes 0x11.
+-- The same record with a key of bytes 0x11.
 abbrev record_of_other_key : List ℕ
 record_of_other_key = codes "version:2" ++ 10 ∷ replicate 64 49 ++ 10 ∷ replicate 128 50
 
@@ -76,7 +76,7 @@ record_of_other_key = codes "version:2" ++ 10 ∷ replicate 64 49 ++ 10 ∷ repl
 abbrev old_record : List ℕ
 old_record = codes "version:2"
 
--- --numbering version
+-- The options `--numbering version`.
 abbrev usual : Options
 usual = record {
   keys = key_a ∷ [];
@@ -97,7 +97,7 @@ abbrev after : State → List Event → State
 after s [] = s
 after s (e ∷ more) = after (step s e).1 more
 
--- The operations that were due, and the last one.
+-- The operations that were due, including the one after the last event.
 abbrev course : State → List Event → List Operation
 course s [] = s.due ∷ []
 course s (e ∷ more) = s.due ∷ course (step s e).1 more
@@ -136,11 +136,11 @@ error_of o events = (after (begin o) events).error
 
 -- == Parts of runs ==
 
--- The lock was got, and the record and the signature file were read, at this time.
+-- The target was locked, the record was read, and the signature file was read at this time.
 abbrev begun : Option (List ℕ) → Result SignatureTextRecord Fault → Option ℕ → List Event
 begun found text time = Done ∷ RecordRead found ∷ SignatureRead text time ∷ []
 
--- The same of a check.
+-- The same for a check, which takes no lock.
 abbrev checked : Option (List ℕ) → Result SignatureTextRecord Fault → Option ℕ → List Event
 checked found text time = RecordRead found ∷ SignatureRead text time ∷ []
 
@@ -150,17 +150,17 @@ valid = Answered true
 abbrev invalid : Event
 invalid = Answered false
 
--- Leftovers are removed, and data of 5 bytes is copied and read back.
+-- Leftovers were removed, a file was created, and data of 5 bytes was copied and read back.
 abbrev copied : List Event
 copied =
     Done ∷ Done ∷ PieceCopied 3 ∷ PieceCopied 2 ∷ Done ∷ PieceRead (codes "he") ∷ PieceRead (codes "llo") ∷ Done
     ∷ []
 
--- From the permissions to the last sync.
+-- The operations from setting the permissions to the last sync succeeded.
 abbrev put : List Event
 put = Done ∷ Done ∷ Done ∷ Done ∷ Done ∷ Done ∷ Done ∷ Done ∷ Done ∷ []
 
--- The whole installation after the checks.
+-- All operations after the checks succeeded.
 abbrev installed : List Event
 installed = copied ++ valid ∷ put
 
@@ -248,7 +248,7 @@ record_without_a_label : exits usual (begun (Some (codes "2")) (signed version_1
 unfolding is_utf8 chars encode decode_pairs
 record_without_a_label = refl
 
--- == The recorded version is offered ==
+-- == Updates with the recorded version ==
 
 -- The installed file is the update: it is synced, and nothing is written.
 already : course (begin usual) (begun (Some record_2) (signed version_2) (Some 5) ++ valid ∷ valid ∷
@@ -283,7 +283,7 @@ already_and_name_not_synced : exits usual (begun (Some record_2) (signed version
 unfolding is_utf8 chars encode decode_pairs
 already_and_name_not_synced = refl
 
--- The digest in the record and the installed file are of other data.
+-- Neither the digest in the record nor the installed file is that of the update.
 two_updates_of_one_version : error_of usual (begun (Some record_2) (signed version_2) (Some 5) ++ valid
     ∷ invalid ∷ looked ++ invalid ∷ []) ≡ Some SameNumber
 unfolding is_utf8 chars encode decode_pairs
@@ -309,7 +309,7 @@ changed_file_is_repaired : exits usual (begun (Some record_2) (signed version_2)
 unfolding is_utf8 chars encode decode_pairs
 changed_file_is_repaired = refl
 
--- The bytes that were read of the installed file are discarded.
+-- Reading back starts anew: the bytes that were read from the installed file are discarded.
 read_back_starts_anew : (after (begin usual) (begun (Some record_2) (signed version_2) (Some 5) ++ valid
     ∷ valid ∷ looked ++ invalid ∷ copied)).read ≡ codes "hello"
 unfolding is_utf8 chars encode decode_pairs
@@ -554,7 +554,7 @@ failing n fault =
     exits usual (take n (begun (Some record_2) (signed version_3) (Some 5) ++ valid ∷ installed)
     ++ Failed fault ∷ Done ∷ [])
 
--- The same, and no temporary file can be removed.
+-- The same, but removing the temporary files fails too.
 abbrev failing_twice : ℕ → NamedFault → Option ℕ
 failing_twice n fault =
     exits usual (take n (begun (Some record_2) (signed version_3) (Some 5) ++ valid ∷ installed)
@@ -712,7 +712,7 @@ check_of_another_file : exits with_check (checked (Some record_2) (signed (both 
 unfolding is_utf8 chars encode decode_pairs
 check_of_another_file = refl
 
--- A check shows version and comment if a key has signed them, also of a rejected update.
+-- A check shows the version and the comment if a key has signed them, even if the update is rejected.
 check_shows_the_version : (after (begin with_check) (checked (Some record_2) (signed version_1) (Some 5)
     ++ valid ∷ [])).version ≡ 1
 unfolding is_utf8 chars encode decode_pairs

@@ -1,4 +1,4 @@
--- However a run ends, it has renamed its temporary files, or tried to remove them.
+-- Proves that a run that has ended has renamed each of its temporary files, or tried to remove it.
 use Rattle.std.specs.Prelude.{◌≡◌, ◌&&◌, ◌||◌, ◌==◌, ⊤, ℕ, Bool, true, false, List, [], ◌∷◌, Option, Some}
 use Rattle.std.specs.Prelude.{None, Result, Ok, Err, IfSome, is_some, if◌then◌else◌, nat_le, not}
 use Rattle.std.proofs.Common.{refl, sym, true≢false}
@@ -33,11 +33,11 @@ Owns due.RenameFile d = d.record_file ≡ false
 Owns due.RemoveFiles d = ⊤
 Owns op d = OwnsNone d
 
--- It is so after an event.
+-- The run owns only temporary files that it may own in this state.
 abbrev Holds : Owned → State → Type 0
 Holds d s = Owns s.due d
 
--- A run that is rejected removes the files that it has.
+-- If a run is rejected, it removes the temporary files that it has.
 rejected : (op : Operation) (d : Owned) → (op ≡ due.RemoveFiles → ⊥) → Owns op d
     → Owns (if has_files op then due.RemoveFiles else due.Rejected) d
 rejected due.CopyData d other is = tt
@@ -208,7 +208,7 @@ ended op d is over = absurd (true≢false (sym over))
 none_left : (d : Owned) → d.data_file ≡ false → d.record_file ≡ false → d ≡ nothing_owned
 none_left d one other = rw (one, other) refl
 
--- For every list of events that fit, whatever they report.
+-- After every list of events that fit, a run that has ended owns no temporary files.
 pub files_are_gone : (o : Options) (events : List Event) (t : State)
     → IsRun (λ n s e. EventFits s e) 0 (begin o) events t → has_ended t.due ≡ true
     → owned_by (begin o) events nothing_owned ≡ nothing_owned

@@ -1,4 +1,4 @@
--- Each error is true, and a run ends well only if that is true.
+-- Proves that each error has a cause (IsReason), and that a run ends without an error only if IsEnd holds.
 use Rattle.std.specs.Prelude.{◌≡◌, ◌≢◌, ◌<◌, ◌≤◌, ◌+◌, ◌-◌, ⊤, ℕ, Bool, true, false, List, [], ◌∷◌, length}
 use Rattle.std.specs.Prelude.{Option, Some, None, Result, Ok, Err, IfSome, ◌++◌, ◌||◌, ◌==◌, nat_le, not}
 use Rattle.std.specs.Prelude.{is_some, if◌then◌else◌, take}
@@ -22,7 +22,7 @@ use Rattle.minisign_install.specs.StepRuns.{IsEnd, IsSameVersion, IsReason, IsRu
 use Rattle.minisign_install.specs.StepRuns.{IsTrueEvent, World, accepts_digest, count, first_signer, total}
 use Rattle.minisign_install.proofs.StepSafety.{Passed, no_pass, pass, required, text_parsed}
 
--- The keys that judge_text gives are some.
+-- The number of keys in a result of judge_text. It is not 0 if the checks succeed.
 abbrev key_count : Passed → ℕ
 key_count (Ok (t, signers)) = length signers
 key_count (Err e) = 0
@@ -53,12 +53,13 @@ fault_of (Err (Refused fault)) = Some fault
 fault_of result = None
 
 module _ (w : World) (o : Options) (times : Option ℕ → Bool) where
-  -- The rest of the signed size after n bytes.
+  -- After n bytes were copied, this is the rest of the signed size.
   abbrev Left : ℕ → Option ℕ → Option ℕ → Type 0
   Left n size None = ⊤
   Left n size (Some left) = size ≡ Some (left + n)
 
-  -- The record and the comment were judged, and the keys before the signers have not signed it.
+  -- The record was accepted and the signature file was read, and the keys before the signers have not signed
+  -- the comment.
   abbrev IsJudged : ℕ → State → Type 0
   IsJudged n s =
       (text : SignatureTextRecord) × (keys : List PublicKeyValue) × (time : TimeOf times) × (s.options ≡ o)
@@ -84,7 +85,7 @@ module _ (w : World) (o : Options) (times : Option ℕ → Bool) where
   abbrev IsNotNewer : State → Type 0
   IsNotNewer s = (k : ℕ) × (s.recorded.version ≡ Some k) × (s.version ≤ k)
 
-  -- If the digest in the record is not that of the update, this is no roll-back.
+  -- If `is_recorded` is false, the update is not older, and the key has not signed the digest in the record.
   abbrev IsCompared : (s : State) → IsAccepted s → Type 0
   IsCompared s known =
       s.is_recorded ≡ false → (due.is_rolling_back s ≡ false)
@@ -128,7 +129,7 @@ module _ (w : World) (o : Options) (times : Option ℕ → Bool) where
   Known n op s =
       (known : IsAccepted s) × (accepts_digest known.0 (blake2b_digest 64 w.update) ≡ true)
 
-  -- The event that set this error is a reason for it.
+  -- If the event sets this error, it is a reason for it.
   abbrev Explains : State → Event → Option InstallFault → Type 0
   Explains s e error =
       (fault : InstallFault) → s.error ≡ None → error ≡ Some fault → IsReason w o times s e fault
@@ -136,7 +137,7 @@ module _ (w : World) (o : Options) (times : Option ℕ → Bool) where
   abbrev Holds : ℕ → State → Event → State → Type 0
   Holds n s e t = Known n t.due t × Explains s e t.error
 
-  -- The error is unchanged.
+  -- An event that does not change the error needs no reason.
   calm : (s : State) (e : Event) → Explains s e s.error
   calm s e fault none some = absurd (none-some fault (sym none ∙ some))
 
@@ -367,7 +368,7 @@ module _ (w : World) (o : Options) (times : Option ℕ → Bool) where
         calm s (Answered false),
       )
 
-  -- The answer is about the key and the signature of the update.
+  -- The result of Ed25519 is about the key and the signature of the update.
   of_update : (s : State) (known : IsAccepted s) (digest : List ℕ) (accepted : Bool)
       → accepted ≡ w.accepts digest (key_of s.signers) s.signature → accepts_digest known.0 digest ≡ accepted
   of_update s (g, time, same, recorded, none, version, signature, key) digest accepted is =
@@ -576,8 +577,8 @@ module _ (w : World) (o : Options) (times : Option ℕ → Bool) where
       → Known (total 0 events) t.due t
   run_knows events t run = known_at 0 (begin o) events t (begins o.check) run
 
--- An error that a step returns is true of what the run found, or the operation failed, or the lock is in
--- use.
+-- If a step returns an error, the run has found its cause in an input, or an operation has failed, or the
+-- lock is in use.
 pub errors_are_true : (w : World) (o : Options) (times : Option ℕ → Bool) (events : List Event) (s : State)
     (e : Event) (fault : InstallFault)
     → IsRun (λ n s e. EventIsTrue w n s e × IsAtOneOf times e) 0 (begin o) events s
@@ -587,7 +588,7 @@ errors_are_true w o times events s e fault run (fits, is) timed refuses =
     explains w o times (count (total 0 events) e) s e (after s.due e s) fault
     (keeps w o times (total 0 events) s.due e s refl (run_knows w o times events s run) is timed) refuses
 
--- A run that ends well tells the truth.
+-- If a run has ended without an error, IsEnd holds.
 pub ends_are_true : (w : World) (o : Options) (times : Option ℕ → Bool) (events : List Event) (t : State)
     → IsRun (λ n s e. EventIsTrue w n s e × IsAtOneOf times e) 0 (begin o) events t → IsEnd w o times t.due
 ends_are_true w o times events t run =

@@ -1,4 +1,4 @@
--- The record that a run writes is read by the next run.
+-- Proves that the next run reads from the record what the previous run has written.
 use Rattle.std.specs.Prelude.{◌≡◌, ◌<◌, ◌^◌, ℕ, List, false, length, Some, None, Ok}
 use Rattle.std.proofs.Common.{refl, sym, ◌∙◌}
 use Rattle.std.proofs.lemmas.Option.{none-some}
@@ -10,17 +10,17 @@ use Rattle.minisign_install.specs.Step.{State, new_key, new_record, new_version}
 use Rattle.minisign_install.proofs.Decisions.{number_reads}
 use Rattle.minisign_install.proofs.RecordTexts.{digest_bytes, digest_reads, length_digest, record_reads}
 
--- A record holds the number that is read.
+-- If a record has this version number for the field, recorded_version returns it.
 pub recorded_reads : (numbering : Numbering) (bytes : List ℕ) (n : ℕ) → IsNumberFor numbering bytes n
     → recorded_version numbering bytes ≡ Some n
 recorded_reads numbering bytes n is = number_reads _ n is.number
 
--- A record from which none is read holds none.
+-- If recorded_version returns None, the record has no version number for the field.
 pub none_recorded : (numbering : Numbering) (bytes : List ℕ) → recorded_version numbering bytes ≡ None
     → HasNoNumber numbering bytes
 none_recorded numbering bytes none n is = none-some n (sym none ∙ recorded_reads numbering bytes n is)
 
--- The version and the digest that a run records are what the next run reads.
+-- The version number in the new record is the one that the run records.
 pub new_version_reads : (s : State) → new_version s < 2 ^ 64 → length (new_key s) ≡ 32
     → recorded_version s.options.numbering (new_record s) ≡ Some (new_version s)
 new_version_reads s bound whole =
@@ -28,14 +28,15 @@ new_version_reads s bound whole =
     (record_reads s.options.numbering (new_version s) bound (new_key s) (blake2b_digest 64 s.read) whole
     (length_digest s.read))
 
+-- The digest in the new record is that of the data that was read back.
 pub new_digest_reads : (s : State) → new_version s < 2 ^ 64 → length (new_key s) ≡ 32
     → record_digest (new_record s) ≡ Some (blake2b_digest 64 s.read)
 new_digest_reads s bound whole =
     digest_reads s.options.numbering (new_version s) bound (new_key s) (blake2b_digest 64 s.read) whole
     (length_digest s.read) (digest_bytes s.read)
 
--- So a run that was cut off after it renamed its record is finished by the next one: the version of the
--- update is the recorded one, and the digest in the record is that of its data.
+-- A run without --first and --new-key that finds this record accepts it, and reads the version number and the
+-- digest that were recorded. So it can finish a run that was interrupted after it had renamed the record.
 pub next_run_reads : (o : Options) (s : State) → o.first ≡ false → o.new_key ≡ false
     → o.numbering ≡ s.options.numbering → new_version s < 2 ^ 64 → length (new_key s) ≡ 32
     → judge_record o (Some (new_record s)) ≡ Ok (record {

@@ -1,4 +1,5 @@
--- A run that is rejected for what it found has changed nothing at the target and at the record.
+-- Proves that a run leaves the target and the record unchanged if it is rejected because of an input, and not
+-- because an operation failed.
 use Rattle.std.specs.Prelude.{◌≡◌, ⊤, ℕ, Bool, true, false, not, nat_le, if◌then◌else◌, List, [], ◌∷◌}
 use Rattle.std.specs.Prelude.{◌==◌, ◌&&◌, ◌||◌, Option, Some, None, Result, Ok, Err, is_some, IfSome}
 use Rattle.std.proofs.Common.{refl, sym, ◌∙◌, true≢false}
@@ -14,8 +15,8 @@ use Rattle.minisign_install.specs.Step.{answer, begin, step}
 use Rattle.minisign_install.specs.StepRuns.{AllSucceed, Changes, Disk, Runs, Succeeds, World, count}
 
 module _ (old : Disk) where
-  -- Before the record is renamed, target and record are as they were. After that only a failure rejects the
-  -- run.
+  -- Until the record is renamed, the target and the record are unchanged. After that, only a failure can
+  -- reject the run.
   abbrev Holds : Operation → Disk → Type 0
   Holds due.SyncRecordName d = ⊤
   Holds due.RenameFile d = ⊤
@@ -150,7 +151,8 @@ module _ (old : Disk) where
   at_end : (op : Operation) (new : Disk) → op ≡ due.Rejected → Holds op new → new ≡ old
   at_end op new same holds = rw same at holds
 
--- If no operation fails, a run that is rejected leaves target and record as they were.
+-- If no operation fails and the lock is free, a run that is rejected leaves the target and the record
+-- unchanged.
 pub rejected_changes_nothing : (w : World) (o : Options) (old new : Disk) (events : List (Event × Disk))
     (t : State) → Runs w 0 (begin o) old events t new → AllSucceed events → t.due ≡ due.Rejected → new ≡ old
 rejected_changes_nothing w o old new events t run fine rejected =

@@ -1,5 +1,5 @@
--- Whatever happens, only an update that a given key has signed gets to the target, and its record goes
--- first.
+-- Proves that only an update that a given key has signed is renamed to the target, and that its record is
+-- renamed before it, whatever fails.
 use Rattle.std.specs.Prelude.{◌≡◌, ◌≤◌, ⊤, ℕ, Bool, true, false, List, [], ◌∷◌, Option, Some, None, Result}
 use Rattle.std.specs.Prelude.{Ok, Err, IfSome, ◌++◌, ◌||◌, ◌&&◌, ◌==◌, nat_le, nat_lt, not, is_some}
 use Rattle.std.specs.Prelude.{if◌then◌else◌, take}
@@ -27,7 +27,7 @@ pub required : {V : Type 0} (holds : Bool) (fault : NamedFault) (more : Result V
 required true fault more v is = is
 required false fault more v is = cc is
 
--- The result of judge_text.
+-- The type of the results of judge_text.
 abbrev pub Passed : Type 0
 Passed = Result (SignatureTextRecord × List PublicKeyValue) Fault
 
@@ -49,7 +49,7 @@ one_pass : (t u : SignatureTextRecord) (keys others : List PublicKeyValue) → p
     → t ≡ u
 one_pass t u keys others is = ap (text_of t) is
 
--- The version of what was read.
+-- The version number in the contents of a record.
 abbrev version_of : Result Recorded InstallFault → Option ℕ
 version_of (Ok r) = r.version
 version_of (Err e) = None
@@ -116,7 +116,7 @@ module _ (w : World) (o : Options) where
   forgotten None r is none = first_given o.first _ r is
   forgotten (Some bytes) r is none = forgets bytes (recorded_version o.numbering bytes) r refl is none
 
-  -- The record was judged, and the comment. fault says why the comment is rejected.
+  -- The record was accepted, and the signature file was read. `fault` is the result of checking the comment.
   abbrev pub IsJudged : State → Type 0
   IsJudged s =
       (text : SignatureTextRecord) × (keys : List PublicKeyValue) × (others : List PublicKeyValue)
@@ -134,7 +134,7 @@ module _ (w : World) (o : Options) where
       (judged : IsJudged s) × (s.fault ≡ None)
       × (asks w (comment_question s judged.0.comments.trusted) ≡ true)
 
-  -- The data has been accepted too.
+  -- In addition, this key has signed the data that was read.
   abbrev pub IsWhole : State → Type 0
   IsWhole s = IsAccepted s × (asks w (data_question due.CheckData s) ≡ true)
 
@@ -216,7 +216,7 @@ module _ (w : World) (o : Options) where
   Known op s = IsWhole s
 
   module _ (old : Disk) where
-    -- The changes of the disk up to this operation.
+    -- The changes of the disk before this operation.
     abbrev pub Changed : Operation → State → Disk → Type 0
     Changed due.SyncRecordName s new = (new.target ≡ old.target) × (new.record_bytes ≡ Some (new_record s))
     Changed due.RenameFile s new = (new.target ≡ old.target) × (new.record_bytes ≡ Some (new_record s))
@@ -258,7 +258,7 @@ module _ (w : World) (o : Options) where
         inr (s, update_of s known, rw is recorded, inr (ap (λ (d : Disk). d.target) is))
     failed op f s mid new holds is = rw is (safe_at op s mid holds)
 
-    -- A run that is rejected has changed nothing more.
+    -- If the disk is safe when a run is rejected, the invariant holds.
     rejected : (is : Bool) (s : State) (new : Disk) → IsSafe w o old new
         → Holds (if is then due.RemoveFiles else due.Rejected) s new
     rejected true s new safe = (tt, safe)
@@ -298,7 +298,7 @@ module _ (w : World) (o : Options) where
         )
     after_signature s new (Err fault) time known is passed = reject (Library fault) s new (inl is)
 
-    -- Whichever of the operations comes next.
+    -- If the invariant holds for both states, it holds for whichever comes next.
     either : (is : Bool) (s t : State) (new : Disk) → Holds s.due s new → Holds t.due t new
         → Holds (if is then s else t).due (if is then s else t) new
     either true s t new one other = one
@@ -400,7 +400,7 @@ module _ (w : World) (o : Options) where
     after_copy s new (Some left) known is =
         either (left == 0) _ _ new (known, is) (reject OtherSize s new (inl is))
 
-    -- A failure can only have the reasons that are possible for its operation.
+    -- The invariant holds after a failure with a possible reason; after another failure there is no state.
     maybe : (is : Bool) (t : State) (new : Disk) → Holds t.due t new
         → IfSome (if is then Some t else None) (λ x. Holds x.due x new)
     maybe true t new holds = holds
@@ -494,8 +494,8 @@ module _ (w : World) (o : Options) where
     begins true = (refl, refl)
     begins false = (refl, refl)
 
--- At every point where a run may be cut off, target and record are as they were, or the record is that of an
--- update that may be installed, and the target is as it was or has this update.
+-- Wherever a run is cut off, the target and the record are unchanged; or the record is that of an update that
+-- may be installed, and the target is unchanged or has this update.
 pub safe : (w : World) (o : Options) (old new : Disk) (events : List (Event × Disk)) (t : State)
     → Runs w 0 (begin o) old events t new → IsSafe w o old new
 safe w o old new events t run =

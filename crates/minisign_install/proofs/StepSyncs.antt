@@ -1,4 +1,5 @@
--- Each file is synced before it is renamed, and a run succeeds only if all its files are on the disk.
+-- Proves that each file is synced before it is renamed, and that a run succeeds only if all its files and
+-- their names are synced.
 use Rattle.std.specs.Prelude.{◌≡◌, ◌&&◌, ◌||◌, ◌==◌, ℕ, Bool, true, false, List, [], ◌∷◌, Option, Some}
 use Rattle.std.specs.Prelude.{None, Result, Ok, Err, IfSome, is_some, if◌then◌else◌, nat_le, not}
 use Rattle.std.proofs.Common.{refl, inl, inr, sym, true≢false}
@@ -14,7 +15,7 @@ use Rattle.minisign_install.specs.StepRuns.{synced_by}
 use Rattle.minisign_install.specs.StepRuns.{syncs}
 use Rattle.minisign_install.proofs.StepSafety.{Passed}
 
--- It is so after an event.
+-- The files that must be synced in this state are synced.
 abbrev Holds : OnDisk → State → Type 0
 Holds d s = IsSynced s.due s d
 
@@ -143,7 +144,7 @@ begins : (check : Bool) (o : Options)
 begins true o = tt
 begins false o = tt
 
--- For every list of events that fit, whatever they report.
+-- IsSynced holds after every list of events that fit.
 pub synced_first : (o : Options) (events : List Event) (t : State)
     → IsRun (λ n s e. EventFits s e) 0 (begin o) events t
     → IsSynced t.due t (synced_by (begin o) events nothing_synced)

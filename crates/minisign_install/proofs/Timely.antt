@@ -1,4 +1,4 @@
--- The comment is judged at the time that the application passes in.
+-- Proves that the comment is checked against the time that the application passes in.
 use Rattle.std.specs.Prelude.{◌≡◌, ◌==◌, ◌&&◌, ◌||◌, ⊤, ℕ, Bool, true, false, not, List, [], ◌∷◌, Option}
 use Rattle.std.specs.Prelude.{Some, None, Result, Ok, Err, IfSome, is_some, nat_le, if◌then◌else◌}
 use Rattle.std.proofs.Common.{refl, sym, ap, ◌∙◌, true≢false}
@@ -21,7 +21,7 @@ same_ok : (t u : SignatureTextRecord) → ok t ≡ ok u → t ≡ u
 same_ok t u is = cc is
 
 module _ (w : World) (o : Options) (time : Option ℕ) where
-  -- The fault of the comment is that at this time.
+  -- `fault` is the result of checking the comment at this time.
   abbrev IsTimely : State → Type 0
   IsTimely s =
       (text : SignatureTextRecord) → w.text ≡ Ok text
@@ -215,7 +215,8 @@ module _ (w : World) (o : Options) (time : Option ℕ) where
   accepted_at due.Installed s holds known is = fault_is s holds known.0.1
   accepted_at op s holds known is = absurd (true≢false (sym is))
 
--- The fault of the comment is that at the time which was passed in.
+-- When the question about the comment is due, `fault` is the result of checking the comment at the time that
+-- was passed in.
 pub judged_in_time : (w : World) (o : Options) (m : Snapshot) (calls : List Call) (t : State) (end : Snapshot)
     (time : Option ℕ) → Applies w (begin o) m calls t end → AllEvents (IsAtTime time) calls
     → t.due ≡ due.CheckComment → (text : SignatureTextRecord) → w.text ≡ Ok text
@@ -225,7 +226,7 @@ judged_in_time w o m calls t end time run now is =
     (starts w o time o.check (begin o)) run now in
     judged_at w o time t.due t holds is
 
--- A comment that is rejected at this time is never past the check.
+-- If the run is past the check of the comment, the comment is not rejected at the time that was passed in.
 pub accepted_in_time : (w : World) (o : Options) (m : Snapshot) (calls : List Call) (t : State)
     (end : Snapshot)
     (time : Option ℕ) → Applies w (begin o) m calls t end → AllEvents (IsAtTime time) calls

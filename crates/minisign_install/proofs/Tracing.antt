@@ -1,4 +1,4 @@
--- The meaning of the recorded effects of operations.
+-- Proves that a trace without an unlawful line is that of a lawful application.
 use Rattle.std.specs.Prelude.{◌≡◌, ◌<◌, ◌==◌, ◌&&◌, ◌++◌, ℕ, Bool, true, false, not, bytes_eq, length, take}
 use Rattle.std.specs.Prelude.{List, [], ◌∷◌, Option, Some, None, option_map, is_some, Result, Ok, Err}
 use Rattle.std.specs.Prelude.{IfErr, ◌≤◌}
@@ -51,7 +51,7 @@ same_bytes one other is = (bytes_eq-Decides one other).0 is
 
 -- == The files ==
 
--- The bytes that are seen are those of the file.
+-- If a view has the number and the bytes of a file, its bytes are those of the file.
 pub bytes_are : (place : Option File) (v : Option FileView)
     → option_map seen place ≡ option_map seen_as v → bytes_of place ≡ bytes_seen v
 bytes_are (Some file) (Some v) is = ap (λ (x : Seen). x.bytes) (same_Some (seen file) (seen_as v) is)
@@ -160,7 +160,7 @@ ok t = Ok t
 same_ok : (t u : SignatureTextRecord) → ok t ≡ ok u → t ≡ u
 same_ok t u is = cc is
 
--- text_parsed holds for any findings.
+-- A world with this signature file and no other inputs. The lemma text_parsed holds for every world.
 abbrev nothing_found : Result SignatureTextRecord Fault → World
 nothing_found text = record {
   accepts = λ message key signature. false;
@@ -213,7 +213,7 @@ due_after : (s : State) (op : Operation) (text : Result SignatureTextRecord Faul
 due_after s due.ReadSignature text time is = refl
 due_after s op text time is = cc is
 
--- The message of the question is whole if the question is due next.
+-- If the question about the comment is due next, all of its message is in the buffer.
 pub whole_is : (w : World) (s : State) (text : List ℕ) (time : Option ℕ) (n : ℕ) (before now : List ℕ)
     → w.text ≡ read_utf8 read_signature text → s.due ≡ due.ReadSignature
     → HasMessage (comment_message (reads_into s text)) n before now
@@ -269,7 +269,7 @@ grown_seen f g m bytes piece present is same = record {
   busy = present.busy;
 }
 
--- == What was read ==
+-- == The bytes that were read ==
 
 abbrev Reads : Event → List ℕ → State → Type 0
 Reads e read t = t.read ≡ (if installs t.due then [] else read_after e read)
@@ -415,7 +415,7 @@ read_is s e fits = moved s (after s.due e s) e fits (reads s.due e s refl)
 
 -- == Whole runs ==
 
--- One more call.
+-- A run with one more call at its end is a run.
 snoc : (w : World) (s : State) (m : Snapshot) (calls : List Call) (t : State) (end : Snapshot) (c : Call)
     → Applies w s m calls t end → Others end c.before → is_some (after t.due c.event t) ≡ true
     → Performs w t t.due c.event c.before c.after
@@ -451,7 +451,7 @@ parsed_by : (w : World) (o : Options) (op : Operation) (s : State) → Known w o
 parsed_by w o due.CheckComment s known is = (known.0, known.6)
 parsed_by w o op s known is = cc is
 
--- The facts known after a lawful run.
+-- After a lawful run, StateKnows holds.
 pub knows_of : (w : World) (o : Options) (m : Snapshot) (calls : List Call) (s : State) (end : Snapshot)
     → Applies w (begin o) m calls s end → StateKnows w o.file s
 knows_of w o m calls s end run =
@@ -462,8 +462,8 @@ knows_of w o m calls s end run =
       parsed = λ is. parsed_by w o s.due s known is;
     }
 
--- These first lines are those of a lawful application. A trace that begins with them is recorded in full only
--- if the lines after them are.
+-- The first lines of the trace are those of a lawful application, and the follower represents the state and
+-- the files after them. If a trace that begins with them satisfies IsRecorded, so do the lines after them.
 abbrev pub Reached : RunInputs → Options → Snapshot → Follower → List ℕ → List Line → Type 0
 Reached g o m f message front =
     (calls : List Call) × (s : State) × (last : Snapshot) × (now : Snapshot)
@@ -509,7 +509,7 @@ starts g o m f message follows none = (
   λ more is. rw none is,
 )
 
--- One more line.
+-- Appending a line to the front does not change the trace.
 longer : (g : RunInputs) (s : State) (m : Snapshot) (source : List ℕ) (front : List Line) (line : Line)
     (more : List Line) → IsRecorded g s m source ((front ++ line ∷ []) ++ more)
     → IsRecorded g s m source (front ++ line ∷ more)
@@ -582,7 +582,7 @@ pub arrives : (g : RunInputs) (o : Options) (m : Snapshot) (f : Follower) (messa
 arrives g o m f message front (calls, s, last, now, run, others, follows, same, recorded) =
     (s, last, rw (ap (calls_of m) (sym (append-nil front)) ∙ same [] ∙ append-nil calls) run)
 
--- If the next line offends, the trace is not recorded in full.
+-- If the follower rejects the next line, the trace up to it does not satisfy IsRecorded.
 pub offends : (g : RunInputs) (o : Options) (m : Snapshot) (f : Follower) (message : List ℕ)
     (trace : List Line) (at : ℕ) → at < length trace → Reached g o m f message (take at trace)
     → MessageFits (world_of g) message

@@ -1,4 +1,5 @@
--- Over any sequence of runs, whole or cut off, and of crashes, the recorded version does not decrease.
+-- Proves that the recorded version does not decrease over any sequence of runs, complete or interrupted, and
+-- of crashes.
 use Rattle.std.specs.Prelude.{◌≡◌, ◌<◌, ◌≤◌, ◌^◌, ◌&&◌, ◌||◌, ◌⊎◌, ℕ, Bool, true, false, List, [], ◌∷◌}
 use Rattle.std.specs.Prelude.{Option, Some, None, Result, Ok, Err, if◌then◌else◌, length, take, drop, ◌-◌}
 use Rattle.std.specs.Option.{unwrap_or}
@@ -41,13 +42,14 @@ signed_bound : (text : Option (List ℕ)) → unwrap_or (number_of text) 0 < 2 ^
 signed_bound None = omega arith
 signed_bound (Some text) = bound_or (number_in text) (number_bound text)
 
--- The version that is recorded next is a number below 2^64, and the key has 32 bytes.
+-- The version number that is recorded next is below 2^64.
 whichever : (b : Bool) (r : Option ℕ) (v : ℕ) → v < 2 ^ 64 → ((k : ℕ) → r ≡ Some k → k < 2 ^ 64)
     → (if b then unwrap_or r v else v) < 2 ^ 64
 whichever false r v bound bounds = bound
 whichever true None v bound bounds = bound
 whichever true (Some k) v bound bounds = bounds k refl
 
+-- The key that is recorded next has 32 bytes.
 whole_key : (b : Bool) (r : Option (List ℕ)) (key : List ℕ) → length key ≡ 32
     → ((k : List ℕ) → r ≡ Some k → length k ≡ 32) → length (if b then unwrap_or r key else key) ≡ 32
 whole_key false r key whole wholes = whole
@@ -73,7 +75,7 @@ recorded_key_length : (bytes key : List ℕ) → record_key bytes ≡ Some key �
 recorded_key_length bytes key is =
     marked_key (is_marked bytes) (take 64 (drop (length bytes - 193) bytes)) key is
 
--- The key of what was read.
+-- The key in the contents of a record.
 abbrev key_in : Result Recorded InstallFault → Option (List ℕ)
 key_in (Ok r) = r.key
 key_in (Err e) = None
@@ -120,15 +122,15 @@ module _ (w : World) (o : Options) (accepts_whole : AcceptsWholeKeys w.accepts) 
       (rw update.version (signed_bound (value_of (number_label o.numbering) update.text.comments.trusted)))
       (recorded_bound s update)
 
-  -- The record of an update is read as it was written.
+  -- recorded_version returns the version number that the record of an update was written with.
   pub update_reads : (s : State) → IsUpdate w o s
       → recorded_version o.numbering (new_record s) ≡ Some (new_version s)
   update_reads s update =
       rw (sym (ap (λ (x : Options). x.numbering) update.same))
       (new_version_reads s (next_bound s update) (next_key_length s update))
 
-  -- So is its digest. The next run with these options, unless --first or --new-key is given, finds that the
-  -- record is its own.
+  -- The next run with these options, unless they include --first or --new-key, reads the version number and
+  -- the digest that this run has recorded.
   pub own_record : (s : State) → IsUpdate w o s → o.first ≡ false → o.new_key ≡ false
       → judge_record o (Some (new_record s)) ≡ Ok (record {
         version = Some (new_version s);
@@ -139,7 +141,7 @@ module _ (w : World) (o : Options) (accepts_whole : AcceptsWholeKeys w.accepts) 
       next_run_reads o s not_first not_new (sym (ap (λ (x : Options). x.numbering) update.same))
       (next_bound s update) (next_key_length s update)
 
-  -- So does a run with other options, and with keys of its own.
+  -- So does a run with other options and other keys.
   pub later_record : (p : Options) (s : State) → IsUpdate w o s → p.numbering ≡ o.numbering → p.first ≡ false
       → p.new_key ≡ false
       → judge_record p (Some (new_record s)) ≡ Ok (record {
@@ -198,7 +200,7 @@ module _ (w : World) (o : Options) (accepts_whole : AcceptsWholeKeys w.accepts) 
           → HasVersionFrom o.numbering k new
       keeps_version old new has safe found is = either_from old found has (safe.1 found is)
 
-      -- A file may remain as it is.
+      -- A crash may leave a file unchanged.
       remains : (place : Option File) → CrashMayLeave place (content place)
       remains (Some file) = (file.bytes, refl, λ synced. refl)
       remains None = refl
@@ -231,7 +233,7 @@ updater_keeps numbering r k has =
     (run_keeps r.world o r.accepts_whole k r.compares 0 (begin o) r.begun r.calls r.state r.ended
     (begins r.world o (IsVersionFrom o.numbering k r.world.found_record) ⊥ r.begun) from r.applies others)
 
--- After a crash a file on the disk is as it is.
+-- A crash does not change a file that is synced.
 synced_stays : (place : Option File) (found : Option (List ℕ)) → IsSynced place → CrashMayLeave place found
     → found ≡ content place
 synced_stays (Some file) found synced (bytes, is, same) = is ∙ ap (λ x. Some x) (same synced)
@@ -249,7 +251,7 @@ crash_keeps : (numbering : Numbering) (old new : Snapshot) → Crashes old new �
 crash_keeps numbering old new crash k has found is =
     has found (found_after old new new.recorded_left found crash refl is)
 
--- Over any history, the recorded version does not decrease.
+-- The recorded version does not decrease over any history.
 pub versions_keep : (numbering : Numbering) (old new : Snapshot) (happened : List (Happening numbering))
     → HasHappened numbering old happened new → KeepsVersion numbering old new
 versions_keep numbering old new [] is k has = rw is has
