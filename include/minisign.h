@@ -273,7 +273,8 @@ enum minisign_error {
     MINISIGN_DAMAGED_RECORD = 48,
     /* The trusted comment does not name the file that the caller expects. */
     MINISIGN_OTHER_FILE = 49,
-    /* The trusted comment has no field of the chosen numbering, or its value is not a decimal number below 2^64. */
+    /* The trusted comment lacks the field that was chosen for the version number, or the value of the first such
+     * field is not a decimal number below 2^64. */
     MINISIGN_NO_NUMBER = 50,
     /* The version number of the update is below the recorded one. */
     MINISIGN_OLDER_UPDATE = 51,
@@ -293,7 +294,7 @@ enum minisign_error {
     MINISIGN_NO_EXPIRY = 58,
     /* The trusted comment has more than one field "size:", or its value is not a decimal number below 2^64. */
     MINISIGN_BAD_SIZE = 59,
-    /* The data is longer or shorter than the trusted comment says. */
+    /* The data is longer or shorter than the field "size:" of the trusted comment says. */
     MINISIGN_OTHER_SIZE = 60,
     /* The signature was read from a different signature file than the one that was passed with it. */
     MINISIGN_OTHER_SIGNATURE_TEXT = 61,

@@ -1,5 +1,5 @@
--- The meaning of accepting a trusted comment, or rejecting it with an error: the relations between the text
--- and its fields. `any_comment_is_judged` states that `comment_fault` decides them.
+-- States, in terms of the fields of a trusted comment, what it means that the comment is accepted or that it
+-- is rejected with an error. The law `any_comment_is_judged` says this of the results of `comment_fault`.
 use Rattle.std.specs.Prelude.{◌≡◌, ◌≢◌, ◌⊎◌, ◌<◌, ◌-◌, ◌^◌, ℕ, List, Option, Some}
 use Rattle.std.specs.Option.{unwrap_or}
 use Rattle.minisign_install.specs.Comments.{HasNumber, HasSize, IsBadlySized, IsExpiryRefused, IsNumberText}
@@ -12,8 +12,8 @@ use Rattle.minisign_install.specs.Faults.{BadSize, InstallFault, NoNumber, Older
 abbrev pub time_that_applies : Option ℕ → ℕ
 time_that_applies time = unwrap_or time (2 ^ 64 - 1)
 
--- The comment names the file, has this version number, has not expired at this time, and either has no field
--- `size:` or has one, with a number.
+-- The comment names the file, has this version number, has not expired at this time, and has no field `size:`
+-- or exactly one, whose value is a number.
 pub record CommentSays (o : Options) (time : Option ℕ) (comment : List ℕ) (n : ℕ) : Type 0 where
   pub value : List ℕ
   pub named : value_of file_label comment ≡ Some o.file
@@ -23,10 +23,10 @@ pub record CommentSays (o : Options) (time : Option ℕ) (comment : List ℕ) (n
   pub size : Option ℕ
   pub sized : HasSize comment size
 
--- The reason that the error names is true of the comment, and all earlier checks have passed. In this order:
--- the comment does not name the file; has no version number; has expired, lacks a required expiry time, or
--- has a malformed or repeated one; has a malformed or repeated field `size:`; or has a version below the
--- recorded one.
+-- The comment fails the check that belongs to this error, and has passed all checks before it. The checks
+-- are, in this order: it names the file; it has a version number; it has not expired, has an expiry time if
+-- one is required, and no malformed or repeated one; it has no malformed or repeated field `size:`; and its
+-- version is not below the recorded one.
 abbrev pub IsCommentRefused : Options → Option ℕ → Option ℕ → List ℕ → InstallFault → Type 0
 IsCommentRefused o recorded time comment e =
     ((e ≡ OtherFile) × (value_of file_label comment ≢ Some o.file))

@@ -12,16 +12,17 @@ use Rattle.minisign_install.specs.Faults.{InstallFault, BadExpiry, Expired, NoEx
 abbrev pub fields : List ℕ → List (List ℕ)
 fields comment = slice_split (λ b. b == 9) comment
 
--- The rest of a text that begins with the label.
+-- The text after the label, if the text begins with the label.
 abbrev pub strip : List ℕ → List ℕ → Option (List ℕ)
 strip [] text = Some text
 strip (b ∷ label) [] = None
 strip (b ∷ label) (c ∷ text) = if c == b then strip label text else None
 
--- The value of each field with this label, and of the first one.
+-- The values of all fields with this label.
 abbrev pub values_of : List ℕ → List ℕ → List (List ℕ)
 values_of label comment = filter_map (strip label) (fields comment)
 
+-- The value of the first field with this label.
 abbrev pub value_of : List ℕ → List ℕ → Option (List ℕ)
 value_of label comment = slice_get (values_of label comment) 0
 
@@ -54,29 +55,32 @@ expiry_label = codes "expires:"
 abbrev pub folded : List ℕ → List ℕ
 folded text = map to_ascii_lowercase (filter (λ b. not (is_ascii_whitespace b)) text)
 
--- The values of the fields that say when the update expires. If the comment must have such a field, this
--- includes fields that differ from one only in white space or case.
+-- The value of a field that says when the update expires. If the comment must have such a field, this
+-- includes a field that differs from `expires:` only in white space or case; ExpiresAt does not accept its
+-- spelling.
 abbrev pub expiry_in : Bool → List ℕ → Option (List ℕ)
 expiry_in must field = strip expiry_label (if must then folded field else field)
 
+-- The values of all these fields.
 abbrev pub expiries : Bool → List ℕ → List (List ℕ)
 expiries must comment = filter_map (expiry_in must) (fields comment)
 
--- The comment has exactly one such field, spelled exactly, with this time.
+-- The comment has exactly one of these fields, it is spelled exactly `expires:`, and its value is this time.
 pub record ExpiresAt (must : Bool) (comment : List ℕ) (until : ℕ) : Type 0 where
   pub value : List ℕ
   pub once : length (expiries must comment) ≡ 1
   pub labelled : value_of expiry_label comment ≡ Some value
   pub number : IsNumberText value until
 
--- The update has not expired at this time. An update that need not expire may also have no such field.
+-- The update has not expired at this time. If `must` is false, the comment may also have no such field.
 abbrev pub IsUnexpired : Bool → ℕ → List ℕ → Type 0
 IsUnexpired must moment comment =
     ((must ≡ false) × (expiries must comment ≡ []))
     ⊎ ((until : ℕ) × ExpiresAt must comment until × (moment < until))
 
--- The error with which the fields are rejected at this time: the update has expired; or a field is required
--- and missing; or there are several such fields, or one that is not spelled exactly or has no number.
+-- These fields are rejected at this time, and `e` says why: the update has expired (Expired); or such a field
+-- is required and missing (NoExpiry); or there are several, or one that is not spelled exactly `expires:` or
+-- whose value is not a number (BadExpiry).
 abbrev pub IsExpiryRefused : Bool → ℕ → List ℕ → InstallFault → Type 0
 IsExpiryRefused must moment comment e =
     ((e ≡ Expired) × ((until : ℕ) × ExpiresAt must comment until × (until ≤ moment)))
@@ -87,17 +91,17 @@ IsExpiryRefused must moment comment e =
 abbrev pub size_label : List ℕ
 size_label = codes "size:"
 
--- The comment has exactly one such field, with this length.
+-- The comment has exactly one field `size:`, and its value is this length.
 pub record SizedAs (comment : List ℕ) (size : ℕ) : Type 0 where
   pub value : List ℕ
   pub once : values_of size_label comment ≡ value ∷ []
   pub number : IsNumberText value size
 
--- The comment has exactly one field with this size, or no such field if the size is None.
+-- The comment has exactly one field `size:`, with this length, or no such field if the length is None.
 abbrev pub HasSize : List ℕ → Option ℕ → Type 0
 HasSize comment (Some size) = SizedAs comment size
 HasSize comment None = values_of size_label comment ≡ []
 
--- There are several such fields, or one without a number.
+-- The comment has several fields `size:`, or one whose value is not a number.
 abbrev pub IsBadlySized : List ℕ → Type 0
 IsBadlySized comment = ¬ (values_of size_label comment ≡ []) × ((size : ℕ) → ¬ (SizedAs comment size))

@@ -1,5 +1,6 @@
--- The checks of the record, the signature file and the trusted comment, as functions of the options.
--- Comments and RecordTexts define the fields and the format. CommentChecks says what comment_fault means.
+-- The checks of the version record, the signature file and the trusted comment, as functions of the options
+-- and of the file. Comments.antt defines the fields of a comment, and RecordTexts.antt the format of the
+-- record. CommentChecks.antt states what the result of `comment_fault` means.
 use Rattle.std.specs.Prelude.{ℕ, Bool, false, not, ◌&&◌, ◌||◌, ◌^◌, nat_lt, if◌then◌else◌, List, [], ◌∷◌}
 use Rattle.std.specs.Prelude.{map, filter, bytes_eq, is_some, Option, Some, None, Result, Ok, Err}
 use Rattle.std.specs.Char.{digit_value}
@@ -23,7 +24,8 @@ use Rattle.minisign_install.specs.RecordTexts.{record_key}
 use Rattle.minisign_install.specs.RecordTexts.{record_text}
 
 -- The options of a run. `keys` are the public keys that were given, one or two. `file` is the name that the
--- trusted comment must contain. The other fields are the options of the command line.
+-- trusted comment must contain, and `numbering` its field with the version number. Each other field says
+-- whether the option of minisign-install with this name is given, such as --must-expire.
 pub record Options : Type 0 where
   pub keys : List PublicKeyValue
   pub file : List ℕ
@@ -35,7 +37,7 @@ pub record Options : Type 0 where
   pub new_key : Bool
   pub roll_back : Bool
 
--- --first replaces any record, so it must not be combined with --new-key or --roll-back.
+-- --first installs without a record, and --new-key and --roll-back need one, so they must not be combined.
 abbrev pub fit_together : Options → Bool
 fit_together o = not (o.first && (o.new_key || o.roll_back))
 
@@ -52,7 +54,7 @@ is_number text = are_digits text && nat_lt (digits_value 10 text) (2 ^ 64)
 abbrev pub number_in : List ℕ → Option ℕ
 number_in text = if is_number text then Some (digits_value 10 text) else None
 
--- The number in the text of a field, if the comment has this field.
+-- The number in the value of a field, if the comment has this field and the value is a number.
 abbrev pub number_of : Option (List ℕ) → Option ℕ
 number_of (Some text) = number_in text
 number_of None = None
@@ -64,7 +66,8 @@ is_below n m = false
 
 -- == The record ==
 
--- The part of the record that applies to this run. `version` is None if any version may be installed.
+-- The contents of the record that this run uses. `version` is None if there is no record, or if the record is
+-- ignored; then any version may be installed. `key` and `digest` are None if the record does not have them.
 pub record Recorded : Type 0 where
   pub version : Option ℕ
   pub key : Option (List ℕ)
@@ -73,8 +76,8 @@ pub record Recorded : Type 0 where
 abbrev pub nothing_recorded : Recorded
 nothing_recorded = record { version = None; key = None; digest = None }
 
--- The version number of a record, if it has one for this field. A number without a label is valid for both
--- fields.
+-- The version number of a record, if it has one for this field. A number without a label, as older versions
+-- wrote it, is valid for both fields.
 abbrev pub recorded_version : Numbering → List ℕ → Option ℕ
 recorded_version numbering bytes =
     number_in (unwrap_or (strip (number_label numbering) (record_text bytes)) (record_text bytes))
@@ -83,14 +86,17 @@ recorded_version numbering bytes =
 abbrev pub names_other_key : Options → List ℕ → Bool
 names_other_key o bytes = is_foreign_key (map (λ v. v.key) o.keys) (record_key bytes)
 
--- The error for a record without a version number for this field.
+-- The error for a record without a version number for this field. If the record has a number for the other
+-- field, the error says so.
 abbrev pub record_fault : Numbering → List ℕ → InstallFault
 record_fault numbering bytes =
     if is_some (recorded_version (other_field numbering) bytes) then recorded_by (other_field numbering)
     else DamagedRecord
 
--- A record of another key is ignored with --first and with --new-key. A record without a version number for
--- this field, and a missing one, are ignored with --first only.
+-- The contents of a record with this version number (or None) for the field of the options, or the error with
+-- which the record is rejected. A record that names a key which was not given is ignored with --first and
+-- with --new-key. A record without a version number for the field, and a missing record, are ignored with
+-- --first only.
 abbrev pub judge_version : Options → List ℕ → Option ℕ → Result Recorded InstallFault
 judge_version o bytes (Some n) =
     if (o.first || o.new_key) && names_other_key o bytes then Ok nothing_recorded
@@ -110,7 +116,9 @@ last_key_id [] = []
 last_key_id (v ∷ []) = v.key_id
 last_key_id (v ∷ more) = last_key_id more
 
--- The checks that need no Ed25519. They give the keys that may have signed, or the first check that fails.
+-- The checks of a parsed signature file that need no Ed25519. The list has the given keys with the key ID of
+-- the signature. The result is the signature file with these keys, or the error of the first check that
+-- fails.
 abbrev pub judge_keys : Options → List PublicKeyValue → SignatureTextRecord
     → Result (SignatureTextRecord × List PublicKeyValue) Fault
 judge_keys o [] t = Err (Named (named.DifferentKeyIds t.signature.keynum (last_key_id o.keys)))
@@ -119,6 +127,8 @@ judge_keys o signers t =
     (require (has_whole_signature t.comments) named.CommentSignatureRefused
     (Ok (t, signers)))
 
+-- The same checks for the result of parsing the signature file. Before that, the name in the options must be
+-- UTF-8.
 abbrev pub judge_text : Options → Result SignatureTextRecord Fault
     → Result (SignatureTextRecord × List PublicKeyValue) Fault
 judge_text o text =
@@ -138,14 +148,15 @@ abbrev pub is_named : List ℕ → Option (List ℕ) → Bool
 is_named file (Some name) = bytes_eq name file
 is_named file None = false
 
--- The error for which the fields `expires:` are rejected at this time, in seconds since the beginning of
--- 1970. None is a time before 1970, at which every update that expires has expired.
+-- The error if the fields `expires:` are rejected at this time, in seconds since the beginning of 1970. None
+-- is a time before 1970, at which every update that expires has expired. The list has the values of all
+-- fields `expires:`, and `until` is the number in the first one that is spelled exactly so.
 abbrev pub expiry_fault : Bool → Option ℕ → List (List ℕ) → Option ℕ → Option InstallFault
 expiry_fault must_expire time [] until = if must_expire then Some NoExpiry else None
 expiry_fault must_expire time (once ∷ []) (Some until) = unless (is_below time (Some until)) Expired
 expiry_fault must_expire time fields until = Some BadExpiry
 
--- The signed size, if the comment has one field `size:`, with a number.
+-- The signed size, if the comment has exactly one field `size:`, and its value is a number.
 abbrev pub size_of : List (List ℕ) → Option ℕ
 size_of (digits ∷ []) = number_in digits
 size_of fields = None
@@ -153,7 +164,7 @@ size_of fields = None
 abbrev pub size_in : List ℕ → Option ℕ
 size_in comment = size_of (values_of size_label comment)
 
--- The error for which the fields `size:` are rejected.
+-- The error if there are several fields `size:`, or one whose value is not a number.
 abbrev pub size_fault : List (List ℕ) → Option InstallFault
 size_fault [] = None
 size_fault fields = unless (is_some (size_of fields)) BadSize
@@ -167,7 +178,7 @@ first_of [] = None
 first_of (Some fault ∷ more) = Some fault
 first_of (None ∷ more) = first_of more
 
--- The error for which a trusted comment is rejected: the first of these checks that fails.
+-- The error if a trusted comment is rejected: that of the first check that fails.
 abbrev pub comment_fault : Options → Option ℕ → Option ℕ → List ℕ → Option InstallFault
 comment_fault o recorded time comment = first_of
     (unless (is_named o.file (value_of file_label comment)) OtherFile
@@ -180,8 +191,8 @@ comment_fault o recorded time comment = first_of
 
 -- == A trusted comment alone ==
 
--- The error with which a comment is rejected if its version must not be below this one. The comment need not
--- say when the update expires or how long the data is.
+-- The error if a comment is rejected by an application that checks only a comment, and no files. The version
+-- must not be below `least`. The comment need not have a field `expires:`, and `size:` is not checked.
 abbrev pub comment_only_fault : List ℕ → Numbering → ℕ → ℕ → List ℕ → Option InstallFault
 comment_only_fault file numbering time least comment = first_of
     (unless (is_named file (value_of file_label comment)) OtherFile
@@ -190,7 +201,7 @@ comment_only_fault file numbering time least comment = first_of
     ∷ unless (not (is_below (version_in numbering comment) (Some least))) OlderUpdate
     ∷ [])
 
--- The version number of such a comment, or the first of these checks that fails.
+-- The version number if there is no error, otherwise the error.
 abbrev pub version_unless : Option InstallFault → Option ℕ → Result ℕ InstallFault
 version_unless None version = Ok (unwrap_or version 0)
 version_unless (Some fault) version = Err fault
@@ -199,7 +210,7 @@ abbrev pub judge_comment_only : List ℕ → Numbering → ℕ → ℕ → List 
 judge_comment_only file numbering time least comment =
     version_unless (comment_only_fault file numbering time least comment) (version_in numbering comment)
 
--- As version_unless, for a comment and a name in bytes, which must be UTF-8.
+-- The same result for a comment and a file name as bytes, which must be UTF-8.
 abbrev pub judge_comment : List ℕ → Numbering → ℕ → ℕ → List ℕ → Result ℕ InstallFault
 judge_comment file numbering time least comment =
     if is_utf8 comment && is_utf8 file then judge_comment_only file numbering time least comment

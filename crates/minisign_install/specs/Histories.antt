@@ -46,12 +46,12 @@ pub record IsSafeCall (w : World) (o : Options) (old new : Snapshot) : Type 0 wh
   pub record_is : (found : Option (List ℕ)) → RecordMayBe new found
       → RecordMayBe old found ⊎ IsUpdateRecord w o found
 
--- P holds for the times before and after each operation.
+-- P holds for the files before and after each operation.
 abbrev pub AllCalls : (Snapshot → Snapshot → Type 0) → List Call → Type 0
 AllCalls P [] = ⊤
 AllCalls P (c ∷ more) = P c.before c.after × AllCalls P more
 
--- The content of the target and of the record is the same at both times.
+-- The content of the target and of the record is the same in both snapshots.
 abbrev pub LeavesContent : Snapshot → Snapshot → Type 0
 LeavesContent old new =
     (content new.target ≡ content old.target) × (content new.recorded ≡ content old.recorded)
@@ -68,17 +68,17 @@ abbrev pub OthersLeaveTarget : Snapshot → List Call → Type 0
 OthersLeaveTarget m [] = ⊤
 OthersLeaveTarget m (c ∷ more) = LeavesTarget m c.before × OthersLeaveTarget c.after more
 
--- == Where a run ends ==
+-- == The files after a run ==
 
 -- The name refers to a file with these bytes, now and after any crash.
 abbrev pub IsLasting : Option File → List (Option File) → List ℕ → Type 0
 IsLasting place left bytes =
     (file : File) × (place ≡ Some file) × (file.bytes ≡ bytes) × (file.synced ≡ true) × (left ≡ [])
 
--- The end of a run, if other processes leave the target alone. Installed: the update is at the target, with
--- the permissions of the file before it, and its record beside it, no crash can undo this, and no temporary
--- files of killed runs are left. AlreadyInstalled: the signature is valid for the bytes that were read from
--- the target and, unless the run is a check, no crash can undo that they are there.
+-- The files after a run, if other processes leave the target alone. After Installed, the update is at the
+-- target, its permissions were set, its record is beside it, no crash can undo this, and no temporary files
+-- of killed runs are left. After AlreadyInstalled, the signature is valid for the bytes that were read from
+-- the target; unless the run is a check, the target has these bytes, and no crash can undo this.
 abbrev pub EndLasts : World → Options → Operation → State → Snapshot → Type 0
 EndLasts w o Installed s m =
     IsUpdate w o s × IsLasting m.recorded m.recorded_left (new_record s)
@@ -122,7 +122,7 @@ AcceptsWholeKeys accepts =
 
 -- A run of an application that performs the operations of `step`, complete or interrupted anywhere. If
 -- --first or --new-key is given, the record does not name a key that was not given. Otherwise the run would
--- ignore the record, and might install a smaller version.
+-- ignore the record, and might install an older version.
 pub record UpdaterRun (numbering : Numbering) : Type 0 where
   pub world : World
   pub options : Options
@@ -157,8 +157,8 @@ pub data Happening (numbering : Numbering) : Type 0 where
   GoesDown : Snapshot → Happening numbering
   OthersChangeFiles : Snapshot → Happening numbering
 
--- These events happen one after another, from the time `old` to the time `new`. Other processes do not
--- decrease the recorded version.
+-- These events happen one after another, and lead from the files `old` to the files `new`. Other processes do
+-- not decrease the recorded version.
 abbrev pub HasHappened : (numbering : Numbering) → Snapshot → List (Happening numbering) → Snapshot → Type 0
 HasHappened numbering old [] new = new ≡ old
 HasHappened numbering old (Runs r ∷ later) new =
@@ -212,14 +212,16 @@ AllEvents P (c ∷ more) = P c.event × AllEvents P more
 
 -- == Records of version 0.2 ==
 
--- The version number of a record that applies to a run: this number, with or without a label; or none, if
--- --first is given and the record has none for this field.
+-- A run of version 0.2 compares the update with this version number, which the record has with or without a
+-- label. None: it compares nothing, because --first is given, and there is no record or the record has no
+-- version number for this field.
 abbrev pub AppliesAs : Numbering → Bool → Option (List ℕ) → Option ℕ → Type 0
 AppliesAs numbering first found (Some version) =
     (bytes : List ℕ) × (found ≡ Some bytes) × IsNumberFor numbering bytes version
 AppliesAs numbering first found None = (first ≡ true) × IfSome found (HasNoNumber numbering)
 
--- The record, or None if it is ignored because it names another key and --first is given.
+-- The record, or None if it is ignored because --first is given and the record names a key that was not
+-- given.
 abbrev pub counted_for : Options → Option (List ℕ) → Option (List ℕ)
 counted_for o found = counted o.first (map (λ (v : PublicKeyValue). v.key) o.keys) found
 
@@ -243,15 +245,15 @@ pub record IsLaterRun (w : World) (o : Options) (numbering : Numbering) (s : Sta
   pub same_keys : o.new_key ≡ false
   pub once : o.again ≡ false
 
--- The event is no failure, and the comment is not rejected at the time that is passed in, over the record of
--- this version.
+-- The event is not a failure, and the comment is not rejected at the time that is passed in if version k is
+-- recorded.
 abbrev pub IsFineAt : Options → ℕ → SignatureTextRecord → Event → Type 0
 IsFineAt o k t (Failed f) = ⊥
 IsFineAt o k t InUse = ⊥
 IsFineAt o k t (SignatureRead text time) = comment_fault o (Some k) time t.comments.trusted ≡ None
 IsFineAt o k t e = ⊤
 
--- The update is being installed, or was installed, or would be.
+-- The update is being installed or was installed, or a check found that it would be.
 abbrev pub leads_to_install : Operation → Bool
 leads_to_install RemoveLeftovers = true
 leads_to_install CreateFile = true

@@ -77,23 +77,23 @@ recorded_of r = record {
   digest = when (r.has_digest == 1) r.digest;
 }
 
--- The part that applies of a record of these bytes, which has this version number.
+-- The contents of a record that is used: this version number, and the key and the digest in its bytes.
 abbrev pub numbered : ℕ → List ℕ → Recorded
 numbered n bytes = record { version = Some n; key = record_key bytes; digest = record_digest bytes }
 
--- The part of the record that applies, or the error with which it is rejected.
+-- The contents of the record, or the error with which it is rejected.
 abbrev pub judgment_of : Result RecordedValue InstallFault → Result Recorded InstallFault
 judgment_of (Ok r) = Ok (recorded_of r)
 judgment_of (Err fault) = Err fault
 
--- The keys that may have signed: the first key, the other key, both or none.
+-- The keys that may have signed: the first key, the other key, both or neither.
 abbrev pub signers_of : Progress → List PublicKeyValue
 signers_of p =
     (if p.by_key == 1 then p.chosen.key ∷ [] else []) ++ (if p.by_other_key == 1 then p.chosen.other
     ∷ [] else [])
 
--- The state that the struct represents. The struct has no file name, the hash instead of the bytes that were
--- read, and the numbers instead of the errors.
+-- The state that the struct represents. The struct does not contain the file name; of the bytes that were
+-- read it contains the hash, and of the errors the numbers. So these four are arguments here.
 abbrev pub state_of : Progress → List ℕ → List ℕ → Option InstallFault → Option InstallFault → State
 state_of p file read fault error = record {
   due = operation_of p.due;
@@ -112,11 +112,12 @@ state_of p file read fault error = record {
   error = error;
 }
 
--- The number of an installation error, or 0.
+-- n is the number of this error, which is an installation error and not one of the library, or 0 if there is
+-- no error.
 abbrev pub IsOwnNumber : ℕ → Option InstallFault → Type 0
 IsOwnNumber n fault = MatchOption fault (n ≡ 0) (λ e. (n ≡ install_number e) × (is_own e ≡ true))
 
--- The number of an error, or 0.
+-- The number of the error, or 0 if there is none.
 abbrev pub error_number : Option InstallFault → ℕ
 error_number None = 0
 error_number (Some e) = install_number e
@@ -236,6 +237,7 @@ pub record IsWritten (text : List ℕ) (n : ℕ) (old new : List ℕ) : Type 0 w
   pub rest : drop n new ≡ drop n old
   pub room : n ≡ 0 → (new ≡ old) × (length old < length text)
 
+-- The text is written as IsWritten says, or nothing is written if there is no text.
 abbrev pub written_if : Option (List ℕ) → ℕ → List ℕ → List ℕ → Type 0
 written_if None n old new = (n ≡ 0) × (new ≡ old)
 written_if (Some text) n old new = IsWritten text n old new
@@ -256,8 +258,6 @@ options_by key other c file = record {
   roll_back = c.roll_back == 1;
 }
 
--- The API misuse if the options are rejected: an option is neither 0 nor 1, or two options must not be
--- combined, or there is no field with this number.
 abbrev pub is_flag : ℕ → Bool
 is_flag n = nat_le n 1
 
@@ -268,6 +268,8 @@ are_flags c = is_flag c.is_first && is_flag c.again && is_flag c.is_check && is_
 abbrev pub choices_fit : Choices → Bool
 choices_fit c = not (c.is_first == 1 && (c.new_key == 1 || c.roll_back == 1))
 
+-- The API misuse if the options are rejected: BadOption if an option is neither 0 nor 1 or if two options
+-- must not be combined, otherwise BadNumbering if there is no field with this number.
 abbrev pub choices_misuse : Choices → Option Misuse
 choices_misuse c =
     if are_flags c && choices_fit c then if nat_le c.numbering 1 then None else Some BadNumbering
@@ -290,15 +292,15 @@ Steps e s result new = HoldsState new (step s e).1 × (result ≡ (step s e).0)
 abbrev pub signature_read : List ℕ → Option ℕ → Event
 signature_read sig_text time = SignatureRead (read_utf8 read_signature sig_text) time
 
--- The result of the checks that need no Ed25519.
+-- The result of the checks of this signature file that need no Ed25519.
 abbrev pub reads_into : State → List ℕ → Result (SignatureTextRecord × List PublicKeyValue) Fault
 reads_into s sig_text = judge_text s.options (read_utf8 read_signature sig_text)
 
--- The keys that may have signed.
+-- The given keys with the key ID of the signature: those that may have signed.
 abbrev pub given : Chosen → SignatureTextRecord → List PublicKeyValue
 given c t = filter (λ v. bytes_eq t.signature.keynum v.key_id) (c.key ∷ c.other ∷ [])
 
--- The checks of judge_keys if a key has the key ID of the signature.
+-- The checks of `judge_keys` that remain if a key has the key ID of the signature.
 abbrev pub judge_form : SignatureTextRecord → List PublicKeyValue
     → Result (SignatureTextRecord × List PublicKeyValue) Fault
 judge_form t signers =
@@ -306,8 +308,8 @@ judge_form t signers =
     (require (has_whole_signature t.comments) named.CommentSignatureRefused
     (Ok (t, signers)))
 
--- The checks found this: the signature file with these signers, and this is the signature of its comment; or
--- the first check that fails.
+-- The checks have succeeded for this signature file and these signers, and the result of the code is the
+-- signature of its comment; or a check has failed, and the result is its error.
 abbrev pub IsJudgedAs : Result (SignatureTextRecord × List PublicKeyValue) Fault → SignatureTextRecord
     → List PublicKeyValue → Result (List ℕ) Fault → Type 0
 IsJudgedAs judged t signers result = MatchResult result
@@ -333,7 +335,8 @@ abbrev pub plain : Result ℕ (Refusal InstallFault) → Result Unit (Refusal In
 plain (Ok n) = Ok tt
 plain (Err r) = Err r
 
--- The struct holds a signature file, with this signature of the comment, after the comment was judged.
+-- The struct contains the result of reading the signature file `t`: its two signatures, the version number
+-- and the size in its comment, and the number of the error if the comment is rejected.
 pub record IsReadAs (j : Judged) (o : Options) (t : SignatureTextRecord) (second : List ℕ)
     (recorded time : Option ℕ)
     : Type 0 where
@@ -344,12 +347,12 @@ pub record IsReadAs (j : Judged) (o : Options) (t : SignatureTextRecord) (second
   pub size : when (j.has_size == 1) j.size ≡ size_in t.comments.trusted
   pub fault : IsOwnNumber j.fault (comment_fault o recorded time t.comments.trusted)
 
--- The run has continued from one state to the other.
+-- The struct represents the state t, and the result is that of a step from s to t.
 abbrev pub RunLeadsTo : State → State → Result Unit (Refusal InstallFault) → Progress → Type 0
 RunLeadsTo s t result new = HoldsState new t × (result ≡ result_of s.error t.error)
 
--- The call `signature` after these checks: the run has continued and the message was written, or the message
--- does not fit into the buffer.
+-- The effect of the call `signature` if the checks have this result: the run has continued, and the message
+-- was written; or the result is NoRoom, because the message does not fit into the buffer.
 pub record SignatureLeads (judged : Result (SignatureTextRecord × List PublicKeyValue) Fault)
     (time : Option ℕ) (s : State) (result : Result ℕ (Refusal InstallFault)) (new : Progress)
     (before after : List ℕ) : Type 0 where
@@ -358,7 +361,7 @@ pub record SignatureLeads (judged : Result (SignatureTextRecord × List PublicKe
   pub room : result ≡ Err (WrongUse NoRoom) → IsTooLong (comment_message judged) (length before)
 
 -- The result is that of the step, the new struct represents the state after it, and the message was written;
--- or the message does not fit into the buffer.
+-- or the result is NoRoom, because the message does not fit into the buffer.
 pub record SignatureSteps (sig_text : List ℕ) (time : Option ℕ) (s : State)
     (result : Result ℕ (Refusal InstallFault)) (HoldsNew : State → Type 0) (before after : List ℕ)
     : Type 0 where

@@ -24,16 +24,18 @@ mark_text key digest = (10 ∷ encode_lower key) ++ (10 ∷ encode_lower digest)
 abbrev pub record_of : Numbering → ℕ → List ℕ → List ℕ → List ℕ
 record_of numbering n key digest = (number_label numbering ++ decimal n) ++ mark_text key digest
 
--- After the first line, of at most 64 bytes, the record can have two lines of 64 and of 128 bytes.
+-- The record is long enough for a first line of at most 64 bytes and the two last lines, and a line feed ends
+-- the first line. The digits in the last lines are not checked here.
 abbrev pub is_marked : List ℕ → Bool
 is_marked bytes =
     nat_le 194 (length bytes) && nat_le (length bytes) 258 && (slice_index bytes (length bytes - 194) == 10)
 
--- The text that is read as the version number: the first of three lines; or all of a record of at most 64
--- bytes, without a line feed at its end. Older versions wrote such records, without a key and a digest.
+-- The first line of a record of three lines, or nothing if the record does not have this form.
 abbrev pub marked_line : List ℕ → List ℕ
 marked_line bytes = if is_marked bytes then take (length bytes - 194) bytes else []
 
+-- The text with the version number: the first of three lines, or all of a record of at most 64 bytes, except
+-- for a line feed at its end. Older versions wrote such short records, without a key and a digest.
 abbrev pub record_text : List ℕ → List ℕ
 record_text bytes = if nat_le (length bytes) 64 then strip_last 10 bytes else marked_line bytes
 
@@ -57,8 +59,8 @@ abbrev pub is_foreign_key : List (List ℕ) → Option (List ℕ) → Bool
 is_foreign_key keys (Some named) = not (list_any (λ key. bytes_eq named key) keys)
 is_foreign_key keys None = false
 
--- The record, or None if it is ignored: for the first installation, a record that names none of these keys is
--- ignored.
+-- The record that version 0.2 used, or None if there is none or it was ignored. `first` says whether --first
+-- is given: a record that names none of these keys is then ignored.
 abbrev pub counted : Bool → List (List ℕ) → Option (List ℕ) → Option (List ℕ)
 counted first keys (Some bytes) = if first && is_foreign_key keys (record_key bytes) then None else Some bytes
 counted first keys None = None

@@ -170,7 +170,7 @@ abbrev pub digest_due : Operation → State → List ℕ
 digest_due CheckRecord s = unwrap_or s.recorded.digest []
 digest_due op s = blake2b_digest 64 s.read
 
--- The question about data, at this operation. A record without a digest is never asked about.
+-- The question about data, at this operation. If the record has no digest, CheckRecord is never due.
 abbrev pub data_question : Operation → State → Question
 data_question op s =
     record { key = key_of s.signers; message = digest_due op s; signature = s.signature }
@@ -226,7 +226,8 @@ abbrev pub after_record : Result Recorded InstallFault → State → State
 after_record (Ok recorded) s = record s { due = ReadSignature; recorded = recorded }
 after_record (Err fault) s = reject fault s
 
--- The signature file was read. Its comment is judged here, and only here.
+-- The signature file was read. Its comment is checked only here; `fault` keeps the result until a key is
+-- found to have signed the comment.
 abbrev pub after_signature : Result (SignatureTextRecord × List PublicKeyValue) Fault → Option ℕ → State
     → State
 after_signature (Ok (t, signers)) time s = record s {
@@ -257,7 +258,7 @@ compare s =
     else if is_rolling_back s then install s
     else go ReadTarget s
 
--- The comment is signed. It is accepted, or rejected for this error.
+-- A key has signed the comment. The run continues, or is rejected with this error.
 abbrev pub after_comment : Option InstallFault → State → State
 after_comment None s = compare s
 after_comment (Some fault) s = reject fault s
@@ -281,13 +282,13 @@ after_target true s = go (if s.options.check then AlreadyInstalled else SyncTarg
 after_target false s =
     if s.is_recorded || s.options.again then install s else reject SameNumber s
 
--- A piece was copied. The run is rejected if the data is longer than the signed size.
+-- A piece of n bytes was copied. The run is rejected if the data is longer than the signed size.
 abbrev pub after_piece : ℕ → Option ℕ → State → State
 after_piece n None s = s
 after_piece n (Some left) s =
     if nat_le n left then record s { left = Some (left - n) } else reject OtherSize s
 
--- All data was copied.
+-- All data was copied. The run is rejected if the data is shorter than the signed size.
 abbrev pub after_copy : Option ℕ → State → State
 after_copy None s = go ReadBack s
 after_copy (Some left) s = if left == 0 then go ReadBack s else reject OtherSize s

@@ -35,6 +35,7 @@ pub record World : Type 0 where
   pub update : List ℕ
   pub most : ℕ
 
+-- Ed25519 accepts the signature in this question.
 abbrev pub asks : World → Question → Bool
 asks w q = w.accepts q.message q.key q.signature
 
@@ -76,10 +77,11 @@ abbrev pub IsRun : (ℕ → State → Event → Type 0) → ℕ → State → Li
 IsRun Holds n s [] t = t ≡ s
 IsRun Holds n s (e ∷ more) t = Holds n s e × IsRun Holds (count n e) (step s e).1 more t
 
--- The event fits the operation that is due; EventIsTrue: it also is true.
+-- The event fits the operation that is due.
 abbrev pub EventFits : State → Event → Type 0
 EventFits s e = is_some (after s.due e s) ≡ true
 
+-- The event fits and is true, so a lawful application may report it.
 abbrev pub EventIsTrue : World → ℕ → State → Event → Type 0
 EventIsTrue w n s e = EventFits s e × IsTrueEvent w n s s.due e
 
@@ -266,9 +268,10 @@ IsReason w o times s (Failed f) fault = fault ≡ failure s.due f
 IsReason w o times s InUse fault = fault ≡ TargetInUse
 IsReason w o times s e fault = IsFoundFault w o times fault
 
--- The meaning of the end of a run. After AlreadyInstalled, a given key has signed the file that the run read
--- at the target. After Installed and WouldInstall, a given key has signed the trusted comment, and after
--- Installed also the data. After all three, the comment is not rejected at a time in the set.
+-- The meaning of the end of a run. After Installed, AlreadyInstalled and WouldInstall, a given key has signed
+-- the trusted comment, and the comment is not rejected at a time in the set. After Installed, this key has
+-- also signed the data. After AlreadyInstalled, it has signed the digest of some data; `EndLasts` says
+-- that this is the data that the run read at the target.
 abbrev pub IsEnd : World → Options → (Option ℕ → Bool) → Operation → Type 0
 IsEnd w o times Installed =
     (g : IsSigned w o) × (time : TimeOf times)
@@ -325,7 +328,7 @@ nothing_synced = record {
   target_name = false;
 }
 
--- The effect of an event at this operation on these flags.
+-- The flags after an event at this operation.
 abbrev pub syncs : Operation → Event → OnDisk → OnDisk
 syncs CopyData (PieceCopied k) d = record d { data_file = false }
 syncs SetPermissions Done d = record d { data_file = false }
@@ -340,14 +343,14 @@ syncs SyncTarget Done d = record d { target_file = true }
 syncs SyncTargetName Done d = record d { target_name = true }
 syncs op e d = d
 
--- The same for a run.
+-- The flags after a run.
 abbrev pub synced_by : State → List Event → OnDisk → OnDisk
 synced_by s [] d = d
 synced_by s (e ∷ more) d = synced_by (step s e).1 more (syncs s.due e d)
 
--- A file is synced before it is renamed. The name of the record is synced before the target is renamed. A
--- run ends with Installed or AlreadyInstalled only if the file and its name are synced; a check syncs
--- nothing.
+-- The files that are synced when this operation is due. A file is synced before it is renamed, and the name
+-- of the record before the update is renamed to the target. A run ends with Installed or AlreadyInstalled
+-- only if the file and its name are synced; a check syncs nothing.
 abbrev pub IsSynced : Operation → State → OnDisk → Type 0
 IsSynced CreateRecord s d = d.data_file ≡ true
 IsSynced WriteRecord s d = d.data_file ≡ true
@@ -365,8 +368,8 @@ IsSynced op s d = ⊤
 
 -- == Temporary files ==
 
--- The temporary files that this run has made, and neither renamed nor tried to remove: that of the data, and
--- that of the record.
+-- Says which temporary files this run has made, and neither renamed nor tried to remove: that of the data,
+-- and that of the record.
 pub record Owned : Type 0 where
   pub data_file : Bool
   pub record_file : Bool
@@ -374,7 +377,7 @@ pub record Owned : Type 0 where
 abbrev pub nothing_owned : Owned
 nothing_owned = record { data_file = false; record_file = false }
 
--- The effect of an event at this operation on them.
+-- The temporary files of this run after an event at this operation.
 abbrev pub owns : Operation → Event → Owned → Owned
 owns CreateFile Done d = record d { data_file = true }
 owns CreateRecord Done d = record d { record_file = true }
@@ -384,7 +387,7 @@ owns RemoveFiles Done d = nothing_owned
 owns RemoveFiles (Failed f) d = nothing_owned
 owns op e d = d
 
--- The same for a run.
+-- The temporary files of a run after these events.
 abbrev pub owned_by : State → List Event → Owned → Owned
 owned_by s [] d = d
 owned_by s (e ∷ more) d = owned_by (step s e).1 more (owns s.due e d)

@@ -31,7 +31,7 @@ use Rattle.minisign_install.specs.declared.traces.Report.{Report}
 use Rattle.minisign_install.specs.declared.traces.Report.TheVariants as report
 use Rattle.minisign_install.specs.declared.traces.Signed.{Signed}
 
--- == What the run finds ==
+-- == The inputs of a run ==
 
 -- Ed25519 accepts the listed signatures, and no others.
 abbrev pub is_listed : List Signed → List ℕ → List ℕ → List ℕ → Bool
@@ -48,7 +48,7 @@ world_of f = record {
   most = f.most;
 }
 
--- == What is recorded ==
+-- == From a trace to a run ==
 
 abbrev pub event_of : Report → Event
 event_of report.Done = due.Done
@@ -92,16 +92,16 @@ changed (change.Recorded file) m =
     record m { recorded = option_map new_file file; recorded_left = m.recorded ∷ m.recorded_left }
 changed (change.Busy busy) m = record m { busy = busy }
 
--- The calls of a recorded run that begins at this moment.
+-- The calls of a recorded run that begins with these files.
 abbrev pub calls_of : Snapshot → List Line → List Call
 calls_of m [] = []
 calls_of m (line.Others other ∷ more) = calls_of (changed other m) more
 calls_of m (line.Call reported did ∷ more) =
     record { event = event_of reported; before = m; after = affected did m } ∷ calls_of (affected did m) more
 
--- == What is seen of the files ==
+-- == Files without their flags ==
 
--- The number and the bytes of a file.
+-- The number and the bytes of a file, which are all that a FileView of a trace has.
 pub record Seen : Type 0 where
   pub number : ℕ
   pub bytes : List ℕ
@@ -116,7 +116,7 @@ abbrev pub with_bytes : List ℕ → Option Seen → Option Seen
 with_bytes bytes (Some v) = Some (record { number = v.number; bytes = bytes })
 with_bytes bytes None = None
 
--- The files are those of this moment.
+-- `f` are the files of this snapshot: the numbers and the bytes are the same, and so are the locks.
 pub record IsSeen (f : Files) (m : Snapshot) : Type 0 where
   pub target : option_map seen m.target ≡ option_map seen_as f.target
   pub recorded : option_map seen m.recorded ≡ option_map seen_as f.recorded
@@ -127,17 +127,17 @@ pub record IsSeen (f : Files) (m : Snapshot) : Type 0 where
 
 -- == A lawful run ==
 
--- The recorded run, which begins at this moment, is that of a lawful application.
+-- The recorded run, which begins with the files `m`, is that of a lawful application.
 abbrev pub IsLawful : World → Options → Snapshot → List Line → Type 0
 IsLawful w o m trace = (t : State) × (end : Snapshot) × Applies w (begin o) m (calls_of m trace) t end
 
--- A call is lawful in this state.
+-- A call with this event and this effect is lawful in this state.
 abbrev pub IsNext : World → State → Snapshot → Event → Effect → Type 0
 IsNext w s m e did = (is_some (after s.due e s) ≡ true) × Performs w s s.due e m (affected did m)
 
 -- == The decision ==
 
--- An event that `has_reported` reports.
+-- The report is one that the function `has_reported` passes on: not a signature file, and not an empty piece.
 abbrev pub is_reported : Report → Bool
 is_reported (report.Signature text time) = false
 is_reported (report.Piece bytes) = not (length bytes.now == 0)
@@ -151,7 +151,7 @@ abbrev pub is_nothing : Effect → Bool
 is_nothing effect.Nothing = true
 is_nothing did = false
 
--- Operations that are done without a condition on the files.
+-- The operation has this effect whenever it succeeds, whatever the files contain.
 abbrev pub is_plain : Operation → Effect → Bool
 is_plain due.SyncTarget effect.TargetSynced = true
 is_plain due.SyncTargetName effect.NamesSynced = true
@@ -173,7 +173,7 @@ abbrev pub is_read : ℕ → List ℕ → Option FileView → Bool
 is_read number read (Some v) = (v.number == number) && bytes_eq v.bytes.now read
 is_read number read None = false
 
--- The operation may be reported as done with this effect, given the bytes that were read so far and the
+-- The operation may be reported as done with this effect, if these bytes were read so far and this is the
 -- update.
 abbrev pub is_done : Operation → Effect → Files → List ℕ → List ℕ → Bool
 is_done due.Lock effect.Locked f read update = not f.is_busy
@@ -245,10 +245,10 @@ abbrev pub IsReadFrom : State → List ℕ → Report → Type 0
 IsReadFrom s source (report.Piece bytes) = IsNextRead s source bytes.now
 IsReadFrom s source reported = ⊤
 
--- The report and the effect on one line fit together. An operation that succeeded has its effect. One that
--- failed has no effect, or it has renamed or removed files. A new record has at most 224 bytes. The signature
--- file is that of the inputs. The pieces that are read are those of the file that was at the target when
--- reading began. An Ed25519 result is reported only if a check is due.
+-- The report and the effect on one line of the trace match. An operation that succeeded has its effect. One
+-- that failed has no effect, or it has renamed or removed files. A new record has at most 224 bytes. The
+-- signature file is that of the inputs. The pieces that are read are those of the file that was at the target
+-- when reading began. An Ed25519 result is reported only if a check is due.
 abbrev pub IsNoted : RunInputs → State → Snapshot → List ℕ → Report → Effect → Type 0
 IsNoted f s m source report.Done did = IsDoneAs s s.due did
 IsNoted f s m source (report.Failed fault) did = has_failed s.due did ≡ true
@@ -260,8 +260,8 @@ IsNoted f s m source (report.Piece bytes) did = (is_nothing did ≡ true) × IsN
 IsNoted f s m source (report.Copied n) did = HasCopied f.update.now (bytes_of m.data_file) n did
 IsNoted f s m source reported did = is_nothing did ≡ true
 
--- From this state and time on, the trace is that of a lawful application, and report and effect fit together
--- on each line. source is the content of the file that is being read.
+-- From this state and these files on, the trace is that of a lawful application, and report and effect match
+-- on each line. `source` is the content of the file that is being read.
 abbrev pub IsRecorded : RunInputs → State → Snapshot → List ℕ → List Line → Type 0
 IsRecorded f s m source [] = ⊤
 IsRecorded f s m source (line.Others other ∷ more) =
@@ -279,7 +279,8 @@ MessageFits w message =
 
 -- == Following a run ==
 
--- The update is to be installed now: the bytes that were read before are discarded.
+-- When this operation is due, the update is to be installed, and the bytes that were read before are
+-- discarded.
 abbrev pub installs : Operation → Bool
 installs due.RemoveLeftovers = true
 installs due.WouldInstall = true
@@ -294,7 +295,8 @@ abbrev pub is_growing : Effect → Bool
 is_growing (effect.DataGrown piece) = true
 is_growing did = false
 
--- The state has this name of the file, and the signature of the data in the signature file.
+-- The state has the file name, and the data signature of the signature file, at the operations that need
+-- them.
 pub record StateKnows (w : World) (file : List ℕ) (s : State) : Type 0 where
   pub named : s.due ≡ due.ReadSignature → s.options.file ≡ file
   pub signature : s.due ≡ due.CheckComment → (t : SignatureTextRecord) → w.text ≡ Ok t
@@ -329,7 +331,7 @@ HasFollowed w file e did old new before now =
     → IsNext w s m e did × FollowerHolds w new now (step s e).1 (affected did m)
     × (new.source.now ≡ source_at s m old.source.now)
 
--- The event was reported to the installer, and it fitted.
+-- The event was reported to the installer, and it fitted the operation that was due.
 pub record HasReported (w : World) (e : Event) (s : State) (new : Follower) (message : List ℕ) : Type 0 where
   pub stored : Represents new.installation (step s e).1
   pub fits : is_some (after s.due e s) ≡ true

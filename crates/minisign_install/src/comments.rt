@@ -44,7 +44,7 @@ impl Numbering {
         }
     }
 
-    // Returns the other field.
+    // Returns the other one of the two fields.
     pub(crate) fn other(self) -> Numbering
         ensures { result ≡ other_field self }
     {
@@ -55,8 +55,8 @@ impl Numbering {
     }
 }
 
-// Returns the rest of the comment after the first field that says when the update expires, or `None` if there
-// is no such field.
+// Returns the rest of the comment after its first field `expires:`, or `None` if there is no such field. If
+// `must_expire` is true, fields that differ from it only in white space or case are included.
 #[tactic(auto, using(crate::proofs::Fields::no_expiry))]
 pub(crate) fn first_expiry(comment: &str, must_expire: bool) -> Option<&str>
     ensures { MatchOption result (expiries must_expire comment.now ≡ [])
@@ -139,7 +139,7 @@ pub(crate) fn first_value<'a>(comment: &'a str, label: &str) -> Option<(&'a str,
     None
 }
 
-// Returns the first field of a comment, and the rest after it, which is empty if there are no more fields.
+// Returns the first field of a comment, and the other fields, which are empty if there are no more.
 fn first_field(comment: &str) -> (&str, &str)
     ensures field { (label : List ℕ) → 0 < length label
         → values_of label comment.now ≡ filter_map (strip label) (result.0.now ∷ fields result.1.now) }

@@ -1,5 +1,5 @@
-//! The errors of an installation: those of the library, and those that only installing has, with the number,
-//! kind and text of each. Nothing here allocates.
+//! The errors of an installation: those of the library, and errors that only an installation has. Each has a
+//! number, a kind and a text. Nothing here allocates.
 
 ghost use Rattle.std.specs.Prelude.{◌≡◌, ◌<◌, List, ℕ, Some, true, IfSome, MatchResult, length};
 ghost use Rattle.minisign_external.specs.Numbers.{WritesCut};
@@ -26,8 +26,8 @@ pub enum InstallFault {
     DamagedRecord,
     /// The trusted comment does not name the file that the caller expects.
     OtherFile,
-    /// The trusted comment has no field of the chosen numbering, or its value is not a decimal
-    /// number below 2^64.
+    /// The trusted comment lacks the field that was chosen for the version number, or the value of the first
+    /// such field is not a decimal number below 2^64.
     NoNumber,
     /// The version number of the update is below the recorded one.
     OlderUpdate,
@@ -52,7 +52,7 @@ pub enum InstallFault {
     /// The trusted comment has more than one field `size:`, or its value is not a decimal number
     /// below 2^64.
     BadSize,
-    /// The data is longer or shorter than the trusted comment says.
+    /// The data is longer or shorter than the field `size:` of the trusted comment says.
     OtherSize,
 }
 

@@ -70,13 +70,13 @@ pub struct Choices {
     pub is_first: u32,
     /// Replace different data that has the recorded version.
     pub again: u32,
-    /// Only find out if a run would install the update.
+    /// Only find out whether a run would install the update, and change nothing.
     pub is_check: u32,
-    /// Reject an update whose comment does not say when it expires.
+    /// Reject an update if its comment does not say when it expires.
     pub must_expire: u32,
     /// Ignore the record if it was made under a key that was not passed.
     pub new_key: u32,
-    /// Install an older update.
+    /// Install an update even if it is older than the recorded version, which stays recorded.
     pub roll_back: u32,
 }
 
@@ -279,6 +279,8 @@ impl Installation {
 
     /// Reports the next bytes of the file that is being read, or its end, if `bytes` is empty.
     pub fn piece(&mut self, bytes: &[u8]) -> Result<(), Refusal<InstallFault>>
+        // If the installation represents a state, the result and the new state are those that `step`
+        // computes from this state and this event.
         ensures steps { (s : State) → Represents self.old s
             → Represents self.new (step s (piece_event s.due bytes.now)).1
             × (result ≡ (step s (piece_event s.due bytes.now)).0) }
@@ -322,7 +324,7 @@ impl Installation {
     ) -> Result<usize, Refusal<InstallFault>>
         // If the installation represents a state with the file name `file` in its options, the result and
         // the new state are those that `step` computes from it and this event. After `NoRoom` and `NotDue`
-        // the installation is unchanged, and after every error the buffer.
+        // the installation is unchanged. After every error the buffer is unchanged.
         ensures steps { (s : State) → Represents self.old s → s.options.file ≡ file.now
             → SignatureSteps sig_text.now time s result (Represents self.new) message.old message.new }
         ensures unchanged { OnErr result (message.new ≡ message.old) }
@@ -364,7 +366,7 @@ impl Installation {
         }
     }
 
-    // Reports what Ed25519 answered.
+    // Reports the result of Ed25519.
     fn answered(&mut self, accepted: bool) -> Result<(), Refusal<InstallFault>>
         // If the installation represents a state, the result and the new state are those that `step`
         // computes from this state and this event.
@@ -379,7 +381,7 @@ impl Installation {
         }
     }
 
-    /// Returns true once one of the keys has been found to have signed the trusted comment.
+    /// Returns true if Ed25519 has accepted the signature of the trusted comment under one of the keys.
     pub fn is_signed(&self) -> bool
         ensures { (s : State) → Represents self.now s → result ≡ s.is_signed }
     {
@@ -431,7 +433,7 @@ impl Installation {
         }
     }
 
-    /// Returns the number of the error because of which the run is rejected, or 0.
+    /// Returns the number of the error with which the run is rejected, or 0 if it is not rejected.
     pub fn error(&self) -> u32
         ensures { (s : State) → Represents self.now s → result ≡ error_number s.error }
     {
@@ -456,7 +458,8 @@ impl Choices {
             && self.roll_back <= 1
     }
 
-    // Returns true unless `is_first`, which needs no record, is combined with an option that needs one.
+    // Returns true unless `is_first`, which installs without a record, is combined with an option that needs
+    // one.
     fn fit_together(&self) -> bool
         ensures { result ≡ choices_fit self.now }
     {

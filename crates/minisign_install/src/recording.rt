@@ -15,11 +15,11 @@ use crate::faults::InstallFault;
 // The greatest length of the first line. A longer line is not a version number.
 const MAX_LINE: usize = 64;
 
-// The length of the two lines after the version number, each with a line feed before it: 64 and 128
-// hexadecimal digits.
+// The length of the two last lines of a record, after the version number: 64 and 128 hexadecimal digits, each
+// with a line feed before it.
 const MARK_TEXT: usize = 194;
 
-/// The part of a record after the version number: 96 bytes.
+/// The contents of the two last lines of a record, 96 bytes.
 #[repr(C)]
 #[derive(Clone, Copy)]
 pub(crate) struct Mark {
@@ -29,7 +29,8 @@ pub(crate) struct Mark {
     pub(crate) digest: [u8; 64],
 }
 
-// Returns the error for a record that has no version number for the field.
+// Returns the error for a record that has no version number for the field: it has one for the other field, or
+// it is damaged.
 pub(crate) fn unfit_record_fault(bytes: &[u8], numbering: Numbering) -> InstallFault
     ensures why { ((result ≡ recorded_by (other_field numbering))
         × ((n : ℕ) × IsNumberFor (other_field numbering) bytes.now n))
@@ -59,7 +60,8 @@ pub(crate) fn number_for(bytes: &[u8], numbering: Numbering) -> Option<u64>
     }
 }
 
-// Returns the part of a record that contains its version number.
+// Returns the part of a record that contains its version number: a short record, without a line feed at its
+// end, or the first of three lines.
 fn record_text(bytes: &[u8]) -> &[u8]
     ensures { result.now ≡ record_text bytes.now }
 {
@@ -83,7 +85,7 @@ fn marked_line(bytes: &[u8]) -> &[u8]
     line
 }
 
-// Returns true if two lines of 64 and 128 bytes can follow the first line of a record.
+// Returns true if the record is long enough for three lines, and a line feed ends the first one.
 fn is_marked(bytes: &[u8]) -> bool
     ensures { result ≡ is_marked bytes.now }
 {
@@ -171,7 +173,7 @@ pub(crate) fn write_record(numbering: Numbering, number: u64, mark: &Mark, to: &
     line + MARK_TEXT
 }
 
-// Fills the buffer with the label and the digits.
+// Fills the buffer with the first line: the label and the digits.
 fn fill(to: &mut [u8], label: &[u8], digits: &[u8])
     requires { length to.old ≡ length label.now + length digits.now }
     ensures { to.new ≡ label.now ++ digits.now }
@@ -181,7 +183,7 @@ fn fill(to: &mut [u8], label: &[u8], digits: &[u8])
     back.copy_from_slice(digits);
 }
 
-// Fills the buffer with the two lines after the version number, each with a line feed before it.
+// Fills the buffer with the two last lines of a record, each with a line feed before it.
 fn write_mark(mark: &Mark, to: &mut [u8])
     requires { length to.old ≡ 194 }
     ensures { to.new ≡ mark_text mark.now.key mark.now.digest }

@@ -24,8 +24,8 @@ pub fn any_run_of_steps()
         → IsRun (λ n s e. EventFits s e) 0 (begin o) events t
         → IsSynced t.due t (synced_by (begin o) events nothing_synced) }
 
-    // Until it is decided whether the update is to be installed, a check takes the same steps as a run with
-    // the same options, with the same results.
+    // Until it is decided whether the update is to be installed, a check and an installation with otherwise
+    // the same options take the same steps, with the same results.
     ensures check { (s : State) (e : Event) → decides s.due ≡ true → s.options.check ≡ false
         → step (as_check s) e ≡ ((step s e).0, as_check (step s e).1) }
 

@@ -73,11 +73,11 @@ pub struct RunInputs<'a> {
     pub sig_text: &'a [u8],
     /// The data.
     pub update: &'a [u8],
-    /// The installed file never has more bytes.
+    /// The maximum length of the installed file.
     pub most: usize,
 }
 
-/// The event that the application reports to the installer, by the call of `Installation` with this name.
+/// An event that the application reports to the installer, by a call of `Installation`.
 #[derive(Clone, Copy)]
 pub enum Report<'a> {
     Done,
@@ -130,14 +130,15 @@ pub enum Change<'a> {
 /// A line of a trace.
 #[derive(Clone, Copy)]
 pub enum Line<'a> {
-    /// Another process did this.
+    /// A change by another process.
     Others(Change<'a>),
-    /// The operation that was due did this, and the application reported it.
+    /// The operation that was due: what the application reported, and the effect of the operation on the
+    /// files.
     Call(Report<'a>, Effect<'a>),
 }
 
-// Tracks a run line by line. `source` is the file that is being read, and `read` the bytes that were read of
-// it so far.
+// The state of a run after some lines of its trace. `source` is the content of the file that is being read,
+// and `read` the part of it that was read so far.
 #[derive(Clone, Copy)]
 pub struct Follower<'a> {
     pub(crate) installation: Installation,
@@ -160,7 +161,7 @@ fn is_listed(table: &[Signed], message: &[u8], key: &[u8; 32], signature: &[u8; 
     false
 }
 
-// Returns the prefix of the bytes that consists of `front` and `piece`, if they begin so.
+// Returns the prefix of `whole` that consists of `front` and `piece`, if `whole` begins with them.
 fn extended<'a>(whole: &'a [u8], front: &[u8], piece: &[u8]) -> Option<&'a [u8]>
     ensures is { IfSome result (λ r. (r.now ≡ front.now ++ piece.now)
         × ((rest : List ℕ) × (r.now ++ rest ≡ whole.now))) }
@@ -189,7 +190,7 @@ fn bytes_seen<'a>(file: &Option<FileView<'a>>) -> &'a [u8]
 }
 
 impl<'a> Effect<'a> {
-    // Returns true if nothing was done.
+    // Returns true if the operation had no effect.
     fn is_nothing(&self) -> bool
         ensures { result ≡ is_nothing self.now }
     {
@@ -203,7 +204,7 @@ impl<'a> Effect<'a> {
         matches!(*self, Effect::DataGrown(_))
     }
 
-    // Returns true if this is what the operation does, and it has no condition on the files.
+    // Returns true if the operation has this effect whenever it succeeds, whatever the files contain.
     fn is_plain(&self, due: Operation) -> bool
         ensures { result ≡ is_plain due self.now }
     {
@@ -225,7 +226,7 @@ impl<'a> Effect<'a> {
         }
     }
 
-    // Returns true if a failed operation may have done this.
+    // Returns true if the operation may have this effect although it fails.
     fn has_failed(&self, due: Operation) -> bool
         ensures { result ≡ has_failed due self.now }
     {
@@ -249,7 +250,8 @@ impl<'a> Files<'a> {
         }
     }
 
-    // Returns true if the operation is done with this effect. It does not check the contents of a new record.
+    // Returns true if the operation may be reported as done with this effect. Writing the record is checked
+    // by `has_written`.
     fn are_done(&self, due: Operation, effect: &Effect<'a>, read: &[u8], update: &[u8]) -> bool
         ensures { result ≡ is_done due effect.now self.now read.now update.now }
     {
@@ -303,7 +305,8 @@ impl<'a> Files<'a> {
         }
     }
 
-    // Returns the files after another process did this, or `None` if no process may do this now.
+    // Returns the files after this change by another process, or `None` if other processes must not make it:
+    // the record does not change while this run holds the lock.
     fn changed(&self, change: &Change<'a>) -> Option<Files<'a>>
         ensures is { IfSome result (λ f. (m : Snapshot) → IsSeen self.now m
             → Others m (changed change.now m) × IsSeen f (changed change.now m)) }
@@ -324,7 +327,7 @@ impl<'a> Files<'a> {
     }
 }
 
-// Returns the file with these bytes instead.
+// Returns the file with its bytes replaced by these.
 fn with_bytes<'a>(file: &Option<FileView<'a>>, bytes: &'a [u8]) -> Option<FileView<'a>>
     ensures { option_map seen_as result ≡ with_bytes bytes.now (option_map seen_as file.now) }
 {
@@ -337,7 +340,7 @@ fn with_bytes<'a>(file: &Option<FileView<'a>>, bytes: &'a [u8]) -> Option<FileVi
     }
 }
 
-// Returns true if the event fitted the operation that was due.
+// Returns true if this is the result of an event that fitted the operation that was due.
 fn was_due(outcome: Result<(), Refusal<InstallFault>>) -> bool
     ensures wrong { outcome ≡ Err (WrongUse NotDue) → result ≡ false }
     ensures due { ((m : Misuse) → outcome ≢ Err (WrongUse m)) → result ≡ true }
@@ -345,8 +348,8 @@ fn was_due(outcome: Result<(), Refusal<InstallFault>>) -> bool
     !matches!(outcome, Err(Refusal::WrongUse(_)))
 }
 
-// Reports an event to the installer. Returns true if it fits the operation that was due. The signature file
-// is reported elsewhere.
+// Reports an event to the installer. Returns true if it fits the operation that was due. For a signature
+// file, which `report_signature` reports, and for an empty piece the result is false.
 fn has_reported(installation: &mut Installation, report: &Report) -> bool
     ensures taken { result ≡ true → (s : State) → Represents installation.old s
         → Represents installation.new (step s (event_of report.now)).1
@@ -387,7 +390,7 @@ impl<'a> Follower<'a> {
         *bytes == *text
     }
 
-    // Returns true if the new record was written.
+    // Returns true if the effect is that the new record was written.
     fn has_written(&self, effect: &Effect<'a>) -> bool
         ensures is { result ≡ true → (w : World) (s : State) (m : Snapshot)
             → Represents self.now.installation s
@@ -401,7 +404,7 @@ impl<'a> Follower<'a> {
         }
     }
 
-    // Returns true if the operation was done.
+    // Returns true if the operation that is due may be reported as done with this effect.
     fn is_done(&self, inputs: &RunInputs<'a>, effect: &Effect<'a>) -> bool
         ensures is { result ≡ true → (message : List ℕ) (s : State) (m : Snapshot)
             → FollowerHolds (world_of inputs.now) self.now message s m
@@ -417,7 +420,7 @@ impl<'a> Follower<'a> {
         }
     }
 
-    // Returns true if another run holds the lock.
+    // Returns true if the application may report that another run holds the lock.
     fn is_in_use(&self, effect: &Effect<'a>) -> bool
         ensures is { result ≡ true → (w : World) (message : List ℕ) (s : State) (m : Snapshot)
             → FollowerHolds w self.now message s m → Performs w s s.due InUse m (affected effect.now m) }
@@ -427,7 +430,7 @@ impl<'a> Follower<'a> {
         self.installation.due() == Operation::Lock && self.files.is_busy && effect.is_nothing()
     }
 
-    // Returns true if the operation may have failed with this effect.
+    // Returns true if the operation that is due may have failed with this effect.
     fn has_failed(&self, fault: NamedFault, effect: &Effect<'a>) -> bool
         ensures is { result ≡ true → (w : World) (message : List ℕ) (s : State) (m : Snapshot)
             → FollowerHolds w self.now message s m
@@ -438,7 +441,8 @@ impl<'a> Follower<'a> {
         effect.has_failed(self.installation.due())
     }
 
-    // Returns true if this is the record among the inputs of the run.
+    // Returns true if reading the record is due, and it is both the one among the inputs and the current
+    // file.
     fn has_read_record(&self, inputs: &RunInputs<'a>, record: Option<&'a [u8]>) -> bool
         ensures is { result ≡ true → (message : List ℕ) (s : State) (m : Snapshot)
             → FollowerHolds (world_of inputs.now) self.now message s m
@@ -453,7 +457,7 @@ impl<'a> Follower<'a> {
             && same(record, bytes_at(&self.files.recorded))
     }
 
-    // Returns true if this is the signature file among the inputs of the run.
+    // Returns true if reading the signature file is due, and it is the one among the inputs of the run.
     fn has_read_signature(&self, inputs: &RunInputs<'a>, text: &[u8]) -> bool
         ensures is { result ≡ true → (time : Option ℕ) (message : List ℕ) (s : State) (m : Snapshot)
             → FollowerHolds (world_of inputs.now) self.now message s m
@@ -465,7 +469,7 @@ impl<'a> Follower<'a> {
         self.installation.due() == Operation::ReadSignature && *text == *inputs.sig_text
     }
 
-    // Returns true if there is no file at the target.
+    // Returns true if reading the target is due, and there is no file.
     fn has_no_target(&self) -> bool
         ensures is { result ≡ true → (w : World) (message : List ℕ) (s : State) (m : Snapshot)
             → FollowerHolds w self.now message s m → Performs w s s.due TargetMissing m m }
@@ -545,7 +549,7 @@ impl<'a> Follower<'a> {
         extended(update, bytes_seen(&self.files.data_file), piece)
     }
 
-    // Returns true if this piece was copied.
+    // Returns true if the effect is that the next piece of the data, of this length, was copied.
     fn has_copied(&self, update: &'a [u8], len: u64, effect: &Effect<'a>) -> bool
         ensures is { result ≡ true → (w : World) (message : List ℕ) (s : State) (m : Snapshot)
             → w.update ≡ update.now → FollowerHolds w self.now message s m
@@ -637,7 +641,8 @@ impl<'a> Follower<'a> {
         }
     }
 
-    // Opens the installed file if nothing of it was read.
+    // Keeps the content of the installed file as long as none of it was read. So the pieces that are read are
+    // those of the file that was at the target when reading began.
     fn open_target(&mut self)
         ensures follows { (w : World) (message : List ℕ) (s : State) (m : Snapshot)
             → FollowerHolds w self.old message s m → FollowerHolds w self.new message s m }
@@ -826,9 +831,9 @@ pub fn first_unlawful_line<'a>(
     ensures before { IfSome result (λ n. (m : Snapshot) → IsSeen begun.now m
         → IsLawful (world_of inputs.now) (options_by key.now other.now choices.now file.now) m
         (take n trace.now)) }
-    // With the line after these, they are not: no application that performs the operations of `step`, and
-    // records the report and the effect of each operation, has these lines. This assumes that the options can
-    // be combined, and that the buffer is large enough for the message of the trusted comment.
+    // If the result is `Some(n)`, the first n + 1 lines are not those of an application that performs the
+    // operations of `step`, and records the report and the effect of each operation. This assumes that the
+    // options can be combined, and that the buffer is large enough for the message of the trusted comment.
     ensures offends { IfSome result (λ n. choices_misuse choices.now ≡ None
         → MessageFits (world_of inputs.now) message.old → (m : Snapshot) → IsSeen begun.now m
         → IsRecorded inputs.now (begin (options_by key.now other.now choices.now file.now)) m []

@@ -320,8 +320,8 @@ class OtherFile(MinisignError):
 
 
 class NoNumber(MinisignError):
-    """The trusted comment has no field of the chosen numbering, or its value is not a
-    decimal number below 2^64."""
+    """The trusted comment lacks the field that was chosen for the version number, or
+    the value of the first such field is not a decimal number below 2^64."""
 
     number = 50
 
@@ -387,7 +387,8 @@ class BadSize(MinisignError):
 
 
 class OtherSize(MinisignError):
-    """The data is longer or shorter than the trusted comment says."""
+    """The data is longer or shorter than the field "size:" of the trusted comment
+    says."""
 
     number = 60
 

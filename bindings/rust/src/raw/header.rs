@@ -115,8 +115,8 @@ impl Reason {
     pub const DAMAGED_RECORD: Reason = Reason(48);
     /// The trusted comment does not name the file that the caller expects.
     pub const OTHER_FILE: Reason = Reason(49);
-    /// The trusted comment has no field of the chosen numbering, or its value is not a decimal
-    /// number below 2^64.
+    /// The trusted comment lacks the field that was chosen for the version number, or the value of
+    /// the first such field is not a decimal number below 2^64.
     pub const NO_NUMBER: Reason = Reason(50);
     /// The version number of the update is below the recorded one.
     pub const OLDER_UPDATE: Reason = Reason(51);
@@ -139,7 +139,7 @@ impl Reason {
     /// The trusted comment has more than one field "size:", or its value is not a decimal number
     /// below 2^64.
     pub const BAD_SIZE: Reason = Reason(59);
-    /// The data is longer or shorter than the trusted comment says.
+    /// The data is longer or shorter than the field "size:" of the trusted comment says.
     pub const OTHER_SIZE: Reason = Reason(60);
     /// The signature was read from a different signature file than the one that was passed with it.
     pub const OTHER_SIGNATURE_TEXT: Reason = Reason(61);

@@ -16,7 +16,7 @@ use crate::faults::InstallFault;
 use crate::installation::progress::Chosen;
 use minisign_base::NamedFault;
 
-// Returns the error with which the trusted comment is rejected: that of the first check that fails.
+// Returns the error if the trusted comment is rejected: that of the first check that fails.
 pub(crate) fn comment_fault(
     chosen: &Chosen,
     file: &str,
@@ -71,7 +71,7 @@ fn number_fault(chosen: &Chosen, comment: &str) -> Option<InstallFault>
     }
 }
 
-// Returns the error with which the fields `expires:` are rejected at this time.
+// Returns the error if the fields `expires:` are rejected at this time.
 fn expiry_fault(comment: &str, must_expire: bool, time: Option<u64>) -> Option<InstallFault>
     ensures is { result ≡ expiry_fault must_expire time (expiries must_expire comment.now)
         (number_of (value_of expiry_label comment.now)) }
@@ -92,7 +92,7 @@ fn expiry_fault(comment: &str, must_expire: bool, time: Option<u64>) -> Option<I
     }
 }
 
-// Returns the error with which the only field `expires:` is rejected at this time.
+// Returns the error if the only field `expires:` is rejected at this time.
 fn expiry_at(comment: &str, time: Option<u64>) -> Option<InstallFault>
     ensures is { (must : Bool) (v : List ℕ) → result
         ≡ expiry_fault must time (v ∷ []) (number_of (value_of expiry_label comment.now)) }
@@ -110,7 +110,7 @@ fn expiry_at(comment: &str, time: Option<u64>) -> Option<InstallFault>
     }
 }
 
-// Returns the time in the first field `expires:`, if it has one.
+// Returns the number in the first field `expires:`, if there is one.
 fn expiry_in(comment: &str) -> Option<u64>
     ensures { result ≡ number_of (value_of expiry_label comment.now) }
 {
@@ -120,7 +120,7 @@ fn expiry_in(comment: &str) -> Option<u64>
     }
 }
 
-// Returns the error with which the fields `size:` are rejected.
+// Returns the error if the fields `size:` are rejected.
 fn size_fault(comment: &str) -> Option<InstallFault>
     ensures is { result ≡ size_fault (values_of size_label comment.now) }
     ensures own { IfSome result (λ e. is_own e ≡ true) }
@@ -177,7 +177,7 @@ fn number_in(text: &str) -> Option<u64>
     comments::number_of(text)
 }
 
-// Returns true if the first number is less than the second, if there are two.
+// Returns true if both numbers exist and the first is less than the second.
 fn is_below(number: Option<u64>, bound: Option<u64>) -> bool
     ensures { result ≡ is_below number bound }
 {
@@ -187,9 +187,9 @@ fn is_below(number: Option<u64>, bound: Option<u64>) -> bool
     }
 }
 
-/// Checks only what a trusted comment says, and returns the version number of the update. `time` is in
-/// seconds since the beginning of 1970. The version must not be below `least`. For applications that install
-/// in another way.
+/// Checks the fields of a trusted comment, and returns the version number of the update. Only the comment is
+/// checked, not its signature: this is for applications that install in another way. `time` is in seconds
+/// since the beginning of 1970. The version must not be below `least`.
 pub fn judge_comment(
     comment: &[u8],
     file: &[u8],
@@ -197,7 +197,7 @@ pub fn judge_comment(
     time: u64,
     least: u64,
 ) -> Result<u64, InstallFault>
-    // The result is the version number if all checks pass, otherwise the first check that fails.
+    // The result is the version number if all checks pass, otherwise the error of the first check that fails.
     ensures { result ≡ judge_comment file.now numbering time least comment.now }
 {
     match str::from_utf8(comment) {
@@ -209,7 +209,7 @@ pub fn judge_comment(
     }
 }
 
-// Returns the version number of the update, or the first check that fails.
+// Returns the version number of the update, or the error of the first check that fails.
 fn judge_comment_only(
     comment: &str,
     file: &str,
@@ -225,7 +225,7 @@ fn judge_comment_only(
     }
 }
 
-// Returns the first check that fails.
+// Returns the error of the first check that fails, if one fails.
 fn comment_only_fault(
     comment: &str,
     file: &str,
@@ -257,7 +257,7 @@ fn version_fault(comment: &str, numbering: Numbering) -> Option<InstallFault>
     }
 }
 
-// Returns an error if the version is below this one.
+// Returns an error if the version is below `least`.
 fn older_fault(comment: &str, numbering: Numbering, least: u64) -> Option<InstallFault>
     ensures { result
         ≡ unless (not (is_below (version_in numbering comment.now) (Some least))) OlderUpdate }

@@ -120,7 +120,7 @@ impl Progress {
         }
     }
 
-    // Writes the new record, for this key that has signed.
+    // Writes the new record if this key has signed.
     fn write_new_record(&self, signer: [u8; 32], to: &mut [u8]) -> usize
         ensures written { (s : State) → HoldsState self.now s → key_of s.signers ≡ signer
             → IsWritten (new_record s) result to.old to.new }
@@ -136,7 +136,7 @@ impl Progress {
         write_record(self.chosen.numbering(), version, &mark, to)
     }
 
-    // Returns the version number of the new record.
+    // Returns the version number of the new record. A roll-back does not decrease it.
     fn new_version(&self) -> u64
         ensures { (s : State) → HoldsState self.now s → result ≡ new_version s }
     {
@@ -147,7 +147,7 @@ impl Progress {
         }
     }
 
-    // Returns the key of the new record, if this one has signed.
+    // Returns the key of the new record: the signer, or after a roll-back the key in the old record.
     fn new_key(&self, signer: [u8; 32]) -> [u8; 32]
         ensures { (s : State) → HoldsState self.now s → key_of s.signers ≡ signer → result ≡ new_key s }
     {
@@ -158,7 +158,7 @@ impl Progress {
         }
     }
 
-    // Returns the key that the record names, or else this one.
+    // Returns the key that the old record names, or the signer if it names none.
     fn recorded_key(&self, signer: [u8; 32]) -> [u8; 32]
         ensures { (s : State) → HoldsState self.now s → result ≡ unwrap_or s.recorded.key signer }
     {
@@ -169,7 +169,8 @@ impl Progress {
         }
     }
 
-    // Returns the first key that may have signed, if there is one.
+    // Returns the first key that may have signed, if there is one. Once the comment is found to be signed,
+    // this is the key that signed it.
     fn signer(&self) -> Option<[u8; 32]>
         ensures { (s : State) → HoldsState self.now s → result ≡ first_key s.signers }
     {

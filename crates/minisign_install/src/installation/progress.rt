@@ -80,7 +80,7 @@ pub struct Progress {
     pub(crate) chosen: Chosen,
     pub(crate) recorded: RecordedValue,
     pub(crate) judged: Judged,
-    // 1 if the first key, and 1 if the other key, may have signed.
+    // 1 if the first key may have signed, and 1 if the other key may have.
     pub(crate) by_key: u32,
     pub(crate) by_other_key: u32,
     // 1 if the first of these keys has signed the comment.
@@ -110,7 +110,8 @@ impl Progress {
         self.due = due.number();
     }
 
-    // Rejects the run, and removes its temporary files first.
+    // Rejects the run. If it has temporary files, removing them is due first. Only the first error of a run
+    // is returned.
     pub(crate) fn reject(&mut self, fault: InstallFault) -> Result<(), Refusal<InstallFault>>
         ensures leads { (s : State) → HoldsState self.old s → RunLeadsTo s (reject fault s) result self.new }
         ensures proper { IfErr result (λ r. r ≢ WrongUse NotDue) }
@@ -144,7 +145,7 @@ impl Progress {
         }
     }
 
-    // Reports the end of the file that is read.
+    // Reports the end of the file that is being read.
     pub(crate) fn end_piece(&mut self) -> Result<(), Refusal<InstallFault>>
         ensures steps { (s : State) → HoldsState self.old s → Steps (end_event s.due) s result self.new }
         ensures misuse { result ≡ Err (WrongUse NotDue) → self.new ≡ self.old }
@@ -260,7 +261,7 @@ impl Progress {
         Ok(())
     }
 
-    // Reports the next bytes of the file that is read.
+    // Reports the next bytes of the file that is being read.
     pub(crate) fn piece(&mut self, bytes: &[u8]) -> Result<(), Refusal<InstallFault>>
         ensures steps { (s : State) → HoldsState self.old s → Steps (PieceRead bytes.now) s result self.new }
         ensures misuse { result ≡ Err (WrongUse NotDue) → self.new ≡ self.old }
@@ -272,7 +273,7 @@ impl Progress {
         Ok(())
     }
 
-    // Reports the next bytes of the file that is read, or its end.
+    // Reports the next bytes of the file that is being read, or its end if there are none.
     pub(crate) fn bytes(&mut self, bytes: &[u8]) -> Result<(), Refusal<InstallFault>>
         ensures steps { (s : State) → HoldsState self.old s
             → Steps (piece_event s.due bytes.now) s result self.new }
@@ -285,7 +286,8 @@ impl Progress {
         }
     }
 
-    // Continues after the trusted comment was found to be signed and accepted.
+    // Continues after a key was found to have signed the comment and the comment was accepted: compares the
+    // update with the record and the installed file, or installs it.
     fn compare(&mut self)
         ensures { (s : State) → HoldsState self.old s → HoldsState self.new (compare s) }
     {
@@ -314,7 +316,7 @@ impl Progress {
         self.recorded.has_version == 1 && self.judged.version < self.recorded.version
     }
 
-    // Reports what Ed25519 answered.
+    // Reports the result of Ed25519 for the question that is due.
     pub(crate) fn answer(&mut self, accepted: bool) -> Result<(), Refusal<InstallFault>>
         ensures steps { (s : State) → HoldsState self.old s → Steps (Answered accepted) s result self.new }
         ensures misuse { result ≡ Err (WrongUse NotDue) → self.new ≡ self.old }
@@ -331,7 +333,7 @@ impl Progress {
         }
     }
 
-    // Reports what Ed25519 answered about the comment.
+    // Reports the result of Ed25519 for the question about the comment.
     fn answer_comment(&mut self, accepted: bool) -> Result<(), Refusal<InstallFault>>
         requires { operation_of self.old.due ≡ CheckComment }
         ensures steps { (s : State) → HoldsState self.old s → Steps (Answered accepted) s result self.new }
@@ -344,7 +346,7 @@ impl Progress {
         }
     }
 
-    // Reports what Ed25519 answered about the digest of the installed file.
+    // Reports the result of Ed25519 for the question about the installed file.
     fn answer_target(&mut self, accepted: bool) -> Result<(), Refusal<InstallFault>>
         requires { operation_of self.old.due ≡ CheckTarget }
         ensures steps { (s : State) → HoldsState self.old s → Steps (Answered accepted) s result self.new }
@@ -358,7 +360,7 @@ impl Progress {
         }
     }
 
-    // Reports what Ed25519 answered about the digest of the temporary file.
+    // Reports the result of Ed25519 for the question about the temporary file.
     fn answer_data(&mut self, accepted: bool) -> Result<(), Refusal<InstallFault>>
         requires { operation_of self.old.due ≡ CheckData }
         ensures steps { (s : State) → HoldsState self.old s → Steps (Answered accepted) s result self.new }
@@ -408,7 +410,7 @@ impl Progress {
         self.reject(NamedFault::CommentSignatureRefused.into())
     }
 
-    // Continues after Ed25519 was asked whether the digest in the record is that of the update.
+    // Continues with the result of Ed25519 for the question about the digest in the record.
     fn answer_record(&mut self, accepted: bool)
         ensures { (s : State) → HoldsState self.old s → HoldsState self.new (after_digest accepted s) }
     {
@@ -423,7 +425,7 @@ impl Progress {
         }
     }
 
-    // Continues after the installed file was found to be the update.
+    // Continues after the installed file was found to be the update: it is synced, unless the run is a check.
     fn accept_target(&mut self)
         ensures { (s : State) → HoldsState self.old s → HoldsState self.new (after_target true s) }
     {
@@ -434,7 +436,8 @@ impl Progress {
         }
     }
 
-    // Continues after the installed file was found not to be the update.
+    // Continues after the installed file was found not to be the update: replaces it if the record is that of
+    // the update or `again` is set, else rejects the run.
     fn replace_target(&mut self) -> Result<(), Refusal<InstallFault>>
         ensures leads { (s : State) → HoldsState self.old s
             → RunLeadsTo s (after_target false s) result self.new }

@@ -118,7 +118,7 @@ fn counted(chosen: &Chosen, bytes: &[u8], version: u64) -> RecordedValue
     }
 }
 
-// Returns true if a record of another key is ignored, and this is one.
+// Returns true if the record names a key that was not given, and the options say to ignore such a record.
 fn is_ignored(chosen: &Chosen, bytes: &[u8]) -> bool
     ensures { (file : List ℕ) → result ≡ ((chosen.now.is_first == 1 || chosen.now.new_key == 1)
         && names_other_key (options_of chosen.now file) bytes.now) }

@@ -94,7 +94,7 @@ impl Progress {
         }
     }
 
-    // Rejects the run with this error.
+    // Rejects the run with this error. No message is written.
     fn refuse(&mut self, fault: PError) -> Result<usize, Refusal<InstallFault>>
         ensures leads { (s : State) → HoldsState self.old s
             → RunLeadsTo s (reject (Library fault) s) (plain result) self.new }
@@ -157,7 +157,7 @@ impl Progress {
 }
 
 impl Judged {
-    // Returns the contents of a signature file, and checks its comment.
+    // Checks the comment of a signature file, and returns the result with the signatures of the file.
     fn of(
         chosen: &Chosen,
         view: &SignatureView<'_>,
@@ -219,7 +219,7 @@ fn not_utf8() -> PError
     NamedFault::NotUtf8.into()
 }
 
-// Makes the checks that need no Ed25519, and returns the signature of the comment.
+// Performs the checks that need no Ed25519, and returns the signature of the comment.
 fn judge_keys(chosen: &Chosen, view: &SignatureView<'_>) -> Result<[u8; 64], PError>
     ensures { (t : SignatureTextRecord) (file : List ℕ) → view.now ≡ view_of t
         → IsJudgedAs (judge_keys (options_of chosen.now file) (given chosen.now t) t) t (given chosen.now t)
