@@ -44,7 +44,7 @@ FROM_C = Part((("minisign_c", "verify_in_a_row", "number"), ("minisign_c", "veri
 # Of minisign_install, only the definitions in these files are printed in full; they are the laws, the relation that describes an
 # application, and the installer as one function. The others are listed by name.
 OF_APPLICATIONS = r"/crates/minisign_install/(?!specs/(?:Applications|Histories|StepRuns|Step|Decisions|Traces)\.)"
-INSTALLING = Part((("minisign_install", "any_application_is_safe", "safe"), ("minisign_install", "any_application_is_safe", "lasts"),
+INSTALLING = Part((("minisign_install", "any_application_is_safe", "safe"), ("minisign_install", "any_application_is_safe", "durable"),
                    ("minisign_install", "any_good_update_arrives", "installed")), files=OF_APPLICATIONS)
 RUNS = Part((("minisign_install", "any_history_keeps_the_version", "versions"),), files=OF_APPLICATIONS)
 # The function that decides if a recorded run follows these rules.

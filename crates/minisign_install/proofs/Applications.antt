@@ -11,7 +11,7 @@ use Rattle.std.specs.Prelude.{⊤, Bool, Err, Option, is_some}
 use Rattle.minisign_external.specs.declared.state.Refusal.TheVariants.{Refused}
 use Rattle.minisign_install.specs.Histories.{AllEvents}
 use Rattle.minisign_install.specs.Step.{Event, Installed, State, begin, has_ended, step}
-use Rattle.minisign_install.specs.StepRuns.{IsEnd, IsAcceptable, IsGoodUpdate, IsRun, EventIsTrue, World}
+use Rattle.minisign_install.specs.StepRuns.{IsEnd, IsAcceptable, IsGoodUpdate, IsRun, IsLawfulEvent, World}
 use Rattle.minisign_install.specs.StepRuns.{count}
 use Rattle.minisign_install.proofs.SafeCalls.{Invariant, next, true_event, true_run}
 use Rattle.minisign_install.proofs.SafeCalls as safe_calls
@@ -23,8 +23,8 @@ abbrev pub event_of : Call → Event
 event_of c = c.event
 
 both : (w : World) (P : Event → Type 0) (n : ℕ) (s : State) (calls : List Call) (t : State)
-    → IsRun (EventIsTrue w) n s (map event_of calls) t → AllEvents P calls
-    → IsRun (λ n s e. EventIsTrue w n s e × P e) n s (map event_of calls) t
+    → IsRun (IsLawfulEvent w) n s (map event_of calls) t → AllEvents P calls
+    → IsRun (λ n s e. IsLawfulEvent w n s e × P e) n s (map event_of calls) t
 both w P n s [] t run each = run
 both w P n s (c ∷ more) t (is, run) (holds, each) =
     ((is, holds), both w P (count n c.event) (step s c.event).1 more t run each)
@@ -59,7 +59,7 @@ application_ends w o m calls t end run =
 last_true : (w : World) (o : Options) (n : ℕ) (s : State) (m : Snapshot) (calls : List Call) (t : State)
     (end : Snapshot) (c : Call) → Invariant w o ⊤ ⊥ n s m → Applies w s m calls t end → Others end c.before
     → is_some (after t.due c.event t) ≡ true → Performs w t t.due c.event c.before c.after
-    → EventIsTrue w (total n (map event_of calls)) t c.event
+    → IsLawfulEvent w (total n (map event_of calls)) t c.event
 last_true w o n s m [] t end c known (is, same) others fits done =
     true_event w o ⊤ ⊥ n t end c (rw (is, same) known) others (λ q. absurd q) fits done
 last_true w o n s m (d ∷ more) t end c known (others, fits, is, run) later fit done =

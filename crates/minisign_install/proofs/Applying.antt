@@ -15,7 +15,7 @@ use Rattle.minisign_install.specs.Step.{Answered, PieceRead, TargetMissing, Piec
 use Rattle.minisign_install.specs.Step.{answer, begin, has_files, new_record, step}
 use Rattle.minisign_install.specs.Step as due
 use Rattle.minisign_install.specs.Step.{data_question}
-use Rattle.minisign_install.specs.StepRuns.{asks}
+use Rattle.minisign_install.specs.StepRuns.{says_yes}
 use Rattle.minisign_install.specs.StepRuns.{IsTrueEvent, World, count}
 use Rattle.minisign_install.proofs.StepSafety.{Passed}
 
@@ -60,7 +60,7 @@ module _ (w : World) (F Q : Type 0) where
 
   -- The signature is valid for the bytes that were read.
   abbrev pub IsSigned : State → Type 0
-  IsSigned s = asks w (data_question due.CheckTarget s) ≡ true
+  IsSigned s = says_yes w (data_question due.CheckTarget s) ≡ true
 
   -- The invariant of the files, for each operation.
   abbrev pub Has : ℕ → Operation → State → Snapshot → Type 0
@@ -280,7 +280,7 @@ module _ (w : World) (F Q : Type 0) where
   target_is_update n false s m is signed opened = (signed, opened)
 
   after_target : (n : ℕ) (s : State) (accepted : Bool) (m : Snapshot) → IsEarly n s m
-      → accepted ≡ asks w (data_question due.CheckTarget s) → (Q → IsOpened s m)
+      → accepted ≡ says_yes w (data_question due.CheckTarget s) → (Q → IsOpened s m)
       → Holds n m (due.after_target accepted s)
   after_target n s true m has is opened =
       target_is_update n s.options.check (due.after_target true s) m refl (sym is) opened

@@ -7,11 +7,11 @@ mod Judged
 mod HeldStates
 mod Leftovers
 mod NewKeys
-mod Noting
+mod FullTraces
 mod RecordTexts
 mod Recorded
 mod RecordedNumbers
-mod Refusing
+mod RejectedRuns
 mod Resuming
 mod RollBacks
 mod RolledBack
@@ -25,7 +25,7 @@ mod StepFacts
 mod StepFiles
 mod StepReasons
 mod StepRecords
-mod StepRefusals
+mod StepRejections
 mod StepSafety
 mod StepSyncs
 mod Timely

@@ -18,7 +18,8 @@ use Rattle.hex.specs.Hex.{IsBytes, encode_lower, lower_digits}
 use Rattle.hex.proofs.HexLemmas.{decode_sized-encode_lower, length-encode_with}
 use Rattle.minisign_hash.specs.Blake2b.{blake2b_digest, compress}
 use Rattle.minisign_hash.specs.Words.{bytes_of_words64}
-use Rattle.minisign_install.specs.RecordTexts.{IsNumberFor, is_marked, mark_text, record_digest, record_of}
+use Rattle.minisign_install.specs.RecordTexts.{IsNumberFor, has_last_lines, last_lines, record_digest}
+use Rattle.minisign_install.specs.RecordTexts.{record_of}
 use Rattle.minisign_install.specs.RecordTexts.{IsRecordOf, record_key, record_text}
 use Rattle.minisign_install.specs.Comments.{IsNumberText, Numbering, Timestamp, Version, number_label, strip}
 use Rattle.minisign_install.proofs.Fields.{strips}
@@ -75,9 +76,9 @@ line_short numbering n bound =
       length-decimal-le 20 n (omega arith) (omega arith) bound,
     )
 
-pub length-mark : (key digest : List ℕ)
-    → length (mark_text key digest) ≡ 2 + 2 * length key + 2 * length digest
-length-mark key digest =
+pub length-last_lines : (key digest : List ℕ)
+    → length (last_lines key digest) ≡ 2 + 2 * length key + 2 * length digest
+length-last_lines key digest =
     omega (
       arith,
       length-append (10 ∷ encode_lower key) (10 ∷ encode_lower digest),
@@ -90,23 +91,23 @@ module _ (numbering : Numbering) (n : ℕ) (bound : n < 2 ^ 64) (key digest : Li
   abbrev line : List ℕ
   line = number_label numbering ++ decimal n
 
-  len : length (line ++ mark_text key digest) ≡ length line + 194
+  len : length (line ++ last_lines key digest) ≡ length line + 194
   len = omega (
     arith,
-    length-append line (mark_text key digest),
-    length-mark key digest,
+    length-append line (last_lines key digest),
+    length-last_lines key digest,
     key_whole,
     digest_whole,
   )
 
   -- A line feed follows the first line.
-  ends : slice_index (line ++ mark_text key digest) (length (line ++ mark_text key digest) - 194) ≡ 10
+  ends : slice_index (line ++ last_lines key digest) (length (line ++ last_lines key digest) - 194) ≡ 10
   ends =
-      let at : length (line ++ mark_text key digest) - 194 - length line ≡ 0 = omega (arith, len) in
-      get_or-append_right line (mark_text key digest) (length (line ++ mark_text key digest) - 194) 0
-      (omega (arith, len)) ∙ ap (λ i. get_or (mark_text key digest) i 0) at
+      let at : length (line ++ last_lines key digest) - 194 - length line ≡ 0 = omega (arith, len) in
+      get_or-append_right line (last_lines key digest) (length (line ++ last_lines key digest) - 194) 0
+      (omega (arith, len)) ∙ ap (λ i. get_or (last_lines key digest) i 0) at
 
-  is_written : is_marked (record_of numbering n key digest) ≡ true
+  is_written : has_last_lines (record_of numbering n key digest) ≡ true
   is_written =
       rw (
         le-leb 194 (length (record_of numbering n key digest)) (omega (arith, len)),
@@ -120,7 +121,7 @@ module _ (numbering : Numbering) (n : ℕ) (bound : n < 2 ^ 64) (key digest : Li
       let xs = record_of numbering n key digest in
       let at : length xs - 194 ≡ length line = omega (arith, len) in
       rw (lt-leb (length xs) 64 (omega (arith, len)), is_written) (ap (λ i. take i xs) at
-      ∙ take_at line (mark_text key digest) (length line) refl)
+      ∙ take_at line (last_lines key digest) (length line) refl)
 
 pub label_utf8 : (numbering : Numbering) → IsUtf8 (number_label numbering)
 unfolding lib.Utf8.encode

@@ -7,7 +7,7 @@ use Rattle.minisign_install.specs.Decisions.{Options, Recorded, judge_record, ju
 use Rattle.minisign_install.specs.Decisions.{names_other_key}
 use Rattle.minisign_install.specs.Decisions.{nothing_recorded, recorded_version}
 use Rattle.minisign_install.specs.Faults.{InstallFault}
-use Rattle.minisign_install.specs.Histories.{AppliesAs, counted_for}
+use Rattle.minisign_install.specs.Histories.{AppliesAs, used_record_for}
 use Rattle.minisign_install.proofs.Recorded.{recorded_holds}
 use Rattle.minisign_install.proofs.StepRecords.{recorded_reads}
 
@@ -64,7 +64,7 @@ module _ (o : Options) (no_new_key : o.new_key ≡ false) where
       ∙ recorded_reads o.numbering all k holds))
 
   by_version : (bytes : List ℕ) (version applicable : Option ℕ) → recorded_version o.numbering bytes ≡ version
-      → AppliesAs o.numbering o.first (counted_for o (Some bytes)) applicable
+      → AppliesAs o.numbering o.first (used_record_for o (Some bytes)) applicable
       → version_of (judge_version o bytes version) applicable
   by_version bytes (Some n) applicable reads record_applies =
       with_number bytes o.first o.new_key
@@ -80,7 +80,7 @@ module _ (o : Options) (no_new_key : o.new_key ≡ false) where
   no_record first fault (Some k) (all, none, holds) = absurd (none-some all none)
 
   counted_same : (found : Option (List ℕ)) (applicable : Option ℕ)
-      → AppliesAs o.numbering o.first (counted_for o found) applicable → Same found applicable
+      → AppliesAs o.numbering o.first (used_record_for o found) applicable → Same found applicable
   counted_same None applicable record_applies = no_record o.first _ applicable record_applies
   counted_same (Some bytes) applicable record_applies =
       by_version bytes (recorded_version o.numbering bytes) applicable refl record_applies
@@ -88,7 +88,7 @@ module _ (o : Options) (no_new_key : o.new_key ≡ false) where
 -- The update is compared with the version number that version 0.2 took from the record, even if the number
 -- has no label.
 pub applies_as_before : (o : Options) (found : Option (List ℕ)) (applicable : Option ℕ) → o.new_key ≡ false
-    → AppliesAs o.numbering o.first (counted_for o found) applicable
+    → AppliesAs o.numbering o.first (used_record_for o found) applicable
     → (r : Recorded) × (judge_record o found ≡ Ok r) × (r.version ≡ applicable)
 applies_as_before o found applicable no_new_key record_applies = counted_same o no_new_key found applicable
     record_applies

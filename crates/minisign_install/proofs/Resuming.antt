@@ -17,13 +17,13 @@ use Rattle.minisign_install.specs.Step.{PieceRead, PieceCopied, State, begin, st
 use Rattle.minisign_install.specs.Step.{answer, has_ended, key_of}
 use Rattle.minisign_install.specs.Step as due
 use Rattle.minisign_install.specs.Applications.{Applies, Call, Snapshot}
-use Rattle.minisign_install.specs.Histories.{AllEvents, IsAcceptableFor, IsOwnUpdate, IsInstalled}
+use Rattle.minisign_install.specs.Histories.{AllEvents, IsAcceptableFor, IsOldUpdate, IsInstalled}
 use Rattle.minisign_install.specs.StepRuns.{IsTrueEvent, World, count}
 use Rattle.minisign_install.specs.StepRuns.{first_signer}
 use Rattle.minisign_install.proofs.SafeCalls.{Invariant, next, true_event}
 use Rattle.minisign_install.proofs.SafeCalls as safe_calls
 
-module _ (w : World) (o : Options) (g : IsOwnUpdate w o) where
+module _ (w : World) (o : Options) (g : IsOldUpdate w o) where
   -- After n bytes were copied, the rest of the signed size is the length of the data that is left.
   abbrev Left : ℕ → Option ℕ → Type 0
   Left n None = ⊤
@@ -286,7 +286,7 @@ module _ (w : World) (o : Options) (g : IsOwnUpdate w o) where
 
 -- If nothing fails, and the record was written for this update or the update is older, then a run that has
 -- ended has installed the update or found it installed.
-pub interrupted_run_is_finished : (w : World) (o : Options) (g : IsOwnUpdate w o) (m : Snapshot)
+pub interrupted_run_is_finished : (w : World) (o : Options) (g : IsOldUpdate w o) (m : Snapshot)
     (calls : List Call) (t : State) (end : Snapshot) → Applies w (begin o) m calls t end
     → AllEvents (IsAcceptableFor g) calls → has_ended t.due ≡ true → IsInstalled t.due
 interrupted_run_is_finished w o g m calls t end run fine ended =

@@ -9,7 +9,8 @@ use Rattle.minisign_hash.specs.Blake2b.{blake2b_digest}
 use Rattle.minisign_install.specs.Applications.{Applies, Call, Snapshot, Performs}
 use Rattle.minisign_install.specs.Decisions.{Options, Recorded, comment_fault, judge_record, judge_text}
 use Rattle.minisign_install.specs.Faults.{InstallFault, SameNumber}
-use Rattle.minisign_install.specs.Histories.{AcceptsWholeKeys, AllEvents, IsFineAt, IsLaterRun, IsOtherUpdate}
+use Rattle.minisign_install.specs.Histories.{AcceptsWholeKeys, AllEvents, IsAcceptableAt, IsLaterRun}
+use Rattle.minisign_install.specs.Histories.{IsOtherUpdate}
 use Rattle.minisign_install.specs.Histories.{OthersLeaveTarget}
 use Rattle.minisign_install.specs.Step.{Event, Operation, State, after, answer, begin, has_ended, step}
 use Rattle.minisign_install.specs.Step as due
@@ -124,7 +125,7 @@ module _ (v : World) (p : Options) (k : ℕ) (digest : List ℕ) (r : Recorded)
   same_target old new is present = rw is present
 
   keeps : (op : Operation) (e : Event) (s : State) (old new : Snapshot) → s.due ≡ op → Known v p op s
-      → OnTrack op s old → Performs v s op e old new → IsFineAt p k g.text e
+      → OnTrack op s old → Performs v s op e old new → IsAcceptableAt p k g.text e
       → IfSome (after op e s) (Holds new)
   keeps op (due.Failed f) s old new at known on is fine = absurd fine
   keeps due.Lock due.InUse s old new at known on is fine = absurd fine
@@ -188,7 +189,7 @@ module _ (v : World) (p : Options) (k : ℕ) (digest : List ℕ) (r : Recorded)
 
   on_from : (n : ℕ) (s : State) (m : Snapshot) (calls : List Call) (t : State) (end : Snapshot)
       → Invariant v p ⊤ ⊥ n s m → Holds m s → Applies v s m calls t end → OthersLeaveTarget m calls
-      → AllEvents (IsFineAt p k g.text) calls → Holds end t
+      → AllEvents (IsAcceptableAt p k g.text) calls → Holds end t
   on_from n s m [] t end known on (is, same) leaves fine = rw (is, same) on
   on_from n s m (c ∷ more) t end known on (others, fits, is, run) (leaves, rest) (fine, later) =
       let before = stays s.due s m c.before leaves.0 on in
@@ -203,7 +204,7 @@ module _ (v : World) (p : Options) (k : ℕ) (digest : List ℕ) (r : Recorded)
   starts false m present = present
 
   ends : (m : Snapshot) (calls : List Call) (t : State) (end : Snapshot) → Applies v (begin p) m calls t end
-      → OthersLeaveTarget m calls → IsInstalled m → AllEvents (IsFineAt p k g.text) calls
+      → OthersLeaveTarget m calls → IsInstalled m → AllEvents (IsAcceptableAt p k g.text) calls
       → has_ended t.due ≡ true
       → (t.due ≡ due.AlreadyInstalled) ⊎ ((t.due ≡ due.Rejected) × (t.error ≡ Some SameNumber))
   ends m calls t end run leaves present fine over =
@@ -216,7 +217,7 @@ pub roll_back_is_named : (w : World) (o : Options) → AcceptsWholeKeys w.accept
     → AcceptsWholeKeys v.accepts → IsLaterRun v p o.numbering s
     → IsOtherUpdate v p k (blake2b_digest 64 s.read) → (g : IsSigned v p) (m : Snapshot) (calls : List Call)
     (t : State) (end : Snapshot) → Applies v (begin p) m calls t end → OthersLeaveTarget m calls
-    → is_some m.target ≡ true → AllEvents (IsFineAt p k g.text) calls → has_ended t.due ≡ true
+    → is_some m.target ≡ true → AllEvents (IsAcceptableAt p k g.text) calls → has_ended t.due ≡ true
     → (t.due ≡ due.AlreadyInstalled) ⊎ ((t.due ≡ due.Rejected) × (t.error ≡ Some SameNumber))
 roll_back_is_named w o whole s update k is less v p whole_later later other g m calls t end run leaves present
     fine over =

@@ -8,11 +8,11 @@ use Rattle.minisign_install.specs.Applications.{CrashMayLeaveOneOf, Snapshot, Ot
 use Rattle.minisign_install.specs.Applications.{data_renamed}
 use Rattle.minisign_install.specs.Applications.{names_synced, record_renamed, synced_if}
 use Rattle.minisign_install.specs.Decisions.{Options}
-use Rattle.minisign_install.specs.Histories.{EndLasts, IsLasting, LeavesTarget, OthersLeaveTarget}
+use Rattle.minisign_install.specs.Histories.{EndIsDurable, IsDurable, LeavesTarget, OthersLeaveTarget}
 use Rattle.minisign_install.specs.Histories.{AllCalls, IsRecordedUpdate, IsSafeCall, IsUpdateRecord}
 use Rattle.minisign_install.specs.Step.{Done, Event, Failed, Operation, State, after, begin, new_record, step}
 use Rattle.minisign_install.specs.Step as due
-use Rattle.minisign_install.specs.StepRuns.{Changes, Disk, EventIsTrue, IsUpdate, IsRun, World, count}
+use Rattle.minisign_install.specs.StepRuns.{Changes, Disk, IsLawfulEvent, IsUpdate, IsRun, World, count}
 use Rattle.minisign_install.proofs.Applying.{Has, IsOnDisk, is_true, stays}
 use Rattle.minisign_install.proofs.Applying as applying
 use Rattle.minisign_install.proofs.StepSafety.{Known, update_of}
@@ -204,7 +204,7 @@ module _ (w : World) (o : Options) (F Q : Type 0) where
   pub true_event : (n : ℕ) (s : State) (m : Snapshot) (c : Call) → Invariant n s m → Others m c.before
       → (Q → LeavesTarget m c.before)
       → is_some (after s.due c.event s) ≡ true → Performs w s s.due c.event c.before c.after
-      → EventIsTrue w n s c.event
+      → IsLawfulEvent w n s c.event
   true_event n s m c (holds, has) others leaves fits is =
       let before = stays w F Q n s.due s m c.before others leaves has in
       (fits, is_true w F Q n s.due c.event s c.before c.after before is)
@@ -263,7 +263,7 @@ safe_calls w o m calls t end run = safe_from w o 0 (begin o) m calls t end (begi
 
 true_from : (w : World) (o : Options) (n : ℕ) (s : State) (m : Snapshot) (calls : List Call) (t : State)
     (end : Snapshot) → Invariant w o ⊤ ⊥ n s m → Applies w s m calls t end
-    → IsRun (EventIsTrue w) n s (map (λ (c : Call). c.event) calls) t
+    → IsRun (IsLawfulEvent w) n s (map (λ (c : Call). c.event) calls) t
 true_from w o n s m [] t end known run = run.0
 true_from w o n s m (c ∷ more) t end known (others, fits, is, run) = (
   true_event w o ⊤ ⊥ n s m c known others (λ q. absurd q) fits is,
@@ -274,7 +274,7 @@ true_from w o n s m (c ∷ more) t end known (others, fits, is, run) = (
 -- The events of a lawful application are lawful events. So all laws about runs of such events hold for it.
 pub true_run : (w : World) (o : Options) (m : Snapshot) (calls : List Call) (t : State) (end : Snapshot)
     → Applies w (begin o) m calls t end
-    → IsRun (EventIsTrue w) 0 (begin o) (map (λ (c : Call). c.event) calls) t
+    → IsRun (IsLawfulEvent w) 0 (begin o) (map (λ (c : Call). c.event) calls) t
 true_run w o m calls t end run = true_from w o 0 (begin o) m calls t end (begins w o ⊤ ⊥ m) run
 
 last_from : (w : World) (o : Options) (n : ℕ) (s : State) (m : Snapshot) (calls : List Call) (t : State)
@@ -286,27 +286,27 @@ last_from w o n s m (c ∷ more) t end known (others, fits, is, run) (leaves, re
     (next w o ⊤ ⊤ n s m c known others (λ q. leaves) fits is (λ found. tt)) run rest
 
 on_disk : {place : Option File} {left : List (Option File)} {bytes : List ℕ} → IsOnDisk place bytes
-    → left ≡ [] → IsLasting place left bytes
+    → left ≡ [] → IsDurable place left bytes
 on_disk (file, present, holds, synced) none = (file, present, holds, synced, none)
 
-lasts : (w : World) (o : Options) (n : ℕ) (op : Operation) (s : State) (m : Snapshot) → Known w o op s
-    → Has w ⊤ ⊤ n op s m → EndLasts w o op s m
-lasts w o n due.Installed s m knows (state_held, recorded, left, complete) =
+durable : (w : World) (o : Options) (n : ℕ) (op : Operation) (s : State) (m : Snapshot) → Known w o op s
+    → Has w ⊤ ⊤ n op s m → EndIsDurable w o op s m
+durable w o n due.Installed s m knows (state_held, recorded, left, complete) =
     let (present, target_left) = complete tt in (
       update_of w o s knows,
       on_disk recorded left,
       (present.0, present.1, present.2, present.3, present.4, target_left),
       state_held.2,
     )
-lasts w o n due.AlreadyInstalled s m knows (signed, inl check) = (signed, inl check)
-lasts w o n due.AlreadyInstalled s m knows (signed, inr holds) =
+durable w o n due.AlreadyInstalled s m knows (signed, inl check) = (signed, inl check)
+durable w o n due.AlreadyInstalled s m knows (signed, inr holds) =
     let (present, left) = holds tt in (signed, inr (on_disk present left))
-lasts w o n op s m knows has = tt
+durable w o n op s m knows has = tt
 
 -- If other processes leave the target alone, no crash can undo a run that has ended with Installed or
 -- AlreadyInstalled.
-pub ends_last : (w : World) (o : Options) (m : Snapshot) (calls : List Call) (t : State) (end : Snapshot)
-    → Applies w (begin o) m calls t end → OthersLeaveTarget m calls → EndLasts w o t.due t end
-ends_last w o m calls t end run leaves =
+pub ends_durable : (w : World) (o : Options) (m : Snapshot) (calls : List Call) (t : State) (end : Snapshot)
+    → Applies w (begin o) m calls t end → OthersLeaveTarget m calls → EndIsDurable w o t.due t end
+ends_durable w o m calls t end run leaves =
     let (n, (known, has)) = last_from w o 0 (begin o) m calls t end (begins w o ⊤ ⊤ m) run leaves in
-    lasts w o n t.due t end known.1.0 has
+    durable w o n t.due t end known.1.0 has

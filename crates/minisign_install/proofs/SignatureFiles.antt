@@ -23,7 +23,7 @@ use Rattle.minisign_install.specs.Installations.{RunLeadsTo}
 use Rattle.minisign_install.specs.Installations.{SignatureLeads, SignatureSteps, begun_mark}
 use Rattle.minisign_install.specs.Installations.{RepresentsIf, first_key, given, is_reading_signature}
 use Rattle.minisign_install.specs.Installations.{judge_form}
-use Rattle.minisign_install.specs.Installations.{operation_of, options_of, plain, reads_into, recorded_of}
+use Rattle.minisign_install.specs.Installations.{operation_of, options_of, plain, judged_text, recorded_of}
 use Rattle.minisign_install.specs.Installations.{signature_read, state_of}
 use Rattle.minisign_install.specs.Step.{Operation, SignatureRead, State, after, after_signature, reject}
 use Rattle.minisign_install.specs.Step.{step}
@@ -75,7 +75,7 @@ form_judged o (v ∷ more) t r is judged = judged
 
 pub read_ok : (s : State) (text : List ℕ) (t : SignatureTextRecord) (c : Chosen) (file : List ℕ)
     → s.options ≡ options_of c file → is_utf8 s.options.file ≡ true → read_utf8 read_signature text ≡ Ok t
-    → reads_into s text ≡ judge_keys s.options (given c t) t
+    → judged_text s text ≡ judge_keys s.options (given c t) t
 read_ok s text t c file options utf8 read =
     ap (λ (b : Bool).
     require b NotUtf8 (and_then (read_utf8 read_signature text) (λ t.
@@ -88,7 +88,7 @@ read_ok s text t c file options utf8 read =
     options
 
 pub read_err : (s : State) (text : List ℕ) (e : Fault) → is_utf8 s.options.file ≡ true
-    → read_utf8 read_signature text ≡ Err e → reads_into s text ≡ Err e
+    → read_utf8 read_signature text ≡ Err e → judged_text s text ≡ Err e
 read_err s text e utf8 read =
     ap (λ (b : Bool).
     require b NotUtf8 (and_then (read_utf8 read_signature text) (λ t.
@@ -99,7 +99,7 @@ read_err s text e utf8 read =
     read
 
 pub no_name : (s : State) (text : List ℕ) → is_utf8 s.options.file ≡ false
-    → reads_into s text ≡ Err (Named NotUtf8)
+    → judged_text s text ≡ Err (Named NotUtf8)
 no_name s text is =
     ap (λ (b : Bool).
     require b NotUtf8 (and_then (read_utf8 read_signature text) (λ t.
@@ -225,7 +225,7 @@ signature_at _ text time s is = absurd (true≢false (sym is))
 pub signature_steps : (p q : Progress) (s : State) (text : List ℕ) (time : Option ℕ)
     (r : Result ℕ (Refusal InstallFault)) (before after : List ℕ) → HoldsState p s
     → is_reading_signature (operation_of p.due) ≡ true
-    → SignatureLeads (reads_into s text) time s r q before after
+    → SignatureLeads (judged_text s text) time s r q before after
     → SignatureSteps text time s r (HoldsState q) before after
 signature_steps p q s text time r before after state_held is leads = record {
   steps = λ no_short.

@@ -14,9 +14,9 @@ use Rattle.minisign_install.specs.Step.{Event, Done, InUse, Failed, RecordRead, 
 use Rattle.minisign_install.specs.Step.{PieceRead, PieceCopied, State, begin, step, Operation, after}
 use Rattle.minisign_install.specs.Step.{answer, has_ended, key_of, comment_question, data_question}
 use Rattle.minisign_install.specs.Step as due
-use Rattle.minisign_install.specs.StepRuns.{IsAcceptable, IsGoodUpdate, IsRun, EventIsTrue, IsTrueEvent}
+use Rattle.minisign_install.specs.StepRuns.{IsAcceptable, IsGoodUpdate, IsRun, IsLawfulEvent, IsTrueEvent}
 use Rattle.minisign_install.specs.StepRuns.{World, count}
-use Rattle.minisign_install.specs.StepRuns.{IsGoodRun, asks, first_signer}
+use Rattle.minisign_install.specs.StepRuns.{IsGoodRun, says_yes, first_signer}
 use Rattle.minisign_install.proofs.StepEnds.{left, step_less}
 
 module _ (w : World) (o : Options) (g : IsGoodUpdate w o) where
@@ -185,7 +185,7 @@ module _ (w : World) (o : Options) (g : IsGoodUpdate w o) where
   begins false = (refl, refl)
 
   stays_on : (n : ℕ) (s : State) (events : List Event) (t : State) → OnTrack n s.due s
-      → IsRun (λ n s e. EventIsTrue w n s e × IsAcceptable g e) n s events t → (m : ℕ) × OnTrack m t.due t
+      → IsRun (λ n s e. IsLawfulEvent w n s e × IsAcceptable g e) n s events t → (m : ℕ) × OnTrack m t.due t
   stays_on n s [] t on is = (n, rw is on)
   stays_on n s (e ∷ more) t on (((fits, is), fine), rest) =
       stays_on (count n e) (step s e).1 more t
@@ -237,9 +237,9 @@ module _ (w : World) (o : Options) (g : IsGoodUpdate w o) where
     has_next n due.ReadSignature s on = inr (SignatureRead w.text time, refl, refl, fresh)
     has_next n due.CheckComment s on =
         inr (
-          Answered (asks w (comment_question s g.text.comments.trusted)),
+          Answered (says_yes w (comment_question s g.text.comments.trusted)),
           fits_comment s _,
-          λ t parsed. ap (λ x. asks w (comment_question s x.comments.trusted)) (same_text t parsed),
+          λ t parsed. ap (λ x. says_yes w (comment_question s x.comments.trusted)) (same_text t parsed),
           tt,
         )
     has_next n due.RemoveLeftovers s on = inr (Done, refl, tt, tt)
@@ -247,7 +247,7 @@ module _ (w : World) (o : Options) (g : IsGoodUpdate w o) where
     has_next n due.CopyData s (knows, left, read, more) = inr (next_piece n s more)
     has_next n due.ReadBack s (knows, (rest, whole)) = inr (next_bytes n s rest whole)
     has_next n due.CheckData s on =
-        inr (Answered (asks w (data_question due.CheckData s)), fits_data s _, refl, tt)
+        inr (Answered (says_yes w (data_question due.CheckData s)), fits_data s _, refl, tt)
     has_next n due.SetPermissions s on = inr (Done, refl, tt, tt)
     has_next n due.SyncFile s on = inr (Done, refl, tt, tt)
     has_next n due.CreateRecord s on = inr (Done, refl, tt, tt)
@@ -263,7 +263,7 @@ module _ (w : World) (o : Options) (g : IsGoodUpdate w o) where
     -- If at most `most` steps are left, there is a run from this state that installs the update.
     arrives : (most n : ℕ) (s : State) → left w n s.due s ≤ most → OnTrack n s.due s
         → (events : List Event) × (t : State)
-        × IsRun (λ n s e. EventIsTrue w n s e × IsAcceptable g e) n s events t × (t.due ≡ due.Installed)
+        × IsRun (λ n s e. IsLawfulEvent w n s e × IsAcceptable g e) n s events t × (t.due ≡ due.Installed)
     arrives zero n s few on = elim (has_next n s.due s on) [
       | inl done ↦ ([], s, refl, done)
       | inr (e, fits, is, fine) ↦ let less = step_less w n e s (fits, is) in absurd (omega

@@ -17,7 +17,7 @@ use Rattle.minisign_install.specs.Step.{Event, Done, InUse, Failed, RecordRead, 
 use Rattle.minisign_install.specs.Step.{Answered, PieceRead, TargetMissing, PieceCopied, State, after}
 use Rattle.minisign_install.specs.Step.{answer, begin, has_files, step}
 use Rattle.minisign_install.specs.Step as due
-use Rattle.minisign_install.specs.StepRuns.{IsRun, EventIsTrue, IsTrueEvent, World, count}
+use Rattle.minisign_install.specs.StepRuns.{IsRun, IsLawfulEvent, IsTrueEvent, World, count}
 
 -- The maximum number of operations from this one on, not counting repeated ones.
 abbrev rank : Operation → ℕ
@@ -276,11 +276,11 @@ module _ (w : World) where
   moves n m e s (Some t) fits less = less
   moves n m e s None fits less = absurd (true≢false (sym fits))
 
-  pub step_less : (n : ℕ) (e : Event) (s : State) → EventIsTrue w n s e
+  pub step_less : (n : ℕ) (e : Event) (s : State) → IsLawfulEvent w n s e
       → left (count n e) (step s e).1.due (step s e).1 < left n s.due s
   step_less n e s (fits, is) = moves n _ e s (after s.due e s) fits (decreases n s.due e s refl is)
 
-  bounded : (n : ℕ) (s : State) (events : List Event) (t : State) → IsRun (EventIsTrue w) n s events t
+  bounded : (n : ℕ) (s : State) (events : List Event) (t : State) → IsRun (IsLawfulEvent w) n s events t
       → length events ≤ left n s.due s
   bounded n s [] t run = omega arith
   bounded n s (e ∷ more) t ((fits, is), run) =
@@ -295,6 +295,6 @@ module _ (w : World) where
 
 -- The number of events in a run is bounded.
 pub run_ends : (w : World) (o : Options) (events : List Event) (t : State)
-    → IsRun (EventIsTrue w) 0 (begin o) events t
+    → IsRun (IsLawfulEvent w) 0 (begin o) events t
     → length events ≤ 23 + length o.keys + w.most + 2 * length w.update
 run_ends w o events t run = omega (arith, bounded w 0 (begin o) events t run, at_first w o.check o)

@@ -157,16 +157,16 @@ copied =
     ∷ []
 
 -- The operations from setting the permissions to the last sync succeeded.
-abbrev put : List Event
-put = Done ∷ Done ∷ Done ∷ Done ∷ Done ∷ Done ∷ Done ∷ Done ∷ Done ∷ []
+abbrev put_in_place : List Event
+put_in_place = Done ∷ Done ∷ Done ∷ Done ∷ Done ∷ Done ∷ Done ∷ Done ∷ Done ∷ []
 
 -- All operations after the checks succeeded.
 abbrev installed : List Event
-installed = copied ++ valid ∷ put
+installed = copied ++ valid ∷ put_in_place
 
 -- The installed file was read.
-abbrev looked : List Event
-looked = PieceRead (codes "there") ∷ Done ∷ []
+abbrev target_read : List Event
+target_read = PieceRead (codes "there") ∷ Done ∷ []
 
 -- == Options ==
 
@@ -252,66 +252,66 @@ record_without_a_label = refl
 
 -- The installed file is the update: it is synced, and nothing is written.
 already : course (begin usual) (begun (Some record_2) (signed version_2) (Some 5) ++ valid ∷ valid ∷
-    looked ++ valid ∷ Done ∷ Done ∷ []) ≡
+    target_read ++ valid ∷ Done ∷ Done ∷ []) ≡
     due.Lock ∷ due.ReadRecord ∷ due.ReadSignature ∷ due.CheckComment ∷ due.CheckRecord ∷ due.ReadTarget
     ∷ due.ReadTarget ∷ due.CheckTarget ∷ due.SyncTarget ∷ due.SyncTargetName ∷ due.AlreadyInstalled ∷ []
 unfolding is_utf8 chars encode decode_pairs
 already = refl
 
-already_exits : exits usual (begun (Some record_2) (signed version_2) (Some 5) ++ valid ∷ valid ∷ looked
+already_exits : exits usual (begun (Some record_2) (signed version_2) (Some 5) ++ valid ∷ valid ∷ target_read
     ++ valid ∷ Done ∷ Done ∷ []) ≡ Some 10
 unfolding is_utf8 chars encode decode_pairs
 already_exits = refl
 
 already_under_an_old_record : exits usual (begun (Some old_record) (signed version_2) (Some 5) ++ valid
-    ∷ looked ++ valid ∷ Done ∷ Done ∷ []) ≡ Some 10
+    ∷ target_read ++ valid ∷ Done ∷ Done ∷ []) ≡ Some 10
 unfolding is_utf8 chars encode decode_pairs
 already_under_an_old_record = refl
 
 already_and_again : exits with_again (begun (Some record_2) (signed version_2) (Some 5) ++ valid ∷ valid
-    ∷ looked ++ valid ∷ Done ∷ Done ∷ []) ≡ Some 10
+    ∷ target_read ++ valid ∷ Done ∷ Done ∷ []) ≡ Some 10
 unfolding is_utf8 chars encode decode_pairs
 already_and_again = refl
 
 already_and_not_synced : exits usual (begun (Some record_2) (signed version_2) (Some 5) ++ valid ∷ valid
-    ∷ looked ++ valid ∷ Failed named.WritingFailed ∷ []) ≡ Some 6
+    ∷ target_read ++ valid ∷ Failed named.WritingFailed ∷ []) ≡ Some 6
 unfolding is_utf8 chars encode decode_pairs
 already_and_not_synced = refl
 
 already_and_name_not_synced : exits usual (begun (Some record_2) (signed version_2) (Some 5) ++ valid ∷
-    valid ∷ looked ++ valid ∷ Done ∷ Failed named.WritingFailed ∷ []) ≡ Some 6
+    valid ∷ target_read ++ valid ∷ Done ∷ Failed named.WritingFailed ∷ []) ≡ Some 6
 unfolding is_utf8 chars encode decode_pairs
 already_and_name_not_synced = refl
 
 -- Neither the digest in the record nor the installed file is that of the update.
 two_updates_of_one_version : error_of usual (begun (Some record_2) (signed version_2) (Some 5) ++ valid
-    ∷ invalid ∷ looked ++ invalid ∷ []) ≡ Some SameNumber
+    ∷ invalid ∷ target_read ++ invalid ∷ []) ≡ Some SameNumber
 unfolding is_utf8 chars encode decode_pairs
 two_updates_of_one_version = refl
 
 two_updates_of_one_version_exits : exits usual (begun (Some record_2) (signed version_2) (Some 5) ++
-    valid ∷ invalid ∷ looked ++ invalid ∷ []) ≡ Some 8
+    valid ∷ invalid ∷ target_read ++ invalid ∷ []) ≡ Some 8
 unfolding is_utf8 chars encode decode_pairs
 two_updates_of_one_version_exits = refl
 
 other_data_under_an_old_record : exits usual (begun (Some old_record) (signed version_2) (Some 5) ++
-    valid ∷ looked ++ invalid ∷ []) ≡ Some 8
+    valid ∷ target_read ++ invalid ∷ []) ≡ Some 8
 unfolding is_utf8 chars encode decode_pairs
 other_data_under_an_old_record = refl
 
 two_updates_of_one_version_and_again : exits with_again (begun (Some record_2) (signed version_2) (Some
-    5) ++ valid ∷ invalid ∷ looked ++ invalid ∷ installed) ≡ Some 0
+    5) ++ valid ∷ invalid ∷ target_read ++ invalid ∷ installed) ≡ Some 0
 unfolding is_utf8 chars encode decode_pairs
 two_updates_of_one_version_and_again = refl
 
 changed_file_is_repaired : exits usual (begun (Some record_2) (signed version_2) (Some 5) ++ valid ∷
-    valid ∷ looked ++ invalid ∷ installed) ≡ Some 0
+    valid ∷ target_read ++ invalid ∷ installed) ≡ Some 0
 unfolding is_utf8 chars encode decode_pairs
 changed_file_is_repaired = refl
 
 -- Reading back starts anew: the bytes that were read from the installed file are discarded.
 read_back_starts_anew : (after (begin usual) (begun (Some record_2) (signed version_2) (Some 5) ++ valid
-    ∷ valid ∷ looked ++ invalid ∷ copied)).read ≡ codes "hello"
+    ∷ valid ∷ target_read ++ invalid ∷ copied)).read ≡ codes "hello"
 unfolding is_utf8 chars encode decode_pairs
 read_back_starts_anew = refl
 
@@ -335,12 +335,12 @@ killed_before_the_record = refl
 
 -- The record is that of the update, and the target is the old file.
 killed_after_the_record : exits usual (begun (Some record_2) (signed version_2) (Some 5) ++ valid ∷
-    valid ∷ looked ++ invalid ∷ installed) ≡ Some 0
+    valid ∷ target_read ++ invalid ∷ installed) ≡ Some 0
 unfolding is_utf8 chars encode decode_pairs
 killed_after_the_record = refl
 
 killed_after_the_target : exits usual (begun (Some record_2) (signed version_2) (Some 5) ++ valid ∷
-    valid ∷ looked ++ valid ∷ Done ∷ Done ∷ []) ≡ Some 10
+    valid ∷ target_read ++ valid ∷ Done ∷ Done ∷ []) ≡ Some 10
 unfolding is_utf8 chars encode decode_pairs
 killed_after_the_target = refl
 
@@ -668,22 +668,22 @@ unfolding is_utf8 chars encode decode_pairs
 check_without_a_record = refl
 
 check_of_the_installed_update : exits with_check (checked (Some record_2) (signed version_2) (Some 5) ++
-    valid ∷ valid ∷ looked ++ valid ∷ []) ≡ Some 10
+    valid ∷ valid ∷ target_read ++ valid ∷ []) ≡ Some 10
 unfolding is_utf8 chars encode decode_pairs
 check_of_the_installed_update = refl
 
 check_of_other_data : exits with_check (checked (Some record_2) (signed version_2) (Some 5) ++ valid ∷
-    invalid ∷ looked ++ invalid ∷ []) ≡ Some 8
+    invalid ∷ target_read ++ invalid ∷ []) ≡ Some 8
 unfolding is_utf8 chars encode decode_pairs
 check_of_other_data = refl
 
 check_of_other_data_and_again : exits (record with_check { again = true }) (checked (Some record_2)
-    (signed version_2) (Some 5) ++ valid ∷ invalid ∷ looked ++ invalid ∷ []) ≡ Some 0
+    (signed version_2) (Some 5) ++ valid ∷ invalid ∷ target_read ++ invalid ∷ []) ≡ Some 0
 unfolding is_utf8 chars encode decode_pairs
 check_of_other_data_and_again = refl
 
 check_of_a_changed_file : exits with_check (checked (Some record_2) (signed version_2) (Some 5) ++ valid
-    ∷ valid ∷ looked ++ invalid ∷ []) ≡ Some 0
+    ∷ valid ∷ target_read ++ invalid ∷ []) ≡ Some 0
 unfolding is_utf8 chars encode decode_pairs
 check_of_a_changed_file = refl
 
@@ -803,17 +803,17 @@ unfolding is_utf8 chars encode decode_pairs
 roll_back_keeps_the_key = refl
 
 rolled_back_already : exits with_roll_back (begun (Some record_2) (signed version_1) (Some 5) ++ valid ∷
-    valid ∷ looked ++ valid ∷ Done ∷ Done ∷ []) ≡ Some 10
+    valid ∷ target_read ++ valid ∷ Done ∷ Done ∷ []) ≡ Some 10
 unfolding is_utf8 chars encode decode_pairs
 rolled_back_already = refl
 
 roll_back_was_interrupted : exits with_roll_back (begun (Some record_2) (signed version_1) (Some 5) ++
-    valid ∷ valid ∷ looked ++ invalid ∷ installed) ≡ Some 0
+    valid ∷ valid ∷ target_read ++ invalid ∷ installed) ≡ Some 0
 unfolding is_utf8 chars encode decode_pairs
 roll_back_was_interrupted = refl
 
 bad_version_is_not_installed_again : exits usual (begun (Some record_2) (signed version_2) (Some 5) ++
-    valid ∷ invalid ∷ looked ++ invalid ∷ []) ≡ Some 8
+    valid ∷ invalid ∷ target_read ++ invalid ∷ []) ≡ Some 8
 unfolding is_utf8 chars encode decode_pairs
 bad_version_is_not_installed_again = refl
 

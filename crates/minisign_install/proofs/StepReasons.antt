@@ -18,7 +18,7 @@ use Rattle.minisign_install.specs.Step.{PieceRead, TargetMissing, PieceCopied, S
 use Rattle.minisign_install.specs.Step.{Operation, after, answer, has_files, key_of}
 use Rattle.minisign_install.specs.Step as due
 use Rattle.minisign_install.specs.StepRuns.{IsAtOneOf, TimeOf}
-use Rattle.minisign_install.specs.StepRuns.{IsEnd, IsSameVersion, IsReason, IsRun, IsSigned, EventIsTrue}
+use Rattle.minisign_install.specs.StepRuns.{IsEnd, IsSameVersion, IsReason, IsRun, IsSigned, IsLawfulEvent}
 use Rattle.minisign_install.specs.StepRuns.{IsTrueEvent, World, accepts_digest, count, first_signer, total}
 use Rattle.minisign_install.proofs.StepSafety.{Passed, no_pass, pass, required, text_parsed}
 
@@ -541,7 +541,8 @@ module _ (w : World) (o : Options) (times : Option ℕ → Bool) where
   moves n e s None fits holds = absurd (true≢false (sym fits))
 
   known_at : (n : ℕ) (s : State) (events : List Event) (t : State) → Known n s.due s
-      → IsRun (λ n s e. EventIsTrue w n s e × IsAtOneOf times e) n s events t → Known (total n events) t.due t
+      → IsRun (λ n s e. IsLawfulEvent w n s e × IsAtOneOf times e) n s events t
+      → Known (total n events) t.due t
   known_at n s [] t known is = rw is known
   known_at n s (e ∷ more) t known (((fits, is), timed), run) =
       known_at (count n e) (step s e).1 more t
@@ -573,7 +574,7 @@ module _ (w : World) (o : Options) (times : Option ℕ → Bool) where
   explains n s e None fault holds is = absurd (none-some fault (ap fault_of is))
 
   run_knows : (events : List Event) (t : State)
-      → IsRun (λ n s e. EventIsTrue w n s e × IsAtOneOf times e) 0 (begin o) events t
+      → IsRun (λ n s e. IsLawfulEvent w n s e × IsAtOneOf times e) 0 (begin o) events t
       → Known (total 0 events) t.due t
   run_knows events t run = known_at 0 (begin o) events t (begins o.check) run
 
@@ -581,8 +582,8 @@ module _ (w : World) (o : Options) (times : Option ℕ → Bool) where
 -- lock is in use.
 pub errors_are_true : (w : World) (o : Options) (times : Option ℕ → Bool) (events : List Event) (s : State)
     (e : Event) (fault : InstallFault)
-    → IsRun (λ n s e. EventIsTrue w n s e × IsAtOneOf times e) 0 (begin o) events s
-    → EventIsTrue w (total 0 events) s e → IsAtOneOf times e → (step s e).0 ≡ Err (Refused fault)
+    → IsRun (λ n s e. IsLawfulEvent w n s e × IsAtOneOf times e) 0 (begin o) events s
+    → IsLawfulEvent w (total 0 events) s e → IsAtOneOf times e → (step s e).0 ≡ Err (Refused fault)
     → IsReason w o times s e fault
 errors_are_true w o times events s e fault run (fits, is) timed refuses =
     explains w o times (count (total 0 events) e) s e (after s.due e s) fault
@@ -590,6 +591,6 @@ errors_are_true w o times events s e fault run (fits, is) timed refuses =
 
 -- If a run has ended without an error, IsEnd holds.
 pub ends_are_true : (w : World) (o : Options) (times : Option ℕ → Bool) (events : List Event) (t : State)
-    → IsRun (λ n s e. EventIsTrue w n s e × IsAtOneOf times e) 0 (begin o) events t → IsEnd w o times t.due
+    → IsRun (λ n s e. IsLawfulEvent w n s e × IsAtOneOf times e) 0 (begin o) events t → IsEnd w o times t.due
 ends_are_true w o times events t run =
     ends w o times (total 0 events) t.due t (run_knows w o times events t run)

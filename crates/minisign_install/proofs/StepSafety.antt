@@ -20,7 +20,7 @@ use Rattle.minisign_install.specs.Step.{Operation, after, answer, comment_questi
 use Rattle.minisign_install.specs.Step.{has_files, new_record}
 use Rattle.minisign_install.specs.Step as due
 use Rattle.minisign_install.specs.StepRuns.{IsTrueEvent, World, count, Changes, Disk, IsSafe, HasVersion}
-use Rattle.minisign_install.specs.StepRuns.{IsForgotten, IsUpdate, Runs, asks}
+use Rattle.minisign_install.specs.StepRuns.{ComparesNoVersion, IsUpdate, Runs, says_yes}
 
 pub required : {V : Type 0} (holds : Bool) (fault : NamedFault) (more : Result V Fault) (v : V)
     → require holds fault more ≡ Ok v → more ≡ Ok v
@@ -64,8 +64,8 @@ first_given : (first : Bool) (e : InstallFault) (r : Recorded)
 first_given true e r is = refl
 first_given false e r is = cc is
 
-applies_or_not : (forgets : Bool) (n k : ℕ) (key digest : Option (List ℕ))
-    → version_of (if forgets then Ok nothing_recorded
+applies_or_not : (compares_none : Bool) (n k : ℕ) (key digest : Option (List ℕ))
+    → version_of (if compares_none then Ok nothing_recorded
     else Ok (record { version = Some n; key = key; digest = digest })) ≡ Some k
     → Some n ≡ Some k
 applies_or_not true n k key digest is = absurd (none-some k is)
@@ -92,29 +92,30 @@ module _ (w : World) (o : Options) where
   text_parsed (Ok u) t keys is =
       ap (λ x. Ok x) (same_text _ u t keys (required _ _ _ (t, keys) is))
 
-  counted : (bytes : List ℕ) (version : Option ℕ) (r : Recorded) (k : ℕ)
+  used_record : (bytes : List ℕ) (version : Option ℕ) (r : Recorded) (k : ℕ)
       → judge_version o bytes version ≡ Ok r → r.version ≡ Some k → version ≡ Some k
-  counted bytes None r k is some = absurd (none-some k (no_version o.first _ r is ∙ some))
-  counted bytes (Some n) r k is some =
+  used_record bytes None r k is some = absurd (none-some k (no_version o.first _ r is ∙ some))
+  used_record bytes (Some n) r k is some =
       applies_or_not ((o.first || o.new_key) && names_other_key o bytes) n k _ _
       (ap version_of is ∙ some)
 
   has_version : (found : Option (List ℕ)) (r : Recorded) (k : ℕ) → judge_record o found ≡ Ok r
       → r.version ≡ Some k → HasVersion o found k
   has_version None r k is some = absurd (none-some k (no_version o.first _ r is ∙ some))
-  has_version (Some bytes) r k is some = (bytes, refl, counted bytes _ r k is some)
+  has_version (Some bytes) r k is some = (bytes, refl, used_record bytes _ r k is some)
 
-  forgets : (bytes : List ℕ) (version : Option ℕ) (r : Recorded)
+  compares_none : (bytes : List ℕ) (version : Option ℕ) (r : Recorded)
       → recorded_version o.numbering bytes ≡ version
-      → judge_version o bytes version ≡ Ok r → r.version ≡ None → IsForgotten o (Some bytes)
-  forgets bytes None r reads is none = inl (first_given o.first _ r is, reads)
-  forgets bytes (Some n) r reads is none =
+      → judge_version o bytes version ≡ Ok r → r.version ≡ None → ComparesNoVersion o (Some bytes)
+  compares_none bytes None r reads is none = inl (first_given o.first _ r is, reads)
+  compares_none bytes (Some n) r reads is none =
       inr (both_given (o.first || o.new_key) (names_other_key o bytes) n _ _ (ap version_of is ∙ none))
 
-  forgotten : (found : Option (List ℕ)) (r : Recorded) → judge_record o found ≡ Ok r
-      → r.version ≡ None → IsForgotten o found
-  forgotten None r is none = first_given o.first _ r is
-  forgotten (Some bytes) r is none = forgets bytes (recorded_version o.numbering bytes) r refl is none
+  not_compared : (found : Option (List ℕ)) (r : Recorded) → judge_record o found ≡ Ok r
+      → r.version ≡ None → ComparesNoVersion o found
+  not_compared None r is none = first_given o.first _ r is
+  not_compared (Some bytes) r is none =
+      compares_none bytes (recorded_version o.numbering bytes) r refl is none
 
   -- The record was accepted, and the signature file was read. `fault` is the result of checking the comment.
   abbrev pub IsJudged : State → Type 0
@@ -132,11 +133,11 @@ module _ (w : World) (o : Options) where
   abbrev pub IsAccepted : State → Type 0
   IsAccepted s =
       (judged : IsJudged s) × (s.fault ≡ None)
-      × (asks w (comment_question s judged.0.comments.trusted) ≡ true)
+      × (says_yes w (comment_question s judged.0.comments.trusted) ≡ true)
 
   -- In addition, this key has signed the data that was read.
   abbrev pub IsWhole : State → Type 0
-  IsWhole s = IsAccepted s × (asks w (data_question due.CheckData s) ≡ true)
+  IsWhole s = IsAccepted s × (says_yes w (data_question due.CheckData s) ≡ true)
 
   not_below : (r : Option ℕ) (v k : ℕ) → r ≡ Some k
       → k ≤ (if is_below (Some v) r then unwrap_or r v else v)
@@ -189,7 +190,7 @@ module _ (w : World) (o : Options) where
       not_below s.recorded.version
           s.version k is,
     );
-    forgotten = forgotten w.found_record s.recorded record_applies;
+    not_compared = not_compared w.found_record s.recorded record_applies;
   }
 
   -- The invariant at each operation.
@@ -321,7 +322,7 @@ module _ (w : World) (o : Options) where
         (either (due.is_rolling_back s) _ _ new (install s new accepted is) (accepted, is)))
 
     after_comment : (s : State) (new : Disk) (fault : Option InstallFault) → (judged : IsJudged s)
-        → s.fault ≡ fault → asks w (comment_question s judged.0.comments.trusted) ≡ true → new ≡ old
+        → s.fault ≡ fault → says_yes w (comment_question s judged.0.comments.trusted) ≡ true → new ≡ old
         → Holds (due.after_comment fault (record s { is_signed = true })).due
         (due.after_comment fault (record s { is_signed = true })) new
     after_comment s new None judged none comment is =

@@ -22,7 +22,7 @@ use Rattle.minisign_install.specs.Decisions.{Options, Recorded, judge_record, ju
 use Rattle.minisign_install.specs.Faults.{Fault, InstallFault, Library, Named, OtherSize, SameNumber}
 use Rattle.minisign_install.specs.Faults.{TargetInUse}
 use Rattle.minisign_base.specs.declared.faults.NamedFault.TheVariants as named
-use Rattle.minisign_install.specs.Installations.{HasMessage, comment_message, reads_into}
+use Rattle.minisign_install.specs.Installations.{HasMessage, comment_message, judged_text}
 use Rattle.minisign_install.specs.Step.{Event, Operation, State, after, answer, begin, step}
 use Rattle.minisign_install.proofs.SafeCalls.{Invariant, knows, next}
 use Rattle.minisign_install.proofs.SafeCalls as safe_calls
@@ -31,7 +31,8 @@ use Rattle.minisign_install.specs.Step as due
 use Rattle.minisign_install.specs.StepRuns.{World, count}
 use Rattle.minisign_install.specs.Traces.{FollowerHolds, IsFollowed, IsLawful, StateKnows, calls_of, changed}
 use Rattle.minisign_install.specs.Traces.{event_of}
-use Rattle.minisign_install.specs.Traces.{IsAsked, IsSeen, Seen, affected, bytes_seen, has_failed, is_done}
+use Rattle.minisign_install.specs.Traces.{IsAsked, AreFilesOf, Seen, affected, bytes_seen, has_failed}
+use Rattle.minisign_install.specs.Traces.{is_done}
 use Rattle.minisign_install.specs.Traces.{is_plain}
 use Rattle.minisign_install.specs.Traces.{MessageFits, IsRecorded, IsWhole, world_of}
 use Rattle.minisign_install.specs.declared.traces.RunInputs.{RunInputs}
@@ -102,7 +103,7 @@ plain_performs w s due.RemoveFiles effect.FilesRemoved m is = refl
 plain_performs w s op did m is = absurd (true≢false (sym is))
 
 pub done_performs : (w : World) (s : State) (op : Operation) (did : Effect) (f : Files) (m : Snapshot)
-    (read update : List ℕ) → IsSeen f m → read ≡ s.read → w.update ≡ update
+    (read update : List ℕ) → AreFilesOf f m → read ≡ s.read → w.update ≡ update
     → is_done op did f read update ≡ true → Performs w s op due.Done m (affected did m)
 done_performs w s due.Lock effect.Locked f m read update present same offered is =
     (present.busy ∙ is_not f.is_busy is, refl)
@@ -181,10 +182,10 @@ written o text (Err e) n before now judged (none, same) some t parsed = absurd (
 
 pub message_is : (w : World) (s : State) (text : List ℕ) (n : ℕ) (before now : List ℕ)
     → w.text ≡ read_utf8 read_signature text
-    → HasMessage (comment_message (reads_into s text)) n before now → IsAsked w n now
+    → HasMessage (comment_message (judged_text s text)) n before now → IsAsked w n now
 message_is w s text n before now is has =
     λ some t parsed.
-    written s.options (read_utf8 read_signature text) (reads_into s text) n before now refl has some t
+    written s.options (read_utf8 read_signature text) (judged_text s text) n before now refl has some t
     (sym is ∙ parsed)
 
 message_of : (o : Options) (text : Result SignatureTextRecord Fault) (judged : Passed) (n : ℕ)
@@ -216,14 +217,14 @@ due_after s op text time is = cc is
 -- If the question about the comment is due next, all of its message is in the buffer.
 pub whole_is : (w : World) (s : State) (text : List ℕ) (time : Option ℕ) (n : ℕ) (before now : List ℕ)
     → w.text ≡ read_utf8 read_signature text → s.due ≡ due.ReadSignature
-    → HasMessage (comment_message (reads_into s text)) n before now
+    → HasMessage (comment_message (judged_text s text)) n before now
     → IsWhole w (step s (due.SignatureRead (read_utf8 read_signature text) time)).1.due n now
 whole_is w s text time n before now is at has =
     λ asked t parsed.
     let next = due_after s s.due (read_utf8 read_signature text) time at in
-    message_of s.options (read_utf8 read_signature text) (reads_into s text) n before now refl has t
-    (sym is ∙ parsed) (due.after_signature (reads_into s text) time s).due
-    (not_due (reads_into s text) time s) (sym (ap (λ (x : State). x.due) next) ∙ asked)
+    message_of s.options (read_utf8 read_signature text) (judged_text s text) n before now refl has t
+    (sym is ∙ parsed) (due.after_signature (judged_text s text) time s).due
+    (not_due (judged_text s text) time s) (sym (ap (λ (x : State). x.due) next) ∙ asked)
 
 -- == Steps ==
 
@@ -256,10 +257,10 @@ grown_is (Some file) None bytes piece is same = absurd (none-some (seen file) (s
 grown_is None (Some v) bytes piece is same = absurd (none-some (seen_as v) is)
 grown_is None None bytes piece is same = refl
 
-pub grown_seen : (f : Files) (g : Option FileView) (m : Snapshot) (bytes piece : List ℕ) → IsSeen f m
+pub grown_seen : (f : Files) (g : Option FileView) (m : Snapshot) (bytes piece : List ℕ) → AreFilesOf f m
     → bytes ≡ bytes_seen f.data_file ++ piece
     → option_map seen_as g ≡ with_bytes bytes (option_map seen_as f.data_file)
-    → IsSeen (record f { data_file = g }) (record m { data_file = grown piece m.data_file })
+    → AreFilesOf (record f { data_file = g }) (record m { data_file = grown piece m.data_file })
 grown_seen f g m bytes piece present is same = record {
   target = present.target;
   recorded = present.recorded;
@@ -583,7 +584,7 @@ arrives g o m f message front (calls, s, last, now, run, others, follows, same, 
     (s, last, rw (ap (calls_of m) (sym (append-nil front)) ∙ same [] ∙ append-nil calls) run)
 
 -- If the follower rejects the next line, the trace up to it does not satisfy IsRecorded.
-pub offends : (g : RunInputs) (o : Options) (m : Snapshot) (f : Follower) (message : List ℕ)
+pub unlawful : (g : RunInputs) (o : Options) (m : Snapshot) (f : Follower) (message : List ℕ)
     (trace : List Line) (at : ℕ) → at < length trace → Reached g o m f message (take at trace)
     → MessageFits (world_of g) message
     → ((s : State) (now : Snapshot) → StateKnows (world_of g) o.file s
@@ -591,7 +592,7 @@ pub offends : (g : RunInputs) (o : Options) (m : Snapshot) (f : Follower) (messa
     → MessageFits (world_of g) message
     → IsRecorded g s now f.source.now (get_or trace at no_line ∷ []) → false ≡ true)
     → IsRecorded g (begin o) m [] (take (at + 1) trace) → ⊥
-offends g o m f message trace at within
+unlawful g o m f message trace at within
     (calls, s, last, now, run, others, follows, same, recorded) room finds is =
     true≢false (sym (finds s now (knows_of (world_of g) o m calls s last run) follows room
     (recorded (get_or trace at no_line ∷ [])

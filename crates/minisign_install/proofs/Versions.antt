@@ -16,15 +16,15 @@ use Rattle.minisign_install.specs.Decisions.{Options, Recorded, judge_record, ju
 use Rattle.minisign_install.specs.Decisions.{names_other_key, nothing_recorded, number_in, number_of}
 use Rattle.minisign_install.specs.Decisions.{recorded_version}
 use Rattle.minisign_install.specs.Faults.{InstallFault}
-use Rattle.minisign_install.specs.Histories.{AcceptsWholeKeys, HasHappened, HasVersionFrom, Happening}
-use Rattle.minisign_install.specs.Histories.{GoesDown, IsUpdateRecord, IsVersionFrom, KeepsVersion}
+use Rattle.minisign_install.specs.Histories.{AcceptsWholeKeys, IsHistory, HasVersionFrom, HistoryEvent}
+use Rattle.minisign_install.specs.Histories.{Crashed, IsUpdateRecord, IsVersionFrom, KeepsVersion}
 use Rattle.minisign_install.specs.Histories.{OthersChangeFiles}
 use Rattle.minisign_install.specs.Histories.{OthersKeepVersion, Runs, UpdaterRun}
-use Rattle.minisign_install.specs.RecordTexts.{decoded, is_marked, record_key, record_text}
+use Rattle.minisign_install.specs.RecordTexts.{decoded, has_last_lines, record_key, record_text}
 use Rattle.minisign_install.specs.Step.{State, begin, is_rolling_back, key_of, new_key, new_record}
 use Rattle.minisign_install.specs.Step.{new_version}
 use Rattle.minisign_install.specs.Step.{step}
-use Rattle.minisign_install.specs.StepRuns.{IsForgotten, IsUpdate, World, count}
+use Rattle.minisign_install.specs.StepRuns.{ComparesNoVersion, IsUpdate, World, count}
 use Rattle.minisign_install.proofs.Decisions.{reads_number}
 use Rattle.minisign_install.proofs.SafeCalls.{Invariant, Safe, begins, next, safe_now}
 use Rattle.minisign_install.proofs.StepRecords.{new_version_reads, next_run_reads}
@@ -66,14 +66,14 @@ decoded_length text (Ok bytes) key is has =
     let same : bytes ≡ key = same_Some bytes key has in
     ap length (sym same) ∙ omega (arith, long, all.2)
 
-marked_key : (marked : Bool) (text key : List ℕ)
+decoded_key : (marked : Bool) (text key : List ℕ)
     → (if marked then decoded (decode_sized text 32) else None) ≡ Some key → length key ≡ 32
-marked_key true text key is = decoded_length text (decode_sized text 32) key refl is
-marked_key false text key is = absurd (none-some key is)
+decoded_key true text key is = decoded_length text (decode_sized text 32) key refl is
+decoded_key false text key is = absurd (none-some key is)
 
 recorded_key_length : (bytes key : List ℕ) → record_key bytes ≡ Some key → length key ≡ 32
 recorded_key_length bytes key is =
-    marked_key (is_marked bytes) (take 64 (drop (length bytes - 193) bytes)) key is
+    decoded_key (has_last_lines bytes) (take 64 (drop (length bytes - 193) bytes)) key is
 
 -- The key in the contents of a record.
 abbrev key_in : Result Recorded InstallFault → Option (List ℕ)
@@ -85,18 +85,18 @@ no_key : (first : Bool) (e : InstallFault) (key : List ℕ)
 no_key true e key is = absurd (none-some key is)
 no_key false e key is = absurd (none-some key is)
 
-counted_key : (forgets : Bool) (n : ℕ) (bytes : List ℕ) (digest : Option (List ℕ)) (key : List ℕ)
-    → key_in (if forgets then Ok nothing_recorded
+used_record_key : (compares_none : Bool) (n : ℕ) (bytes : List ℕ) (digest : Option (List ℕ)) (key : List ℕ)
+    → key_in (if compares_none then Ok nothing_recorded
     else Ok (record { version = Some n; key = record_key bytes; digest = digest })) ≡ Some key
     → length key ≡ 32
-counted_key true n bytes digest key is = absurd (none-some key is)
-counted_key false n bytes digest key is = recorded_key_length bytes key is
+used_record_key true n bytes digest key is = absurd (none-some key is)
+used_record_key false n bytes digest key is = recorded_key_length bytes key is
 
 judged_key : (o : Options) (bytes : List ℕ) (version : Option ℕ) (key : List ℕ)
     → key_in (judge_version o bytes version) ≡ Some key → length key ≡ 32
 judged_key o bytes None key is = no_key o.first _ key is
 judged_key o bytes (Some n) key is =
-    counted_key ((o.first || o.new_key) && names_other_key o bytes) n bytes _ key is
+    used_record_key ((o.first || o.new_key) && names_other_key o bytes) n bytes _ key is
 
 read_key : (o : Options) (found : Option (List ℕ)) (key : List ℕ) → key_in (judge_record o found) ≡ Some key
     → length key ≡ 32
@@ -161,19 +161,20 @@ module _ (w : World) (o : Options) (accepts_whole : AcceptsWholeKeys w.accepts) 
 
     module _ (compares : (bytes : List ℕ) → w.found_record ≡ Some bytes → (o.first || o.new_key) ≡ true
         → names_other_key o bytes ≡ false) where
-      not_forgotten : (found : Option (List ℕ)) → w.found_record ≡ found → From → IsForgotten o found → ⊥
-      not_forgotten None at (bytes, version, is, reads, least) forgets =
+      version_compared : (found : Option (List ℕ)) → w.found_record ≡ found → From
+          → ComparesNoVersion o found → ⊥
+      version_compared None at (bytes, version, is, reads, least) compares_none =
           none-some bytes (sym at ∙ is)
-      not_forgotten (Some other) at (bytes, version, is, reads, least) (inl (first, none)) =
+      version_compared (Some other) at (bytes, version, is, reads, least) (inl (first, none)) =
           let same : bytes ≡ other = same_Some bytes other (sym is ∙ at) in
           none-some version (sym none ∙ ap (recorded_version o.numbering) (sym same) ∙ reads)
-      not_forgotten (Some other) at (bytes, version, is, reads, least) (inr (given, others)) =
+      version_compared (Some other) at (bytes, version, is, reads, least) (inr (given, others)) =
           true≢false (sym others ∙ compares other at given)
 
       no_less : (s : State) → IsUpdate w o s → From → (r : Option ℕ) → s.recorded.version ≡ r
           → k ≤ new_version s
       no_less s update from None none =
-          absurd (not_forgotten w.found_record refl from (update.forgotten none))
+          absurd (version_compared w.found_record refl from (update.not_compared none))
       no_less s update (bytes, version, is, reads, least) (Some j) some =
           let ((other, at, holds), more) = update.not_older j some in
           let same : bytes ≡ other = same_Some bytes other (sym is ∙ at) in
@@ -252,13 +253,13 @@ crash_keeps numbering old new crash k has found is =
     has found (found_after old new new.recorded_left found crash refl is)
 
 -- The recorded version does not decrease over any history.
-pub versions_keep : (numbering : Numbering) (old new : Snapshot) (happened : List (Happening numbering))
-    → HasHappened numbering old happened new → KeepsVersion numbering old new
+pub versions_keep : (numbering : Numbering) (old new : Snapshot) (events : List (HistoryEvent numbering))
+    → IsHistory numbering old events new → KeepsVersion numbering old new
 versions_keep numbering old new [] is k has = rw is has
 versions_keep numbering old new (Runs r ∷ later) (on, rest) k has =
     let begun : HasVersionFrom numbering k r.begun = rw (on.record_stays, on.record_left_stays) has in
     versions_keep numbering r.ended new later rest k (updater_keeps numbering r k begun)
-versions_keep numbering old new (GoesDown m ∷ later) (crash, rest) k has =
+versions_keep numbering old new (Crashed m ∷ later) (crash, rest) k has =
     versions_keep numbering m new later rest k (crash_keeps numbering old m crash k has)
 versions_keep numbering old new (OthersChangeFiles m ∷ later) (keeps, rest) k has =
     versions_keep numbering m new later rest k (keeps k has)

@@ -74,16 +74,16 @@ pub record ExpiresAt (must : Bool) (comment : List ℕ) (until : ℕ) : Type 0 w
 
 -- The update has not expired at this time. If `must` is false, the comment may also have no such field.
 abbrev pub IsUnexpired : Bool → ℕ → List ℕ → Type 0
-IsUnexpired must moment comment =
+IsUnexpired must time comment =
     ((must ≡ false) × (expiries must comment ≡ []))
-    ⊎ ((until : ℕ) × ExpiresAt must comment until × (moment < until))
+    ⊎ ((until : ℕ) × ExpiresAt must comment until × (time < until))
 
 -- These fields are rejected at this time, and `e` says why: the update has expired (Expired); or such a field
 -- is required and missing (NoExpiry); or there are several, or one that is not spelled exactly `expires:` or
 -- whose value is not a number (BadExpiry).
 abbrev pub IsExpiryRefused : Bool → ℕ → List ℕ → InstallFault → Type 0
-IsExpiryRefused must moment comment e =
-    ((e ≡ Expired) × ((until : ℕ) × ExpiresAt must comment until × (until ≤ moment)))
+IsExpiryRefused must time comment e =
+    ((e ≡ Expired) × ((until : ℕ) × ExpiresAt must comment until × (until ≤ time)))
     ⊎ ((e ≡ NoExpiry) × (must ≡ true) × (expiries must comment ≡ []))
     ⊎ ((e ≡ BadExpiry) × ¬ (expiries must comment ≡ []) × ((until : ℕ) → ¬ (ExpiresAt must comment until)))
 

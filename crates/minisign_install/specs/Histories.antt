@@ -15,14 +15,14 @@ use Rattle.minisign_install.specs.Applications.{TargetMayBe, Snapshot}
 use Rattle.minisign_install.specs.Comments.{Numbering}
 use Rattle.minisign_install.specs.Decisions.{Options, Recorded, comment_fault, judge_record, judge_text}
 use Rattle.minisign_install.specs.Decisions.{names_other_key, recorded_version, size_in, version_in}
-use Rattle.minisign_install.specs.RecordTexts.{HasNoNumber, IsNumberFor, counted}
+use Rattle.minisign_install.specs.RecordTexts.{HasNoNumber, IsNumberFor, used_record}
 use Rattle.minisign_install.specs.Step.{AlreadyInstalled, CheckTarget, Event, Failed, InUse, Installed}
 use Rattle.minisign_install.specs.Step.{CheckData, CopyData, CreateFile, CreateRecord, Operation, ReadBack}
 use Rattle.minisign_install.specs.Step.{CheckRecord, ReadTarget, SyncTarget, SyncTargetName}
 use Rattle.minisign_install.specs.Step.{RemoveLeftovers, RenameFile, RenameRecord, SetPermissions, SyncFile}
 use Rattle.minisign_install.specs.Step.{SyncFileName, SyncRecord, SyncRecordName, WouldInstall, WriteRecord}
 use Rattle.minisign_install.specs.Step.{SignatureRead, State, begin, data_question, new_record}
-use Rattle.minisign_install.specs.StepRuns.{IsUpdate, World, asks, first_signer}
+use Rattle.minisign_install.specs.StepRuns.{IsUpdate, World, says_yes, first_signer}
 
 -- == One operation ==
 
@@ -71,23 +71,23 @@ OthersLeaveTarget m (c ∷ more) = LeavesTarget m c.before × OthersLeaveTarget 
 -- == The files after a run ==
 
 -- The name refers to a file with these bytes, now and after any crash.
-abbrev pub IsLasting : Option File → List (Option File) → List ℕ → Type 0
-IsLasting place left bytes =
+abbrev pub IsDurable : Option File → List (Option File) → List ℕ → Type 0
+IsDurable place left bytes =
     (file : File) × (place ≡ Some file) × (file.bytes ≡ bytes) × (file.synced ≡ true) × (left ≡ [])
 
 -- The files after a run, if other processes leave the target alone. After Installed, the update is at the
 -- target, its permissions were set, its record is beside it, no crash can undo this, and no temporary files
 -- of killed runs are left. After AlreadyInstalled, the signature is valid for the bytes that were read from
 -- the target; unless the run is a check, the target has these bytes, and no crash can undo this.
-abbrev pub EndLasts : World → Options → Operation → State → Snapshot → Type 0
-EndLasts w o Installed s m =
-    IsUpdate w o s × IsLasting m.recorded m.recorded_left (new_record s)
+abbrev pub EndIsDurable : World → Options → Operation → State → Snapshot → Type 0
+EndIsDurable w o Installed s m =
+    IsUpdate w o s × IsDurable m.recorded m.recorded_left (new_record s)
     × ((file : File) × (m.target ≡ Some file) × (file.bytes ≡ s.read) × (file.permissions ≡ true)
     × (file.synced ≡ true) × (m.target_left ≡ [])) × (m.leftovers ≡ false)
-EndLasts w o AlreadyInstalled s m =
-    (asks w (data_question CheckTarget s) ≡ true)
-    × ((s.options.check ≡ true) ⊎ IsLasting m.target m.target_left s.read)
-EndLasts w o op s m = ⊤
+EndIsDurable w o AlreadyInstalled s m =
+    (says_yes w (data_question CheckTarget s) ≡ true)
+    × ((s.options.check ≡ true) ⊎ IsDurable m.target m.target_left s.read)
+EndIsDurable w o op s m = ⊤
 
 -- == The recorded version ==
 
@@ -130,7 +130,7 @@ pub record UpdaterRun (numbering : Numbering) : Type 0 where
   pub calls : List Call
   pub state : State
   pub ended : Snapshot
-  pub rests : IsBeforeRun begun
+  pub is_before_run : IsBeforeRun begun
   pub applies : Applies world (begin options) begun calls state ended
   pub field : options.numbering ≡ numbering
   pub accepts_whole : AcceptsWholeKeys world.accepts
@@ -142,7 +142,7 @@ pub record UpdaterRun (numbering : Numbering) : Type 0 where
 -- A run begins after the previous one has ended or was killed, or after the machine was started again. The
 -- target and the record are unchanged. The temporary files of the previous run are now leftovers.
 pub record RunBeginsAfter (old new : Snapshot) : Type 0 where
-  pub rests : IsBeforeRun new
+  pub is_before_run : IsBeforeRun new
   pub target_stays : new.target ≡ old.target
   pub target_left_stays : new.target_left ≡ old.target_left
   pub record_stays : new.recorded ≡ old.recorded
@@ -152,20 +152,20 @@ pub record RunBeginsAfter (old new : Snapshot) : Type 0 where
 
 -- An event in the history of a directory: a run; a crash, with the files after it; or a change by other
 -- processes, with the files after it.
-pub data Happening (numbering : Numbering) : Type 0 where
-  Runs : UpdaterRun numbering → Happening numbering
-  GoesDown : Snapshot → Happening numbering
-  OthersChangeFiles : Snapshot → Happening numbering
+pub data HistoryEvent (numbering : Numbering) : Type 0 where
+  Runs : UpdaterRun numbering → HistoryEvent numbering
+  Crashed : Snapshot → HistoryEvent numbering
+  OthersChangeFiles : Snapshot → HistoryEvent numbering
 
 -- These events happen one after another, and lead from the files `old` to the files `new`. Other processes do
 -- not decrease the recorded version.
-abbrev pub HasHappened : (numbering : Numbering) → Snapshot → List (Happening numbering) → Snapshot → Type 0
-HasHappened numbering old [] new = new ≡ old
-HasHappened numbering old (Runs r ∷ later) new =
-    RunBeginsAfter old r.begun × HasHappened numbering r.ended later new
-HasHappened numbering old (GoesDown m ∷ later) new = Crashes old m × HasHappened numbering m later new
-HasHappened numbering old (OthersChangeFiles m ∷ later) new =
-    KeepsVersion numbering old m × HasHappened numbering m later new
+abbrev pub IsHistory : (numbering : Numbering) → Snapshot → List (HistoryEvent numbering) → Snapshot → Type 0
+IsHistory numbering old [] new = new ≡ old
+IsHistory numbering old (Runs r ∷ later) new =
+    RunBeginsAfter old r.begun × IsHistory numbering r.ended later new
+IsHistory numbering old (Crashed m ∷ later) new = Crashes old m × IsHistory numbering m later new
+IsHistory numbering old (OthersChangeFiles m ∷ later) new =
+    KeepsVersion numbering old m × IsHistory numbering m later new
 
 -- == An interrupted run ==
 
@@ -174,7 +174,7 @@ HasHappened numbering old (OthersChangeFiles m ∷ later) new =
 -- or the update is older, which needs --roll-back. The signature file has passed the checks that need no
 -- Ed25519, and keys are the keys with its key ID. The first of them that signed the comment also signed the
 -- data. The data has the signed size.
-pub record IsOwnUpdate (w : World) (o : Options) : Type 0 where
+pub record IsOldUpdate (w : World) (o : Options) : Type 0 where
   pub installs : o.check ≡ false
   pub recorded : Recorded
   pub record_applies : judge_record o w.found_record ≡ Ok recorded
@@ -194,7 +194,7 @@ pub record IsOwnUpdate (w : World) (o : Options) : Type 0 where
   pub sized : (size : ℕ) → size_in text.comments.trusted ≡ Some size → length w.update ≡ size
 
 -- The event is not a failure, and the comment is not rejected at the time that is passed in.
-abbrev pub IsAcceptableFor : {w : World} {o : Options} → IsOwnUpdate w o → Event → Type 0
+abbrev pub IsAcceptableFor : {w : World} {o : Options} → IsOldUpdate w o → Event → Type 0
 IsAcceptableFor g (Failed f) = ⊥
 IsAcceptableFor g InUse = ⊥
 IsAcceptableFor {o = o} g (SignatureRead text time) =
@@ -222,8 +222,8 @@ AppliesAs numbering first found None = (first ≡ true) × IfSome found (HasNoNu
 
 -- The record, or None if it is ignored because --first is given and the record names a key that was not
 -- given.
-abbrev pub counted_for : Options → Option (List ℕ) → Option (List ℕ)
-counted_for o found = counted o.first (map (λ (v : PublicKeyValue). v.key) o.keys) found
+abbrev pub used_record_for : Options → Option (List ℕ) → Option (List ℕ)
+used_record_for o found = used_record o.first (map (λ (v : PublicKeyValue). v.key) o.keys) found
 
 -- == After a roll-back ==
 
@@ -247,11 +247,11 @@ pub record IsLaterRun (w : World) (o : Options) (numbering : Numbering) (s : Sta
 
 -- The event is not a failure, and the comment is not rejected at the time that is passed in if version k is
 -- recorded.
-abbrev pub IsFineAt : Options → ℕ → SignatureTextRecord → Event → Type 0
-IsFineAt o k t (Failed f) = ⊥
-IsFineAt o k t InUse = ⊥
-IsFineAt o k t (SignatureRead text time) = comment_fault o (Some k) time t.comments.trusted ≡ None
-IsFineAt o k t e = ⊤
+abbrev pub IsAcceptableAt : Options → ℕ → SignatureTextRecord → Event → Type 0
+IsAcceptableAt o k t (Failed f) = ⊥
+IsAcceptableAt o k t InUse = ⊥
+IsAcceptableAt o k t (SignatureRead text time) = comment_fault o (Some k) time t.comments.trusted ≡ None
+IsAcceptableAt o k t e = ⊤
 
 -- The update is being installed or was installed, or a check found that it would be.
 abbrev pub leads_to_install : Operation → Bool

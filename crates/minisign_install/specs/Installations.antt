@@ -293,8 +293,8 @@ abbrev pub signature_read : List ℕ → Option ℕ → Event
 signature_read sig_text time = SignatureRead (read_utf8 read_signature sig_text) time
 
 -- The result of the checks of this signature file that need no Ed25519.
-abbrev pub reads_into : State → List ℕ → Result (SignatureTextRecord × List PublicKeyValue) Fault
-reads_into s sig_text = judge_text s.options (read_utf8 read_signature sig_text)
+abbrev pub judged_text : State → List ℕ → Result (SignatureTextRecord × List PublicKeyValue) Fault
+judged_text s sig_text = judge_text s.options (read_utf8 read_signature sig_text)
 
 -- The given keys with the key ID of the signature: those that may have signed.
 abbrev pub given : Chosen → SignatureTextRecord → List PublicKeyValue
@@ -367,9 +367,9 @@ pub record SignatureSteps (sig_text : List ℕ) (time : Option ℕ) (s : State)
     : Type 0 where
   pub steps : result ≢ Err (WrongUse NoRoom) → HoldsNew (step s (signature_read sig_text time)).1
       × (plain result ≡ (step s (signature_read sig_text time)).0)
-  pub message : IfOk result (λ n. HasMessage (comment_message (reads_into s sig_text)) n before after)
+  pub message : IfOk result (λ n. HasMessage (comment_message (judged_text s sig_text)) n before after)
   pub room : result ≡ Err (WrongUse NoRoom)
-      → (s.due ≡ ReadSignature) × IsTooLong (comment_message (reads_into s sig_text)) (length before)
+      → (s.due ≡ ReadSignature) × IsTooLong (comment_message (judged_text s sig_text)) (length before)
 
 -- **If the old installation represents a state, the new one represents the state after the step with this
 -- event, and the result is that of the step.**

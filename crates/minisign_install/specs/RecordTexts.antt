@@ -16,28 +16,28 @@ use Rattle.minisign_install.specs.Faults.{InstallFault, KeptByTimestamp, KeptByV
 
 -- The two lines after the version number: the key that signed the update and the digest of the data, in
 -- hexadecimal digits, each with a line feed before it.
-abbrev pub mark_text : List ℕ → List ℕ → List ℕ
-mark_text key digest = (10 ∷ encode_lower key) ++ (10 ∷ encode_lower digest)
+abbrev pub last_lines : List ℕ → List ℕ → List ℕ
+last_lines key digest = (10 ∷ encode_lower key) ++ (10 ∷ encode_lower digest)
 
 -- The record of an update: the label and the version number, as in the trusted comment, then the key and the
 -- digest.
 abbrev pub record_of : Numbering → ℕ → List ℕ → List ℕ → List ℕ
-record_of numbering n key digest = (number_label numbering ++ decimal n) ++ mark_text key digest
+record_of numbering n key digest = (number_label numbering ++ decimal n) ++ last_lines key digest
 
 -- The record is long enough for a first line of at most 64 bytes and the two last lines, and a line feed ends
 -- the first line. The digits in the last lines are not checked here.
-abbrev pub is_marked : List ℕ → Bool
-is_marked bytes =
+abbrev pub has_last_lines : List ℕ → Bool
+has_last_lines bytes =
     nat_le 194 (length bytes) && nat_le (length bytes) 258 && (slice_index bytes (length bytes - 194) == 10)
 
 -- The first line of a record of three lines, or nothing if the record does not have this form.
-abbrev pub marked_line : List ℕ → List ℕ
-marked_line bytes = if is_marked bytes then take (length bytes - 194) bytes else []
+abbrev pub first_line : List ℕ → List ℕ
+first_line bytes = if has_last_lines bytes then take (length bytes - 194) bytes else []
 
 -- The text with the version number: the first of three lines, or all of a record of at most 64 bytes, except
 -- for a line feed at its end. Older versions wrote such short records, without a key and a digest.
 abbrev pub record_text : List ℕ → List ℕ
-record_text bytes = if nat_le (length bytes) 64 then strip_last 10 bytes else marked_line bytes
+record_text bytes = if nat_le (length bytes) 64 then strip_last 10 bytes else first_line bytes
 
 -- The bytes that hexadecimal digits encode, if they are valid.
 abbrev pub decoded : Result (List ℕ) FromHexError → Option (List ℕ)
@@ -47,12 +47,13 @@ decoded (Err e) = None
 -- The digest of the data for which the record was written, if the record has one.
 abbrev pub record_digest : List ℕ → Option (List ℕ)
 record_digest bytes =
-    if is_marked bytes then decoded (decode_sized (drop (length bytes - 128) bytes) 64) else None
+    if has_last_lines bytes then decoded (decode_sized (drop (length bytes - 128) bytes) 64) else None
 
 -- The key that signed the update, if the record names one.
 abbrev pub record_key : List ℕ → Option (List ℕ)
 record_key bytes =
-    if is_marked bytes then decoded (decode_sized (take 64 (drop (length bytes - 193) bytes)) 32) else None
+    if has_last_lines bytes then decoded (decode_sized (take 64 (drop (length bytes - 193) bytes)) 32)
+    else None
 
 -- The record names a key, and it is none of these keys.
 abbrev pub is_foreign_key : List (List ℕ) → Option (List ℕ) → Bool
@@ -61,9 +62,10 @@ is_foreign_key keys None = false
 
 -- The record that version 0.2 used, or None if there is none or it was ignored. `first` says whether --first
 -- is given: a record that names none of these keys is then ignored.
-abbrev pub counted : Bool → List (List ℕ) → Option (List ℕ) → Option (List ℕ)
-counted first keys (Some bytes) = if first && is_foreign_key keys (record_key bytes) then None else Some bytes
-counted first keys None = None
+abbrev pub used_record : Bool → List (List ℕ) → Option (List ℕ) → Option (List ℕ)
+used_record first keys (Some bytes) =
+    if first && is_foreign_key keys (record_key bytes) then None else Some bytes
+used_record first keys None = None
 
 -- The record has this version number for this field: after the label of the field, or without a label.
 -- Records without a label, which older versions wrote, are valid for both fields.
@@ -87,6 +89,6 @@ other_field Timestamp = Version
 other_field Version = Timestamp
 
 -- The error for a record whose version number is for this field, and not for the chosen one.
-abbrev pub recorded_by : Numbering → InstallFault
-recorded_by Timestamp = KeptByTimestamp
-recorded_by Version = KeptByVersion
+abbrev pub kept_by : Numbering → InstallFault
+kept_by Timestamp = KeptByTimestamp
+kept_by Version = KeptByVersion

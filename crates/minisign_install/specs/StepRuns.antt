@@ -36,14 +36,14 @@ pub record World : Type 0 where
   pub most : ℕ
 
 -- Ed25519 accepts the signature in this question.
-abbrev pub asks : World → Question → Bool
-asks w q = w.accepts q.message q.key q.signature
+abbrev pub says_yes : World → Question → Bool
+says_yes w q = w.accepts q.message q.key q.signature
 
 -- `accepted` is the result of Ed25519 for the question at this operation.
 abbrev pub IsAnswer : World → State → Operation → Bool → Type 0
 IsAnswer w s CheckComment accepted =
-    (t : SignatureTextRecord) → w.text ≡ Ok t → accepted ≡ asks w (comment_question s t.comments.trusted)
-IsAnswer w s op accepted = accepted ≡ asks w (data_question op s)
+    (t : SignatureTextRecord) → w.text ≡ Ok t → accepted ≡ says_yes w (comment_question s t.comments.trusted)
+IsAnswer w s op accepted = accepted ≡ says_yes w (data_question op s)
 
 -- The event is true at this operation; a lawful application reports no other. n is the number of bytes that
 -- were copied so far. A piece is not empty, and not longer than the rest of the file. Copying ends at the end
@@ -82,8 +82,8 @@ abbrev pub EventFits : State → Event → Type 0
 EventFits s e = is_some (after s.due e s) ≡ true
 
 -- The event fits and is true, so a lawful application may report it.
-abbrev pub EventIsTrue : World → ℕ → State → Event → Type 0
-EventIsTrue w n s e = EventFits s e × IsTrueEvent w n s s.due e
+abbrev pub IsLawfulEvent : World → ℕ → State → Event → Type 0
+IsLawfulEvent w n s e = EventFits s e × IsTrueEvent w n s s.due e
 
 -- == A good update ==
 
@@ -127,7 +127,7 @@ IsAcceptable g e = ⊤
 
 -- A run without failures so far, with these inputs.
 abbrev pub IsGoodRun : {w : World} {o : Options} → IsGoodUpdate w o → List Event → State → Type 0
-IsGoodRun {w = w} {o = o} g = IsRun (λ n s e. EventIsTrue w n s e × IsAcceptable g e) 0 (begin o)
+IsGoodRun {w = w} {o = o} g = IsRun (λ n s e. IsLawfulEvent w n s e × IsAcceptable g e) 0 (begin o)
 
 -- == What a run changes ==
 
@@ -151,7 +151,7 @@ Changes op s e old new = new ≡ old
 abbrev pub Runs : World → ℕ → State → Disk → List (Event × Disk) → State → Disk → Type 0
 Runs w n s d [] t d' = (t ≡ s) × (d' ≡ d)
 Runs w n s d ((e, mid) ∷ more) t d' =
-    EventIsTrue w n s e × Changes s.due s e d mid × Runs w (count n e) (step s e).1 mid more t d'
+    IsLawfulEvent w n s e × Changes s.due s e d mid × Runs w (count n e) (step s e).1 mid more t d'
 
 -- The event does not report a failed operation or a lock that is in use.
 abbrev pub Succeeds : Event → Type 0
@@ -165,9 +165,9 @@ AllSucceed ((e, disk) ∷ more) = Succeeds e × AllSucceed more
 
 -- No version is compared: there is no record with a version number, and --first was given; or the record
 -- names a key that was not given, and --first or --new-key was given.
-abbrev pub IsForgotten : Options → Option (List ℕ) → Type 0
-IsForgotten o None = o.first ≡ true
-IsForgotten o (Some bytes) =
+abbrev pub ComparesNoVersion : Options → Option (List ℕ) → Type 0
+ComparesNoVersion o None = o.first ≡ true
+ComparesNoVersion o (Some bytes) =
     ((o.first ≡ true) × (recorded_version o.numbering bytes ≡ None))
     ⊎ (((o.first || o.new_key) ≡ true) × (names_other_key o bytes ≡ true))
 
@@ -194,10 +194,10 @@ pub record IsUpdate (w : World) (o : Options) (s : State) : Type 0 where
   pub version : s.version ≡ unwrap_or (version_in o.numbering text.comments.trusted) 0
   pub signature : s.signature ≡ text.signature.signature
   pub comment_signature : s.comment_signature ≡ take 64 text.comments.signature
-  pub signed_comment : asks w (comment_question s text.comments.trusted) ≡ true
-  pub signed_data : asks w (data_question CheckData s) ≡ true
+  pub signed_comment : says_yes w (comment_question s text.comments.trusted) ≡ true
+  pub signed_data : says_yes w (data_question CheckData s) ≡ true
   pub not_older : (k : ℕ) → s.recorded.version ≡ Some k → HasVersion o w.found_record k × (k ≤ new_version s)
-  pub forgotten : s.recorded.version ≡ None → IsForgotten o w.found_record
+  pub not_compared : s.recorded.version ≡ None → ComparesNoVersion o w.found_record
 
 -- The disk is as it was before the run, or the record is that of an update (IsUpdate), and the target is
 -- either unchanged or the update.
@@ -270,7 +270,7 @@ IsReason w o times s e fault = IsFoundFault w o times fault
 
 -- The meaning of the end of a run. After Installed, AlreadyInstalled and WouldInstall, a given key has signed
 -- the trusted comment, and the comment is not rejected at a time in the set. After Installed, this key has
--- also signed the data. After AlreadyInstalled, it has signed the digest of some data; `EndLasts` says
+-- also signed the data. After AlreadyInstalled, it has signed the digest of some data; `EndIsDurable` says
 -- that this is the data that the run read at the target.
 abbrev pub IsEnd : World → Options → (Option ℕ → Bool) → Operation → Type 0
 IsEnd w o times Installed =

@@ -117,7 +117,7 @@ with_bytes bytes (Some v) = Some (record { number = v.number; bytes = bytes })
 with_bytes bytes None = None
 
 -- `f` are the files of this snapshot: the numbers and the bytes are the same, and so are the locks.
-pub record IsSeen (f : Files) (m : Snapshot) : Type 0 where
+pub record AreFilesOf (f : Files) (m : Snapshot) : Type 0 where
   pub target : option_map seen m.target ≡ option_map seen_as f.target
   pub recorded : option_map seen m.recorded ≡ option_map seen_as f.recorded
   pub data_file : option_map seen m.data_file ≡ option_map seen_as f.data_file
@@ -249,16 +249,16 @@ IsReadFrom s source reported = ⊤
 -- that failed has no effect, or it has renamed or removed files. A new record has at most 224 bytes. The
 -- signature file is that of the inputs. The pieces that are read are those of the file that was at the target
 -- when reading began. An Ed25519 result is reported only if a check is due.
-abbrev pub IsNoted : RunInputs → State → Snapshot → List ℕ → Report → Effect → Type 0
-IsNoted f s m source report.Done did = IsDoneAs s s.due did
-IsNoted f s m source (report.Failed fault) did = has_failed s.due did ≡ true
-IsNoted f s m source (report.Signature text time) did =
+abbrev pub ReportMatches : RunInputs → State → Snapshot → List ℕ → Report → Effect → Type 0
+ReportMatches f s m source report.Done did = IsDoneAs s s.due did
+ReportMatches f s m source (report.Failed fault) did = has_failed s.due did ≡ true
+ReportMatches f s m source (report.Signature text time) did =
     (is_nothing did ≡ true) × (text.now ≡ f.sig_text.now)
-IsNoted f s m source (report.Answered accepted) did =
+ReportMatches f s m source (report.Answered accepted) did =
     (is_nothing did ≡ true) × (is_some (question_due s) ≡ true)
-IsNoted f s m source (report.Piece bytes) did = (is_nothing did ≡ true) × IsNextRead s source bytes.now
-IsNoted f s m source (report.Copied n) did = HasCopied f.update.now (bytes_of m.data_file) n did
-IsNoted f s m source reported did = is_nothing did ≡ true
+ReportMatches f s m source (report.Piece bytes) did = (is_nothing did ≡ true) × IsNextRead s source bytes.now
+ReportMatches f s m source (report.Copied n) did = HasCopied f.update.now (bytes_of m.data_file) n did
+ReportMatches f s m source reported did = is_nothing did ≡ true
 
 -- From this state and these files on, the trace is that of a lawful application, and report and effect match
 -- on each line. `source` is the content of the file that is being read.
@@ -268,7 +268,7 @@ IsRecorded f s m source (line.Others other ∷ more) =
     Others m (changed other m) × IsRecorded f s (changed other m) source more
 IsRecorded f s m source (line.Call reported did ∷ more) =
     IsNext (world_of f) s m (event_of reported) did
-    × IsNoted f s m (source_at s m source) reported did
+    × ReportMatches f s m (source_at s m source) reported did
     × IsRecorded f (step s (event_of reported)).1 (affected did m) (source_at s m source) more
 
 -- The message that is signed for the trusted comment fits into the buffer.
@@ -320,7 +320,7 @@ pub record FollowerHolds (w : World) (f : Follower) (message : List ℕ) (s : St
     (m : Snapshot) : Type 0 where
   pub stored : Represents f.installation s
   pub read : f.read.now ≡ s.read
-  pub seen : IsSeen f.files m
+  pub seen : AreFilesOf f.files m
   pub asked : IsAsked w f.message_len message
   pub whole : IsWhole w s.due f.message_len message
 

@@ -13,13 +13,14 @@ ghost use Rattle.minisign_install.specs.Decisions.{nothing_recorded, record_faul
 ghost use Rattle.minisign.specs.SignatureText.{SignatureTextRecord};
 ghost use Rattle.minisign_install.specs.Decisions.{comment_fault};
 ghost use Rattle.minisign_install.specs.Histories.{IsAtTime, is_past_comment};
-ghost use Rattle.minisign_install.specs.Histories.{AcceptsWholeKeys, AllCalls, AllEvents, Happening};
-ghost use Rattle.minisign_install.specs.Histories.{HasHappened, IsAcceptableFor, IsOwnUpdate, IsSafeCall};
+ghost use Rattle.minisign_install.specs.Histories.{AcceptsWholeKeys, AllCalls, AllEvents, HistoryEvent};
+ghost use Rattle.minisign_install.specs.Histories.{IsHistory, IsAcceptableFor, IsOldUpdate, IsSafeCall};
 ghost use Rattle.minisign_install.specs.Histories.{IsInstalled};
 ghost use Rattle.minisign_install.specs.Histories.{HasNoFiles, LeavesContent};
-ghost use Rattle.minisign_install.specs.Histories.{AppliesAs, EndLasts, IsFineAt, IsLaterRun, IsOtherUpdate};
+ghost use Rattle.minisign_install.specs.Histories.{AppliesAs, EndIsDurable, IsAcceptableAt, IsLaterRun};
+ghost use Rattle.minisign_install.specs.Histories.{IsOtherUpdate};
 ghost use Rattle.minisign_install.specs.Histories.{KeepsVersion, leads_to_install};
-ghost use Rattle.minisign_install.specs.Histories.{OthersLeaveTarget, counted_for};
+ghost use Rattle.minisign_install.specs.Histories.{OthersLeaveTarget, used_record_for};
 ghost use Rattle.minisign_install.specs.RecordTexts.{record_key};
 ghost use Rattle.minisign_install.specs.Step.{CheckComment, Installed, State, after, begin, has_ended};
 ghost use Rattle.minisign_install.specs.Step.{AlreadyInstalled, Rejected};
@@ -91,8 +92,9 @@ pub fn any_application_is_safe()
     // and no temporary files of killed runs are left. If a run ends as already installed, the
     // signature is valid for the bytes that were read from the target; unless the run is a check, the target
     // has these bytes, and no crash can undo this.
-    ensures lasts { (w : World) (o : Options) (m : Snapshot) (calls : List Call) (t : State) (end : Snapshot)
-        → Applies w (begin o) m calls t end → OthersLeaveTarget m calls → EndLasts w o t.due t end }
+    ensures durable { (w : World) (o : Options) (m : Snapshot) (calls : List Call) (t : State)
+        (end : Snapshot)
+        → Applies w (begin o) m calls t end → OthersLeaveTarget m calls → EndIsDurable w o t.due t end }
 
     // The length of a run is bounded: it has at most 23 calls, one more for each key, one more for each byte
     // that the installed file can have, and two more for each byte of the data.
@@ -118,7 +120,7 @@ pub fn any_good_update_arrives()
     // written for this update, for example by an interrupted run, or the number is smaller. Under the other
     // conditions of the clause `installed`, a run that has ended has installed the update or found it
     // installed. If the number is smaller, the comment is rejected unless --roll-back is given.
-    ensures finished { (w : World) (o : Options) (g : IsOwnUpdate w o) (m : Snapshot) (calls : List Call)
+    ensures finished { (w : World) (o : Options) (g : IsOldUpdate w o) (m : Snapshot) (calls : List Call)
         (t : State) (end : Snapshot) → Applies w (begin o) m calls t end → AllEvents (IsAcceptableFor g) calls
         → has_ended t.due ≡ true → IsInstalled t.due }
 
@@ -140,14 +142,14 @@ pub fn any_history_keeps_the_version()
     // The recorded version does not decrease over any sequence of runs, crashes and changes by other
     // processes, if these processes do not decrease it. A run may be complete, failed or interrupted. If
     // --first or --new-key is given, the record must not name a key that was not given.
-    ensures versions { (field : Numbering) (old new : Snapshot) (happened : List (Happening field))
-        → HasHappened field old happened new → KeepsVersion field old new }
+    ensures versions { (field : Numbering) (old new : Snapshot) (events : List (HistoryEvent field))
+        → IsHistory field old events new → KeepsVersion field old new }
 
     // Records of version 0.2 still work: if version 0.2 used the version number of a record, with or without
     // the name of the field, so does this version; and if it ignored a record with --first, so does this
     // version.
     ensures old_records { (o : Options) (found : Option (List ℕ)) (applicable : Option ℕ) → o.new_key ≡ false
-        → AppliesAs o.numbering o.first (counted_for o found) applicable
+        → AppliesAs o.numbering o.first (used_record_for o found) applicable
         → (r : Recorded) × (judge_record o found ≡ Ok r) × (r.version ≡ applicable) }
 {}
 
@@ -203,7 +205,7 @@ pub fn any_record_is_judged()
         → AcceptsWholeKeys v.accepts → IsLaterRun v p o.numbering s
         → IsOtherUpdate v p k (blake2b_digest 64 s.read) → (g : IsSigned v p) (m : Snapshot)
         (calls : List Call) (t : State) (end : Snapshot) → Applies v (begin p) m calls t end
-        → OthersLeaveTarget m calls → is_some m.target ≡ true → AllEvents (IsFineAt p k g.text) calls
+        → OthersLeaveTarget m calls → is_some m.target ≡ true → AllEvents (IsAcceptableAt p k g.text) calls
         → has_ended t.due ≡ true
         → (t.due ≡ AlreadyInstalled) ⊎ ((t.due ≡ Rejected) × (t.error ≡ Some SameNumber)) }
 

@@ -5,8 +5,8 @@ ghost use Rattle.std.specs.Prelude.{Some, ◌≡◌, ◌⊎◌, ℕ, ◌==◌, �
 ghost use Rattle.std.specs.Prelude.{MatchOption, length, take, drop};
 ghost use Rattle.hex.specs.Hex.{encode_lower};
 ghost use Rattle.minisign_install.specs.Faults.{DamagedRecord};
-ghost use Rattle.minisign_install.specs.RecordTexts.{recorded_by, other_field, HasNoNumber, IsNumberFor};
-ghost use Rattle.minisign_install.specs.RecordTexts.{is_marked, is_foreign_key, mark_text, marked_line};
+ghost use Rattle.minisign_install.specs.RecordTexts.{kept_by, other_field, HasNoNumber, IsNumberFor};
+ghost use Rattle.minisign_install.specs.RecordTexts.{has_last_lines, is_foreign_key, last_lines, first_line};
 ghost use Rattle.minisign_install.specs.RecordTexts.{record_digest, record_key, record_of, record_text};
 
 use crate::comments::{Numbering, number_of, strip};
@@ -17,12 +17,12 @@ const MAX_LINE: usize = 64;
 
 // The length of the two last lines of a record, after the version number: 64 and 128 hexadecimal digits, each
 // with a line feed before it.
-const MARK_TEXT: usize = 194;
+const LAST_LINES: usize = 194;
 
 /// The contents of the two last lines of a record, 96 bytes.
 #[repr(C)]
 #[derive(Clone, Copy)]
-pub(crate) struct Mark {
+pub(crate) struct KeyAndDigest {
     // The key that signed the update.
     pub(crate) key: [u8; 32],
     // The digest of the data.
@@ -32,7 +32,7 @@ pub(crate) struct Mark {
 // Returns the error for a record that has no version number for the field: it has one for the other field, or
 // it is damaged.
 pub(crate) fn unfit_record_fault(bytes: &[u8], numbering: Numbering) -> InstallFault
-    ensures why { ((result ≡ recorded_by (other_field numbering))
+    ensures why { ((result ≡ kept_by (other_field numbering))
         × ((n : ℕ) × IsNumberFor (other_field numbering) bytes.now n))
         ⊎ ((result ≡ DamagedRecord) × HasNoNumber (other_field numbering) bytes.now) }
 {
@@ -66,7 +66,7 @@ fn record_text(bytes: &[u8]) -> &[u8]
     ensures { result.now ≡ record_text bytes.now }
 {
     if bytes.len() > MAX_LINE {
-        return marked_line(bytes);
+        return first_line(bytes);
     }
     match bytes.split_last() {
         Some((last, line)) if *last == b'\n' => line,
@@ -75,22 +75,22 @@ fn record_text(bytes: &[u8]) -> &[u8]
 }
 
 // Returns the first line of a record of three lines, or nothing if the record has another form.
-fn marked_line(bytes: &[u8]) -> &[u8]
-    ensures { result.now ≡ marked_line bytes.now }
+fn first_line(bytes: &[u8]) -> &[u8]
+    ensures { result.now ≡ first_line bytes.now }
 {
-    if !is_marked(bytes) {
+    if !has_last_lines(bytes) {
         return &[];
     }
-    let (line, _) = bytes.split_at(bytes.len() - MARK_TEXT);
+    let (line, _) = bytes.split_at(bytes.len() - LAST_LINES);
     line
 }
 
 // Returns true if the record is long enough for three lines, and a line feed ends the first one.
-fn is_marked(bytes: &[u8]) -> bool
-    ensures { result ≡ is_marked bytes.now }
+fn has_last_lines(bytes: &[u8]) -> bool
+    ensures { result ≡ has_last_lines bytes.now }
 {
     let len = bytes.len();
-    MARK_TEXT <= len && len <= MARK_TEXT + MAX_LINE && ends_line(bytes[len - MARK_TEXT])
+    LAST_LINES <= len && len <= LAST_LINES + MAX_LINE && ends_line(bytes[len - LAST_LINES])
 }
 
 // Returns true if the byte is a line feed.
@@ -104,7 +104,7 @@ fn ends_line(byte: u8) -> bool
 pub(crate) fn record_digest(bytes: &[u8]) -> Option<[u8; 64]>
     ensures { result ≡ record_digest bytes.now }
 {
-    if !is_marked(bytes) {
+    if !has_last_lines(bytes) {
         return None;
     }
     let (_, digits) = bytes.split_at(bytes.len() - 128);
@@ -119,7 +119,7 @@ pub(crate) fn record_digest(bytes: &[u8]) -> Option<[u8; 64]>
 pub(crate) fn record_key(bytes: &[u8]) -> Option<[u8; 32]>
     ensures { result ≡ record_key bytes.now }
 {
-    if !is_marked(bytes) {
+    if !has_last_lines(bytes) {
         return None;
     }
     let (_, lines) = bytes.split_at(bytes.len() - 193);
@@ -150,27 +150,32 @@ fn is_neither(named: &[u8; 32], key: &[u8; 32], other: &[u8; 32]) -> bool
 
 // Writes a record to the start of `to` and returns its length. If `to` is too short, writes nothing and
 // returns 0.
-pub(crate) fn write_record(numbering: Numbering, number: u64, mark: &Mark, to: &mut [u8]) -> usize
+pub(crate) fn write_record(
+    numbering: Numbering,
+    number: u64,
+    values: &KeyAndDigest,
+    to: &mut [u8],
+) -> usize
     ensures written { 0 < result
         → (result ≤ length to.new)
-        × (take result to.new ≡ record_of numbering number mark.now.key mark.now.digest) }
+        × (take result to.new ≡ record_of numbering number values.now.key values.now.digest) }
     ensures rest { drop result to.new ≡ drop result to.old }
     ensures unwritten { result ≡ 0
         → (to.new ≡ to.old)
-        × (length to.old < length (record_of numbering number mark.now.key mark.now.digest)) }
+        × (length to.old < length (record_of numbering number values.now.key values.now.digest)) }
 {
     let mut buffer = itoa::Buffer::new();
     let digits = buffer.format(number).as_bytes();
     let label = numbering.label().as_bytes();
     let line = label.len() + digits.len();
-    if to.len() < line + MARK_TEXT {
+    if to.len() < line + LAST_LINES {
         return 0;
     }
-    let (whole, _) = to.split_at_mut(line + MARK_TEXT);
+    let (whole, _) = to.split_at_mut(line + LAST_LINES);
     let (first, others) = whole.split_at_mut(line);
     fill(first, label, digits);
-    write_mark(mark, others);
-    line + MARK_TEXT
+    write_last_lines(values, others);
+    line + LAST_LINES
 }
 
 // Fills the buffer with the first line: the label and the digits.
@@ -184,13 +189,13 @@ fn fill(to: &mut [u8], label: &[u8], digits: &[u8])
 }
 
 // Fills the buffer with the two last lines of a record, each with a line feed before it.
-fn write_mark(mark: &Mark, to: &mut [u8])
+fn write_last_lines(values: &KeyAndDigest, to: &mut [u8])
     requires { length to.old ≡ 194 }
-    ensures { to.new ≡ mark_text mark.now.key mark.now.digest }
+    ensures { to.new ≡ last_lines values.now.key values.now.digest }
 {
     let (key, digest) = to.split_at_mut(65);
-    write_line(&mark.key, key);
-    write_line(&mark.digest, digest);
+    write_line(&values.key, key);
+    write_line(&values.digest, digest);
 }
 
 // Fills the buffer with a line feed and the hexadecimal digits of these bytes.

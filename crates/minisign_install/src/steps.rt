@@ -36,11 +36,11 @@ pub fn any_run_of_steps()
 
     // Every good update can be installed: there is a run in which no operation fails, and which ends with
     // the update installed.
-    ensures met { (w : World) (o : Options) (g : IsGoodUpdate w o) (time : Option ℕ)
+    ensures installable { (w : World) (o : Options) (g : IsGoodUpdate w o) (time : Option ℕ)
         → comment_fault o g.recorded.version time g.text.comments.trusted ≡ None
         → (events : List Event) × (t : State) × IsGoodRun g events t × (t.due ≡ Installed) }
 
     // Good updates exist, at least for a scheme that accepts every signature.
-    ensures present { (w : World) × (o : Options) × (g : IsGoodUpdate w o) × (time : Option ℕ)
+    ensures exist { (w : World) × (o : Options) × (g : IsGoodUpdate w o) × (time : Option ℕ)
         × (comment_fault o g.recorded.version time g.text.comments.trusted ≡ None) }
 {}

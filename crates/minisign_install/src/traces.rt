@@ -19,9 +19,10 @@ ghost use Rattle.minisign_install.specs.Step.{new_record, step};
 ghost use Rattle.minisign_install.specs.StepRuns.{World};
 ghost use Rattle.minisign_install.specs.Traces.{HasReported, IsFollowed};
 ghost use Rattle.minisign_install.specs.Traces.{CanGrow, HasCopied, MessageFits, HasWritten, IsDoneAs};
-ghost use Rattle.minisign_install.specs.Traces.{IsNextRead, IsNoted, IsPieceOf, IsReadFrom, IsRecordDue};
+ghost use Rattle.minisign_install.specs.Traces.{IsNextRead, ReportMatches, IsPieceOf, IsReadFrom};
+ghost use Rattle.minisign_install.specs.Traces.{IsRecordDue};
 ghost use Rattle.minisign_install.specs.Traces.{IsRecorded, is_reported, source_at};
-ghost use Rattle.minisign_install.specs.Traces.{FollowerHolds, HasFollowed, IsLawful, IsNext, IsSeen};
+ghost use Rattle.minisign_install.specs.Traces.{FollowerHolds, HasFollowed, IsLawful, IsNext, AreFilesOf};
 ghost use Rattle.minisign_install.specs.Traces.{StateKnows};
 ghost use Rattle.minisign_install.specs.Traces.{affected, bytes_seen, changed, event_of, has_failed};
 ghost use Rattle.minisign_install.specs.Traces.{installs, is_done, is_growing, is_listed, is_nothing};
@@ -266,8 +267,8 @@ impl<'a> Files<'a> {
 
     // Returns the files after an effect that is not `DataGrown`.
     fn after(&self, effect: &Effect<'a>) -> Files<'a>
-        ensures { is_growing effect.now ≡ false → (m : Snapshot) → IsSeen self.now m
-            → IsSeen result (affected effect.now m) }
+        ensures { is_growing effect.now ≡ false → (m : Snapshot) → AreFilesOf self.now m
+            → AreFilesOf result (affected effect.now m) }
     {
         match *effect {
             Effect::Locked => Files {
@@ -308,9 +309,9 @@ impl<'a> Files<'a> {
     // Returns the files after this change by another process, or `None` if other processes must not make it:
     // the record does not change while this run holds the lock.
     fn changed(&self, change: &Change<'a>) -> Option<Files<'a>>
-        ensures is { IfSome result (λ f. (m : Snapshot) → IsSeen self.now m
-            → Others m (changed change.now m) × IsSeen f (changed change.now m)) }
-        ensures finds { (m : Snapshot) → IsSeen self.now m → Others m (changed change.now m)
+        ensures is { IfSome result (λ f. (m : Snapshot) → AreFilesOf self.now m
+            → Others m (changed change.now m) × AreFilesOf f (changed change.now m)) }
+        ensures finds { (m : Snapshot) → AreFilesOf self.now m → Others m (changed change.now m)
             → is_some result ≡ true }
     {
         match *change {
@@ -579,7 +580,7 @@ impl<'a> Follower<'a> {
         ensures finds { (file : List ℕ) (s : State) (m : Snapshot) → StateKnows (world_of inputs.now) file s
             → FollowerHolds (world_of inputs.now) self.now message.now s m
             → Performs (world_of inputs.now) s s.due (event_of report.now) m (affected effect.now m)
-            → IsNoted inputs.now s m self.now.source.now report.now effect.now → result ≡ true }
+            → ReportMatches inputs.now s m self.now.source.now report.now effect.now → result ≡ true }
     {
         match *report {
             Report::Done => self.is_done(inputs, effect),
@@ -605,7 +606,8 @@ impl<'a> Follower<'a> {
     // Returns the files after this effect, or `None` if the piece is not the next one of the data.
     fn next_files(&self, inputs: &RunInputs<'a>, effect: &Effect<'a>) -> Option<Files<'a>>
         ensures is { IfSome result (λ f. (message : List ℕ) (s : State) (m : Snapshot)
-            → FollowerHolds (world_of inputs.now) self.now message s m → IsSeen f (affected effect.now m)) }
+            → FollowerHolds (world_of inputs.now) self.now message s m
+            → AreFilesOf f (affected effect.now m)) }
         ensures finds { (s : State) → Represents self.now.installation s
             → CanGrow s inputs.now.update.now (bytes_seen self.now.files.data_file) effect.now
             → is_some result ≡ true }
@@ -731,7 +733,7 @@ impl<'a> Follower<'a> {
             → FollowerHolds (world_of inputs.now) self.old message.old s m
             → MessageFits (world_of inputs.now) message.old
             → IsNext (world_of inputs.now) s m (event_of report.now) effect.now
-            → IsNoted inputs.now s m (source_at s m self.old.source.now) report.now effect.now
+            → ReportMatches inputs.now s m (source_at s m self.old.source.now) report.now effect.now
             → result ≡ true }
     {
         self.open_target();
@@ -825,17 +827,17 @@ pub fn first_unlawful_line<'a>(
 ) -> Option<usize>
     // If the result is `None`, the run is that of an application that performs the operations of `step`, so
     // all laws about such applications hold for it.
-    ensures lawful { result ≡ None → (m : Snapshot) → IsSeen begun.now m
+    ensures lawful { result ≡ None → (m : Snapshot) → AreFilesOf begun.now m
         → IsLawful (world_of inputs.now) (options_by key.now other.now choices.now file.now) m trace.now }
     // If the result is `Some(n)`, the first n lines are a run of such an application.
-    ensures before { IfSome result (λ n. (m : Snapshot) → IsSeen begun.now m
+    ensures before { IfSome result (λ n. (m : Snapshot) → AreFilesOf begun.now m
         → IsLawful (world_of inputs.now) (options_by key.now other.now choices.now file.now) m
         (take n trace.now)) }
     // If the result is `Some(n)`, the first n + 1 lines are not those of an application that performs the
     // operations of `step`, and records the report and the effect of each operation. This assumes that the
     // options can be combined, and that the buffer is large enough for the message of the trusted comment.
-    ensures offends { IfSome result (λ n. choices_misuse choices.now ≡ None
-        → MessageFits (world_of inputs.now) message.old → (m : Snapshot) → IsSeen begun.now m
+    ensures unlawful { IfSome result (λ n. choices_misuse choices.now ≡ None
+        → MessageFits (world_of inputs.now) message.old → (m : Snapshot) → AreFilesOf begun.now m
         → IsRecorded inputs.now (begin (options_by key.now other.now choices.now file.now)) m []
         (take (n + 1) trace.now) → ⊥) }
 {

@@ -12,7 +12,7 @@ ghost use Rattle.minisign_install.specs.Step.{State, key_of, new_key, new_record
 
 use crate::installation::progress::Progress;
 use crate::installation::{Operation, Question};
-use crate::recording::{Mark, write_record};
+use crate::recording::{KeyAndDigest, write_record};
 
 impl Progress {
     // Returns the question that is due.
@@ -129,11 +129,11 @@ impl Progress {
         ensures rest { drop result to.new ≡ drop result to.old }
     {
         let version = self.new_version();
-        let mark = Mark {
+        let values = KeyAndDigest {
             key: self.new_key(signer),
             digest: self.digest(),
         };
-        write_record(self.chosen.numbering(), version, &mark, to)
+        write_record(self.chosen.numbering(), version, &values, to)
     }
 
     // Returns the version number of the new record. A roll-back does not decrease it.

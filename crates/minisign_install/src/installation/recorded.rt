@@ -78,7 +78,7 @@ fn judge_record(chosen: &Chosen, bytes: &[u8]) -> Result<RecordedValue, InstallF
         ≡ judgment_of result }
 {
     match version_for(bytes, chosen.numbering()) {
-        Some(version) => Ok(counted(chosen, bytes, version)),
+        Some(version) => Ok(used_record(chosen, bytes, version)),
         None => judge_unnumbered(chosen, bytes),
     }
 }
@@ -107,7 +107,7 @@ fn judge_missing_record(chosen: &Chosen) -> Result<RecordedValue, InstallFault>
 }
 
 // Returns the contents of a record with this version, or nothing if the record is ignored.
-fn counted(chosen: &Chosen, bytes: &[u8], version: u64) -> RecordedValue
+fn used_record(chosen: &Chosen, bytes: &[u8], version: u64) -> RecordedValue
     ensures { (file : List ℕ) → judge_version (options_of chosen.now file) bytes.now (Some version)
         ≡ Ok (recorded_of result) }
 {

@@ -13,7 +13,7 @@ ghost use Rattle.minisign_install.specs.Faults.{Library, Named, NotUtf8, is_own}
 ghost use Rattle.minisign_install.specs.Installations.{HoldsState, RunLeadsTo, SignatureLeads};
 ghost use Rattle.minisign_install.specs.Installations.{SignatureSteps, given};
 ghost use Rattle.minisign_install.specs.Installations.{IsJudgedAs, IsReadAs, judge_form, options_of, plain};
-ghost use Rattle.minisign_install.specs.Installations.{IsOwnNumber, first_key, reads_into};
+ghost use Rattle.minisign_install.specs.Installations.{IsOwnNumber, first_key, judged_text};
 ghost use Rattle.minisign_external.specs.declared.public_keys.PublicKeyValue.{PublicKeyValue};
 ghost use Rattle.minisign_install.specs.Step.{State, after_signature, reject};
 
@@ -58,7 +58,7 @@ impl Progress {
         message: &mut [u8],
     ) -> Result<usize, Refusal<InstallFault>>
         ensures leads { (s : State) → HoldsState self.old s → s.options.file ≡ file.now
-            → SignatureLeads (reads_into s sig_text.now) time s result self.new message.old message.new }
+            → SignatureLeads (judged_text s sig_text.now) time s result self.new message.old message.new }
         ensures unchanged { OnErr result (message.new ≡ message.old) }
         ensures proper { IfErr result (λ r. r ≢ WrongUse NotDue) }
         ensures short { result ≡ Err (WrongUse NoRoom) → self.new ≡ self.old }

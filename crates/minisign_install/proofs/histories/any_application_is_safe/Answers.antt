@@ -2,8 +2,8 @@ use Rattle.minisign_install.proofs.Applications.{application_ends, reported_ends
 use Rattle.minisign_install.proofs.Applications.{reported_errors_are_true}
 use Rattle.minisign_install.proofs.Checking.{check_changes_nothing}
 use Rattle.minisign_install.proofs.Leftovers.{no_files_left}
-use Rattle.minisign_install.proofs.Refusing.{rejected_leaves}
-use Rattle.minisign_install.proofs.SafeCalls.{ends_last, safe_calls}
+use Rattle.minisign_install.proofs.RejectedRuns.{rejected_leaves}
+use Rattle.minisign_install.proofs.SafeCalls.{ends_durable, safe_calls}
 use Rattle.minisign_install.proofs.Timely.{accepted_in_time, judged_in_time}
 use Rattle.minisign_install.proofs.histories.any_application_is_safe.Goals as goal
 
@@ -17,6 +17,6 @@ returns c = record {
   rejected = rejected_leaves;
   errors = reported_errors_are_true;
   ends = reported_ends_are_true;
-  lasts = ends_last;
+  durable = ends_durable;
   bounded = application_ends;
 }

@@ -1,5 +1,5 @@
 use Rattle.std.proofs.Common.{◌∙◌, ap, drop, length, sym, take}
-use Rattle.minisign_install.proofs.Noting.{are_same, piece_cut}
+use Rattle.minisign_install.proofs.FullTraces.{are_same, piece_cut}
 use Rattle.minisign_install.proofs.traces.extended.Goals as goal
 use Rattle.minisign_install.proofs.traces.extended.Goals.{else-eq-via-else-eq}
 use Rattle.minisign_install.proofs.traces.extended.Goals.{else-eq-via-then-eq+else-eq-2}

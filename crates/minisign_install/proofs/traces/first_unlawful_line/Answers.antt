@@ -1,8 +1,8 @@
 use Rattle.std.proofs.Common.{arith, refl, rules, take_all}
 use Rattle.minisign_install.specs.Installations.{options_by}
 use Rattle.minisign_install.specs.Traces.{world_of}
-use Rattle.minisign_install.proofs.Noting.{not_at_first, same_room}
-use Rattle.minisign_install.proofs.Tracing.{arrives, goes_on_at, offends, starts}
+use Rattle.minisign_install.proofs.FullTraces.{not_at_first, same_room}
+use Rattle.minisign_install.proofs.Tracing.{arrives, goes_on_at, unlawful, starts}
 use Rattle.minisign_install.proofs.traces.first_unlawful_line.Goals as goal
 
 pub lines-init : goal.lines-init
@@ -31,10 +31,10 @@ pub returns-then-not-line-clause-before : goal.returns-then-not-line-clause-befo
 returns-then-not-line-clause-before c = λ m present.
     arrives c.args.inputs.now _ m c.lines.follower c.lines.message _ (c.lines.invariant.1 m present)
 
-pub returns-then-not-line-clause-offends : goal.returns-then-not-line-clause-offends
-returns-then-not-line-clause-offends c = λ valid room m present.
+pub returns-then-not-line-clause-unlawful : goal.returns-then-not-line-clause-unlawful
+returns-then-not-line-clause-unlawful c = λ valid room m present.
     let o = options_by c.args.key.now c.args.other.now c.args.choices.now c.args.file.now in
-    offends c.args.inputs.now o m c.lines.follower c.lines.message c.args.trace.now c.lines.at
+    unlawful c.args.inputs.now o m c.lines.follower c.lines.message c.args.trace.now c.lines.at
     c.lines-test.true (c.lines.invariant.1 m present)
     (same_room (world_of c.args.inputs.now) c.lines.message c.args.message.now c.lines.auto.message room)
     c.if-not-line.ensures.finds

@@ -1,5 +1,5 @@
 use Rattle.minisign_install.specs.Step.{Failed}
-use Rattle.minisign_install.proofs.Noting.{taken_result}
+use Rattle.minisign_install.proofs.FullTraces.{taken_result}
 use Rattle.minisign_install.proofs.Tracing.{fits}
 use Rattle.minisign_install.proofs.traces.has_reported.Goals as goal
 

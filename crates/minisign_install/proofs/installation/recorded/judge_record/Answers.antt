@@ -6,7 +6,7 @@ use Rattle.minisign_install.proofs.installation.recorded.judge_record.Goals as g
 pub returns-in-Some : goal.returns-in-Some
 returns-in-Some c = λ file.
     ap (judge_version (options_of c.args.chosen.now file) c.args.bytes.now)
-    (sym (rw c.numbering.ensures at c.in-Some.ensures)) ∙ c.counted.ensures file
+    (sym (rw c.numbering.ensures at c.in-Some.ensures)) ∙ c.used_record.ensures file
 
 pub returns-in-None : goal.returns-in-None
 returns-in-None c = λ file.

@@ -1,5 +1,5 @@
 use Rattle.std.proofs.Common.{◌∙◌}
-use Rattle.minisign_install.proofs.Noting.{is_longer}
+use Rattle.minisign_install.proofs.FullTraces.{is_longer}
 use Rattle.minisign_install.proofs.traces.Files.changed.Goals as goal
 
 pub returns-then-self-clause-finds : goal.returns-then-self-clause-finds

@@ -2,7 +2,7 @@ use Rattle.std.proofs.Common.{◌∙◌, ap, rules, sym}
 use Rattle.std.proofs.Common.{if◌then◌else◌, [], List, ℕ}
 use Rattle.minisign_install.specs.Step.{step}
 use Rattle.minisign_install.specs.Traces.{event_of, installs, world_of}
-use Rattle.minisign_install.proofs.Noting.{can_grow, read_from}
+use Rattle.minisign_install.proofs.FullTraces.{can_grow, read_from}
 use Rattle.minisign_install.proofs.Tracing.{read_is}
 use Rattle.minisign_install.proofs.traces.Follower.call.Goals as goal
 

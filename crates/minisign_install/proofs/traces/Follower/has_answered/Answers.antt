@@ -1,7 +1,7 @@
 use Rattle.std.specs.Cmp.{booleans_Decides}
 use Rattle.std.proofs.Common.{◌∙◌, List, ap, arith, sym, ℕ}
 use Rattle.minisign_install.specs.Traces.{world_of}
-use Rattle.minisign_install.proofs.Noting.{comment_asked}
+use Rattle.minisign_install.proofs.FullTraces.{comment_asked}
 use Rattle.minisign_install.proofs.traces.Follower.has_answered.Goals as goal
 use Rattle.minisign_install.proofs.traces.Follower.has_answered.Goals.{
   then-self-eq0-via-else-self-eq0+then-self-message,

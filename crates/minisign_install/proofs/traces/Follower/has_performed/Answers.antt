@@ -1,7 +1,7 @@
 use Rattle.std.proofs.Common.{◌∙◌, refl, sym}
 use Rattle.minisign_install.specs.Traces.{world_of}
-use Rattle.minisign_install.proofs.Noting.{answer_leaves, content_is, copy_found, in_use_found, none_seen}
-use Rattle.minisign_install.proofs.Noting.{piece_leaves, record_found, target_missed}
+use Rattle.minisign_install.proofs.FullTraces.{answer_leaves, content_is, copy_found, in_use_found, none_seen}
+use Rattle.minisign_install.proofs.FullTraces.{piece_leaves, record_found, target_missed}
 use Rattle.minisign_install.proofs.Tracing.{bytes_are, nothing_is, signature_is, some_of}
 use Rattle.minisign_install.proofs.traces.Follower.has_performed.Goals as goal
 

@@ -1,6 +1,6 @@
 use Rattle.std.proofs.Common.{◌∙◌, refl, sym}
 use Rattle.minisign_install.specs.Traces.{world_of}
-use Rattle.minisign_install.proofs.Noting.{done_as, done_found}
+use Rattle.minisign_install.proofs.FullTraces.{done_as, done_found}
 use Rattle.minisign_install.proofs.traces.Follower.is_done.Goals as goal
 
 pub returns-in-WriteRecord-clause-is : goal.returns-in-WriteRecord-clause-is

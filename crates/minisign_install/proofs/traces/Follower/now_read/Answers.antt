@@ -1,6 +1,6 @@
 use Rattle.std.proofs.Common.{refl}
 use Rattle.minisign_install.specs.Traces.{world_of}
-use Rattle.minisign_install.proofs.Noting.{piece_leaves}
+use Rattle.minisign_install.proofs.FullTraces.{piece_leaves}
 use Rattle.minisign_install.proofs.Tracing.{if_some}
 use Rattle.minisign_install.proofs.traces.Follower.now_read.Goals as goal
 

@@ -1,6 +1,6 @@
 use Rattle.std.proofs.Common.{sym}
 use Rattle.minisign_install.specs.Traces.{event_of}
-use Rattle.minisign_install.proofs.Noting.{other_reported, other_text, stays_asked}
+use Rattle.minisign_install.proofs.FullTraces.{other_reported, other_text, stays_asked}
 use Rattle.minisign_install.proofs.Tracing.{signature_is}
 use Rattle.minisign_install.proofs.traces.Follower.reports.Goals as goal
 

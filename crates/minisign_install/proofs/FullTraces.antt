@@ -17,8 +17,8 @@ use Rattle.minisign_install.specs.Faults.{Fault, InstallFault, Library, Named, O
 use Rattle.minisign_install.specs.Faults.{TargetInUse}
 use Rattle.minisign_install.specs.Step.{Event, Operation, State, after, answer, step}
 use Rattle.minisign_install.specs.Step as due
-use Rattle.minisign_install.specs.StepRuns.{IsAnswer, World, asks}
-use Rattle.minisign_install.specs.Installations.{IsTooLong, comment_message, reads_into, signature_read}
+use Rattle.minisign_install.specs.StepRuns.{IsAnswer, World, says_yes}
+use Rattle.minisign_install.specs.Installations.{IsTooLong, comment_message, judged_text, signature_read}
 use Rattle.minisign_install.specs.Decisions.{Options}
 use Rattle.minisign.specs.SignatureText.{read_signature}
 use Rattle.minisign_external.specs.PublicKeys.{read_utf8}
@@ -34,7 +34,7 @@ use Rattle.minisign_install.specs.Traces.{MessageFits, IsAsked, IsWhole, StateKn
 use Rattle.std.specs.Prelude.{replicate, ◌≢◌}
 use Rattle.std.proofs.Common.{length-append}
 use Rattle.std.proofs.lemmas.Bool.{eqb-true, ne_eqb}
-use Rattle.minisign_install.specs.Traces.{CanGrow, IsDoneAs, IsNoted, IsPieceOf, IsSeen, Seen}
+use Rattle.minisign_install.specs.Traces.{CanGrow, IsDoneAs, ReportMatches, IsPieceOf, AreFilesOf, Seen}
 use Rattle.minisign_install.specs.Traces.{affected, bytes_seen, event_of, has_failed, is_done, is_effect}
 use Rattle.minisign_install.specs.Traces.{is_read, seen, seen_as, world_of}
 use Rattle.minisign_install.specs.declared.traces.Effect.{Effect}
@@ -103,7 +103,7 @@ none_seen None None is at = refl
 -- == Operations ==
 
 pub done_found : (w : World) (s : State) (op : Operation) (did : Effect) (f : Files) (m : Snapshot)
-    (read update : List ℕ) → IsSeen f m → read ≡ s.read → w.update ≡ update
+    (read update : List ℕ) → AreFilesOf f m → read ≡ s.read → w.update ≡ update
     → Performs w s op due.Done m (affected did m) → is_effect op did ≡ true
     → is_done op did f read update ≡ true
 done_found w s due.Lock effect.Locked f m read update present same offered done is =
@@ -212,9 +212,9 @@ no : {P : Type 0} → false ≡ true → P
 no is = absurd (true≢false (sym is))
 
 grows : (g : RunInputs) (s : State) (f : Files) (m : Snapshot) (source : List ℕ) (reported : Report)
-    (piece : Bor (List ℕ)) (new : Snapshot) → IsSeen f m
+    (piece : Bor (List ℕ)) (new : Snapshot) → AreFilesOf f m
     → Performs (world_of g) s s.due (event_of reported) m new
-    → IsNoted g s m source reported (effect.DataGrown piece)
+    → ReportMatches g s m source reported (effect.DataGrown piece)
     → CanGrow s g.update.now (bytes_seen f.data_file) (effect.DataGrown piece)
 grows g s f m source report.Done piece new present done is = not_grown s s.due piece is
 grows g s f m source (report.Failed fault) piece new present done is = not_failed s.due piece is
@@ -228,15 +228,15 @@ grows g s f m source (report.Copied n) piece new present done (some, long, next)
 grows g s f m source reported piece new present done is = no is
 
 pub can_grow : (g : RunInputs) (s : State) (f : Files) (m : Snapshot) (source : List ℕ) (reported : Report)
-    (did : Effect) (new : Snapshot) → IsSeen f m → Performs (world_of g) s s.due (event_of reported) m new
-    → IsNoted g s m source reported did → CanGrow s g.update.now (bytes_seen f.data_file) did
+    (did : Effect) (new : Snapshot) → AreFilesOf f m → Performs (world_of g) s s.due (event_of reported) m new
+    → ReportMatches g s m source reported did → CanGrow s g.update.now (bytes_seen f.data_file) did
 can_grow g s f m source reported (effect.DataGrown piece) new present done is =
     grows g s f m source reported piece new present done is
 can_grow g s f m source reported did new present done is = tt
 
 pub read_from : (g : RunInputs) (s : State) (m : Snapshot) (source : List ℕ) (reported : Report)
     (did : Effect)
-    → IsNoted g s m source reported did → IsReadFrom s source reported
+    → ReportMatches g s m source reported did → IsReadFrom s source reported
 read_from g s m source (report.Piece bytes) did is = is.1
 read_from g s m source reported did is = tt
 
@@ -442,9 +442,9 @@ text_refused w s text time r n message at is =
 -- The message of a signature file that passes the checks fits into the buffer.
 pub room_enough : (w : World) (s : State) (text : List ℕ) (message : List ℕ)
     → w.text ≡ read_utf8 read_signature text → MessageFits w message
-    → IsTooLong (comment_message (reads_into s text)) (length message) → ⊥
+    → IsTooLong (comment_message (judged_text s text)) (length message) → ⊥
 room_enough w s text message is room (m, at, long) =
-    too_long w s.options (read_utf8 read_signature text) (reads_into s text) m message (sym is) refl room at
+    too_long w s.options (read_utf8 read_signature text) (judged_text s text) m message (sym is) refl room at
     long
 
 pub same_room : (w : World) (one other : List ℕ) → length one ≡ length other → MessageFits w other
@@ -493,7 +493,7 @@ key_is (v ∷ more) key is = same_Some v.key key is
 
 answered_at : (w : World) (s : State) (op : Operation) (accepted : Bool) → op ≡ due.CheckComment
     → IsAnswer w s op accepted → (t : SignatureTextRecord) → w.text ≡ Ok t
-    → accepted ≡ asks w (due.comment_question s t.comments.trusted)
+    → accepted ≡ says_yes w (due.comment_question s t.comments.trusted)
 answered_at w s due.CheckComment accepted at is = is
 answered_at w s op accepted at is = cc at
 

@@ -12,12 +12,12 @@ use Rattle.minisign_install.specs.Step.{PieceRead, RecordRead, SignatureRead, St
 use Rattle.minisign_install.specs.Step.{step}
 use Rattle.minisign_install.specs.Step.{new_record}
 use Rattle.minisign_install.specs.Step as due
-use Rattle.minisign_install.specs.StepRuns.{AllSucceed, Changes, Disk, IsRun, EventIsTrue, Runs, Succeeds}
+use Rattle.minisign_install.specs.StepRuns.{AllSucceed, Changes, Disk, IsRun, IsLawfulEvent, Runs, Succeeds}
 use Rattle.minisign_install.specs.StepRuns.{World}
 use Rattle.minisign_install.specs.StepRuns.{count}
 use Rattle.minisign_install.proofs.Applications.{event_of}
 use Rattle.minisign_install.proofs.SafeCalls.{true_run}
-use Rattle.minisign_install.proofs.StepRefusals.{rejected_changes_nothing}
+use Rattle.minisign_install.proofs.StepRejections.{rejected_changes_nothing}
 
 -- A disk without files. In the proof, a run starts with this disk; a rename adds a file to it, and no
 -- operation removes one. So if the disk is empty after the run, no file was renamed.
@@ -95,7 +95,8 @@ leaves w s op e old new d is fine none = absurd is
 -- the record unchanged.
 from : (w : World) (n : ℕ) (s : State) (d : Disk) (m : Snapshot) (calls : List Call) (t : State)
     (end : Snapshot)
-    → IsRun (EventIsTrue w) n s (map event_of calls) t → Applies w s m calls t end → AllEvents Succeeds calls
+    → IsRun (IsLawfulEvent w) n s (map event_of calls) t → Applies w s m calls t end
+    → AllEvents Succeeds calls
     → (events : List (Event × Disk)) × (last : Disk) × Runs w n s d events t last × AllSucceed events
     × (last ≡ nothing → (d ≡ nothing) × AllCalls LeavesContent calls)
 from w n s d m [] t end held run fine = ([], d, (held, refl), tt, λ none. (none, tt))

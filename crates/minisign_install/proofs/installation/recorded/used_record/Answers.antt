@@ -1,5 +1,5 @@
 use Rattle.std.proofs.Common.{◌∙◌, refl, sym}
-use Rattle.minisign_install.proofs.installation.recorded.counted.Goals as goal
+use Rattle.minisign_install.proofs.installation.recorded.used_record.Goals as goal
 
 pub returns-then-is_ignored : goal.returns-then-is_ignored
 returns-then-is_ignored c = λ file.
