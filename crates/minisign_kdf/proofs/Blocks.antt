@@ -17,7 +17,7 @@ row_before len i k lt =
     (omega arith) in
     rw (← mul-suc len k) h
 
--- One of the first i blocks is a block of the front.
+-- If the front of a list has i blocks, each of its first i blocks is a block of the front.
 pub block_front : (len i k : ℕ) (p q : List ℕ) → length p ≡ len * i → k < i
     → block len (p ++ q) k ≡ block len p k
 block_front len i k p q lp lt =
@@ -25,7 +25,7 @@ block_front len i k p q lp lt =
     ap (take len) (drop-append-le (len * k) p q (omega arith))
     ∙ take-append-le len (drop (len * k) p) q (omega (arith, length-drop (len * k) p))
 
--- A block after the first i blocks is a block of the rest.
+-- If the front of a list has i blocks, block i + k of the list is block k of the rest.
 pub block_behind : (len i k : ℕ) (p q : List ℕ) → length p ≡ len * i → block len (p ++ q) (i + k)
     ≡ block len q k
 block_behind len i k p q lp =
@@ -42,7 +42,7 @@ block_whole len y ly =
 pub block_new : (len i : ℕ) (p y : List ℕ) → length p ≡ len * i → length y ≡ len → block len (p ++ y) i ≡ y
 block_new len i p y lp ly = ap (take len) (drop_at p y (len * i) lp) ∙ take_all len y (omega arith)
 
--- The rest of a list after all blocks except one is its last block.
+-- The rest of a list of n blocks after the first n - 1 blocks is its last block.
 pub block_end : (len n m w : ℕ) (xs : List ℕ) → length xs ≡ len * n → 1 ≤ n → m ≡ len * (n - 1)
     → w ≡ length xs - m → take w (drop m xs) ≡ block len xs (n - 1)
 block_end len n m w xs lx some em ew =
@@ -59,7 +59,7 @@ length_end len n m xs lx some em =
     let rest : length (drop m xs) ≡ len = omega (arith, length-drop m xs) in
     length-take-le (length xs - m) (drop m xs) (omega arith) ∙ omega arith
 
--- Block number i of joined lists of one length is list number i.
+-- Block number i of the concatenation of lists of equal length is list number i.
 pub block-joined_lists : (f : ℕ → List ℕ) (len n i : ℕ) → ((j : ℕ) → length (f j) ≡ len) → i < n
     → block len (joined_lists f n) i ≡ f i
 block-joined_lists f len zero i each lt = absurd (omega arith)
@@ -87,7 +87,7 @@ drop-zip2 f (suc n) [] ys e = refl
 drop-zip2 f (suc n) (x ∷ xs) [] e = absurd (omega arith)
 drop-zip2 f (suc n) (x ∷ xs) (y ∷ ys) e = drop-zip2 f n xs ys (omega arith)
 
--- A part of two lists that are combined element by element is the combination of their parts.
+-- A slice of two lists that are combined element by element is the combination of their slices.
 pub cut-zip2 : (f : ℕ → ℕ → ℕ) (n k : ℕ) (xs ys : List ℕ) → length xs ≡ length ys
     → take n (drop k (zip2 f xs ys)) ≡ zip2 f (take n (drop k xs)) (take n (drop k ys))
 cut-zip2 f n k xs ys e = ap (take n) (drop-zip2 f k xs ys e) ∙ take-zip2 f n (drop k xs) (drop k ys)
@@ -99,7 +99,8 @@ zip2-append f [] (y ∷ b) c d e = absurd (omega arith)
 zip2-append f (x ∷ a) [] c d e = absurd (omega arith)
 zip2-append f (x ∷ a) (y ∷ b) c d e = ap (λ (l : List ℕ). f x y ∷ l) (zip2-append f a b c d (omega arith))
 
--- Joining combined blocks of one length is combining the joined blocks.
+-- The concatenation of blocks of equal length that are combined element by element is the
+-- combination of the concatenations.
 pub joined_lists-zip2 : (f : ℕ → ℕ → ℕ) (g h : ℕ → List ℕ) (len n : ℕ) → ((j : ℕ) → length (g j) ≡ len)
     → ((j : ℕ) → length (h j) ≡ len)
     → joined_lists (λ j. zip2 f (g j) (h j)) n ≡ zip2 f (joined_lists g n) (joined_lists h n)

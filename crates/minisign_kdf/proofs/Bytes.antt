@@ -1,4 +1,4 @@
--- Lemmas about words as bytes: joining, cutting, xor.
+-- Lemmas about the bytes of lists of words: of lists that are appended, split or xored.
 use Rattle.std.proofs.Common.{◌≡◌, ℕ, zero, suc, ◌+◌, ◌*◌, ◌/◌, ◌%◌, ◌^◌, ◌<◌, ◌≤◌, List, [], ◌∷◌, ◌++◌}
 use Rattle.std.proofs.Common.{length, take, drop, slice_index, slice_set, bit_xor, refl, sym, ap, ◌∙◌, arith}
 use Rattle.std.proofs.Common.{append_assoc, lit<}
@@ -68,7 +68,7 @@ unfolding salsa20_8 salsa_words
 salsa20_8-bytes_of_words32 xs fits = ap (λ (l : List ℕ). bytes_of_words32 (salsa_words l))
     (words32_of-bytes_of_words32 xs fits)
 
--- A block of sixteen words is a block of 64 bytes.
+-- Block i of the bytes, of 64 bytes, is the bytes of block i of the words, of sixteen words.
 pub block-bytes_of_words32 : (xs : List ℕ) (i : ℕ) → block 64 (bytes_of_words32 xs) i
     ≡ bytes_of_words32 (block 16 xs i)
 block-bytes_of_words32 xs i =
@@ -101,7 +101,7 @@ take_four xs n m e le =
     (ap (λ (k : ℕ). take k xs) m1 ∙ e1 ∙ ap (λ (l : List ℕ). l ++ slice_index xs (n + 1) ∷ []) e0))
     ∙ simp append_assoc
 
--- If i words are read and then the next one is, i + 1 words are read.
+-- If the first i words have been read, reading word number i gives the first i + 1 words.
 pub read_next : (words bytes : List ℕ) (i w : ℕ) → bytes_of_words32 (take i words) ≡ take (4 * i) bytes
     → i < length words → length bytes ≡ 4 * length words
     → ((k : ℕ) → slice_index bytes k < 2 ^ 8)
@@ -120,7 +120,7 @@ read_next words bytes i w done lt len fits ew =
     ∙ (λ t. done t ++ (append-nil (to_le_bytes w32 w) ∙ back) t)
     ∙ sym (take_four bytes (4 * i) (4 * (i + 1)) (omega arith) (omega arith))
 
--- If i words are written and then the next one is, i + 1 words are written.
+-- If the first i words have been written, writing word number i gives the first i + 1 words.
 pub stored_next : (words bytes ys : List ℕ) (i k : ℕ) → take (4 * i) bytes ≡ bytes_of_words32 (take i words)
     → i < length words → length bytes ≡ 4 * length words
     → ys ≡ to_le_bytes w32 (slice_index words i) → take (4 * (i + 1)) (put_mid (4 * i) k bytes ys)
@@ -132,7 +132,8 @@ stored_next words bytes ys i k done lt len ey =
     ∙ sym (ap bytes_of_words32 (take_more words i 0 lt) ∙ bytes_of_words32-append (take i words)
     (slice_index words i ∷ []))
 
--- If the first i words are xored and then word number i is, the first i + 1 words are xored.
+-- If the first i words have been xored, xoring word number i gives the xor of the first i + 1
+-- words.
 pub xored_next : (x y out : List ℕ) (i : ℕ) → take i out ≡ take i (zip2 bit_xor x y) → length x ≡ length out
     → length y ≡ length out → i < length out
     → take (i + 1) (slice_set out i (bit_xor (slice_index x i) (slice_index y i)))
@@ -148,7 +149,7 @@ le_number : (x : ℕ) (l : List ℕ) → x < 2 ^ 32 → number_l 256 (to_le_byte
     ≡ x + 2 ^ 32 * number_l 256 l
 le_number x l fits = omega arith
 
--- The low 64 bits of the number that words encode are those of the first two words.
+-- The low 64 bits of the number that a list of words encodes are the first two words.
 pub low_words : (x y : ℕ) (l : List ℕ) → x < 2 ^ 32 → y < 2 ^ 32
     → number_l 256 (bytes_of_words32 (x ∷ y ∷ l)) % 2 ^ 64 ≡ x + y * 2 ^ 32 % 2 ^ 64
 low_words x y l fx fy =

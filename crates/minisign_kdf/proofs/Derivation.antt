@@ -1,4 +1,4 @@
--- Lemmas about scrypt as its three steps.
+-- Proof that the three steps of the code compute scrypt: PBKDF2, scryptROMix of each part, PBKDF2.
 use Rattle.std.proofs.Common.{◌≡◌, ℕ, ◌*◌, ◌^◌, List, ap, ◌∙◌, arith}
 use Rattle.minisign_kdf.specs.Blocks.{block, joined_lists}
 use Rattle.minisign_kdf.specs.Pbkdf2.{pbkdf2}

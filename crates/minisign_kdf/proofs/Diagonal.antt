@@ -1,5 +1,6 @@
--- Lemmas about the diagonal order: it commutes with xor and with wrapping sums, eight rounds on
--- ordered words are the standard's, and the low 64 bits of a block are at the indices 0 and 13.
+-- Lemmas about the diagonal order. Reordering commutes with xor and with wrapping sums; eight
+-- rounds on words in diagonal order are those of RFC 7914; and the low 64 bits of a block are its
+-- words at the indices 0 and 13.
 use Rattle.std.proofs.Common.{◌≡◌, ℕ, zero, suc, ◌+◌, ◌*◌, ◌%◌, ◌^◌, ◌<◌, List, [], ◌∷◌, ◌++◌, length, map}
 use Rattle.std.proofs.Common.{slice_index, bit_xor, lit<, refl, ap, ◌∙◌}
 use Rattle.std.specs.List.{range_with_len}
@@ -10,13 +11,13 @@ use Rattle.minisign_kdf.specs.Salsa20.{add32, bytes_of_words32, double_round, qu
 use Rattle.minisign_kdf.proofs.Bytes.{low_words}
 use Rattle.minisign_kdf.proofs.Sixteen.{sixteen_of}
 
--- The order commutes with xor.
+-- Reordering commutes with xor.
 pub standard_order-xor : (xs ys : List ℕ) → length xs ≡ 16 → length ys ≡ 16
     → standard_order (zip2 bit_xor xs ys) ≡ zip2 bit_xor (standard_order xs) (standard_order ys)
 unfolding standard_order
 standard_order-xor xs ys lx ly = rw (sixteen_of xs lx, sixteen_of ys ly) refl
 
--- The order commutes with wrapping sums.
+-- Reordering commutes with wrapping sums.
 pub standard_order-sum : (xs ys : List ℕ) → length xs ≡ 16 → length ys ≡ 16
     → standard_order (zip2 add32 xs ys) ≡ zip2 add32 (standard_order xs) (standard_order ys)
 unfolding standard_order
@@ -30,14 +31,14 @@ pub length-transposed_square : (xs : List ℕ) → length (transposed_square xs)
 unfolding transposed_square
 length-transposed_square xs = refl
 
--- The round on the rows is that on the columns of the transposed square.
+-- The row round is the column round of the transposed square, transposed back.
 pub row_round-transposed_square : (xs : List ℕ) → length xs ≡ 16
     → row_round xs ≡ transposed_square (column_round (transposed_square xs))
 unfolding row_round column_round quarter_at transposed_square
 row_round-transposed_square xs l = rw (sixteen_of xs l) refl
 
--- Eight rounds on the words of a block in diagonal order, and the input words added, are the
--- standard's.
+-- If ys is the result of eight rounds on xs, both in diagonal order, the sum of ys and xs is
+-- Salsa20/8 of xs.
 pub salsa_words-ordered : (xs ys : List ℕ) → length xs ≡ 16 → length ys ≡ 16
     → standard_order ys ≡ double_round (double_round (double_round (double_round (standard_order xs))))
     → standard_order (zip2 add32 ys xs) ≡ salsa_words (standard_order xs)
@@ -45,7 +46,7 @@ unfolding salsa_words
 salsa_words-ordered xs ys lx ly e =
     standard_order-sum ys xs ly lx ∙ ap (λ (l : List ℕ). zip2 add32 l (standard_order xs)) e
 
--- The low 64 bits of a block are at the indices 0 and 13.
+-- The low 64 bits of the number that a block encodes are its words at the indices 0 and 13.
 pub low_bits_places : (xs : List ℕ) → slice_index xs 0 < 2 ^ 32 → slice_index xs 13 < 2 ^ 32
     → number_l 256 (bytes_of_words32 (standard_order xs)) % 2 ^ 64
     ≡ slice_index xs 0 + slice_index xs 13 * 2 ^ 32 % 2 ^ 64

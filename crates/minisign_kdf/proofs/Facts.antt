@@ -24,8 +24,8 @@ spelled _ = []
 abbrev hex : String → List ℕ
 hex text = spelled (codes text)
 
--- The definitions that the facts about the hash, and those about mixing, unfold. To unfold these
--- names is to unfold all of them.
+-- Unfolding `hashes` unfolds all definitions that the facts about HMAC and PBKDF2 need. Unfolding
+-- `mixes` unfolds those that the facts about mixing need.
 unfoldable hashes : ℕ
 unfolding pbkdf2 joined_lists hmac key_block first_words schedule rounds compress hash_after digest_bytes
     sha256

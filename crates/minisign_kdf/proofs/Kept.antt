@@ -1,4 +1,4 @@
--- Proof that scryptROMix from the kept rows is that of the standard.
+-- Proof that scryptROMix, computed from the kept rows, is scryptROMix of RFC 7914.
 use Rattle.std.proofs.Common.{◌≡◌, ℕ, zero, suc, ◌+◌, ◌-◌, ◌*◌, ◌/◌, ◌%◌, ◌<◌, ◌≤◌, List, [], length, get_or}
 use Rattle.std.proofs.Common.{inl, inr, sym, ap, ◌∙◌, arith, add-zero, zero-add}
 use Rattle.std.proofs.Math.Nat.{div-lt_iff_lt-mul, mul_comm, mul-suc}
@@ -47,7 +47,7 @@ last_before n k some rows =
     let next : k * c ≡ k * (c - 1) + k = ap (λ (m : ℕ). k * m) one ∙ mul-suc k (c - 1) in
     omega arith
 
--- Row j is computed from a row that is kept.
+-- For each row j below n, the kept row with number j / k exists.
 pub quotient_kept : (n k j : ℕ) → 1 ≤ k → j < n → j / k < div_ceil n k
 quotient_kept n k j some lt =
     let c : ℕ = div_ceil n k in
@@ -79,7 +79,7 @@ remade r n k b some j lt =
     ap (λ (l : List ℕ). row_at r l (j % k)) (kept_row r n k b (j / k) within) ∙ row_at-add r b (k * (j / k))
     (j % k) ∙ ap (row_at r b) all
 
--- The law of kept rows: for every k of at least 1, scryptROMix from them is that of the standard.
+-- For every k of at least 1, scryptROMix computed from the kept rows is scryptROMix of RFC 7914.
 pub rom_mix_from-kept_rows : (r n k : ℕ) (b : List ℕ) → 1 ≤ k → 1 ≤ n → rom_mix_from r n k (kept_rows r n k b)
     ≡ rom_mix r n b
 unfolding rom_mix_from rom_mix

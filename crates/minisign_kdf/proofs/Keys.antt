@@ -10,7 +10,8 @@ use Rattle.minisign_kdf.specs.Hmac.{hmac}
 use Rattle.minisign_kdf.specs.Pbkdf2.{pbkdf2}
 use Rattle.minisign_kdf.proofs.Joined.{joined_lists_next}
 
--- If the first i bytes are xored with the pad and then byte number i is, the first i + 1 bytes are xored.
+-- If the first i bytes have been xored with the pad, xoring byte number i gives the first i + 1
+-- bytes.
 pub padded_next : (pad i : ℕ) (block out : List ℕ) → take i out ≡ take i (map (λ b. bit_xor b pad) block)
     → i < length out → i < length block
     → take (i + 1) (slice_set out i (bit_xor (slice_index block i) pad))
@@ -21,7 +22,7 @@ padded_next pad i block out done lo lb =
     ∙ (λ t. done t ++ sym (get_or-map f block i 0 0 lb) t ∷ [])
     ∙ sym (take_more (map f block) i 0 (omega (arith, length-map block f)))
 
--- The output of PBKDF2 in whole blocks of 32 bytes is the derived key.
+-- If the output consists of whole blocks of 32 bytes, these blocks are the derived key.
 pub pbkdf2_whole : (password salt w rest : List ℕ) (count len : ℕ)
     → w ≡ joined_lists (λ i. hmac password (salt ++ to_be_bytes w32 (i + 1))) count → length w ≡ 32 * count
     → len ≡ 32 * count → length rest ≡ 0 → w ++ rest ≡ pbkdf2 password salt len
@@ -33,7 +34,8 @@ pbkdf2_whole password salt w rest count len ew lw el none =
     ∙ ap (take len) (ew ∙ ap (joined_lists (λ (i : ℕ). hmac password (salt ++ to_be_bytes w32 (i + 1))))
     (sym blocks))
 
--- The output of PBKDF2 is also the derived key if its last block is cut.
+-- If 1 to 32 bytes follow the whole blocks, the whole blocks and the beginning of the next block
+-- are the derived key.
 pub pbkdf2_cut : (password salt w y : List ℕ) (count n len : ℕ)
     → w ≡ joined_lists (λ i. hmac password (salt ++ to_be_bytes w32 (i + 1))) count → length w ≡ 32 * count
     → len ≡ 32 * count + n → 0 < n → n ≤ 32 → y ≡ take n (hmac password (salt ++ to_be_bytes w32 (count + 1)))

@@ -13,8 +13,8 @@ use Rattle.minisign_kdf.proofs.Blocks.{cut-zip2}
 use Rattle.minisign_kdf.proofs.Joined.{joined_lists_next}
 use Rattle.minisign_kdf.proofs.Ordered.{block-diagonal_bytes, diagonal_bytes-append, diagonal_bytes-block}
 
--- The block with which block number i is xored: the last block at first, then the block mixed
--- before it.
+-- The block that is xored with block number i: the last block if i is 0, and otherwise the mixed
+-- block i - 1.
 unfoldable pub before : ℕ → List ℕ → ℕ → List ℕ
 before r b zero = block 64 b (2 * r - 1)
 before r b (suc i) = mixed_block r b i
@@ -29,7 +29,7 @@ pub before_next : (r : ℕ) (b : List ℕ) (i : ℕ) → before r b (i + 1) ≡ 
 unfolding before
 before_next r b i = rw add-one refl
 
--- The code computes block number i of scryptBlockMix from the block before it.
+-- Block number i of scryptBlockMix is Salsa20/8 of the xor of `before` and block i of the input.
 pub mixed_next : (r : ℕ) (xs x y c : List ℕ) (i n k : ℕ) → length xs ≡ 32 * r → i < 2 * r
     → x ≡ before r (diagonal_bytes xs) i → n ≡ 16 → k ≡ 16 * i
     → c ≡ take n (drop k xs) → y ≡ salsa20_8 (zip2 bit_xor x (bytes_of_words32 (standard_order c)))
@@ -39,7 +39,8 @@ mixed_next r xs x y c i n k len lt ex en ek ec ey =
     rw (ec, en, ek) (sym (block-diagonal_bytes xs (2 * r) i (omega arith) lt)) in
     rw (ey, ex, cut) (sym (mixed_block_is r (diagonal_bytes xs) i))
 
--- If i blocks are written and then the 16 words of the next one are, i + 1 blocks are written.
+-- If the first i blocks have been written, writing the 16 words of block number i gives the first i
+-- + 1 blocks.
 pub written_next : (f : ℕ → List ℕ) (i k : ℕ) (xs ys y : List ℕ) → diagonal_bytes (take (16 * i) xs)
     ≡ joined_lists f i → ys ≡ y → bytes_of_words32 (standard_order y) ≡ f i
     → length ys ≡ 16 → 16 * i ≤ length xs → diagonal_bytes (take (16 * (i + 1)) (put_mid (16 * i) k xs ys))
@@ -52,7 +53,7 @@ written_next f i k xs ys y done ey ef len fits =
     ey ∙ ef) t)
     ∙ sym (joined_lists_next f i)
 
--- If all even and all odd blocks are written, the result is scryptBlockMix.
+-- If all even and all odd blocks have been written, the result is scryptBlockMix.
 pub written_all : (r i : ℕ) (b even odd : List ℕ) → i ≡ r → length even ≡ 16 * r → length odd ≡ 16 * r
     → diagonal_bytes (take (16 * i) even) ≡ joined_lists (λ j. mixed_block r b (2 * j)) i
     → diagonal_bytes (take (16 * i) odd) ≡ joined_lists (λ j. mixed_block r b (2 * j + 1)) i
@@ -65,7 +66,7 @@ written_all r i b even odd ei le lo he ho =
     ∙ (λ t. (ap diagonal_bytes (sym we) ∙ he ∙ ap (joined_lists (λ (j : ℕ). mixed_block r b (2 * j))) ei) t
     ++ (ap diagonal_bytes (sym wo) ∙ ho ∙ ap (joined_lists (λ (j : ℕ). mixed_block r b (2 * j + 1))) ei) t)
 
--- The first block is xored with the last.
+-- For block 0, `before` is the last block of the input.
 pub before_first : (r : ℕ) (xs x : List ℕ) (n k : ℕ) → length xs ≡ 32 * r → 1 ≤ r → n ≡ 16 → k ≡ 32 * r - 16
     → x ≡ take n (drop k xs)
     → bytes_of_words32 (standard_order x) ≡ before r (diagonal_bytes xs) (2 * 0)
@@ -74,7 +75,7 @@ before_first r xs x n k len some en ek ex =
     let e : 32 * r - 16 ≡ 16 * (2 * r - 1) = omega arith in
     rw (ex, en, ek, e) (sym (block-diagonal_bytes xs (2 * r) (2 * r - 1) (omega arith) (omega arith)))
 
--- The xor of the same block of two lists is that block of their xor.
+-- The xor of one block of two lists is the same block of their xor.
 pub xored_block : (x y z : List ℕ) (k n m : ℕ) → length x ≡ length y → n ≡ 16 → m ≡ 16
     → z ≡ zip2 bit_xor (take n (drop k x)) (take m (drop k y)) → z ≡ take 16 (drop k (zip2 bit_xor x y))
 xored_block x y z k n m e en em ez = ez

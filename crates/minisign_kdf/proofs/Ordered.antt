@@ -1,4 +1,5 @@
--- Lemmas about the bytes of blocks in diagonal order: joining, cutting, xor.
+-- Lemmas about the bytes of blocks in diagonal order: of lists of blocks that are appended, split
+-- or xored.
 use Rattle.std.proofs.Common.{◌≡◌, ℕ, ◌+◌, ◌*◌, ◌/◌, ◌<◌, ◌≤◌, List, [], ◌++◌, length, take, drop}
 use Rattle.std.proofs.Common.{length-append, length-drop, bit_xor, refl, sym, ap, ◌∙◌, arith}
 use Rattle.std.proofs.Math.Seq.{take-add}
@@ -32,7 +33,7 @@ diagonal_bytes_is xs n len =
     let e : length xs / 16 ≡ n = omega arith in
     ap (joined_lists (bytes_at xs)) e
 
--- Block number i of the bytes is that of the words in the order of the standard.
+-- Block number i of the bytes is block number i of the words, in the order of RFC 7914.
 pub block-diagonal_bytes : (xs : List ℕ) (n i : ℕ) → length xs ≡ 16 * n → i < n
     → block 64 (diagonal_bytes xs) i ≡ bytes_of_words32 (standard_order (block 16 xs i))
 block-diagonal_bytes xs n i len lt =
@@ -51,7 +52,7 @@ diagonal_bytes-append xs ys n m lx ly =
     (λ j lt. ap (λ (l : List ℕ). bytes_of_words32 (standard_order l)) (block_behind 16 n j xs ys lx)) t)
     ∙ (λ t. sym (diagonal_bytes_is xs n lx) t ++ sym (diagonal_bytes_is ys m ly) t)
 
--- The bytes of a single block are those of its words in the order of the standard.
+-- The bytes of a single block are the bytes of its words in the order of RFC 7914.
 pub diagonal_bytes-block : (y : List ℕ) → length y ≡ 16
     → diagonal_bytes y ≡ bytes_of_words32 (standard_order y)
 diagonal_bytes-block y ly =
@@ -59,7 +60,7 @@ diagonal_bytes-block y ly =
     ∙ ap (λ (l : List ℕ). l ++ bytes_at y 0) (joined_lists_none (bytes_at y))
     ∙ ap (λ (l : List ℕ). bytes_of_words32 (standard_order l)) (block_whole 16 y ly)
 
--- The order commutes with xor, block by block.
+-- The bytes of the xor of two lists of words are the xor of their bytes.
 pub diagonal_bytes-xor : (xs ys : List ℕ) (n : ℕ) → length xs ≡ 16 * n → length ys ≡ 16 * n
     → diagonal_bytes (zip2 bit_xor xs ys) ≡ zip2 bit_xor (diagonal_bytes xs) (diagonal_bytes ys)
 diagonal_bytes-xor xs ys n lx ly =
@@ -99,7 +100,7 @@ next_block xs i m fits em =
     (diagonal_bytes-block (take 16 (drop (16 * i) xs)) this
     ∙ ap (λ (k : ℕ). bytes_of_words32 (standard_order (take k (drop (16 * i) xs)))) (sym em))
 
--- If i blocks are read and then the next one is, i + 1 blocks are read.
+-- If the first i blocks have been read, reading block number i gives the first i + 1 blocks.
 pub loaded_next : (words bytes y : List ℕ) (i k m : ℕ) → diagonal_bytes (take (16 * i) words)
     ≡ take (64 * i) bytes → 16 * i + 16 ≤ length words → length bytes ≡ 4 * length words
     → length y ≡ 16 → m ≡ 64 → bytes_of_words32 (standard_order y) ≡ take m (drop (64 * i) bytes)
@@ -112,7 +113,7 @@ loaded_next words bytes y i k m done fits len ly em ey =
     ∙ (λ t. done t ++ (diagonal_bytes-block y ly ∙ ey ∙ ap (λ (j : ℕ). take j (drop (64 * i) bytes)) em) t)
     ∙ sym (ap (λ (j : ℕ). take j bytes) e ∙ take-add (64 * i) 64 bytes)
 
--- If i blocks are written and then the next one is, i + 1 blocks are written.
+-- If the first i blocks have been written, writing block number i gives the first i + 1 blocks.
 pub stored_next : (words bytes ys : List ℕ) (i k m : ℕ) → take (64 * i) bytes
     ≡ diagonal_bytes (take (16 * i) words) → 16 * i + 16 ≤ length words → length bytes ≡ 4 * length words
     → length ys ≡ 64 → m ≡ 16 → ys ≡ bytes_of_words32 (standard_order (take m (drop (16 * i) words)))

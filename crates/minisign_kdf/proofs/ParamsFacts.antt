@@ -21,7 +21,7 @@ n_log2_small v a = elim (cases_lt v.n_log2 64) [
   | inr h ↦ let full = table_full v.n_log2 v.r a.block_size h in let table = a.table in absurd (omega arith)
 ]
 
--- No more rows are kept than there are.
+-- At most n of n rows are kept.
 pub kept_at_most : (n k : ℕ) → 1 ≤ k → div_ceil n k ≤ n
 kept_at_most n k some = elim (cases_lt n (div_ceil n k)) [
   | inl above ↦

@@ -1,4 +1,4 @@
--- Lemmas about lists of which one part after another is changed.
+-- Lemmas about lists whose parts of equal length are changed one after another.
 use Rattle.std.proofs.Common.{◌≡◌, ℕ, ◌+◌, ◌*◌, ◌≤◌, List, ◌++◌, length, take, drop, refl, sym, ap, ◌∙◌}
 use Rattle.std.proofs.Common.{arith, add-one}
 use Rattle.std.proofs.Math.Nat.{mul-suc}
@@ -17,7 +17,8 @@ pub record AreChanged (f : List ℕ → List ℕ) (len i : ℕ) (xs0 xs : List �
 after_next : (len i : ℕ) → len * (i + 1) ≡ len * i + len
 after_next len i = ap (λ (j : ℕ). len * j) (add-one i) ∙ mul-suc len i
 
--- If the first i parts are changed and then part number i is, the first i + 1 parts are changed.
+-- If the first i parts have been changed, changing part number i gives the first i + 1 changed
+-- parts.
 pub changed_next : (f : List ℕ → List ℕ) (len i w : ℕ) (xs0 xs ys : List ℕ) → AreChanged f len i xs0 xs
     → w ≡ len → len * i + len ≤ length xs → length ys ≡ len
     → ys ≡ f (take w (drop (len * i) xs)) → AreChanged f len (i + 1) xs0 (put_mid (len * i) w xs ys)
@@ -44,8 +45,8 @@ changed_all f len i n xs0 xs done e lx =
     sym (take_all (len * i) xs (let m : len * i ≡ len * n = ap (λ (j : ℕ). len * j) e in omega arith))
     ∙ done.front ∙ ap (joined_lists (λ (j : ℕ). f (block len xs0 j))) e
 
--- If the first i lists of n elements are written and then list number i is, the first i + 1 lists are
--- written.
+-- If the first i lists of n elements have been written, writing list number i gives the first i + 1
+-- lists.
 pub appended_next : (f : ℕ → List ℕ) (n i k : ℕ) (xs ys : List ℕ) → take (n * i) xs ≡ joined_lists f i
     → ys ≡ f i → length ys ≡ n → n * i ≤ length xs
     → take (n * (i + 1)) (put_mid (n * i) k xs ys) ≡ joined_lists f (i + 1)

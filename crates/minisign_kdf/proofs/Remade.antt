@@ -40,7 +40,8 @@ map_same f g (suc n) same =
     ∙ sym (map-range_with_len_more g 0 n n (zero-add n)) ∙ ap (λ (m : ℕ). map g (range_with_len 0 m))
     (add-one n)
 
--- Words that hold each kept row hold the list of the kept rows.
+-- If each row in the words is the kept row with the same index, the rows in the words are the list
+-- of kept rows.
 pub kept_rows_of : (r n k : ℕ) (b words : List ℕ)
     → ((i : ℕ) → i < div_ceil n k → diagonal_bytes (block (32 * r) words i) ≡ row_at r b (k * i))
     → rows_of r (div_ceil n k) words ≡ kept_rows r n k b
@@ -58,7 +59,8 @@ kept_first r k i xs y ex ly lt =
     let none : k * 0 ≡ 0 = omega arith in
     rw (e, ex, none) (ap diagonal_bytes (block_whole (32 * r) y ly) ∙ sym (row_at_none r (diagonal_bytes y)))
 
--- If m rows are kept and then the last one, mixed k times, is appended, m + 1 rows are kept.
+-- If the first m kept rows have been stored, appending the last one, mixed k times, gives the first
+-- m + 1 kept rows.
 pub kept_next : (r k m i : ℕ) (b xs y : List ℕ)
     → ((j : ℕ) → j < m → diagonal_bytes (block (32 * r) xs j) ≡ row_at r b (k * j)) → length xs ≡ 32 * r * m
     → 1 ≤ m

@@ -31,7 +31,7 @@ integerify_low r xs x y some len fits ex ey =
     rw (block-diagonal_bytes xs (2 * r) (2 * r - 1) (omega arith) (omega arith), at)
     (sym (low_bits_places last fx fy ∙ (λ t. first t + second t * 2 ^ 32 % 2 ^ 64)))
 
--- A number that is reduced to 64 bits has the same lower bits.
+-- Reducing a number modulo 2 ^ 64 does not change its lowest k bits, for k below 64.
 pub mod_64 : (m k : ℕ) → k < 64 → m % 2 ^ 64 % 2 ^ k ≡ m % 2 ^ k
 mod_64 m k lt =
     let e : 64 ≡ 64 - k + k = omega arith in
@@ -62,14 +62,15 @@ unfolding mixed_part
 step_next r n t v x0 x z ex ez = rw add-one
     (ez ∙ ap (λ (l : List ℕ). block_mix r (zip2 bit_xor l (v (integerify r l % n)))) ex)
 
--- A power of two is even from 2 on, so the code can make two steps at once.
+-- 2 ^ k is even for k of at least 1, so that the code can make two steps in each iteration of its
+-- loop.
 pub even_power : (k : ℕ) → 1 ≤ k → 2 * (2 ^ k / 2) ≡ 2 ^ k
 even_power k some =
     let e : k ≡ suc (k - 1) = omega arith in
     let twice : 2 ^ k ≡ 2 * 2 ^ (k - 1) = ap (λ (j : ℕ). 2 ^ j) e ∙ pow-succ' 2 (k - 1) in
     omega arith
 
--- Only the rows below n matter.
+-- The second loop reads only rows below n.
 pub mixed_part_same : (r n : ℕ) (v w : ℕ → List ℕ) (x : List ℕ) (t : ℕ) → 0 < n
     → ((j : ℕ) → j < n → v j ≡ w j) → mixed_part r n v x t ≡ mixed_part r n w x t
 unfolding mixed_part

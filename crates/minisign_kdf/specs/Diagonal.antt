@@ -7,7 +7,7 @@ use Rattle.std.specs.Simd.Lanes.{zip2}
 use Rattle.minisign_kdf.specs.Salsa20.{add32, bytes_of_words32, double_round, quarter_at}
 use Rattle.minisign_kdf.specs.declared.salsa.Block.{Block}
 
--- The words of a block from diagonal order in the order of RFC 7914.
+-- Puts the words of a block from diagonal order into the order of RFC 7914.
 unfoldable pub standard_order : List ℕ → List ℕ
 standard_order x = map (λ w. slice_index x (13 * w % 16)) (range_with_len 0 16)
 

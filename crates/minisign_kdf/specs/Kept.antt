@@ -23,7 +23,8 @@ pub record KeptRows : Type 0 where
 unfoldable pub kept_rows : ℕ → ℕ → ℕ → List ℕ → List (List ℕ)
 kept_rows r n k b = map (λ i. row_at r b (k * i)) (range_with_len 0 (div_ceil n k))
 
--- The first count rows, of 2 * r blocks each. In the words, each block is in diagonal order.
+-- The first count rows in a list of words, as bytes. A row has 2 * r blocks of sixteen words, and
+-- the words of each block are in diagonal order.
 unfoldable pub rows_of : ℕ → ℕ → List ℕ → List (List ℕ)
 rows_of r count words = map (λ i. diagonal_bytes (block (32 * r) words i)) (range_with_len 0 count)
 

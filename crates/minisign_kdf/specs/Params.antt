@@ -20,7 +20,7 @@ pub record IsAccepted (v : Numbers) : Type 0 where
   -- The number of bytes in the rows of a part fits into 64 bits.
   pub table : 128 * v.r * 2 ^ v.n_log2 < 2 ^ 64
 
--- The parameters are valid (section 2): the test that `IsAccepted` states as a relation.
+-- True if the parameters meet the six conditions of `IsAccepted`.
 abbrev pub is_accepted : Numbers → Bool
 is_accepted v =
     nat_le 1 v.n_log2 && nat_le 1 v.r && nat_le 1 v.p && nat_lt v.n_log2 (16 * v.r)

@@ -25,8 +25,8 @@ pub(crate) fn mix_times(r: usize, times: usize, from: &[u32], into: &mut [u32], 
     }
 }
 
-// Applies scryptBlockMix once if `times` is odd, and otherwise twice. An even number of times is
-// then left.
+// Applies scryptBlockMix to `from` once if `times` is odd, and otherwise twice, with the result in
+// `into`. The number of remaining applications is then even.
 fn begin_mixing(r: usize, times: usize, from: &[u32], into: &mut [u32], work: &mut [u32])
     requires some { 1 ≤ r }
     requires from_len { length from.now ≡ 32 * r }
@@ -42,8 +42,8 @@ fn begin_mixing(r: usize, times: usize, from: &[u32], into: &mut [u32], work: &m
     }
 }
 
-// scryptBlockMix of the 2 * r blocks of `from`: the even blocks of the result come first, then the
-// odd ones.
+// Computes scryptBlockMix of the 2 * r blocks of `from` into `into`. As the RFC requires, the even
+// blocks of the result come before the odd ones.
 pub(crate) fn block_mix(r: usize, from: &[u32], into: &mut [u32])
     requires some { 1 ≤ r }
     requires from_len { length from.now ≡ 32 * r }
@@ -60,7 +60,7 @@ pub(crate) fn block_mix(r: usize, from: &[u32], into: &mut [u32])
     }
 }
 
-// scryptBlockMix of the xor of `from` and `row`.
+// Computes scryptBlockMix of the xor of `from` and `row` into `into`.
 pub(crate) fn xor_block_mix(r: usize, from: &[u32], row: &[u32], into: &mut [u32])
     requires some { 1 ≤ r }
     requires from_len { length from.now ≡ 32 * r }
@@ -81,7 +81,7 @@ pub(crate) fn xor_block_mix(r: usize, from: &[u32], row: &[u32], into: &mut [u32
     }
 }
 
-// Salsa20/8 of the xor of two blocks.
+// Applies Salsa20/8 to the xor of two blocks.
 #[inline(always)]
 fn mix_block(x: Block, block: Block) -> Block
     ensures { bytes_of_words32 (block_words result)

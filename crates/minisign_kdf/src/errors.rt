@@ -5,11 +5,11 @@ ghost use Rattle.std.specs.Prelude.{◌≡◌, Some, codes};
 use std::alloc::AllocError;
 use std::fmt;
 
-/// scrypt rejects the parameters.
+/// The parameters of scrypt are invalid.
 #[derive(Clone, Copy, Debug, PartialEq)]
 pub struct InvalidParams;
 
-/// Writes the text of the error, as its definition gives it.
+/// Writes the error message.
 impl fmt::Display for InvalidParams {
     ghost output = { λ _. Some (codes "invalid scrypt parameters") };
 
@@ -22,7 +22,7 @@ impl fmt::Display for InvalidParams {
 #[derive(Clone, Copy, Debug, PartialEq)]
 pub struct InvalidOutputLen;
 
-/// Writes the text of the error, as its definition gives it.
+/// Writes the error message.
 impl fmt::Display for InvalidOutputLen {
     ghost output = { λ _. Some (codes "invalid output length") };
 
@@ -31,7 +31,7 @@ impl fmt::Display for InvalidOutputLen {
     }
 }
 
-/// The reasons why no key was derived.
+/// The errors of deriving a key.
 #[derive(Clone, Copy, Debug, PartialEq)]
 pub enum KdfError {
     /// An allocation failed.
@@ -40,7 +40,7 @@ pub enum KdfError {
     InvalidOutputLen,
 }
 
-/// Writes the text of the error, as its definition gives it.
+/// Writes the error message.
 impl fmt::Display for KdfError {
     ghost use Rattle.minisign_kdf.specs.Faults.{error_text};
 
@@ -54,7 +54,7 @@ impl fmt::Display for KdfError {
     }
 }
 
-/// A failed allocation becomes `OutOfMemory`.
+/// Converts a failed allocation to `OutOfMemory`.
 impl From<AllocError> for KdfError {
     ghost use Rattle.minisign_kdf.specs.declared.errors.KdfError.TheVariants.{OutOfMemory};
 
@@ -65,7 +65,7 @@ impl From<AllocError> for KdfError {
     }
 }
 
-/// A wrong output length becomes the error `InvalidOutputLen`.
+/// Converts the error `InvalidOutputLen` to the variant of the same name.
 impl From<InvalidOutputLen> for KdfError {
     ghost use Rattle.minisign_kdf.specs.declared.errors.KdfError.TheVariants.{InvalidOutputLen};
 

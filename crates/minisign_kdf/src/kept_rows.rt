@@ -16,11 +16,12 @@ use crate::row_memory::RowMemory;
 use std::alloc::{AllocError, Global};
 use std::marker::Model;
 
-// The greatest number of words that fit into memory: fewer than 2^63 bytes.
+// The maximum number of words in an allocation, which has fewer than 2^63 bytes.
 const MAX_WORDS: usize = 2305843009213693951;
 
-/// Every k-th row of scryptROMix (RFC 7914, section 5) of one block: the rows V_0, V_k, V_2k, .. with
-/// numbers below N. Contracts see these rows as bytes in the order of the RFC, with r, N and k.
+/// Every k-th row of the table that scryptROMix (RFC 7914, section 5) computes from one block B:
+/// the rows V_0, V_k, V_2k, .. with numbers below N. In contracts, a value is r, N, k and these
+/// rows, as bytes in the order of the RFC.
 #[derive(Drop)]
 pub struct Rows {
     words: Vec<u32>,
@@ -44,9 +45,10 @@ impl Model for Rows {
 }
 
 impl Rows {
-    /// Computes the rows of a block of 128 * r bytes, r at least 1, with N = 2^`n_log2`, and keeps every
-    /// k-th. V_0 is the block, and each further row is the one before it mixed by scryptBlockMix. `n_log2`
-    /// must be from 1 to 63, and k at least 1. No row after the last kept one is computed.
+    /// Computes the table of scryptROMix for `block`, with N = 2^`n_log2`, and keeps every k-th
+    /// row. The block is B of the RFC, and has 128 * r bytes for some r of at least 1. V_0 is the
+    /// block, and each further row is scryptBlockMix of the previous row. `n_log2` must be from 1
+    /// to 63, and k at least 1. No row after the last kept one is computed.
     ///
     /// Returns `OutOfMemory` if an allocation failed: 128 * r bytes for each of the N / k rows, rounded up,
     /// in one request, and then 256 * r bytes, before any mixing.
@@ -87,8 +89,9 @@ impl Rows {
         kept_count(self.n_log2, self.k) as u64
     }
 
-    /// Returns the words of the kept rows, 32 * r for each, read from bytes lowest byte first. The sixteen
-    /// words of each block are in diagonal order: index q holds word 5 * q mod 16. Does not allocate.
+    /// Returns the 32-bit words of the kept rows, 32 * r words for each row. A word is four bytes
+    /// of the row, lowest byte first. The sixteen words of each 64 bytes are in diagonal order:
+    /// index q holds word 5 * q mod 16. Does not allocate.
     pub fn words(&self) -> &[u32]
         // The result is the words of all kept rows. In each block, index q holds word 5 * q mod 16.
         ensures rows { rows_of self.now.r (div_ceil self.now.n self.now.k) result.now
@@ -99,7 +102,7 @@ impl Rows {
     }
 }
 
-// Allocates memory for the kept rows and no more, in one request.
+// Allocates memory for exactly the kept rows, in one request.
 pub(crate) fn memory_for_rows(
     alloc: Global,
     r: usize,
@@ -122,7 +125,7 @@ pub(crate) fn memory_for_rows(
     Ok(Vec::with_capacity(alloc, len)?)
 }
 
-// Returns the number of rows of 32 * r words.
+// Returns how many rows of 32 * r words `words` contains.
 pub(crate) fn rows_in(words: &[u32], r: usize) -> u64
     requires some { 1 ≤ r }
     requires small { 32 * r < 2 ^ 64 }
@@ -182,8 +185,9 @@ pub(crate) fn row_count(n_log2: u8) -> usize
     1usize << n_log2
 }
 
-// Computes `count` kept rows: `x`, and each further one by mixing the one before it k times. The
-// previous contents of `rows` and `work` are ignored. Afterwards `x` holds the last row.
+// Computes `count` kept rows. The first one is `x`, and each further one is the previous kept row,
+// mixed k times. The previous contents of `rows` and `work` are ignored. Afterwards `x` holds the
+// last kept row.
 fn fill_rows<S: RowMemory>(
     r: usize,
     count: usize,

@@ -19,7 +19,8 @@ use std::alloc::{AllocError, Global};
 // The greatest length of a derived key: 2^32 - 1 blocks of 32 bytes.
 const LONGEST_KEY: usize = 137438953440;
 
-// The memory of a derivation: for the kept rows, for mixing, and for the parts.
+// The memory of a derivation: for the kept rows, for mixing, and for the p parts, which RFC 7914
+// calls B_0 to B_(p-1).
 #[derive(Drop)]
 struct Buffers {
     rows: Vec<u32>,
@@ -98,11 +99,12 @@ pub fn scrypt(
 /// is allocated. Returns `OutOfMemory` if an allocation failed: 128 * r bytes for each kept row, in one
 /// request, then 128 * r * (p + 3) bytes, all before any mixing. After an error `out` is unchanged.
 ///
-/// For each of the p parts scryptBlockMix runs 2 * N times, as with every row kept, and in addition (k - 1)
-/// / 2 times on average for each of N rows that are looked up, less if k does not divide N.
+/// scryptBlockMix runs 2 * N times for each of the p parts, as it does if every row is kept. In
+/// addition, it runs (k - 1) / 2 times on average for each of the N rows that are looked up, or
+/// fewer times if k does not divide N.
 ///
 /// ```
-/// // 2 MiB of rows in place of 32.
+/// // Keeps 2 MiB of rows instead of 32 MiB.
 /// let params = Params::new(15, 8, 1)?;
 /// let mut key = [0u8; 32];
 /// let kept = scrypt_keeping(alloc, b"password", b"salt", &params, 16, &mut key)?;

@@ -9,7 +9,7 @@ use crate::kept_rows::kept_count;
 use std::marker::Model;
 
 /// Valid parameters of scrypt: the cost N as its logarithm to base 2, the block size r and the
-/// parallelization p. Contracts see these three numbers.
+/// parallelization p. In contracts, a value is these three numbers.
 #[derive(Clone, Copy, Debug, PartialEq)]
 pub struct Params {
     n_log2: u8,

@@ -1,5 +1,6 @@
-//! The Salsa20/8 core (RFC 7914, section 3) on blocks whose words are in diagonal order: both
-//! rounds are then steps on whole rows of four words.
+//! The Salsa20/8 core (RFC 7914, section 3) on blocks whose words are in diagonal order, which
+//! `specs/Diagonal.antt` defines. In this order, the rounds are SIMD operations on whole rows of
+//! four words.
 
 ghost use Rattle.std.specs.Prelude.{◌≡◌, ◌<◌, length, map, bit_xor};
 ghost use Rattle.std.specs.Int.{w32, rotate_left};
@@ -89,7 +90,6 @@ fn double_round(x: Block) -> Block
     row_round(column_round(x))
 }
 
-// The column round.
 #[inline(always)]
 fn column_round(x: Block) -> Block
     ensures { block_words result ≡ column_round (block_words x) }
@@ -101,7 +101,7 @@ fn column_round(x: Block) -> Block
     Block { a, b, c, d }
 }
 
-// The row round: the column round of the transposed block.
+// The row round is the column round of the transposed block.
 #[inline(always)]
 fn row_round(x: Block) -> Block
     ensures { block_words result ≡ row_round (block_words x) }

@@ -19,7 +19,7 @@ rows-init g c =
       room = omega arith;
     }
 
--- The row before is within the rows that were computed.
+-- Row i - 1 is within the first i rows.
 row_made : (r i : ℕ) → 1 ≤ i → 32 * r * (i - 1) + 32 * r ≤ 32 * r * i
 row_made r i some = row_before (32 * r) i (i - 1) (omega arith)
 

@@ -11,7 +11,7 @@ use Rattle.minisign_kdf.proofs.key_derivation.mix_parts.Goals as goal
 pub parts-init : goal.parts-init
 parts-init g c = (changed_none _ _ _, omega arith, λ some. absurd (omega arith))
 
--- A part is within the parts, and has the length of a part.
+-- The slice for part i of a list of p parts has the length of a part.
 part_size : (len i p : ℕ) (parts : List ℕ) → length parts ≡ len * p → i < p
     → length (take (len * i + len - len * i) (drop (len * i) parts)) ≡ len
 part_size len i p parts whole lt =
