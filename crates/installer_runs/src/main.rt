@@ -2,8 +2,9 @@
 //!
 //!     NAME;OPTIONS;RECORD;COMMENT;CALLS
 //!
-//! The program makes the calls in CALLS, until one is not due. Then it prints the operation that is due and
-//! the error number of the run. If there is a question for Ed25519, or a new record, it prints these too.
+//! The program makes the calls in CALLS, until one is not due. Then it prints NAME, the operation
+//! that is due and the error number of the run. If there is a question for Ed25519, or a new
+//! record, it prints these too.
 //!
 //! OPTIONS is a string of these letters:
 //!

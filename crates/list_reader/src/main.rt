@@ -6,7 +6,8 @@
 //! LONG is `-`, `sha512` or `blake2b`: what 128 digits mean on a line that does not name its hash
 //! function. LIST, NAME and DATA are hexadecimal digits between brackets, so that no word is empty.
 //! The answer is `ok N`, `mismatch N`, `bad_name`, `malformed N`, `not_listed`, `twice N` or
-//! `not_utf8`. N is the number of a line.
+//! `not_utf8`. N is the number of a line. The program stops with exit status 3 if a request is
+//! malformed or there is not enough memory.
 
 #![tactic(auto)]
 
@@ -16,7 +17,7 @@ use std::alloc::Global;
 use std::io::{self, BufRead, BufReader, BufWriter, Write};
 use std::process::ExitCode;
 
-// The answer to a request, or the reason for which there is no answer.
+// The answer to a request, or the reason why there is no answer.
 #[derive(Drop)]
 enum Answer {
     Listed(u64),
@@ -66,7 +67,7 @@ fn word(line: &str, number: usize) -> &str {
     }
 }
 
-// Decodes a word.
+// Decodes the hexadecimal digits between the brackets of a word.
 fn bytes_of(alloc: Global, word: &str) -> Result<Vec<u8>, Answer> {
     let Some(rest) = word.strip_prefix("[") else {
         return Err(Answer::BadRequest);

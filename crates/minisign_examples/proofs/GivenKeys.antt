@@ -1,4 +1,4 @@
--- Lemmas about the key that an encrypted text gives under its password.
+-- Lemmas about the key that the text of an encrypted key gives under its password.
 use Rattle.std.proofs.Common.{◌≡◌, ℕ, Bool, true, false, not, bytes_eq, List, None, inl, inr, refl, ◌∙◌}
 use Rattle.std.specs.Option.{option_map_or}
 use Rattle.std.specs.Result.{result_ok}
@@ -12,7 +12,7 @@ use Rattle.minisign.specs.Records.{SecretKeyRecord}
 use Rattle.minisign.specs.KeyTexts.{read_secret_key}
 use Rattle.minisign.specs.Texts.{and_then, require}
 
--- A text that decrypts is that of an encrypted key.
+-- If a text decrypts under a password, it is the text of an encrypted key.
 sealed_text : (text password : List ℕ) (key : SecretKeyRecord) → open_key text password None ≡ Ok key
     → is_sealed_text text ≡ true
 unfolding open_key is_sealed_text
@@ -32,7 +32,7 @@ sealed_text text password key h = of (read_secret_key text) h
     of (Ok k) h = of_kdf k (bytes_eq k.kdf no_kdf) h
     of (Err e) h = cc h
 
--- The key that is given is the one that the text decrypts to.
+-- The key that a call returned is the key to which the text decrypts.
 pub same_key : (text password : List ℕ) (k key : SecretKeyRecord)
     → IsOpenedOrNoMemory text None (Ok k) (key_with_password text password)
     → open_key text password None ≡ Ok key → k ≡ key
@@ -43,7 +43,7 @@ same_key text password k key (inl given) opens =
     cc both
 same_key text password k key (inr memory) opens = cc memory.0
 
--- If no key is given, an allocation failed.
+-- If a call returned no key for a text that decrypts, an allocation failed.
 pub refused_memory : (text password : List ℕ) (e : Fault) (key : SecretKeyRecord)
     → IsOpenedOrNoMemory text None (Err e) (key_with_password text password)
     → open_key text password None ≡ Ok key → e ≡ Named OutOfMemory

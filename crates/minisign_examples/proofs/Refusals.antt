@@ -11,13 +11,14 @@ pub passed_up : {T E : Type 0} (r : Result T E) (e : E) (P : E → Type 0) → I
 passed_up (Ok x) e P is p = tt
 passed_up (Err y) e P is p = subst P (sym is) p
 
--- An error that a call returned is the error of the function, or an allocation failed.
+-- The error that a call returned is the error in `value`, its specified result, or an allocation
+-- failed.
 pub function_refused : {V : Type 0} (e : Fault) (value : Result V Fault) → IsGivenOrNoMemory (Err e) value
     → (e ≡ Named OutOfMemory) ⊎ (value ≡ Err e)
 function_refused e value (inl is) = inr (sym is)
 function_refused e value (inr memory) = inl (cc memory)
 
--- A value that a call returned is the value of the function.
+-- The value that a call returned is the value in `value`, its specified result.
 pub function_given : {V : Type 0} (v : V) (value : Result V Fault) → IsGivenOrNoMemory (Ok v) value
     → value ≡ Ok v
 function_given v value (inl is) = sym is

@@ -12,8 +12,8 @@ use Rattle.minisign.specs.SignatureText.{read_signature_box}
 use Rattle.minisign.proofs.Laws.{judged_vouches}
 use Rattle.minisign_examples.specs.Releasing.{IsMemoryOrRandomFault}
 
--- The text is valid for the message. The only errors are a failed allocation and a failing random
--- source.
+-- Signing with the secret key of a genuine pair gives a text that is valid for the message under
+-- the public key of the pair. The only errors are a failed allocation and a failing random source.
 pub signed_by_pair : {T Z : Type 0} (bytes : T → List ℕ) (r : Result T Fault) (accepts : Verifier)
     (public_of : List ℕ → List ℕ) (pk : PublicKeyRecord) (sk : SecretKeyRecord)
     (message : List ℕ) (chosen : ChosenComments) (z : RandomCall Z) → IsGenuinePair public_of pk sk

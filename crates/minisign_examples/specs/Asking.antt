@@ -8,15 +8,16 @@ use Rattle.minisign.specs.Prompt.{Prompt}
 use Rattle.minisign.specs.Sealing.{IsOpening}
 use Rattle.minisign.specs.Records.{SecretKeyRecord}
 
--- The prompt asked once; or an allocation failed for a copy of the text, and the prompt is
--- unchanged.
+-- The prompt asked once, and the answer is the result of decrypting the key; or the text could not
+-- be copied because an allocation failed, and the prompt is unchanged.
 abbrev pub IsOpeningOnce : {R W : Type 0} → SourceOf R → SinkOf W → Prompt R W → Prompt R W → List ℕ
     → Result SecretKeyRecord Fault → Type 0
 IsOpeningOnce source sink old new text answer =
     IsOpening (prompt_call source sink old new) None text None answer
     ⊎ ((answer ≡ Err (Named OutOfMemory)) × (new ≡ old))
 
--- The prompt asked once, and again, up to more times, only if the password was wrong.
+-- The prompt asked once, and after each wrong password again, at most `more` times. The answer is
+-- that of the last attempt.
 abbrev pub IsOpeningAgain : {R W : Type 0} → SourceOf R → SinkOf W → ℕ → Prompt R W → Prompt R W → List ℕ
     → Result SecretKeyRecord Fault → Type 0
 IsOpeningAgain source sink zero old new text answer = IsOpeningOnce source sink old new text answer

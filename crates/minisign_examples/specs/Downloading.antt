@@ -8,8 +8,9 @@ use Rattle.minisign.specs.Reading.{ReadsWhole}
 use Rattle.minisign_lists.specs.declared.faults.ListFault.{ListFault}
 use Rattle.minisign_lists.specs.declared.faults.ListFault.TheVariants.{Library}
 
--- The answer is the verdict on the whole download, which was read to its end; or it is the verdict on any
--- data, and nothing was read; or reading failed. verdict gives the verdict on data.
+-- The function verdict gives the verdict on any data. The answer is the verdict on the download,
+-- which was read to its end; or nothing was read, because the answer is the verdict on all data; or
+-- reading failed.
 abbrev pub IsDownloadVerdict : {R : Type 0} → SourceOf R → R → R → (List ℕ → Result (List ℕ) ListFault)
     → Result (List ℕ) ListFault → Type 0
 IsDownloadVerdict source old new verdict answer =

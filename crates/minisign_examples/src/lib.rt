@@ -1,7 +1,12 @@
-//! Callers of the libraries, each proved: one checks an update and its name, one verifies a download by the
-//! signed list of its release, one learns a new key from an old one, one makes keys and releases, one
-//! decrypts a key on a small device, one asks for a password again, and one signs and verifies with raw
-//! keys. The tests of `minisign_vectors` run them.
+//! Example callers of the libraries, each proved. The tests of `minisign_vectors` run some of them.
+//!
+//! - `updating` verifies an update and checks its name.
+//! - `downloading` verifies a download by the signed list of its release.
+//! - `rotating` accepts a new public key that the old one has signed.
+//! - `releasing` makes key pairs and signs releases.
+//! - `small_device` decrypts a secret key in little memory.
+//! - `asking` asks for a password again if it was wrong.
+//! - `example` signs and verifies with keys that are not encrypted.
 
 #![tactic(auto)]
 

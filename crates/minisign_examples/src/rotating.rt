@@ -15,9 +15,9 @@ pub struct NewKey<'a> {
     pub sig_text: &'a str,
 }
 
-/// Succeeds exactly if the old key's signature is valid for the text of the new key and the new key's
-/// signature is valid for the update, unless an allocation fails. Otherwise returns the first check that
-/// fails, for the new key before the update.
+/// Succeeds exactly if the old key's signature is valid for the text of the new key and the new
+/// key's signature is valid for the update, unless an allocation fails. Otherwise returns the error
+/// of the first check that fails. The new key is checked before the update.
 pub fn check_with_new_key<S: Scheme>(
     alloc: Global,
     scheme: &S,

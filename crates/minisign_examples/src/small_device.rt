@@ -10,8 +10,8 @@ use std::alloc::Global;
 // Every 8th row of scrypt is kept: an eighth of the memory, for twice the time.
 const KEPT_EVERY: u64 = 8;
 
-/// Decrypts the secret key in `sk_text` with the password in an eighth of the usual memory: 4 MiB with the
-/// default limits. The result and the errors are those of a call that uses all the memory.
+/// Decrypts the secret key in `sk_text` with the password in an eighth of the usual memory: 4 MiB
+/// with the default limits. The result and the errors are those of a call that keeps every row.
 pub fn open_in_little_memory(alloc: Global, sk_text: &str, password: &str) -> Result<SecretKey>
     // The result is out of memory, or exactly what the text decrypts to under the password: the key, or the
     // first check that fails.

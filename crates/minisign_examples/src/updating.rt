@@ -8,8 +8,9 @@ use minisign::{ErrorKind, PError, Result, Scheme, verify_bytes};
 use std::alloc::Global;
 
 /// Accepts an update exactly if its signature is valid under this public key and the trusted
-/// comment is this name, such as `tool-1.2.tar`. Without the name, somebody could pass off an
-/// older release as a newer one. Otherwise returns the first check that failed, or out of memory.
+/// comment is this name, such as `tool-1.2.tar`. Without the name, somebody could pass off an older
+/// release as a newer one. Otherwise returns the error of the first check that fails, or out of
+/// memory.
 pub fn check_update<S: Scheme>(
     alloc: Global,
     scheme: &S,

@@ -43,8 +43,7 @@ spelled _ = []
 abbrev hex : String → List ℕ
 hex text = spelled (codes text)
 
--- The definitions that the facts about digests unfold. To unfold this name is to unfold all of
--- them.
+-- Unfolding this name unfolds all definitions that the facts about digests need.
 unfoldable digests : ℕ
 unfolding blake2b_digest state_after padded_block compress work_vector rounds round mix iv sigma words64_of
     bytes_of_words64

@@ -8,7 +8,7 @@ use Rattle.minisign_hash.specs.Blake2b.{blake2b_digest, compress, padded_block, 
 use Rattle.minisign_hash.specs.Words.{bytes_of_words64, words64_of}
 use Rattle.minisign_hash.specs.Fed.{HeldAfter}
 
--- state_after reads only the blocks that it counts.
+-- The state after i blocks depends only on these blocks.
 pub state_after-append : (n : ℕ) (m d : List ℕ) (i : ℕ) → 128 * i ≤ length m → state_after n (m ++ d) i
     ≡ state_after n m i
 unfolding state_after padded_block
@@ -19,7 +19,7 @@ state_after-append n m d (suc i) h =
     rw (drop-append-le (128 * i) m d (omega arith)) (take-append-le 128 (drop (128 * i) m) d fits) in
     rw (same, state_after-append n m d i (omega arith)) refl
 
--- A whole block needs no zeros.
+-- Padding does not change a whole block.
 pub block_whole : (m b : List ℕ) (i : ℕ) → b ≡ drop (128 * i) m → length b ≡ 128 → padded_block m i ≡ b
 unfolding padded_block
 block_whole m b i e full =
@@ -49,7 +49,8 @@ held_more n h count b c used m d i held e = record {
   counted = held.counted;
 }
 
--- A whole block of the next bytes of the message is a padded block of the message.
+-- If the bytes `blocks` follow the first i blocks of the message, block k of these bytes is block
+-- i + k of the message.
 pub block_ahead : (m blocks behind : List ℕ) (i k : ℕ) → drop (128 * i) m ≡ blocks ++ behind
     → 128 * k + 128 ≤ length blocks
     → padded_block m (i + k) ≡ take 128 (drop (128 * k) blocks)
@@ -77,7 +78,8 @@ state_next n m blocks behind i k h g t ahead fits eh et eg =
     let place : i + (k + 1) ≡ suc (i + k) = omega arith in
     eg ∙ rw (et, eh, place, block_ahead m blocks behind i k ahead fits) refl
 
--- After s bytes, which are whole blocks, were compressed, the buffer is empty.
+-- After the remaining s bytes, which are whole blocks, have been compressed, the state holds the
+-- message with an empty buffer.
 pub held_taken : (n : ℕ) (g : List ℕ) (count k : ℕ) (b : List ℕ) (used : ℕ) (m : List ℕ) (i s : ℕ) → used ≡ 0
     → length m ≡ 128 * i + s → s % 128 ≡ 0
     → count ≡ 128 * i % 2 ^ 128 → k ≡ (count + s) % 2 ^ 128 → g ≡ state_after n m (i + s / 128)
@@ -91,7 +93,7 @@ held_taken n g count k b used m i s none len whole ec ek eg =
       counted = omega (arith, ec, ek, whole);
     }
 
--- The bytes after the whole blocks are the last block.
+-- Compressing the bytes after the whole blocks as the last block gives the digest.
 pub last_taken : (n : ℕ) (h m blocks last : List ℕ) (i k : ℕ) → drop (128 * i) m ≡ blocks ++ last
     → length m ≡ 128 * i + length (blocks ++ last)
     → length blocks % 128 ≡ 0 → length last ≤ 128 → (0 < length m → 0 < length last)

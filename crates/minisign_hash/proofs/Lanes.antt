@@ -21,7 +21,7 @@ pub sixteen_of : (xs : List ℕ) → length xs ≡ 16 → xs ≡ slice_index xs 
     ∷ slice_index xs 12 ∷ slice_index xs 13 ∷ slice_index xs 14 ∷ slice_index xs 15 ∷ []
 sixteen_of xs h = sym (pick_l_whole 0 xs 16 h)
 
--- Two shifts of each lane are a rotation.
+-- The bitwise or of two shifts rotates each lane.
 pub shifts_rotate : (n : ℕ) (x y : List ℕ) → 0 < n → n < 64 → length x ≡ 4 → length y ≡ 4
     → zip2 bit_or
     (zip2 (λ a k. a / 2 ^ k) (zip2 bit_xor x y) (n ∷ n ∷ n ∷ n ∷ []))

@@ -1,5 +1,4 @@
--- Lemmas about lists of words as their elements, bounds on the elements of lists, and steps of
--- loops.
+-- Lemmas about lists of words and their bytes, and about bounds on the elements of lists.
 use Rattle.std.proofs.Common.{◌≡◌, ℕ, zero, suc, ◌+◌, ◌<◌, Bool, true, false, ◌&&◌, refl, w64, nat_lt, List}
 use Rattle.std.proofs.Common.{[], ◌∷◌, ◌++◌, length, take, slice_index, slice_index_or, sym, ap, ◌∙◌}
 use Rattle.std.specs.Int.{to_le_bytes}
@@ -33,14 +32,14 @@ and-right : (a b : Bool) → (a && b) ≡ true → b ≡ true
 and-right true b h = h
 and-right false b h = cc
 
--- Each number of a list is below a bound, if a test says so.
+-- If the test whether all numbers of a list are below k is true, each of them is below k.
 below_row : (k : ℕ) → 0 < k → (xs : List ℕ) → list_all (λ x. nat_lt x k) xs ≡ true → (j : ℕ)
     → slice_index xs j < k
 below_row k some [] h j = some
 below_row k some (x ∷ xs) h zero = ltb-true x k (and-left _ _ h)
 below_row k some (x ∷ xs) h (suc j) = below_row k some xs (and-right _ _ h) j
 
--- Each number in a list of lists is below a bound, if a test says so.
+-- If the test whether all numbers in a list of lists are below k is true, each of them is below k.
 pub below_all : (k : ℕ) → 0 < k → (xss : List (List ℕ)) → list_all (list_all (λ x. nat_lt x k)) xss ≡ true
     → (i j : ℕ) → slice_index (slice_index_or xss i []) j < k
 below_all k some [] h i j = some

@@ -2,9 +2,9 @@
 use Rattle.std.specs.Prelude.{◌≡◌, ◌+◌, ◌*◌, ◌/◌, ◌%◌, ◌^◌, ◌++◌, ℕ, List, drop, length}
 use Rattle.minisign_hash.specs.Blake2b.{state_after}
 
--- These blocks lead from the state h to the state after. That is: if h is the state after the first
--- i blocks of a message, count is the number of their bytes modulo 2 ^ 128, and these blocks come
--- next in the message, then the other state is the one after these blocks.
+-- Compressing these blocks turns the state h into the state `after`: for every message, if h is the
+-- state after its first i blocks, count is the number of bytes of these i blocks modulo 2 ^ 128,
+-- and the given blocks come next in the message, then `after` is the state after the given blocks.
 abbrev pub LeadTo : List ℕ → List ℕ → ℕ → List ℕ → Type 0
 LeadTo blocks h count after =
     (n : ℕ) (m behind : List ℕ) (i : ℕ) → drop (128 * i) m ≡ blocks ++ behind → h ≡ state_after n m i

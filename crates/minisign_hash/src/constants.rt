@@ -15,7 +15,7 @@ pub const BLAKE2B_SALTBYTES: usize = 16;
 /// The length of a personalization string. No call of this crate takes one.
 pub const BLAKE2B_PERSONALBYTES: usize = 16;
 
-// The sizes are those of the standard.
+// Proves that the sizes are those of RFC 7693.
 const _: () = prove!(BLAKE2B_BLOCKBYTES == 128);
 
 const _: () = prove!(BLAKE2B_OUTBYTES == 64);

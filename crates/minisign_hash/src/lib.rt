@@ -1,4 +1,5 @@
-//! Unkeyed Blake2b (RFC 7693) for data in pieces, and words of 32 and 64 bits as little endian bytes.
+//! Blake2b without a key (RFC 7693), for data that comes in pieces, and conversions of 32-bit and
+//! 64-bit words to and from little endian bytes.
 //!
 //! ```rust
 //! use minisign_hash::Blake2b;

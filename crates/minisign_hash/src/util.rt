@@ -1,4 +1,4 @@
-//! The comparison of secret bytes.
+//! Compares secret bytes.
 
 ghost use Rattle.std.specs.Prelude.{◌≡◌, bytes_eq};
 

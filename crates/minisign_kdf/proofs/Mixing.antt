@@ -39,8 +39,8 @@ mixed_next r xs x y c i n k len lt ex en ek ec ey =
     rw (ec, en, ek) (sym (block-diagonal_bytes xs (2 * r) i (omega arith) lt)) in
     rw (ey, ex, cut) (sym (mixed_block_is r (diagonal_bytes xs) i))
 
--- If the first i blocks have been written, writing the 16 words of block number i gives the first i
--- + 1 blocks.
+-- If the first i blocks have been written, writing the 16 words of block number i gives the first
+-- i + 1 blocks.
 pub written_next : (f : ℕ → List ℕ) (i k : ℕ) (xs ys y : List ℕ) → diagonal_bytes (take (16 * i) xs)
     ≡ joined_lists f i → ys ≡ y → bytes_of_words32 (standard_order y) ≡ f i
     → length ys ≡ 16 → 16 * i ≤ length xs → diagonal_bytes (take (16 * (i + 1)) (put_mid (16 * i) k xs ys))

@@ -1,4 +1,4 @@
--- Lemmas on the results of reading all entries of a verified list.
+-- Lemmas about the results of reading all entries of a verified list.
 use Rattle.std.specs.Prelude.{⊤, Result, Ok, Err}
 use Rattle.std.specs.Str.{is_utf8}
 use Rattle.std.proofs.Common.{◌≡◌, ℕ, Bool, true, false, List, length, refl, cond, ap, sym}
@@ -10,13 +10,13 @@ use Rattle.minisign_lists.specs.Lists.{read_list}
 use Rattle.minisign_lists.specs.Values.{all_entries, go_on, mapped, not_utf8, of_lists, of_misuse, text_check}
 use Rattle.minisign_lists.specs.declared.values.ListValue.{ListValue}
 
--- A result that is success with a list of this length.
+-- The result is a success with n entries.
 pub record Counted (r : Result (List Entry) (Refusal ListFault)) (n : ℕ) : Type 0 where
   pub entries : List Entry
   pub is : r ≡ Ok entries
   pub size : n ≡ length entries
 
--- The number in a result.
+-- The number in a result, or another one if the result is an error.
 abbrev number_in : Result ℕ (Refusal ListFault) → ℕ → ℕ
 number_in (Ok n) other = n
 number_in (Err r) other = other

@@ -1,4 +1,4 @@
--- Lemmas on asking about a list, and on its verdict.
+-- Lemmas about asking about a list, and about its verdict.
 use Rattle.std.proofs.Common.{◌≡◌, ◌∙◌, ◌==◌, ◌+◌, ◌≤◌, ◌++◌, ℕ, Bool, true, false, if◌then◌else◌, List, []}
 use Rattle.std.proofs.Common.{Option, Some, None, Result, Ok, Err, length, take, drop, ap, sym, refl, arith}
 use Rattle.std.proofs.Common.{nat_le, ◌&&◌, length-append}
@@ -53,7 +53,7 @@ module _ (s : State) (fed : IsFedState s []) (blank : IsBlank s) where
       ap (λ (b : Bool). if b then with_public_key v (asked_under (read_under v false text) room)
       else Err (WrongUse (asking_misuse s))) may
 
--- == The room for the message ==
+-- == The space for the message ==
 
 fits : (s b : Bool) → asked_strictly s (if b then Ok tt else Err (WrongUse NoRoom)) ≡ Ok true → b ≡ true
 fits s true h = refl
@@ -68,7 +68,7 @@ has_room s true (Ok c) (Err e) n room h = cc h
 has_room s true (Err m) j n room h = cc h
 has_room s false c j n room h = cc h
 
--- If asking succeeds, the buffer has room for the message.
+-- If asking succeeds, the message fits into the buffer.
 pub roomy : (s : Bool) (v : PublicKeyValue) (signature : SignatureValue) (text : List ℕ) (room : ℕ)
     → asked_strictly s (asking_checks v signature text false room) ≡ Ok true
     → 64 + signature.comment_len ≤ room
@@ -78,7 +78,7 @@ roomy s v signature text room h =
 
 -- == The trusted comment in the message ==
 
--- The bytes after the data signature are the trusted comment.
+-- In the message, the bytes after the data signature are the trusted comment.
 pub comment_after : (s : SignatureValue) (text : List ℕ) (t : SignatureTextRecord) → IsReadFrom s text t
     → (q : Questions) (v : PublicKeyValue) (message : List ℕ) → AreQuestionsWithoutDigest q message v t
     → take s.comment_len (drop 64 message) ≡ t.comments.trusted

@@ -1,4 +1,4 @@
--- Proof that looking up a name agrees as a function and as a relation.
+-- Proof that the function listed_entry and the relation IsListed agree.
 use Rattle.std.specs.Prelude.{Result, Ok, Err, filter}
 use Rattle.std.specs.List.{list_any}
 use Rattle.std.proofs.Common.{◌≡◌, ◌∙◌, ℕ, Bool, true, false, List, [], ◌∷◌, ◌++◌, refl, ap, cond}
@@ -10,7 +10,8 @@ use Rattle.minisign_lists.specs.Lines.{Entry, LongDigest}
 use Rattle.minisign_lists.specs.Lists.{IsListed, has_name, listed_entry, read_list, only_entry}
 use Rattle.minisign_lists.specs.Names.{is_name, without_dot}
 
--- The position of the only entry that passes.
+-- The entry e is the only one in es for which p is true. The lists before and after are the entries
+-- before and after it.
 record Split (p : Entry → Bool) (es : List Entry) (e : Entry) : Type 0 where
   pub before : List Entry
   pub after : List Entry
@@ -69,7 +70,7 @@ joined p (x ∷ before) e after is others = elim (cases_Bool (p x)) [
   | inr other ↦ rw other (joined p before e after is (rw other at others))
 ]
 
--- The entry that was read.
+-- The entry in a result, or another one if the result is an error.
 abbrev got : Result Entry ListFault → Entry → Entry
 got (Ok e) _ = e
 got (Err f) e = e

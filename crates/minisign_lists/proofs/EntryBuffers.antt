@@ -1,4 +1,4 @@
--- Lemmas on writing the entries of a list to a buffer.
+-- Lemmas about writing the entries of a list to a buffer.
 use Rattle.std.specs.Prelude.{Option, Some, None, Result, Ok, Err, map, slice_set, option_to_list}
 use Rattle.std.specs.List.{list_any}
 use Rattle.std.specs.Str.Lines.{lines}
@@ -17,7 +17,7 @@ use Rattle.minisign_lists.specs.Positions.{after_line, line_start, without_lines
 use Rattle.minisign_lists.specs.Values.{entry_value, value_in, put_entry}
 use Rattle.minisign_lists.specs.declared.values.EntryValue.{EntryValue}
 
--- The entry in a result, or another one.
+-- The line number of the entry in a result, or n if there is no entry.
 abbrev line_in : Result (Option Entry) ListFault → ℕ → ℕ
 line_in (Ok (Some e)) n = e.line
 line_in (Ok None) n = n
@@ -44,7 +44,7 @@ line_of long n line = elim (cases_Bool (list_any is_control line)) [
   ]
 ]
 
--- Leaving out one more line.
+-- Leaving out n + 1 lines is leaving out n lines, and then one more.
 pub one_more : (n : ℕ) (text : List ℕ) → without_lines (suc n) text ≡ after_line (without_lines n text)
 one_more zero text = refl
 one_more (suc n) text = one_more n (after_line text)
@@ -59,18 +59,18 @@ pub record IsWritten (long : LongDigest) (text : List ℕ) (old new : List Entry
   pub counted : count ≡ length done
   pub written : new ≡ map (value_in text) done ++ drop (length done) old
 
--- The entries after a line.
+-- The entries in a result, or none if it is an error.
 abbrev rest_of : Result (List Entry) ListFault → List Entry
 rest_of (Ok es) = es
 rest_of (Err f) = []
 
--- Reading on after a line without an entry, or with one.
+-- If a line has no entry, all entries are on the lines after it.
 skipped : (r : Result (List Entry) ListFault) (more : List Entry) → map_ok (λ es. [] ++ es) r ≡ Ok more
     → r ≡ Ok more
 skipped (Ok es) more h = h
 skipped (Err f) more h = absurd (cc h)
 
--- The entries behind the first one.
+-- The result r is a success, and `more` consists of the entry e and the entries in r.
 record Behind (r : Result (List Entry) ListFault) (e : Entry) (more : List Entry) : Type 0 where
   pub tail : List Entry
   pub is : r ≡ Ok tail
@@ -86,7 +86,8 @@ taken (Ok es) e more h = record {
 }
 taken (Err f) e more h = absurd (cc h)
 
--- Writing behind the entries that were written.
+-- If a buffer begins with the list xs, writing an element after xs gives a buffer that begins with
+-- xs and this element.
 set_next : (xs old : List EntryValue) (v : EntryValue) → length xs < length old
     → slice_set (xs ++ drop (length xs) old) (length xs) v ≡ (xs ++ v ∷ []) ++ drop (length xs + 1) old
 set_next xs old v fits =
@@ -168,7 +169,7 @@ module _ (long : LongDigest) (text : List ℕ) (old new : List EntryValue) (n co
       let whole : es ≡ w.done = w.all ∙ ap (λ l. w.done ++ l) none ∙ append-nil w.done in
       w.written ∙ ap (λ l. map (value_in text) l ++ drop (length l) old) (sym whole)
 
--- Before the first line.
+-- Before the first line is read, no entry is written.
 pub none_written : (long : LongDigest) (text : List ℕ) (old : List EntryValue) (es : List Entry)
     → read_list long text ≡ Ok es → IsWritten long text old old 0 0 text es
 none_written long text old es read = record {

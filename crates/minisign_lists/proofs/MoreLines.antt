@@ -1,4 +1,4 @@
--- Lemmas on a list to which a line is appended: its lines and its entries.
+-- Lemmas about the lines and entries of a list to which a line is appended.
 use Rattle.std.specs.Prelude.{Option, Some, None, Result, Ok, Err, option_to_list, slice_index, map}
 use Rattle.std.specs.List.{All, list_any, onto_first, slice_split}
 use Rattle.std.specs.Str.Lines.{lines, lines_of_parts, strip_carriage_return}
@@ -32,7 +32,9 @@ onto-some : (b : ℕ) (parts : List (List ℕ)) → 0 < length (onto_first b par
 onto-some b [] = omega arith
 onto-some b (part ∷ parts) = omega arith
 
--- A text that ends with a line feed, or is empty: the parts of a longer text begin with its parts.
+-- The facts about a text that is empty or ends with a line feed: splitting it at line feeds gives
+-- the parts `front` and an empty part, and if more text is appended, the parts of the longer text
+-- are `front` and those of the appended text.
 record Ended (list : List ℕ) : Type 0 where
   pub front : List (List ℕ)
   pub parts : slice_split is_feed list ≡ front ++ [] ∷ []
@@ -153,7 +155,8 @@ lines_more list x is some clean =
 
 -- == Entries of a list whose lines all name their hash functions ==
 
--- Lines that are well formed whatever 128 digits mean.
+-- This setting rejects 128 digits on lines that do not name their hash function, so a line that is
+-- well formed with it is well formed whatever 128 digits mean.
 abbrev strict : LongDigest
 strict = long.Rejected
 
@@ -172,7 +175,7 @@ written_strictly l line w h =
     options (tagged_form algorithm.Sha256 line) (tagged_form algorithm.Sha512 line)
     (tagged_form algorithm.Blake2b line) (plain_form algorithm.Sha256 line) (long_form l line) w h
 
--- An entry is the same if it is written the same.
+-- If the form a gives an entry, and b is the same form as a, then b gives the same entry.
 same_entry : (n : ℕ) (escaped : Bool) (before : ℕ) (a b : Option NamedDigest) (o : Option Entry)
     → ((w : NamedDigest) → a ≡ Some w → b ≡ Some w) → entry_of n escaped before a ≡ Ok o
     → entry_of n escaped before b ≡ Ok o
@@ -202,7 +205,8 @@ read_strictly l n line o h = elim (cases_Bool (list_any is_control line)) [
   ]
 ]
 
--- The entries behind a line.
+-- The result r of reading the lines after a line is a success, and es consists of the entry o of
+-- the line, if it has one, and the entries in r.
 record Rest (r : Result (List Entry) ListFault) (o : Option Entry) (es : List Entry) : Type 0 where
   pub tail : List Entry
   pub is : r ≡ Ok tail
@@ -221,7 +225,8 @@ rest (Ok t) o es h = record {
 }
 rest (Err f) o es h = absurd (cc h)
 
--- Entries to which one is appended.
+-- If appending the line x appends the entry e to the entries of the lines after y, it also appends
+-- e to the entries of y and these lines.
 first_more : (l : LongDigest) (n : ℕ) (y : List ℕ) (ls : List (List ℕ)) (x : List ℕ) (es : List Entry)
     (e : Entry)
     (r : Result (Option Entry) ListFault)

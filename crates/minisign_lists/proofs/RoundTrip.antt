@@ -1,4 +1,4 @@
--- Proof that a list to which an entry was appended parses to its entries and this one.
+-- Proof that a list to which an entry was appended parses to its old entries and the new one.
 use Rattle.std.specs.Prelude.{⊤, Option, Some, None, Result, Ok, Err, filter, nat_le}
 use Rattle.std.specs.List.{list_any}
 use Rattle.std.specs.Str.{is_utf8}
@@ -50,16 +50,16 @@ not_false : (b : Bool) → not b ≡ true → b ≡ false
 not_false true h = absurd (cc h)
 not_false false h = refl
 
--- == What the checks show ==
+-- == Facts that follow from the checks ==
 
--- The name is in no entry of the list.
+-- The name can be looked up, every line of the list is well formed, and no entry has the name.
 record IsFree (list name : List ℕ) : Type 0 where
   pub named : is_name name ≡ true
   pub entries : List Entry
   pub read : read_list long.Rejected list ≡ Ok entries
   pub none : filter (has_name (without_dot name)) entries ≡ []
 
--- The result is that a name is not listed.
+-- The result is the error NotListed.
 abbrev is_missing : {V : Type 0} → Result V ListFault → Bool
 is_missing (Ok v) = false
 is_missing (Err NotListed) = true
@@ -134,7 +134,7 @@ abbrev ok_in : {V F : Type 0} → Result V F → Bool
 ok_in (Ok v) = true
 ok_in (Err e) = false
 
--- The name is free, and the list ends with a line feed.
+-- The name is not listed, and the list is empty or ends with a line feed.
 record Free (r : Result Entry ListFault) (list : List ℕ) : Type 0 where
   pub missing : r ≡ Err NotListed
   pub ended : is_ended list ≡ true

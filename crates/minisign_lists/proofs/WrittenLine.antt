@@ -1,4 +1,4 @@
--- Lemmas on the line that the writer makes for an entry: it parses to this entry.
+-- Proof that the line which is written for an entry parses to this entry.
 use Rattle.std.specs.Prelude.{Option, Some, None, Ok, bytes_eq, codes, nat_le}
 use Rattle.std.specs.Prelude.{slice_index}
 use Rattle.std.specs.List.{list_any}
@@ -26,7 +26,7 @@ use Rattle.minisign_lists.proofs.MoreLines.{or_left, or_right}
 dot : (m : List ℕ) → is_path (46 ∷ 47 ∷ m) ≡ true → ⊥
 dot m h = cc h
 
--- A path does not begin with ./
+-- A path does not begin with `./`, so `without_dot` does not change it.
 pub path_kept : (m : List ℕ) → is_path m ≡ true → without_dot m ≡ m
 path_kept [] h = refl
 path_kept (a ∷ []) h = elim (cases_Bool (a == 46)) [
@@ -43,7 +43,7 @@ path_kept (a ∷ b ∷ m) h = elim (cases_Bool (a == 46)) [
 
 -- == Control characters ==
 
--- A byte of a text without control characters.
+-- Each byte of a text without control characters is no control character.
 clean_at : (x : List ℕ) (i : ℕ) → list_any is_control x ≡ false → i < length x
     → is_control (slice_index x i) ≡ false
 clean_at [] i h within = absurd (omega (arith, within))
@@ -82,7 +82,7 @@ line_clean d m bytes name =
     list_any-append is_control (label (algorithm_of d)) (m ++ (codes ") = " ++ encode_lower (bytes_of d)))
     ∙ rw (label_clean (algorithm_of d), behind) refl
 
--- The line ends with one line feed.
+-- The written line is the line's text, followed by a line feed.
 pub line_whole : (d : ListedDigest) (m : List ℕ) → written_line d m ≡ line_text d m ++ 10 ∷ []
 line_whole d m =
     let l = label (algorithm_of d) in
@@ -122,12 +122,13 @@ none_if : (p q r : Bool) (w : Option NamedDigest) → q ≡ false → cond (p &&
 none_if true q r w h = rw h refl
 none_if false q r w h = refl
 
--- A line with another label.
+-- A line that does not begin with the label of a hash function does not have the tagged form of
+-- this hash function.
 other_tag : (a : Algorithm) (line : List ℕ) → bytes_eq (take (length (label a)) line) (label a) ≡ false
     → tagged_form a line ≡ None
 other_tag a line h = none_if _ _ _ _ h
 
--- A line with this label.
+-- A line of the tagged form parses to its name and its digits.
 tagged : (a : Algorithm) (m digits : List ℕ) → length digits ≡ digit_count a
     → tagged_form a (label a ++ (m ++ (codes ") = " ++ digits))) ≡ named a digits m (length (label a))
 tagged a m digits size =
@@ -196,7 +197,7 @@ written l (listed.Sha256 bytes) m are size = of_sha256 l m bytes are size
 written l (listed.Sha512 bytes) m are size = of_sha512 l m bytes are size
 written l (listed.Blake2b bytes) m are size = of_blake2b l m bytes are size
 
--- The line is no comment and has no backslash at its beginning.
+-- The line is not a comment, and does not begin with a backslash.
 not_comment : (d : ListedDigest) (m : List ℕ) → is_comment (line_text d m) ≡ false
 not_comment (listed.Sha256 bytes) m = refl
 not_comment (listed.Sha512 bytes) m = refl

@@ -14,8 +14,8 @@ use Rattle.minisign_lists.specs.declared.digests.FileCheck.TheVariants as check
 use Rattle.minisign_lists.specs.declared.entries.Entries.{Entries}
 use Rattle.minisign_lists.specs.declared.verifying.ListedFile.{ListedFile}
 
--- The check compares with this digest and was fed this data. Callers use this definition and
--- the next one without unfolding them.
+-- The check is one against this digest, and was fed this data. Callers use this definition and the
+-- next one without unfolding them.
 unfoldable pub IsFedCheck : FileCheck → ListedDigest → List ℕ → Type 0
 IsFedCheck (check.Sha256 hasher digest) d m = (d ≡ listed.Sha256 digest) × IsFed256 hasher m
 IsFedCheck (check.Sha512 hasher digest) d m = (d ≡ listed.Sha512 digest) × IsFed512 hasher m
@@ -31,7 +31,7 @@ IsUsable (check.Blake2b hasher digest) = (output_length hasher ≡ 64) × (has_f
 abbrev pub IsOpen : ListedFile → Type 0
 IsOpen file = IsUsable file.check
 
--- The file was fed this data, and its verdict on data is this function.
+-- The file was fed this data, and this function gives its verdict on any data.
 unfoldable pub IsFedFile : ListedFile → (List ℕ → Result (List ℕ) ListFault) → List ℕ → Type 0
 IsFedFile file verdict m =
     (digest : ListedDigest) × IsFedCheck file.check digest m

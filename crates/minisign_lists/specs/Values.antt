@@ -52,7 +52,8 @@ file_mark = 7308332183891896685
 
 -- == The list ==
 
--- 1 if no name of the list is given or the comment gives the list this name, otherwise 0.
+-- 1 if no name of the list is given or the first "file:" field of the trusted comment has this
+-- name, otherwise 0.
 abbrev pub named_number : Option (List ℕ) → List ℕ → ℕ
 named_number None comment = 1
 named_number (Some list_name) comment = if names_list list_name comment then 1 else 0
@@ -174,7 +175,7 @@ padded_digest (listed.Sha256 digest) = digest ++ replicate 32 0
 padded_digest (listed.Sha512 digest) = digest
 padded_digest (listed.Blake2b digest) = digest
 
--- The digest of a hash function with these bytes, of 64.
+-- The digest of a hash function that begins these 64 bytes.
 abbrev pub digest_of_padded : Algorithm → List ℕ → ListedDigest
 digest_of_padded algorithm.Sha256 bytes = listed.Sha256 (take 32 bytes)
 digest_of_padded algorithm.Sha512 bytes = listed.Sha512 bytes
@@ -243,7 +244,7 @@ long_numbered n =
     else if n == 2 then Some long.Sha512
     else if n == 3 then Some long.Blake2b else None
 
--- The digest with these bytes, if the hash function has digests of this length.
+-- These bytes as a digest, or None if digests of the hash function have another length.
 abbrev pub digest_of_bytes : Algorithm → List ℕ → Option ListedDigest
 digest_of_bytes algorithm.Sha256 bytes = if length bytes == 32 then Some (listed.Sha256 bytes) else None
 digest_of_bytes algorithm.Sha512 bytes = if length bytes == 64 then Some (listed.Sha512 bytes) else None
@@ -253,7 +254,8 @@ abbrev pub digest_of_given : Option Algorithm → List ℕ → Option ListedDige
 digest_of_given None bytes = None
 digest_of_given (Some a) bytes = digest_of_bytes a bytes
 
--- The digest with these bytes, of the hash function with this number.
+-- These bytes as a digest of the hash function with this number, or None if there is no such hash
+-- function or its digests have another length.
 abbrev pub given_digest : ℕ → List ℕ → Option ListedDigest
 given_digest hash bytes = digest_of_given (algorithm_numbered hash) bytes
 
@@ -277,7 +279,7 @@ compared v hash bytes = compared_given v (given_digest hash bytes)
 
 -- == Files ==
 
--- The state compares with this digest and was fed this data.
+-- The state is that of a check against this digest, and was fed this data.
 unfoldable pub IsFedValue : FileValue → ListedDigest → List ℕ → Type 0
 IsFedValue v (listed.Sha256 digest) m =
     (v.mark ≡ file_mark) × (v.hash ≡ 1) × (take 32 v.digest ≡ digest) × WasFed256 v.sha256 m
@@ -286,7 +288,7 @@ IsFedValue v (listed.Sha512 digest) m =
 IsFedValue v (listed.Blake2b digest) m =
     (v.mark ≡ file_mark) × (v.hash ≡ 3) × (v.digest ≡ digest) × WasFed v.blake2b m
 
--- The check of a file was finished: its state takes no more calls.
+-- The check of a file is finished: its state accepts no more calls.
 abbrev pub IsFinished : FileValue → FileValue → Type 0
 IsFinished old new = (old.mark ≡ file_mark) × (new ≡ record old { mark = 0 })
 

@@ -8,12 +8,13 @@ use Rattle.minisign_lists.specs.Faults.{ListFault, OtherList, DigestMismatch, an
 use Rattle.minisign_lists.specs.Lines.{LongDigest}
 use Rattle.minisign_lists.specs.Lists.{listed_entry}
 
--- The trusted comment names the list, if a name of the list is given.
+-- Succeeds if no name of the list is given or the first "file:" field of the trusted comment has
+-- this name.
 abbrev pub check_list_name : Option (List ℕ) → List ℕ → Result ⊤ ListFault
 check_list_name None comment = Ok tt
 check_list_name (Some list_name) comment = if names_list list_name comment then Ok tt else Err OtherList
 
--- The data has the digest.
+-- Succeeds if the data has the digest.
 abbrev pub check_digest : ListedDigest → List ℕ → Result ⊤ ListFault
 check_digest digest m = if has_digest digest m then Ok tt else Err DigestMismatch
 

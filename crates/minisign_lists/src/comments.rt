@@ -52,9 +52,10 @@ pub(crate) fn field_names_list(comment: &[u8], list_name: &[u8]) -> bool
     }
 }
 
-/// Returns true if the first `file:` field of the trusted comment has exactly this name. Fields are separated
-/// by tabs. Signing writes the last part of the signed path into this field. A signed text that only looks
-/// like a list of files has another name in this field, or no such field.
+/// Returns true if the first `file:` field of the trusted comment has exactly this name. Fields are
+/// separated by tabs. Signing writes the last part of the signed path into this field. So a signed
+/// text that was not meant as a list, but looks like one, has another name in this field, or no
+/// such field.
 pub fn names_list(comment: &str, list_name: &str) -> bool
     // The result is true exactly if the first `file:` field of the comment has exactly this name.
     ensures { result ≡ names_list list_name.now comment.now }

@@ -13,8 +13,8 @@ use crate::faults::{ListFault, Result};
 use crate::lines::{EntryView, LongDigest};
 use crate::names::{is_name, same, without_dot};
 
-/// States that the function that looks up a name agrees with the relation that defines this. This function is
-/// a law: it does nothing, and exists only for its contract.
+/// States that `listed_entry`, the definition by which names are looked up, agrees with the
+/// relation `IsListed`. This function is a law: it does nothing, and exists only for its contract.
 #[tactic(auto, using(crate::proofs::Deciding::decided))]
 pub fn lists_are_decided()
     // A lookup succeeds with an entry exactly if the name can be looked up, every line of the list is well

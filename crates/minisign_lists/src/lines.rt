@@ -108,7 +108,8 @@ impl Algorithm {
     }
 }
 
-// Returns the digest and the name, if the digits encode a digest.
+// Decodes the digits, and returns the digest with the name, or `None` if the digits encode no
+// digest.
 fn named<'a>(
     algorithm: Algorithm,
     digits: &[u8],

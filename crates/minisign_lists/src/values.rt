@@ -182,7 +182,7 @@ impl ListedDigest {
         }
     }
 
-    // Returns the digest with these bytes.
+    // Returns the digest from the bytes that `padded` returns.
     pub(crate) fn of_padded(algorithm: Algorithm, digest: &[u8; 64]) -> ListedDigest
         ensures { result ≡ digest_of_padded algorithm digest.now }
     {
@@ -193,7 +193,8 @@ impl ListedDigest {
         }
     }
 
-    /// Returns the digest with these bytes, if the hash function has digests of this length.
+    /// Returns these bytes as a digest, or `None` if digests of the hash function have another
+    /// length.
     pub fn of_bytes(algorithm: Algorithm, bytes: &[u8]) -> Option<ListedDigest>
         ensures { result ≡ digest_of_bytes algorithm bytes.now }
     {
@@ -259,10 +260,10 @@ fn first_32(bytes: &[u8; 64]) -> [u8; 32]
 }
 
 impl ListValue {
-    /// Asks about the signature of a list, as `State::ask_strictly` and `State::digest` do for data.
-    /// Legacy signatures are rejected. If `list_name` is given, the trusted comment must have exactly
-    /// this name in its first `file:` field. Returns false if the only problem is that the key or a
-    /// signature is weak.
+    /// Writes the two Ed25519 checks of a list's signature to `questions`, as `State::ask_strictly`
+    /// and `State::digest` do for data. Legacy signatures are rejected. If `list_name` is given,
+    /// the trusted comment must have exactly this name in its first `file:` field. Returns false,
+    /// and writes nothing, if the only problem is that the key or a signature is weak.
     pub fn ask(
         &mut self,
         key: &PublicKeyValue,
@@ -311,7 +312,7 @@ impl ListValue {
         }
     }
 
-    /// Decides from the results of the two checks whether the list is verified.
+    /// Decides from the results of the two Ed25519 checks whether the list is verified.
     pub fn verdict(
         &mut self,
         first: bool,
@@ -335,7 +336,7 @@ impl ListValue {
         self.decide(first, second)
     }
 
-    // Decides from the results of the two checks whether the list is verified.
+    // Decides from the results of the two Ed25519 checks whether the list is verified.
     fn decide(&mut self, first: bool, second: bool) -> std::result::Result<(), Refusal<ListFault>>
         ensures { (result, self.new) ≡ list_verdict_outcome self.old first second }
     {
@@ -353,7 +354,7 @@ impl ListValue {
         Ok(())
     }
 
-    // Succeeds if the list was verified and this is its text.
+    // Succeeds if the list was verified and `text` is the list.
     fn test_text(&self, text: &[u8]) -> std::result::Result<(), Misuse>
         ensures { result ≡ text_check self.now text.now }
     {
@@ -366,7 +367,7 @@ impl ListValue {
         Ok(())
     }
 
-    // Returns the list, if it was verified and this is its text.
+    // Returns the text as a `str`, if the list was verified and `text` is the list.
     fn text<'a>(&self, text: &'a [u8]) -> std::result::Result<&'a str, Refusal<ListFault>>
         ensures { mapped (λ t. t.now) result ≡ verified_text self.now text.now }
     {
@@ -407,7 +408,7 @@ impl ListValue {
         ensures value { (result, entry.new)
             ≡ entry_outcome (found_entry self.now text.now long name.now) text.now entry.old }
 
-        // On success, the digest that a check takes from the entry is the one in the list.
+        // On success, the digest that `begin` takes from the entry is the one in the list.
         ensures digest { OnOk result ((e : Entry) → found_entry self.now text.now long name.now ≡ Ok e
             → entry_digest entry.new ≡ Ok e.digest) }
     {
@@ -457,7 +458,8 @@ impl ListValue {
     }
 }
 
-// Asks about data as `State::ask_strictly` does for a new state, without legacy signatures.
+// Writes the questions as `State::ask_strictly` does for a new state. Legacy signatures are
+// rejected.
 fn ask_once(
     key: &PublicKeyValue,
     signature: &SignatureValue,
@@ -482,8 +484,8 @@ fn ask_once(
     state.ask_strictly(key, signature, sig_text, false, questions, message)
 }
 
-// Returns a list that was asked about. The text of the list has this digest, and `message` begins with
-// the message of the second question: the data signature and the trusted comment.
+// Returns the struct of a list after `ask`. The text of the list has this digest, and `message`
+// begins with the message of the second question: the data signature and the trusted comment.
 fn asked_list(
     key: &PublicKeyValue,
     signature: &SignatureValue,
@@ -507,7 +509,8 @@ fn asked_list(
     }
 }
 
-// Returns 1 if no name of the list is given, or the trusted comment names the list so, otherwise 0.
+// Returns 1 if no name of the list is given, or the first `file:` field of the trusted comment has
+// this name, otherwise 0.
 fn is_named(list_name: Option<&[u8]>, comment: &[u8]) -> u32
     ensures { result ≡ named_number (option_map (λ n. n.now) list_name.entry) comment.now }
 {
@@ -526,7 +529,7 @@ fn digest_of(text: &[u8]) -> [u8; 64]
     digest
 }
 
-// Returns a text that must be UTF-8.
+// Returns the text as a `str`, or `NotUtf8`.
 pub(crate) fn utf8(text: &[u8]) -> std::result::Result<&str, Refusal<ListFault>>
     ensures { mapped (λ t. t.now) result ≡ utf8_text text.now }
 {
@@ -576,7 +579,8 @@ fn put_entry(
     let entry = match read {
         Ok(entry) => entry,
         Err(fault) => {
-            // Dropping the error could free memory, and the module of the page cannot.
+            // Dropping the error could free memory, which the WebAssembly module of the web page
+            // cannot do.
             forget(fault);
             return count;
         }
@@ -650,7 +654,7 @@ impl EntryValue {
         }
     }
 
-    // Compares the digest of the entry with another one, of the same hash function.
+    // Compares the digest of the entry with a given one, which must be of the same hash function.
     fn compare(&self, given: ListedDigest) -> std::result::Result<(), Refusal<ListFault>>
         ensures { result ≡ compared_digest self.now given }
     {
@@ -667,7 +671,8 @@ impl EntryValue {
     }
 }
 
-/// Returns the digest with these bytes of the hash function with this number.
+/// Returns these bytes as a digest of the hash function with this number, or `None` if there is no
+/// such hash function or its digests have another length.
 pub fn given_digest(hash: u32, bytes: &[u8]) -> Option<ListedDigest>
     ensures { result ≡ given_digest hash bytes.now }
 {
@@ -679,9 +684,10 @@ pub fn given_digest(hash: u32, bytes: &[u8]) -> Option<ListedDigest>
 
 #[tactic(auto, unfolding(crate::specs::Values::IsFedValue, crate::specs::Pieces::IsFedCheck, crate::specs::Pieces::IsUsable))]
 impl FileValue {
-    /// Returns a state whose check was not begun, for `begin` to overwrite. Does not allocate.
+    /// Returns a state without a check, which the caller replaces by the result of `begin`. Does
+    /// not allocate.
     pub fn none() -> FileValue
-        // The state stands for no check: `begin` has not been called.
+        // No check has been begun in the state.
         ensures { result.mark ≡ 0 }
     {
         FileValue {
@@ -710,7 +716,7 @@ impl FileValue {
         }
     }
 
-    // Returns the contents of a check of SHA-256.
+    // Returns the struct for a check against a SHA-256 digest.
     fn store_256(hasher: &Sha256, digest: &[u8; 32]) -> FileValue
         ensures mark { (result.mark ≡ file_mark) × (result.hash ≡ 1) }
         ensures digest { take 32 result.digest ≡ digest.now }
@@ -726,7 +732,7 @@ impl FileValue {
         value
     }
 
-    // Returns the contents of a check of SHA-512.
+    // Returns the struct for a check against a SHA-512 digest.
     fn store_512(hasher: &Sha512, digest: &[u8; 64]) -> FileValue
         ensures mark { (result.mark ≡ file_mark) × (result.hash ≡ 2) }
         ensures digest { result.digest ≡ digest.now }
@@ -742,7 +748,7 @@ impl FileValue {
         value
     }
 
-    // Returns the contents of a check of BLAKE2b.
+    // Returns the struct for a check against a BLAKE2b digest.
     fn store_blake2b(hasher: &Blake2b, digest: &[u8; 64]) -> FileValue
         requires { output_length hasher.now ≡ 64 }
         ensures mark { (result.mark ≡ file_mark) × (result.hash ≡ 3) }
@@ -759,7 +765,7 @@ impl FileValue {
         value
     }
 
-    // Returns the contents of a check.
+    // Returns the struct for a check.
     fn store(check: &FileCheck) -> FileValue
         requires { IsUsable check.now }
         ensures { (d : ListedDigest) (m : List ℕ) → IsFedCheck check.now d m → IsFedValue result d m }
@@ -771,7 +777,7 @@ impl FileValue {
         }
     }
 
-    // Returns the check with these contents.
+    // Returns the check that is stored in the struct.
     fn restore(&self) -> std::result::Result<FileCheck, Misuse>
         ensures fed { (d : ListedDigest) (m : List ℕ) → IsFedValue self.now d m
             → MatchResult result (λ c. IsFedCheck c d m) (λ _. ⊥) }

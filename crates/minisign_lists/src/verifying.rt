@@ -14,7 +14,8 @@ use crate::finding::find_listed;
 use crate::lines::LongDigest;
 use minisign::{Scheme, verify_in_place};
 
-// Checks that the trusted comment names the list, if a name of the list is given.
+// Checks that the first `file:` field of the trusted comment has the name of the list, if a name is
+// given.
 fn check_list_name(list_name: Option<&str>, comment: &str) -> Result<()>
     ensures { result ≡ check_list_name (option_map (λ n. n.now) list_name.entry) comment.now }
 {
@@ -25,12 +26,13 @@ fn check_list_name(list_name: Option<&str>, comment: &str) -> Result<()>
 }
 
 /// Verifies a list with the texts of a public key and a signature, and compares data in memory with
-/// the entry of its name. Returns the trusted comment of the list. Does not allocate. `room` is
-/// scratch space at least as long as the text of the signature.
+/// the entry for `name`. Returns the trusted comment of the list. Does not allocate. `room` is
+/// scratch space, which must be at least as long as the text of the signature.
 ///
 /// Errors come in this order: those of `minisign::verify_in_place` for the list, with legacy
-/// signatures always rejected; `OtherList`, if `list_name` is given and the trusted comment does
-/// not name the list so; those of [`find_listed`]; `DigestMismatch`.
+/// signatures always rejected; `OtherList`, if `list_name` is given and the first `file:` field of
+/// the trusted comment has another name or does not exist; those of [`find_listed`];
+/// `DigestMismatch`.
 #[tactic(auto, unfolding(crate::specs::Verdicts::listed_verdict))]
 pub fn verify_listed<'a, S: Scheme>(
     scheme: &S,

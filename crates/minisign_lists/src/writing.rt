@@ -21,7 +21,7 @@ use crate::values::utf8;
 use hex::encode_to_slice;
 use minisign_external::state::{Misuse, Refusal};
 
-// Returns the number of bytes of an entry's line besides the name.
+// Returns the number of bytes of an entry's line without the name.
 fn extra_size(digest: ListedDigest) -> usize
     ensures value { result ≡ length (label (algorithm_of digest)) + 5 + 2 * length (bytes_of digest) }
     ensures small { result ≤ 142 }
@@ -83,7 +83,7 @@ fn write_digits(digest: ListedDigest, to: &mut [u8])
     };
 }
 
-// Succeeds if a list does not contain the name, and ends with a line feed.
+// Succeeds if a list does not contain the name, and is empty or ends with a line feed.
 fn test_name(list: &str, name: &str) -> Result<()>
     ensures { result ≡ free_name (listed_entry Rejected list.now name.now) list.now }
 {
@@ -94,7 +94,7 @@ fn test_name(list: &str, name: &str) -> Result<()>
     }
 }
 
-// Succeeds if the last line of a list ends with a line feed.
+// Succeeds if a list is empty or ends with a line feed.
 fn test_end(list: &[u8]) -> Result<()>
     ensures { result ≡ (if is_ended list.now then Ok tt else Err (MalformedLine 0)) }
 {
@@ -105,7 +105,8 @@ fn test_end(list: &[u8]) -> Result<()>
     }
 }
 
-// Succeeds if an entry of this name can be appended to the first `len` bytes of a buffer.
+// Succeeds if the first `len` bytes of a buffer are a list to which an entry with this name can be
+// appended. Does not check whether the buffer has space for the new line.
 fn test_append(text: &[u8], len: usize, name: &[u8]) -> std::result::Result<(), Refusal<ListFault>>
     ensures { result ≡ append_check text.now len name.now }
 {
@@ -124,8 +125,9 @@ fn test_append(text: &[u8], len: usize, name: &[u8]) -> std::result::Result<(), 
 /// Appends an entry to a list, which is the first `len` bytes of a buffer. Returns the new length.
 ///
 /// The errors are, in this order: `NoRoom`, if `len` is greater than the buffer; `NotUtf8`, for the
-/// list or the name; those of [`find_listed`] except `NotListed`, and `ListedTwice` if it succeeds;
-/// `MalformedLine`, if the list does not end with a line feed; `NoRoom`.
+/// list or the name; those of [`find_listed`] except `NotListed`; `ListedTwice`, if the list
+/// already has the name; `MalformedLine`, if the list is not empty and does not end with a line
+/// feed; `NoRoom`, if the new line does not fit into the buffer.
 pub fn append_entry(
     text: &mut [u8],
     len: usize,

@@ -1,8 +1,9 @@
 //! SHA-256 and SHA-512 (FIPS 180-4), with states that a program in another language can hold between
 //! two calls. Nothing here allocates.
 //!
-//! The code of the hash functions and its proofs are those of the kit's crate `sha2`, whose states
-//! cannot be stored. The definitions of the hash functions are still those of that crate.
+//! The code of the hash functions and its proofs are copied from the kit's crate `sha2`, whose
+//! states cannot be stored. Contracts use the definitions of SHA-256 and SHA-512 in the crate
+//! `sha2`.
 
 #![tactic(auto)]
 

@@ -10,7 +10,7 @@ pub if_err_both : {T E : Type 0} (P : E → Type 0) (Q : Type 0) (r : Result T E
 if_err_both P Q (Ok x) p q = tt
 if_err_both P Q (Err e) p q = (p, q)
 
--- A statement that always holds also holds after an error.
+-- A statement that holds for every result also holds after an error.
 pub on_err_of : {T E : Type 0} (r : Result T E) (P : Type 0) → P → OnErr r P
 on_err_of (Ok x) P p = tt
 on_err_of (Err e) P p = p

@@ -1,4 +1,4 @@
--- Lemmas about verification that copies nothing: it does not use its output.
+-- Lemmas about verification that does not copy the data, and therefore does not use its output.
 use Rattle.std.proofs.Common.{List, ℕ, Result, Ok, Err, IfErr, inl, inr, false, None, refl}
 use Rattle.minisign.specs.Fault.{Fault}
 use Rattle.minisign.specs.DeviceCalls.{RereaderCall, SinkCall, no_sink}
@@ -8,7 +8,7 @@ use Rattle.minisign.specs.Verifying.{VerifyingFails, VerifyingTextsFails}
 use Rattle.minisign.proofs.Laws.{fails_without_output}
 use Rattle.minisign_tool.specs.Verify.{says_only}
 
--- An output that no stage uses.
+-- The call of an output with these states, about whose contents nothing is known.
 abbrev pub silent : {O : Type 0} → O → O → SinkCall O
 silent old new = record {
   sink = record { taken = λ _. None; flushed = λ _. None; sink_faults = λ _. 0 };
@@ -16,7 +16,8 @@ silent old new = record {
   new = new;
 }
 
--- A failure with a key and a box, if no stage uses the output.
+-- If verification with a key and a box fails without copying, it fails in the same way without an
+-- output.
 pub box_fails : {T R W O : Type 0} (accepts : Verifier) (key : PublicKeyRecord) (box : SignatureBoxRecord)
     (reader : RereaderCall R) (status : SinkCall W)
     (old new : O) (r : Result T Fault)
@@ -26,7 +27,7 @@ box_fails accepts key box reader status old new (Ok x) h = tt
 box_fails accepts key box reader status old new (Err e) h =
     fails_without_output accepts key box false reader status (silent old new) e h
 
--- A failure with two texts, if no stage uses the output.
+-- If verification with two texts fails without copying, it fails in the same way without an output.
 pub texts_fail : {T R W O : Type 0} (accepts : Verifier) (pk sig : List ℕ) (reader : RereaderCall R)
     (status : SinkCall W)
     (out : SinkCall O) (r : Result T Fault)

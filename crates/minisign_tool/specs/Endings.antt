@@ -12,18 +12,19 @@ use Rattle.minisign_tool.specs.declared.commands.Command.{Command}
 use Rattle.minisign_tool.specs.declared.commands.Command.TheVariants.{Cat, Keygen, Sign, Usage, Verify}
 use Rattle.minisign_tool.specs.declared.commands.Command.TheVariants.{VerifyRaw}
 
--- There are two texts and data for which they are valid. Legacy signatures are rejected.
+-- Some texts of a public key and a signature are valid for some data. Legacy signatures are
+-- rejected.
 abbrev pub SomeTextsVouch : Verifier → Type 0
 SomeTextsVouch accepts = (pk_text sig_text message : List ℕ)
     × TextsVouchFor accepts pk_text sig_text message false
 
--- There are the bytes of a public key and of a bare signature, and data for which they are valid.
+-- The bytes of some public key and some bare signature are valid for some data.
 abbrev pub SomeBytesVouch : Verifier → Type 0
 SomeBytesVouch accepts = (key_file signature_file message : List ℕ)
     × VouchesRaw accepts key_file signature_file message
 
--- The guarantee if this command succeeds: if it verifies, some texts or files are valid for some
--- message.
+-- The guarantee if this command succeeds: after a command that verifies, some texts or bytes are
+-- valid for some data. The usage never succeeds.
 abbrev pub HoldsAfter : Verifier → Command → Type 0
 HoldsAfter accepts (Keygen pk sk) = ⊤
 HoldsAfter accepts (Sign sk file sig) = ⊤
@@ -32,11 +33,11 @@ HoldsAfter accepts (VerifyRaw pk sig) = SomeBytesVouch accepts
 HoldsAfter accepts (Cat pk file sig) = SomeTextsVouch accepts
 HoldsAfter accepts Usage = ⊥
 
--- The exit status is 0 only if the command succeeded, whatever the scheme accepts.
+-- If the exit status is 0, the guarantee of the command holds.
 abbrev pub ShowsCommand : Verifier → Command → ℕ → Type 0
 ShowsCommand accepts command status = status ≡ 0 → HoldsAfter accepts command
 
--- The lines of a command that is silent on success: the warning, and with status 1 the error line
+-- The lines of a command that writes no status lines: the warning, and with status 1 the error line
 -- after it.
 abbrev pub SaysOnlyFaults : {S : Type 0} → SinkOf S → S → S → ℕ → Type 0
 SaysOnlyFaults sink old new status =

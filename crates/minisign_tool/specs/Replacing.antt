@@ -19,6 +19,6 @@ pub record HoldsContents (c : Contents) (path : List ℕ) (mode : ℕ) (bytes : 
   pub mode_given : c.mode ≡ mode
   pub bytes_given : c.bytes.now ≡ bytes
 
--- An allocation or a system call failed.
+-- The error is out of memory, for a failed allocation, or writing failed, for a failed system call.
 abbrev pub IsWriteFault : Fault → Type 0
 IsWriteFault e = (e ≡ Named OutOfMemory) ⊎ (e ≡ Named WritingFailed)

@@ -34,8 +34,8 @@ SaysAfterWarning {S = S} sink old new text =
     (warned : S) × TakesOrFails sink old warned warning_line
     × Appends (sink.taken warned) (sink.taken new) text × (sink.sink_faults new ≡ sink.sink_faults warned)
 
--- A run ends with an error: the warning was sent, Fails holds for what was written then and the
--- error, and the error line was sent.
+-- A run ends with an error: the warning was sent first, and the error line last. Fails holds for
+-- the error and for the bytes that were written between them.
 abbrev pub EndsWithFault : {S : Type 0} → SinkOf S → S → S → (SinkCall S → Fault → Type 0) → Type 0
 EndsWithFault {S = S} sink old new Fails =
     (e : Fault) × (warned reported : S) × TakesOrFails sink old warned warning_line

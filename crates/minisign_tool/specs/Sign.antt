@@ -39,9 +39,9 @@ signing_call sk_file data_reader random reader writer old new = record {
   prompt = prompt_call reader writer old.prompt new.prompt;
 }
 
--- The text of the secret key gave a key, with a password that was asked for if it is encrypted. All
--- the data was read, and this is the text of the box that signing makes for it with the default
--- comments. If the key is genuine, the text is read back as a box that is valid for the data.
+-- The text of the secret key gave a key, with a password from the prompt if the key is encrypted.
+-- All the data was read, and this is the text of the box that signing makes for it with the default
+-- comments. If the key is genuine, the text parses to a box that is valid for the data.
 pub record SignsText {S K R Z A B : Type 0} (s : SchemeOf S) (scheme : S) (d : SigningCall K R Z A B)
     (sk_text : List ℕ) (moment : ℕ) (text : List ℕ) : Type 0 where
   pub key : SecretKeyRecord

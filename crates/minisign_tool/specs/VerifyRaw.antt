@@ -43,7 +43,7 @@ pub record VouchesRaw (accepts : Verifier) (key_file signature_file message : Li
 
 -- Verification with the bytes of two files fails: they contain no key or no signature, and nothing
 -- was read or written; or it failed at one of its stages with the key and the bare signature that
--- they contain. Nothing is to be copied.
+-- they contain. The data is not copied.
 abbrev pub VerifyRawFails : {R W : Type 0} → Verifier → List ℕ → List ℕ → RereaderCall R → SinkCall W → Fault
     → Type 0
 VerifyRawFails accepts key_file signature_file reader status e =

@@ -10,7 +10,8 @@ use std::env::FillError;
 use std::rt::Env;
 use std::{env, io};
 
-// The environment with an empty text as the program's path, which need not be UTF-8.
+// The environment with an empty text in place of the program's path, because the path need not be
+// UTF-8.
 #[derive(Drop)]
 struct UnnamedProgram<'a, R>(&'a R);
 

@@ -14,9 +14,10 @@ use minisign::base::scheme::Scheme;
 use minisign::{Result, verify_texts};
 use std::alloc::Global;
 
-/// Verifies as `run_verify` does, and then copies the data to `out`, for which it is read a second time.
-/// `out` is flushed if both readings have the same digest. The data's source must be able to go back; its
-/// place is marked before any data is read. Use what `out` holds only if 0 is returned.
+/// Verifies as `run_verify` does, and then copies the data to `out`, for which it is read a second
+/// time. `out` is flushed if both readings have the same digest. The data's source must be able to
+/// go back; its place is marked before any data is read. Use the contents of `out` only if 0 is
+/// returned.
 pub fn run_cat<S: Scheme, P: Source, Q: Source, R: Rereader, O: Sink, W: Sink>(
     alloc: Global,
     scheme: &S,

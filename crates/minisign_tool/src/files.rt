@@ -1,5 +1,6 @@
-//! Opens the files that a command names, runs its body over them and the standard streams, and returns the
-//! exit status. An error before the body begins is returned and not reported.
+//! Opens the files that a command names, runs the command's body with them and the standard
+//! streams, and returns the exit status. An error before the body begins is returned, and not
+//! written to the error stream.
 
 ghost use Rattle.std.specs.Prelude.{◌≡◌, ◌≤◌, ◌⊎◌, ℕ, List, Some, Err, IsOk, IfOk, IfErr};
 ghost use Rattle.minisign.specs.Fault.{Fault, Named};
@@ -42,8 +43,8 @@ pub fn keygen_files<S: Scheme, W: Sink>(
     // The exit status is 0 or 1.
     ensures status { IfOk result (λ s. s ≤ 1) }
 
-    // With exit status 0, the warning was sent, and with 1 the error line after it. Nothing else was
-    // written.
+    // With exit status 0, only the warning was sent. With exit status 1, only the warning and then
+    // the error line were sent.
     ensures said { IfOk result (SaysOnlyFaults W.Sink errors.old errors.new) }
 
     // The only error before the body begins is `reading failed`, and then nothing was written.
@@ -107,8 +108,8 @@ pub fn sign_files<S: Scheme, W: Sink>(
     // The exit status is 0 or 1.
     ensures status { IfOk result (λ s. s ≤ 1) }
 
-    // With exit status 0, the warning was sent, and with 1 the error line after it. Nothing else was
-    // written.
+    // With exit status 0, only the warning was sent. With exit status 1, only the warning and then
+    // the error line were sent.
     ensures said { IfOk result (SaysOnlyFaults W.Sink errors.old errors.new) }
 
     // The only errors before the body begins are `reading failed` and that of the clock, and then nothing
@@ -165,8 +166,8 @@ pub fn verify_files<S: Scheme, W: Sink>(
     // The exit status is 0 or 1.
     ensures status { IfOk result (λ s. s ≤ 1) }
 
-    // The exit status is 0 only if there are two texts and data for which the texts are valid, whatever the
-    // scheme accepts.
+    // For every scheme, the exit status is 0 only if some texts of a public key and a signature are
+    // valid for some data.
     ensures accepted { IfOk result (λ s. s ≡ 0 → SomeTextsVouch (S.accepts scheme.now)) }
 
     // With exit status 0, the status lines were written after the warning was sent. With exit status 1, the
@@ -196,8 +197,8 @@ pub fn verify_raw_files<S: Scheme, W: Sink>(
     // The exit status is 0 or 1.
     ensures status { IfOk result (λ s. s ≤ 1) }
 
-    // The exit status is 0 only if there are the bytes of a public key and of a bare signature and data for
-    // which they are valid, whatever the scheme accepts.
+    // For every scheme, the exit status is 0 only if the bytes of some public key and some bare
+    // signature are valid for some data.
     ensures accepted { IfOk result (λ s. s ≡ 0 → SomeBytesVouch (S.accepts scheme.now)) }
 
     // With exit status 0, the status line was written after the warning was sent. With exit status 1, the
@@ -219,9 +220,9 @@ pub fn verify_raw_files<S: Scheme, W: Sink>(
     ))
 }
 
-/// Opens the public key, the data, which goes back by seeking, and the signature, and runs `cat` with them
-/// and standard output. Rejects data from the file that standard output is redirected to, without reading
-/// it, because the copy would be read as data again.
+/// Opens the public key, the data and the signature, and runs `cat` with them and standard output.
+/// The data must be seekable, because it is read twice. Rejects data from the file that standard
+/// output is redirected to, without reading it, because otherwise the copy would be read as data.
 pub fn cat_files<S: Scheme, W: Sink>(
     rt: &HostRuntime,
     scheme: &S,
@@ -233,8 +234,8 @@ pub fn cat_files<S: Scheme, W: Sink>(
     // The exit status is 0 or 1.
     ensures status { IfOk result (λ s. s ≤ 1) }
 
-    // The exit status is 0 only if there are two texts and data for which the texts are valid, whatever the
-    // scheme accepts.
+    // For every scheme, the exit status is 0 only if some texts of a public key and a signature are
+    // valid for some data.
     ensures accepted { IfOk result (λ s. s ≡ 0 → SomeTextsVouch (S.accepts scheme.now)) }
 
     // With exit status 0, the status lines were written after the warning was sent. With exit status 1, the

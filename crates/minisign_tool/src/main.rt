@@ -44,8 +44,8 @@ fn main(rt: HostRuntime) -> ExitCode {
     ExitCode::from(end(&mut errors, answer))
 }
 
-// Runs the command that the arguments ask for, if they could be read, and returns its exit status. A
-// failure before the command's body begins is returned as an error, with nothing written.
+// Runs the command that the arguments ask for, if they could be read, and returns its exit status.
+// If the run fails before the command's body begins, returns the error and writes nothing.
 fn run<S: Scheme, W: Sink>(
     rt: &HostRuntime,
     scheme: &S,
@@ -59,12 +59,13 @@ fn run<S: Scheme, W: Sink>(
     // There is an exit status only if the arguments could be read.
     ensures read { OnOk result (IsOk arguments) }
 
-    // **`verify` and `cat` exit with status 0 only if there are two texts and data for which the texts are
-    // valid, and `verify-raw` only if there are the bytes of a public key and of a bare signature and data
-    // for which they are valid; the usage exits with status 2.** What is sent to the error stream is what
-    // the command sends for its exit status, or the usage after the warning.
+    // **`verify` and `cat` exit with status 0 only if some texts of a public key and a signature
+    // are valid for some data, and `verify-raw` only if the bytes of some public key and some bare
+    // signature are valid for some data. The usage exits with status 2.** The lines that are sent
+    // to the error stream are those of the command for its exit status, or the warning and then the
+    // usage.
     //
-    // Arguments that are not all UTF-8 ask for the usage.
+    // If an argument is not UTF-8, the command is the usage.
     ensures ended { IfOk result (λ s. IfOk arguments (λ a. (command : Command) × ReadAsksFor
         (option_map (λ v. map (λ w. string_bytes w) (drop 1 v.items)) a) command × ShowsCommand
         (S.accepts scheme.now) command s × SaysCommand W.Sink command errors.old errors.new s)) }
@@ -86,10 +87,11 @@ fn run_arguments<S: Scheme, W: Sink>(
     ensures status { IfOk result (λ s. s ≤ 2) }
     ensures unsaid { OnErr result (errors.new ≡ errors.old) }
 
-    // **`verify` and `cat` exit with status 0 only if there are two texts and data for which the texts are
-    // valid, and `verify-raw` only if there are the bytes of a public key and of a bare signature and data
-    // for which they are valid; the usage exits with status 2.** What is sent to the error stream is what
-    // the command sends for its exit status, or the usage after the warning.
+    // **`verify` and `cat` exit with status 0 only if some texts of a public key and a signature
+    // are valid for some data, and `verify-raw` only if the bytes of some public key and some bare
+    // signature are valid for some data. The usage exits with status 2.** The lines that are sent
+    // to the error stream are those of the command for its exit status, or the warning and then the
+    // usage.
     ensures ended { IfOk result (λ s. (command : Command) × AsksFor (map (λ a. string_bytes a)
         (drop 1 arguments.now)) command × ShowsCommand (S.accepts scheme.now) command s
         × SaysCommand W.Sink command errors.old errors.new s) }
@@ -108,10 +110,11 @@ fn run_command<S: Scheme, W: Sink>(
     ensures status { IfOk result (λ s. s ≤ 2) }
     ensures unsaid { OnErr result (errors.new ≡ errors.old) }
 
-    // **`verify` and `cat` exit with status 0 only if there are two texts and data for which the texts are
-    // valid, and `verify-raw` only if there are the bytes of a public key and of a bare signature and data
-    // for which they are valid; the usage exits with status 2.** What is sent to the error stream is what
-    // the command sends for its exit status, or the usage after the warning.
+    // **`verify` and `cat` exit with status 0 only if some texts of a public key and a signature
+    // are valid for some data, and `verify-raw` only if the bytes of some public key and some bare
+    // signature are valid for some data. The usage exits with status 2.** The lines that are sent
+    // to the error stream are those of the command for its exit status, or the warning and then the
+    // usage.
     ensures ended { IfOk result (ShowsCommand (S.accepts scheme.now) command.entry) }
     ensures said { IfOk result (SaysCommand W.Sink command.entry errors.old errors.new) }
 {

@@ -30,8 +30,9 @@ pub fn permissions_after(older: u32) -> u32
     owner * 64 + others + (group & others) * 8
 }
 
-/// Returns what remains of these permission bits if the new file could not get the group of the old one.
-/// Members of the old group are now among all others.
+/// Returns the permission bits to use instead of these if the new file could not get the group of
+/// the old one. Members of the old group now have the permissions of all others, so all others get
+/// only bits that the old group had too.
 #[tactic(auto, using(std::proofs::lemmas::Nat::and_le_r))]
 pub fn without_group(older: u32) -> u32
     // The result has the bits of the owner, none for the group, and for all others those bits that the group
@@ -50,7 +51,8 @@ fn digits(mode: u32) -> (u32, u32, u32)
 }
 
 /// Gives a new file the owner and the group of the old one, as far as the system allows it, and the
-/// permissions that it may keep. Does nothing if there is no old file.
+/// permissions that `permissions_after` and `without_group` compute. Does nothing if there is no
+/// old file.
 pub fn give_permissions(file: &File, older: &Option<Metadata>) -> io::Result<()> {
     let Some(older) = older else {
         return Ok(());

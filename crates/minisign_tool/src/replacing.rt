@@ -1,5 +1,5 @@
-//! Replaces files in one step: even after a kill or on a full disk, either the old file or the new one is
-//! there, complete.
+//! Replaces files in one step: even if the program is killed or the disk is full, the path leads to
+//! either the complete old file or the complete new one.
 
 ghost use Rattle.std.specs.Prelude.{IfErr};
 ghost use Rattle.minisign_tool.specs.Replacing.{IsWriteFault};
@@ -105,7 +105,8 @@ impl TemporaryFile {
         Ok(())
     }
 
-    // Syncs the new name, if the directory could be opened and its file system can sync it.
+    // Syncs the directory, so that the new name survives a crash. Does nothing if the directory
+    // could not be opened or its file system cannot sync directories.
     fn sync(&self) -> Result<()>
         ensures { IfErr result IsWriteFault }
     {
@@ -127,7 +128,8 @@ impl TemporaryFile {
 /// permission that others do not have. Anything that is not a regular file is written directly.
 ///
 /// If it fails, with out of memory or `WritingFailed`, the existing file is unchanged and no
-/// temporary file is left. Only if the directory could not be synced is the new file already there.
+/// temporary file is left. But if only the sync of the directory failed, the new file is already
+/// installed.
 pub fn replace_file(rt: &HostRuntime, contents: Contents<'_>) -> Result<()>
     // The only errors are `out of memory` and `writing failed`.
     ensures { IfErr result IsWriteFault }
@@ -146,9 +148,9 @@ pub fn replace_file(rt: &HostRuntime, contents: Contents<'_>) -> Result<()>
 /// files are created and synced, and anything that is not a regular file is written, before any file is
 /// replaced. The secret key's file is replaced last.
 ///
-/// If both paths lead to the same file, it ends up with the secret key and the mode for new files, because
-/// the existing file's permissions were also chosen for a public key. If two names lead to the same file,
-/// each gets a file of its own.
+/// If both paths lead to the same file, it ends up with the secret key and the mode for new files,
+/// because the existing file's permissions were also chosen for a public key. If the paths are two
+/// hard links to the same file, each of them becomes a separate file.
 pub fn replace_both(rt: &HostRuntime, public: Contents<'_>, secret: Contents<'_>) -> Result<()>
     // The only errors are `out of memory` and `writing failed`.
     ensures { IfErr result IsWriteFault }
@@ -202,7 +204,7 @@ fn sync(temporary: &Option<TemporaryFile>) -> Result<()>
 }
 
 impl Place {
-    // Returns the same place. Permissions are not kept if both paths lead to the same file.
+    // Returns this place. If both places are the same file, its permissions are not kept.
     fn apart_from(self, other: &Place) -> Place {
         match self {
             Place::File(place) => Place::File(FilePlace {
@@ -214,7 +216,7 @@ impl Place {
         }
     }
 
-    // Returns true if the file is the existing one at this place.
+    // Returns true if `file` is the existing file at this place.
     fn leads_to(&self, file: &Option<Metadata>) -> bool {
         match (self, file) {
             (
@@ -278,7 +280,8 @@ fn follow_links(rt: &HostRuntime, path: &str) -> Result<Option<String>>
     Err(NamedFault::WritingFailed.into())
 }
 
-// Returns true if the link is one by which the system shows the open files of a process.
+// Returns true if the link is in `/proc`, where the system shows the open files of each process as
+// links.
 fn is_of_processes(rt: &HostRuntime, link: &Metadata) -> bool {
     match fs::metadata(rt, "/proc") {
         Ok(processes) => processes.dev() == link.dev(),
@@ -300,7 +303,7 @@ fn make_temporary_file(
     };
     let mode = match &place.older {
         Some(_) => {
-            // A file that may not be written is not replaced.
+            // A file without write permission is not replaced.
             let _writable = written(OpenOptions::new().write(true).open(rt, place.path.as_str()))?;
             FOR_THE_OWNER
         }

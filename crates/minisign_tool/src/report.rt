@@ -1,6 +1,6 @@
-//! Writes to the error stream, each line in one write. A line that cannot be written
-//! changes no exit status. In the contracts of this program a line "was sent" if it was written completely,
-//! or if the error stream failed and received a prefix of it.
+//! Writes to the error stream, each line in one write. If a line cannot be written, the exit status
+//! is still the same. In the contracts of this program a line "was sent" if it was written
+//! completely, or if the error stream failed and received a prefix of it.
 
 ghost use Rattle.std.specs.Prelude.{◌≡◌, ◌++◌, codes, MatchResult, OnOk, OnErr};
 ghost use Rattle.std.specs.Io.KnownBytes.{Appends};
@@ -68,8 +68,8 @@ pub fn end<W: Sink>(errors: &mut W, answer: Result<u8>) -> u8
     }
 }
 
-// Writes the line of an error with this text: in one call of `write_all` if the text has at most
-// 504 bytes, as that of every named error has, and otherwise in three.
+// Writes the line of an error with this text. One call of `write_all` writes the line if the text
+// has at most 504 bytes, as the text of every named error has. Otherwise, three calls write it.
 fn put_fault<W: Sink>(errors: &mut W, text: &[u8]) -> std::result::Result<(), DeviceFault>
     ensures bytes { OnOk result
         (Appends (W.taken errors.old) (W.taken errors.new) (codes "error: " ++ line text.now)) }

@@ -181,8 +181,8 @@ pub fn checked(alloc: Global, texts: (&str, &str), update: &[u8], name: &str) ->
     check_update(alloc, &ToyScheme::new(), pk_text, sig_text, update, name)
 }
 
-// The update, its name and the expected outcome. `None` is the error that the caller makes itself, which has
-// no name.
+// The update, its name and the expected outcome. `None` stands for the error that the example
+// caller itself makes for another name. It is not a named error.
 type Update = (&'static str, &'static str, Option<Outcome>);
 
 const UPDATES: [Update; 6] = [
@@ -199,7 +199,8 @@ fn updates() -> &'static [Update] {
     &UPDATES
 }
 
-// Returns true if the update is rejected because of its name, with the error that the caller makes itself.
+// Returns true if the update is rejected because of its name, with the error that the example
+// caller itself makes.
 fn is_refused_for_its_name(answer: &Result<()>) -> bool {
     match answer {
         Ok(()) => false,
@@ -225,8 +226,8 @@ fn accepts_update_only_under_its_name(rt: HostRuntime) {
     }
 }
 
-// Returns true if checking the update with a new key, whose text has this signature, has this
-// outcome.
+// Returns true if checking the update with a new key has this outcome. `sig_text` is the old key's
+// signature of the new key's text.
 fn is_checked(alloc: Global, sig_text: &str, update: &[u8], expected: Outcome) -> bool {
     let new_key = NewKey {
         pk_text: KEY_TEXT,
@@ -237,7 +238,8 @@ fn is_checked(alloc: Global, sig_text: &str, update: &[u8], expected: Outcome) -
     matches_outcome(&answer, expected)
 }
 
-// Returns true if checking the update with a new key that the old one signed has this outcome.
+// Returns true if checking the update with a new key, whose text the old key has signed, has this
+// outcome.
 fn is_vouched_by_the_old(alloc: Global, update: &[u8], expected: Outcome) -> bool {
     let old = (SECRET_TEXT, "");
     let text = signed_with(alloc, old, KEY_TEXT.as_bytes(), "key of 2027");
@@ -273,7 +275,7 @@ fn is_signed_to_verify(alloc: Global) -> bool {
     gives_text(comment, "timestamp:7")
 }
 
-// A wrong password signs nothing.
+// With a wrong password, nothing is signed.
 #[test]
 fn signature_of_encrypted_key_is_valid(rt: HostRuntime) {
     assert!(rt; is_signed_to_verify(rt.alloc()));

@@ -31,8 +31,8 @@ enum Expected {
 
 use Expected::{Named, Numbered, Verified};
 
-// The list, the trusted comment of `LIST`'s signature, the name of the download, its data, the number of
-// reads of one byte after which one fails, and the outcome.
+// The list, the trusted comment of `LIST`'s signature, the name of the download, its data, the
+// number of reads (of one byte each) before a read fails, and the expected outcome.
 type Row = (
     &'static str,
     &'static str,
@@ -70,7 +70,7 @@ fn rows() -> &'static [Row] {
     &ROWS
 }
 
-// Returns true if the answer is the trusted comment, or the expected error.
+// Returns true if the result is the trusted comment or an error, as expected.
 fn is_answer(answer: &Result<&str>, comment: &str, expected: Expected) -> bool {
     match answer {
         Ok(trusted) => match expected {

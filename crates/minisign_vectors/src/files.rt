@@ -69,7 +69,7 @@ fn signed() -> &'static [Signed] {
     &SIGNED
 }
 
-// Returns the key of a row.
+// Returns the secret key of a row.
 fn key_of_row(rt: &HostRuntime, sk_text: &str) -> Result<SecretKey> {
     if sk_text.is_empty() {
         return sealed_pair_key(rt.alloc());

@@ -1,11 +1,14 @@
 //! Tests that no request to `minisign_compare` can describe: calls that no request makes, devices
-//! that fail in other ways, failed allocations, and callers. All other tests of the library are
-//! rows of `tests/rows/`. The calls for a scheme outside the library are tested from C in
-//! `tests/c`, and installing is tested on real files by `tests/installer`.
+//! that fail in other ways, failed allocations, and example callers. All other tests of the library
+//! are rows of the tables in `tests/rows/`. The calls for a scheme outside the library are tested
+//! from C in `tests/c`, and installing is tested on real files by `tests/installer`.
 //!
 //! Each expected value comes from outside: from a standard, from Python's hashlib, from the
 //! upstream tool, or worked out by hand from a definition. None is the output of a crate of this
 //! repository.
+//!
+//! Key A is the key of `minisign_fixtures::keys`. Its public key is `KEY_TEXT`, and its secret key is
+//! `SECRET_TEXT` or, encrypted under `password`, `SEALED`.
 
 #![tactic(auto)]
 

@@ -1,7 +1,7 @@
-//! Tests of the names at the roots of the crates that a caller of `minisign` uses: those of
-//! `minisign`, the devices, the scheme and the parameters, and `minisign_base` through it. Each is
-//! called and gives a precomputed value. `hash` tests those of `minisign_hash`, and
-//! `signatures::calls` those that sign and verify.
+//! Tests that callers can use the names that `minisign` exports at its root: its own, and those of
+//! `minisign_base` and other crates that it re-exports. Each test compares results with precomputed
+//! values. `hash` tests the names of `minisign_hash`, and `signatures::calls` uses those that sign
+//! and verify.
 
 use crate::shown::displays_as;
 use crate::signatures::calls::{signed_text, verified_texts};
@@ -26,7 +26,8 @@ use std::io::Cursor;
 // The random bytes of the precomputed signatures.
 const ZEROS: [u8; 128] = [0; 128];
 
-// Constants with the names of files, of a directory and of its variable, and their values.
+// The constants with the default names of files, of a directory and of its environment variable,
+// and their expected values.
 const NAMES: [(&str, &str); 6] = [
     (SIG_DEFAULT_CONFIG_DIR_ENV_VAR, "RSIGN_CONFIG_DIR"),
     (SIG_DEFAULT_CONFIG_DIR, ".rsign"),
@@ -96,7 +97,8 @@ fn verifies_and_copies_data(rt: HostRuntime) {
     assert!(rt; is_copied(rt.alloc()));
 }
 
-// Returns true if a table accepts its triple and no other.
+// Returns true if a toy scheme with a table accepts the triple in the table, and rejects another
+// one.
 fn is_in_the_table() -> bool {
     let triples = [Triple {
         message: b"m",

@@ -1,4 +1,5 @@
-//! A caller that signs with the text of an encrypted key and its password. `callers` tests it.
+//! An example caller that signs with an encrypted secret key file and its password. `callers` tests
+//! it.
 
 ghost use Rattle.std.specs.Prelude.{◌≡◌, None, Ok, string_bytes, IfOk};
 ghost use Rattle.minisign.specs.Signing.{SigningHeadline, given_comments};
@@ -12,8 +13,8 @@ use minisign_base::prompt::Prompt;
 use minisign_base::scheme::Scheme;
 use std::alloc::Global;
 
-/// Signs the message with the key that an encrypted text gives under the password, and returns the
-/// signature text. The signature is valid under the public key of exactly the key that this
+/// Decrypts the secret key in `sk_text` with the password, signs the message with it, and returns
+/// the signature text. The signature is valid under the public key of exactly the key that this
 /// password decrypts.
 pub fn sign_with_password<S: Scheme, Z: RandomSource>(
     alloc: Global,

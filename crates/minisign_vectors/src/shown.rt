@@ -1,4 +1,4 @@
-//! Compares bytes and values with the texts of tables.
+//! Compares bytes and displayed values with the expected texts of test tables.
 
 use minisign_fixtures::outcomes::hexadecimal;
 use std::alloc::Global;

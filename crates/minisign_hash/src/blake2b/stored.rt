@@ -6,8 +6,9 @@ ghost use Rattle.minisign_hash.specs.Stored.{WasFed};
 
 use crate::blake2b::{BUFFER_BYTES, Blake2b};
 
-/// The contents of a state for a digest of 64 bytes: 344 bytes with C layout. The program that holds it may
-/// have changed it. `restore` rejects values that no state has, and cannot detect other changes.
+/// The contents of a state for a digest of 64 bytes: 344 bytes with C layout. The program that
+/// holds this struct may have changed it. `restore` rejects a struct that no state has as its
+/// contents, but cannot detect other changes.
 #[repr(C)]
 #[derive(Clone, Copy)]
 pub struct StoredBlake2b {
@@ -39,11 +40,9 @@ impl StoredBlake2b {
         }
     }
 
-    /// Returns a state for a digest of 64 bytes, not finalized, with the data that the stored one was fed.
-    /// Returns `None` if the stored values are those of no state, namely if `used` is greater than the length
+    /// Returns a state for a digest of 64 bytes, which has been fed the same data as the stored
+    /// state and is not finalized. Returns `None` if `used` is greater than 256, which is the size
     /// of the buffer.
-    ///
-    /// That is the case if the stored length of the buffer is greater than the buffer.
     pub fn restore(&self) -> Option<Blake2b>
         ensures fed { IfSome result (λ b. (m : List ℕ) → WasFed self.now m → IsFed b m) }
         ensures length { IfSome result (λ b. output_length b ≡ 64) }

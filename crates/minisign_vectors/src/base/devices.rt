@@ -100,8 +100,8 @@ fn sinks_receive_all_bytes(rt: HostRuntime) {
     assert!(rt; is_written(rt.alloc()));
 }
 
-// The bytes that fills of at most three bytes return from a source of five bytes. An empty entry is
-// a fill of three bytes that fails.
+// The results of filling buffers of at most three bytes from a source of five bytes. An empty entry
+// means that filling three bytes fails.
 const OF_FIVE: [&[u8]; 3] = [b"abc", b"", b"de"];
 
 const OF_FOUR: [&[u8]; 2] = [b"abc", b""];

@@ -22,8 +22,8 @@ use std::{fmt, io};
 const ENCRYPTED: &str =
     "Cannot sign with an encrypted secret key. The key must be decrypted first. Options include: SecretKeyBox::into_secret_key(password), SecretKey::from_box(box, password), SecretKey::from_file(path, password), or use KeyPair::generate_unencrypted_keypair() for passwordless keys.";
 
-// Errors of each form and their texts: a constant one, the longest, and those with one and with two
-// key IDs.
+// Errors and their texts: a constant text, the longest text, and texts with one and with two key
+// IDs.
 const ERROR_TEXTS: [(NamedFault, &str); 4] = [
     (OutOfMemory, "out of memory"),
     (EncryptedKeyRefused, ENCRYPTED),
@@ -119,7 +119,7 @@ fn is_only_worded(alloc: Global, fault: PError) -> bool {
     worded && check_holds && !named
 }
 
-// Returns true for an error that the caller makes with a text of its own.
+// Returns true if an error that a caller makes with the text of `ReadingFailed` has only this text.
 fn is_only_worded_by_a_caller(alloc: Global) -> bool {
     let Ok(text) = String::from_str(alloc, "reading failed") else {
         return false;
@@ -127,7 +127,7 @@ fn is_only_worded_by_a_caller(alloc: Global) -> bool {
     is_only_worded(alloc, PError::new(Io, text))
 }
 
-// The text of a named error does not make an error a named one.
+// An error is not a named error just because it has the text of one.
 #[test]
 fn errors_of_callers_have_no_name(rt: HostRuntime) {
     assert!(rt; is_only_worded_by_a_caller(rt.alloc()));

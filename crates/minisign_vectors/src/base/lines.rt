@@ -1,4 +1,4 @@
-//! Tests of writing lines to a sink, and to one over a writer that accepts nothing.
+//! Tests of writing lines to sinks, among them a sink over a writer that accepts nothing.
 
 use minisign_base::devices::sinks::{Sink, VecSink, WriterSink, put_line, write_all};
 use minisign_base::faults::NamedFault::WritingFailed;
@@ -8,8 +8,8 @@ use std::alloc::Global;
 use std::io;
 use std::io::Write;
 
-// A writer that counts its calls and fails after a number of them. It accepts everything, or
-// nothing, and then a flush fails too.
+// A writer that counts its calls of `write`, and fails after `allowed` of them. If `takes` is true,
+// it accepts all bytes. Otherwise it accepts no bytes, and a flush fails too.
 #[derive(Drop)]
 struct Counting {
     calls: u8,

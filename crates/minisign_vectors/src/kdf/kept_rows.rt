@@ -47,8 +47,8 @@ type Key = (
     &'static str,
 );
 
-// The smallest vector, the one with several parts, and the default cost, also for k that do not
-// divide N.
+// The smallest test vector, the one with several parts, and one with the default cost, also for k
+// that do not divide N.
 const KEYS: [Key; 12] = [
     ("", "", (4, 1, 1), 1, 16, OF_NOTHING),
     ("", "", (4, 1, 1), 2, 8, OF_NOTHING),

@@ -19,7 +19,8 @@ const LARGER_TEXT: &[u8] =
 
 const OF_JEFE: &str = "5bdcc146bf60754e6a042426089575c75a003f089d2739839dec58b964ec3843";
 
-// The section of RFC 4231, the key, the parts of the text, and the published bytes of the code.
+// The section of RFC 4231, the key, the parts of the text, and the published bytes of the
+// authentication code.
 type Code = (
     &'static str,
     &'static [u8],
@@ -86,7 +87,7 @@ fn codes() -> &'static [Code] {
     &CODES
 }
 
-// Returns true if the code is the published one, as far as that is published.
+// Returns true if the authentication code begins with the published bytes.
 fn is_code(alloc: Global, row: &Code) -> bool {
     let (_, key, parts, expected) = *row;
     let code = hmac_sha256(key, parts);

@@ -10,7 +10,7 @@ use crate::tables::assert_row;
 use minisign_kdf::{Params, scrypt_in};
 use std::alloc::{AllocError, Global};
 
-// The smallest vector, and the one with several parts.
+// The keys of the smallest test vector and of the one with several parts.
 pub const OF_NOTHING: &str =
     "77d6576238657b203b19ca42c18a0497f16b4844e3074ae8dfdffa3fede21442fcd0069ded0948f8326a753a0fc81f17e8d3e0fb2e0d3628cf35e20c38d18906";
 

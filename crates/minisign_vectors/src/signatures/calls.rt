@@ -160,8 +160,8 @@ pub fn key_of(alloc: Global, sk_text: &str, password: &str) -> Result<SecretKey>
     open_with_password(alloc, sk_text, password)
 }
 
-/// Signs the data with the toy scheme and the default comments. A public key that is given is
-/// tested.
+/// Signs the data with the toy scheme and the default comments. If a public key is given, the
+/// comment signature has to be valid under it.
 pub fn signed_from<R: Source, Z: RandomSource>(
     alloc: Global,
     pk: Option<&PublicKey>,

@@ -85,8 +85,8 @@ fn is_refused(alloc: Global, password: Option<&str>, row: &Row) -> bool {
     matches && left && prompt.writer.as_slice() == prompted.as_bytes()
 }
 
-// A text is rejected before anything is read, and the error of a failing source comes after the
-// prompt.
+// An invalid secret key is rejected before any data is read, and the error of a failing source
+// comes after the prompt.
 #[test]
 fn returns_the_first_error(rt: HostRuntime) {
     for row in rows() {

@@ -1,5 +1,5 @@
-//! Tests of signatures as base64, and of the less common ways to make boxes from texts and texts
-//! from boxes.
+//! Tests of signatures as base64, and of the less common calls that convert texts to boxes and
+//! back.
 //!
 //! The expected base64 is from Python's base64 module.
 
@@ -32,8 +32,8 @@ fn displays_signature_as(alloc: Global, record: &[u8; 74], letters: &str) -> boo
     displays_as(alloc, &signature, letters)
 }
 
-// A signature is written as in the second line, and the characters of base64 are in the right
-// order.
+// A signature is displayed as the second line of its text has it, and the characters of base64 are
+// in the right order.
 #[test]
 fn signature_displays_as_base64(rt: HostRuntime) {
     let alloc = rt.alloc();

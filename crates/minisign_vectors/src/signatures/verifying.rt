@@ -1,5 +1,5 @@
-//! Tests of verifying with two texts: data that cannot be read again, outputs with a buffer, and
-//! data that is unread if a text is rejected.
+//! Tests of verifying with the texts of a key and a signature: data that cannot be read again,
+//! outputs with a buffer, and data that stays unread if a text is rejected.
 
 use crate::signatures::calls::{COPYING, Expected, ample, texts_give_expected, verified_texts};
 use crate::tables::assert_row;
@@ -83,9 +83,9 @@ const NO_KEY: Outcome = Refused(MissingPublicKeyComment);
 
 const NO_SIGNATURE: Outcome = Refused(MissingUntrustedComment);
 
-// Data that cannot be read again is rejected when it is marked, before anything is read, and only
-// if it would be read again. If a text is rejected, the key before the signature, all of the data
-// is unread.
+// Data that cannot be read again is rejected only if it would be read again. It is rejected when
+// its position is marked, before anything is read. The key is parsed before the signature. If one
+// of them is rejected, all of the data is unread.
 const READ_ONCE: [ReadOnce; 15] = [
     (KEY, SIGNED, "abc", true, true, UNMARKED, "", "abc"),
     (OTHER_KEY, SIGNED, "abc", true, true, UNMARKED, "", "abc"),

@@ -1,4 +1,4 @@
--- Each round reads at least one word.
+-- The termination measure of `items`: each iteration of its loop reads at least one word.
 use Rattle.std.proofs.Common.{length, ◌-◌}
 use Rattle.trace_reader.proofs.items.Given as goal
 

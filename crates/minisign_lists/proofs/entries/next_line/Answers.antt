@@ -8,7 +8,7 @@ use Rattle.std.specs.Str.Lines.{lines_of_parts, strip_carriage_return}
 use Rattle.minisign_lists.specs.Pieces.{is_feed}
 use Rattle.minisign_lists.proofs.entries.next_line.Goals as goal
 
--- A part that others follow is a line.
+-- If other parts follow the part x, then x is a line, without its carriage return.
 first : (x : List ℕ) (parts : List (List ℕ)) → 0 < length parts
     → lines_of_parts (x ∷ parts) ≡ strip_carriage_return x ∷ lines_of_parts parts
 first x [] l = absurd (omega arith)

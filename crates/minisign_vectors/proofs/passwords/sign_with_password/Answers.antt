@@ -14,8 +14,8 @@ same_read : (text : List ℕ) (sk key : SecretKeyRecord) → IsOpenedOrNoMemory 
 same_read text sk key (inl same) = cc same
 same_read text sk key (inr memory) = cc memory.0
 
--- The key that signed is the one that the text gives under the password. This is `GivesKey` for a
--- given password.
+-- If the text gives a key under the password, this key is the one that signed. The hypothesis about
+-- sk is `GivesKey` for a given password.
 same_key : {P : Type 0} (old new : P) (text password : List ℕ) (sk key : SecretKeyRecord)
     → ((is_sealed_text text ≡ true)
     × ((new ≡ old) × IsOpenedOrNoMemory text None (Ok sk) (open_key text password None)))

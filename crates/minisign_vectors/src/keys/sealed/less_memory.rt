@@ -22,8 +22,8 @@ pub const MADE: &str =
 pub const OPENED: &str =
     "untrusted comment: rsign encrypted secret key\nRWRTY0IyCQkJCQkJCQkJCQkJCQkJCQkJCQkJCQkJCQkJCQkJCQkAABAAAAAAAAAAAAIAAAAACQkJCQkJCQkJCQkJCQkJCQkJCQkJCQkJCQkJCQkJCQkJCQkJCQkJCVNTU1NTU1NTU1NTU1NTU1NTU1NTU1NTU1NTU1NTU1NTl01hHj4yTh1EA1233vng2mdcEMYAlvnZumxtDRWM800=\n";
 
-// Returns true if it decrypts to the same key with every k-th row kept, with a given and with a
-// typed password.
+// Returns true if `MADE` decrypts to the expected key with every k-th row kept, with a given and
+// with a typed password.
 fn opens(alloc: Global, k: u64) -> bool {
     let call = OpeningCall::FromBoxKeeping(k);
     let passed = gives(alloc, MADE, Some("password"), b"", call, OPENED);
@@ -38,8 +38,8 @@ fn opens_same_key_for_every_number_of_kept_rows(rt: HostRuntime) {
     }
 }
 
-// Returns true if another key, which other tests decrypt with `from_box`, has this outcome with the
-// typed bytes.
+// Returns true if decrypting `SEALED` with these typed bytes has this outcome. Other tests decrypt
+// this key with `from_box`.
 fn opens_typed_as_expected(alloc: Global, k: u64, bytes: &[u8], outcome: Outcome) -> bool {
     let sk_box = SecretKeyBox::from_string(alloc, SEALED);
     let expected_result = Expected {

@@ -44,8 +44,8 @@ const ENDED: Outcome = Refused(EndOfInput);
 
 const UNWRITTEN: Outcome = Refused(WritingFailed);
 
-// Returns a box with key A's record with these limits. It is not encrypted, so decrypting does not
-// restore its checksum.
+// Returns a box with key A's record and these limits. The record is marked as encrypted but is not,
+// so decrypting it gives a wrong checksum.
 fn limited_box(alloc: Global, memory: u64, operations: u64) -> Result<SecretKeyBox> {
     let mut record = secret_record(b"Sc", &CHECKSUM);
     let (operations, memory) = (operations.to_le_bytes(), memory.to_le_bytes());

@@ -184,8 +184,9 @@ type Fails = (usize, usize, usize, usize, usize);
 type ExpectedUse = (Outcome, usize, usize, usize, bool);
 
 // Only the prompt is used until an encrypted key is decrypted. Its reader is read up to the line
-// feed, so the `x` after it is unread. Its writer writes and flushes three texts; one that is never
-// flushed has space for four bytes. Then signing reads four times and fills twice.
+// feed, so the `x` after it is unread. Its writer writes and flushes three texts. If the number of
+// flushes is 0, the writer has space for only four bytes. Then signing reads four times and fills
+// twice.
 const SIGNINGS: [(Fails, ExpectedUse); 23] = [
     ((0, ALL, ALL, ALL, ALL), (UNREAD, 10, 10, 3, true)),
     ((1, ALL, ALL, ALL, ALL), (UNREAD, 10, 9, 3, true)),

@@ -6,7 +6,7 @@ use Rattle.minisign_lists.specs.Lines.{Entry, LongDigest, read_line}
 use Rattle.minisign_lists.specs.Lists.{read_entries}
 use Rattle.minisign_lists.proofs.entries.Entries.next_entry.Goals as goal
 
--- The first line has an entry.
+-- If the first line has the entry e, the list has e and the entries of the lines after it.
 step : (long : LongDigest) (n : ℕ) (line : List ℕ) (all more : List (List ℕ)) (e : Entry) → all ≡ line ∷ more
     → read_line long n line ≡ Ok (Some e)
     → read_entries long n all ≡ map_ok (λ es. e ∷ es) (read_entries long (n + 1) more)
