@@ -9,7 +9,7 @@ use std::fmt;
 #[derive(Clone, Copy, Debug, PartialEq)]
 pub struct InvalidParams;
 
-/// Writes the error message.
+/// Writes exactly the text of the error.
 impl fmt::Display for InvalidParams {
     ghost output = { λ _. Some (codes "invalid scrypt parameters") };
 
@@ -22,7 +22,7 @@ impl fmt::Display for InvalidParams {
 #[derive(Clone, Copy, Debug, PartialEq)]
 pub struct InvalidOutputLen;
 
-/// Writes the error message.
+/// Writes exactly the text of the error.
 impl fmt::Display for InvalidOutputLen {
     ghost output = { λ _. Some (codes "invalid output length") };
 
@@ -40,7 +40,7 @@ pub enum KdfError {
     InvalidOutputLen,
 }
 
-/// Writes the error message.
+/// Writes exactly the text of the error.
 impl fmt::Display for KdfError {
     ghost use Rattle.minisign_kdf.specs.Faults.{error_text};
 

@@ -61,7 +61,7 @@ fn run<S: Scheme, W: Sink>(
 
     // **`verify` and `cat` exit with status 0 only if some texts of a public key and a signature
     // are valid for some data, and `verify-raw` only if the bytes of some public key and some bare
-    // signature are valid for some data. The usage exits with status 2.** The lines that are sent
+    // signature are valid for some data; the usage exits with status 2.** The lines that are sent
     // to the error stream are those of the command for its exit status, or the warning and then the
     // usage.
     //
@@ -89,7 +89,7 @@ fn run_arguments<S: Scheme, W: Sink>(
 
     // **`verify` and `cat` exit with status 0 only if some texts of a public key and a signature
     // are valid for some data, and `verify-raw` only if the bytes of some public key and some bare
-    // signature are valid for some data. The usage exits with status 2.** The lines that are sent
+    // signature are valid for some data; the usage exits with status 2.** The lines that are sent
     // to the error stream are those of the command for its exit status, or the warning and then the
     // usage.
     ensures ended { IfOk result (λ s. (command : Command) × AsksFor (map (λ a. string_bytes a)
@@ -112,7 +112,7 @@ fn run_command<S: Scheme, W: Sink>(
 
     // **`verify` and `cat` exit with status 0 only if some texts of a public key and a signature
     // are valid for some data, and `verify-raw` only if the bytes of some public key and some bare
-    // signature are valid for some data. The usage exits with status 2.** The lines that are sent
+    // signature are valid for some data; the usage exits with status 2.** The lines that are sent
     // to the error stream are those of the command for its exit status, or the warning and then the
     // usage.
     ensures ended { IfOk result (ShowsCommand (S.accepts scheme.now) command.entry) }

@@ -57,8 +57,8 @@ pub fn run_sign<
     // The exit status is 0 or 1.
     ensures status { result ≤ 1 }
 
-    // **The exit status is 0 only if a whole signature text was written. If the key is genuine,
-    // this text parses to a signature box that is valid under the public key of this key.**
+    // **The exit status is 0 only if a whole signature text was written that, if the key is
+    // genuine, parses to a signature box which is valid under the public key of this key.**
     ensures headline { result ≡ 0 → HasWrittenVouched (S.accepts scheme.now) (S.public_of scheme.now)
         (signing_call K.Source R.Source Z.RandomSource A.Source B.Sink devices.old devices.new)
         (sink_call G.Sink signature.old signature.new) }
