@@ -1,4 +1,5 @@
-//! A caller that signs and verifies with raw keys.
+//! A caller that signs a message and verifies the signature, with keys that are parsed and
+//! decrypted already.
 
 ghost use Rattle.std.specs.Prelude.{◌≡◌, ◌⊎◌, ℕ, List, None, false, string_bytes, IfOk, IfErr};
 ghost use Rattle.minisign.specs.Fault.{Named};

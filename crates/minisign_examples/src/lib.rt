@@ -1,4 +1,5 @@
-//! Example callers of the libraries, each proved. The tests of `minisign_vectors` run some of them.
+//! Example callers of the libraries, each proved. The tests of `minisign_vectors` run all of them
+//! except `asking`.
 //!
 //! - `updating` verifies an update and checks its name.
 //! - `downloading` verifies a download by the signed list of its release.
@@ -6,7 +7,7 @@
 //! - `releasing` makes key pairs and signs releases.
 //! - `small_device` decrypts a secret key in little memory.
 //! - `asking` asks for a password again if it was wrong.
-//! - `example` signs and verifies with keys that are not encrypted.
+//! - `example` signs a message and verifies the signature, with parsed keys.
 
 #![tactic(auto)]
 

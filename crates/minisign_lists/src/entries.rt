@@ -13,7 +13,7 @@ ghost use Rattle.minisign_lists.specs.Positions.{after_line};
 use crate::faults::Result;
 use crate::lines::{EntryView, LongDigest, read_line};
 
-/// The entries of a list that were not read yet.
+/// The entries of a list that have not been read yet.
 #[derive(Drop)]
 pub struct Entries<'a> {
     long: LongDigest,
@@ -26,7 +26,8 @@ impl<'a> Entries<'a> {
     /// Returns all entries of a list. `long` says what 128 digits mean on a line that does not name
     /// its hash function.
     pub fn new(long: LongDigest, list: &'a str) -> Entries<'a>
-        // No entry has been returned yet: those that are still to come are all entries of the list, in order.
+        // The entries that are still to be returned are all entries of the list, in the order of
+        // their lines.
         ensures unread_entries { unread_entries result ≡ read_list long list.now }
         ensures numbered { IsNumbered result }
     {
@@ -41,8 +42,8 @@ impl<'a> Entries<'a> {
     /// `MalformedLine`.
     pub fn next_entry(&mut self) -> Result<Option<EntryView<'a>>>
         requires { IsNumbered self.old }
-        // The entries are returned in the order of their lines, and nothing at the end of the list. An error
-        // means that one of the remaining lines is malformed. If there is such a line, the end is never
+        // The entries are returned in the order of their lines, and then `None`. An error means
+        // that one of the remaining lines is malformed. If there is such a line, the end is never
         // reported.
         ensures entry { IfOk result (λ next. MatchOption next (unread_entries self.old ≡ Ok [])
             (λ e. unread_entries self.old ≡ map_ok (λ es. e ∷ es) (unread_entries self.new))) }

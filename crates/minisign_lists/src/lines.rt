@@ -206,8 +206,8 @@ fn if_escaped(found: Option<NamedDigest<'_>>) -> Option<NamedDigest<'_>>
     }
 }
 
-// Returns the entry of a line if its name is a relative path. `before` is the number of bytes
-// before the form.
+// Returns the entry of a line, if its name is a relative path. `before` is the number of bytes
+// before the form: 1 if the line begins with a backslash, otherwise 0.
 fn entry_of<'a>(
     line: u64,
     escaped: bool,
@@ -254,7 +254,7 @@ fn begins_with_backslash(line: &[u8]) -> bool
     }
 }
 
-// Parses an entry after a backslash.
+// Parses the entry on a line that begins with a backslash.
 fn escaped_entry(long: LongDigest, number: u64, line: &[u8]) -> Result<Option<EntryView<'_>>>
     requires { 1 ≤ length line.now }
     ensures { result ≡ entry_of number true 1 (if_escaped (written_in long (drop 1 line.now))) }

@@ -76,7 +76,7 @@ fn contents_of_pair<'a>(
     sk: &'a str,
     sk_text: &'a [u8],
 ) -> (Contents<'a>, Contents<'a>)
-    // A new file of a public key is readable for all, a new file of a secret key only for its owner, and
+    // A new public key file may be read by everybody, a new secret key file only by its owner, and
     // each gets its own text.
     ensures public { HoldsContents result.0 pk.now for_all pk_text.now }
     ensures secret { HoldsContents result.1 sk.now for_the_owner sk_text.now }
@@ -143,7 +143,7 @@ pub fn sign_files<S: Scheme, W: Sink>(
 
 // Returns the new contents of the signature file.
 fn contents_of_signature<'a>(sig: &'a str, text: &'a VecSink) -> Contents<'a>
-    // A new signature file is readable for all, and gets the text that was made.
+    // A new signature file may be read by everybody, and gets the text that was made.
     ensures { (bytes : List ℕ) → ⟦<VecSink as Sink>⟧.taken text.now ≡ Some bytes
         → HoldsContents result sig.now for_all bytes }
 {

@@ -15,9 +15,10 @@ use minisign::base::prompt::Prompt;
 use minisign::base::scheme::Scheme;
 use std::alloc::Global;
 
-/// Generates an encrypted key pair. Takes 72 random bytes first, then asks for the password twice. Makes
-/// both texts before the first is written: the public key's to `pk_sink`, then the secret key's, with the
-/// default comment, to `sk_sink`. The warning, and after it the line of an error, go to `errors`.
+/// Generates an encrypted key pair. Takes 72 random bytes first, then asks for the password twice.
+/// Makes both texts, and then writes the public key's to `pk_sink` and the secret key's, with the
+/// default comment, to `sk_sink`. Writes the warning, and after it the line of an error, to
+/// `errors`.
 ///
 /// Returns the exit status: 0 if both texts were written, otherwise 1. If no pair is made, or an allocation
 /// fails for its texts, both sinks are unchanged. A sink that failed has received a prefix of its text.

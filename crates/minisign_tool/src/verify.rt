@@ -25,10 +25,10 @@ pub struct VerifyingDevices<P, Q, R> {
     pub data_reader: R,
 }
 
-/// Verifies the data of `devices` with the texts of their public key and their signature. Legacy signatures
-/// are rejected. Both files are read whole, the key first, and must be UTF-8, before the data is read. The
-/// warning, and after it the status lines or the line of an error, go to `errors`. Returns the exit status:
-/// 0 if the signature is valid, otherwise 1.
+/// Verifies the data of `devices` with the texts of their public key and their signature. Legacy
+/// signatures are rejected. Both files are read whole, the key first, and must be UTF-8, before the
+/// data is read. Writes the warning, and after it the status lines or the line of an error, to
+/// `errors`. Returns the exit status: 0 if the signature is valid, otherwise 1.
 pub fn run_verify<S: Scheme, P: Source, Q: Source, R: Rereader, W: Sink>(
     alloc: Global,
     scheme: &S,
