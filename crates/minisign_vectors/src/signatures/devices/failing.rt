@@ -89,9 +89,10 @@ fn returns_error_if_going_back_fails(rt: HostRuntime) {
     assert!(rt; cannot_go_back(rt.alloc(), 5, 60, b""));
 }
 
-// The text of a signature, the data of a second reading, the bytes of each write to the status if
-// that fails (0 if the output fails), the number of calls of the failing sink, and the outcome
-// after them.
+// The text of a signature; the data that a second reading returns; the number of bytes that the
+// status sink accepts in each write if it is the sink that fails, or 0 if the output is; the number
+// of calls that the failing sink has to allow for the run to succeed; and the outcome if it allows
+// them.
 type Failing = (&'static str, &'static [u8], usize, usize, Outcome);
 
 // The status is written and never flushed: 60 bytes one at a time, or all at once. The output is
