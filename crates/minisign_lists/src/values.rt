@@ -144,8 +144,8 @@ impl Algorithm {
 }
 
 impl LongDigest {
-    /// Returns how 128 digits are read, for this number: 0 rejects them, and another number is that of their
-    /// hash function.
+    /// Returns what 128 digits mean for this number: 0 rejects them, 2 is SHA-512, and 3 is
+    /// BLAKE2b.
     pub fn of_number(number: u32) -> Option<LongDigest>
         ensures { result ≡ long_numbered number }
     {

@@ -18,7 +18,7 @@ pub const FOR_ALL: u32 = 0o666;
 /// Mode of a new file that only its owner may read and write.
 pub const FOR_THE_OWNER: u32 = 0o600;
 
-// The maximum number of links that are followed one after another, which is that of the system.
+// The maximum number of links that are followed one after another, as in Linux.
 const MAX_LINKS: u32 = 40;
 
 // The maximum number of names that are tried for a temporary file.
