@@ -15,7 +15,7 @@ import (
 )
 
 // ErrWeakLimits is returned by Encode for limits below the minimum of the program minisign.
-var ErrWeakLimits = errors.New("minisign: the key limits are below 524288 operations or 16 MiB")
+var ErrWeakLimits = errors.New("minisign: the scrypt limits are below 524288 operations or 16 MiB")
 
 // Work has the limits for scrypt, which derives a key from a password: its memory and time. A field that is 0 means the
 // limit of minisign -G.

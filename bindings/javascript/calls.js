@@ -123,7 +123,7 @@ export class Library {
   // address and the number of bytes, as the functions of the module take them.
   put(address, size, bytes) {
     if (bytes.length > size) {
-      const why = new Error("the WebAssembly module's buffer is too small");
+      const why = new Error("an argument is too long for the library");
       throw Object.assign(why, { code: "NO_ROOM" });
     }
     this.memory.set(bytes, address);

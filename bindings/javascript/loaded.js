@@ -22,7 +22,7 @@ export function platformError(message) {
 
 async function load() {
   if (!(await hasEd25519())) {
-    throw platformError("WebCrypto does not support Ed25519 here");
+    throw platformError("the WebCrypto of this platform has no Ed25519");
   }
   return Library.load(bytesOfBase64(MODULE));
 }

@@ -94,7 +94,7 @@ function joined(pieces) {
 // in the right order.
 function checkUse(number) {
   if (number !== 0) {
-    const why = new Error(`the library was misused: error ${number}`);
+    const why = new Error(`internal error of the library: ${number}`);
     throw Object.assign(why, { code: "MISUSED" });
   }
 }

@@ -27,6 +27,7 @@ INSTALLER = [
     "c/install/installing.c",
     "c/install/results.c",
     "c/install/directory.c",
+    "c/shared/error_words.c",
     "c/shared/handles.c",
     "c/shared/permissions.c",
     "c/shared/stages.c",
@@ -40,8 +41,8 @@ MACHINES = {
     "win_amd64": {"_WIN64", "__x86_64__"},
 }
 NO_COMPILER = (
-    "minisign-proved needs a C compiler with GNU options, such as gcc or clang, and {}"
-    " is none: name one in CC"
+    "minisign-proved needs a C compiler that accepts the options of gcc, and {} does"
+    " not: set CC to gcc or clang"
 )
 
 

@@ -110,7 +110,7 @@ fn check_dist(root: &str) {
         }
         let line = format!("{}  {name}", hash_by(command, &path));
         if !lines.lines().any(|each| each == line) {
-            fail(format!("{path} is damaged: {list} has another sum"));
+            fail(format!("{path} is damaged: its SHA-256 hash is not the one in {list}"));
         }
     }
 }
@@ -155,7 +155,7 @@ fn check_sources(root: &str) {
     let line = format!("sources of the calls: {hash}");
     if !proved.lines().any(|each| each == line) {
         fail(format!(
-            "{root}/dist is not built from the sources of the proved calls there"
+            "{root}/dist was not built from the sources that are there now: run tools/dist.py"
         ));
     }
 }
@@ -176,7 +176,7 @@ fn build(root: &str) {
         let (triple, path) = (cargo_variable("TARGET"), tool.path().display());
         let suffix = triple.replace('-', "_");
         fail(format!(
-            "{path} does not have GNU options: name gcc or clang for {triple} in CC_{suffix}"
+            "{path} does not accept the options of gcc: set CC_{suffix} to gcc or clang for {triple}"
         ));
     }
     let has_pages = target("OS") == "linux" && target("POINTER_WIDTH") == "64";

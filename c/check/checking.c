@@ -6,6 +6,7 @@
 
 #include "outcomes.h"
 #include "parallel.h"
+#include "shared/error_words.h"
 #include "shared/handles.h"
 #include "shared/progress.h"
 #include "shared/reports.h"
@@ -196,7 +197,7 @@ static void print_reason(const struct checked_file *checked)
     if (checked->why != NULL || checked->system_error != 0) {
         print_error(checked->name, checked->why != NULL ? checked->why : strerror(checked->system_error));
     } else {
-        minisign_error_text(checked->error, text, sizeof text);
+        describe_error(checked->error, text);
         print_error(checked->name, text);
     }
 }

@@ -6,6 +6,7 @@
 
 #include "outcomes.h"
 #include "shared/diagnosis.h"
+#include "shared/error_words.h"
 #include "shared/handles.h"
 #include "shared/reports.h"
 #include "shared/streams.h"
@@ -19,6 +20,7 @@
 
 #define KEY_HINT "use -p PUBKEY to name the public key file, or -P KEY to give the key itself"
 #define SIGNATURE_HINT "use -x SIG to name the signature of the list"
+#define DOWNLOAD_HINT "download the list and its signature again"
 
 /* The content of a file, in memory. */
 struct file_content {
@@ -181,16 +183,17 @@ static _Noreturn void reject_list(const struct listing *listing, const struct ve
     const char *hint = NULL, *file = run->signature_file;
 
     switch (error) {
-    case MINISIGN_DIFFERENT_KEY_IDS: hint = "use the public key of the signer"; break;
+    case MINISIGN_DIFFERENT_KEY_IDS: hint = "use -p or -P to give the public key of the signer"; break;
     case MINISIGN_LEGACY_NOT_ACCEPTED: hint = "have the list signed again, without -l"; break;
     case MINISIGN_OTHER_LIST: hint = "use --any-list if you know that the list was signed under another name"; break;
     case MINISIGN_SIGNATURE_REFUSED:
         file = listing->file;
-        hint = "download the list and its signature again";
+        hint = DOWNLOAD_HINT;
         break;
+    case MINISIGN_COMMENT_SIGNATURE_REFUSED: hint = DOWNLOAD_HINT; break;
     default: break;
     }
-    minisign_error_text(error, text, sizeof text);
+    describe_error(error, text);
     exit_with_error(LIST_REJECTED, file, text, hint);
 }
 
@@ -243,7 +246,7 @@ static _Noreturn void reject_entries(const char *file, enum minisign_error error
         print_hint("see minisign-check(1) for the lines that a list may have");
         exit(LIST_REJECTED);
     }
-    minisign_error_text(error, text, sizeof text);
+    describe_error(error, text);
     exit_with_error(LIST_REJECTED, file, error == MINISIGN_NOT_UTF8 ? "this list is not UTF-8" : text, NULL);
 }
 

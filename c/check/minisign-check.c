@@ -35,11 +35,11 @@ static const char *hint_for_outcome(enum outcome outcome, const struct check_opt
                                     const struct files *files)
 {
     switch (outcome) {
-    case OTHER_CONTENT: return "download the file again, or the list if it is older than the file";
+    case OTHER_CONTENT: return "download the file again; if it is newer than the list, download the list too";
     case NOT_ONE_ENTRY:
         return has_error(files, MINISIGN_LISTED_TWICE)
                    ? "have the signer list each file once"
-                   : "give each FILE as the list names it; --in DIR names its directory";
+                   : "use the file names of the list, and --in DIR if the files are in another directory";
     case MISSING_FILE:
         return options->listed_only ? "use --in DIR if the files are in another directory"
                                     : "use --listed to check only the files that exist";
@@ -58,7 +58,7 @@ int main(int argc, char *argv[])
         return UNUSABLE_FILE;
     }
     if (!arguments_to_utf8(&argc, &argv)) {
-        exit_with_error(WRONG_USAGE, NULL, "an argument is not Unicode", "rename the file, or use another name for it");
+        exit_with_error(WRONG_USAGE, NULL, "an argument is not valid Unicode", "rename the file");
     }
     options = parse_arguments(argc, argv);
     if (sodium_init() < 0) {

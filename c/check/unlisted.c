@@ -82,7 +82,7 @@ void find_unlisted(const struct listing *listing)
         record_outcome(UNLISTED_FILE);
     }
     for (size_t i = 0; i < names.count; i++) {
-        print_error(names.names[i], "no line of the list has this file");
+        print_error(names.names[i], "this file is not in the list");
         free(names.names[i]);
     }
     free(names.names);

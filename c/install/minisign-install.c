@@ -52,30 +52,13 @@ static void read_text_file(struct text_file *text, const char *file)
     }
 }
 
-/* Prints an error with the library's text. `file` is the path of the file, or the public key that --key gave. */
-static void print_library_text(const char *file, enum minisign_error error)
-{
-    char text[MINISIGN_ERROR_TEXT_BYTES];
-
-    minisign_error_text(error, text, sizeof text);
-    print_error(file, text);
-}
-
-/* If the file is recognized as something other than the expected kind, says what it is and what to do. */
-static void explain_text(const char *file, const struct text_file *text, enum text_kind expected_kind)
-{
-    if (text->len > 0) {
-        explain_other_kind(file, text->bytes, text->len, expected_kind, ARGUMENT_ORDER_HINT);
-    }
-}
-
 /* Ends the program if `error`, the result of parsing a public key, is an error. `source` is the path of the file, or
  * the public key that --key gave. */
-static void require_public_key(const char *source, const struct text_file *text, enum minisign_error error)
+static void require_public_key(const char *source, const uint8_t *text, size_t len, enum text_kind kind,
+                               enum minisign_error error)
 {
     if (error != MINISIGN_OK) {
-        print_library_text(source, error);
-        explain_text(source, text, PUBLIC_KEY_TEXT);
+        explain_rejection(source, text, len, kind, error, ARGUMENT_ORDER_HINT);
         exit(MINISIGN_STATUS_REJECTED);
     }
 }
@@ -87,14 +70,16 @@ static void read_keys_and_signature(struct request *request)
     minisign_installing_options *options = &request->options;
 
     for (int i = 0; i < request->key_count; i++) {
-        const char *base64 = request->base64_keys[i];
+        const uint8_t *base64 = (const uint8_t *) request->base64_keys[i];
+        size_t len = strlen(request->base64_keys[i]);
 
-        require_public_key(base64, &text,
-                           minisign_read_bare_public_key((const uint8_t *) base64, strlen(base64), &keys[i]));
+        require_public_key(request->base64_keys[i], base64, len, BARE_KEY_TEXT,
+                           minisign_read_bare_public_key(base64, len, &keys[i]));
     }
     if (request->key_count == 0) {
         read_text_file(&text, request->key_file);
-        require_public_key(request->key_file, &text, minisign_read_public_key(text.bytes, text.len, &keys[0]));
+        require_public_key(request->key_file, text.bytes, text.len, PUBLIC_KEY_TEXT,
+                           minisign_read_public_key(text.bytes, text.len, &keys[0]));
     }
     options->key = &keys[0];
     options->other_key = request->key_count > 1 ? &keys[1] : NULL;
@@ -108,6 +93,7 @@ static void read_keys_and_signature(struct request *request)
 /* The context of the functions below, which minisign_install_file calls during a run. */
 struct display {
     struct progress progress;
+    const char *signature_file;
     bool is_check;
     bool has_hint;
 };
@@ -149,6 +135,23 @@ static void show_phase(void *context, minisign_installing_progress *progress)
     progress->goes_on = 1;
 }
 
+/* If the message is about the signature file because it could not be parsed, explains why, and returns true. */
+static bool explain_signature_file(const struct display *display, const minisign_installing_message *message)
+{
+    minisign_signature signature = { 0 };
+    enum minisign_error error = MINISIGN_OK;
+
+    if (message->kind == MINISIGN_MESSAGE_ERROR && message->file == display->signature_file) {
+        error = minisign_read_signature(signature_text.bytes, signature_text.len, &signature);
+    }
+    if (error == MINISIGN_OK) {
+        return false;
+    }
+    explain_rejection(message->file, signature_text.bytes, signature_text.len, SIGNATURE_TEXT, error,
+                      ARGUMENT_ORDER_HINT);
+    return true;
+}
+
 static void show_message(void *context, const minisign_installing_message *message)
 {
     struct display *display = context;
@@ -162,6 +165,8 @@ static void show_message(void *context, const minisign_installing_message *messa
         print_hint(message->text);
     } else if (message->system_error != 0) {
         print_system_error(message->file, message->system_error);
+    } else if (explain_signature_file(display, message)) {
+        display->has_hint = true;
     } else {
         print_error(message->file, message->text);
     }
@@ -184,9 +189,10 @@ static const struct {
     { MINISIGN_SIGNATURE_REFUSED, DOWNLOAD_HINT },
     { MINISIGN_COMMENT_SIGNATURE_REFUSED, DOWNLOAD_HINT },
     { MINISIGN_DIFFERENT_KEY_IDS, "use the public key of the signer" },
+    { MINISIGN_LEGACY_NOT_ACCEPTED, "have the update signed again, without -l" },
     { MINISIGN_OTHER_SIZE, DOWNLOAD_HINT },
     { MINISIGN_EXPIRED, "download the latest update" },
-    { MINISIGN_NO_NUMBER, "use --numbering version if the comment has a field version:" },
+    { MINISIGN_NO_NUMBER, "use --numbering version if the comment has a field \"version:\"" },
 };
 
 static const char *hint_for_error(enum minisign_error error)
@@ -213,14 +219,12 @@ static void print_hint_for(const struct request *request, enum minisign_error er
     const minisign_installing_options *options = &request->options;
 
     if (error == MINISIGN_NO_NUMBER && options->choices.numbering == MINISIGN_NUMBERING_VERSION) {
-        print_hint("omit --numbering version if the comment has a field timestamp:");
+        print_hint("omit --numbering version if the comment has a field \"timestamp:\"");
     } else if (error == MINISIGN_OTHER_FILE) {
         fprintf(stderr, "hint: use --name NAME if the update was signed under a name other than %s\n",
                 escape_name(signed_name(options)).text);
-    } else if (hint_for_error(error) != NULL) {
-        print_hint(hint_for_error(error));
     } else {
-        explain_text(options->signature_name, &signature_text, SIGNATURE_TEXT);
+        print_hint(hint_for_error(error));
     }
 }
 
@@ -264,6 +268,7 @@ int main(int argc, char *argv[])
     }
     read_keys_and_signature(&request);
     display.is_check = request.options.choices.is_check != 0;
+    display.signature_file = request.options.signature_name;
     request.options.verify = crypto_sign_verify_detached;
     request.options.signed_comment = show_comment;
     request.options.progress = show_phase;

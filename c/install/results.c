@@ -5,6 +5,8 @@
 
 #include "results.h"
 
+#include "shared/error_words.h"
+
 /* The size of a buffer for the text of an errno. */
 #define SYSTEM_ERROR_BYTES 256
 
@@ -84,6 +86,18 @@ static void send_failure(const minisign_installing_options *options, const struc
     }
 }
 
+/* Describes the error for which the update is rejected. */
+static void describe_rejection(const minisign_installing_options *options, enum minisign_error error,
+                               char text[MINISIGN_ERROR_TEXT_BYTES])
+{
+    if (error == MINISIGN_NO_NUMBER) {
+        snprintf(text, MINISIGN_ERROR_TEXT_BYTES, "the trusted comment has no valid field \"%s:\"",
+                 options->choices.numbering == MINISIGN_NUMBERING_VERSION ? "version" : "timestamp");
+    } else {
+        describe_error(error, text);
+    }
+}
+
 enum minisign_install_status report_rejection(const minisign_installing_options *options,
                                               const struct directory *directory, enum minisign_error error,
                                               bool is_too_large)
@@ -102,7 +116,7 @@ enum minisign_install_status report_rejection(const minisign_installing_options 
         send_failure(options, failure);
         return is_too_large ? MINISIGN_STATUS_TOO_LARGE : result->status;
     }
-    minisign_error_text(error, text, sizeof text);
+    describe_rejection(options, error, text);
     send_message(options, MINISIGN_MESSAGE_ERROR, subjects[result->subject], text);
     if (result->status == MINISIGN_STATUS_NOT_SYNCED && failure->is_set) {
         send_failure(options, failure);

@@ -290,7 +290,7 @@ static struct destination in_place_destination(struct destination destination)
 
     release_name(&destination);
     if (destination.is_secret && is_untrusted(status) && !S_ISDIR(status->st_mode) && !is_standard_stream(status)) {
-        fail_with_hint(destination.file, "this belongs to another user, so no secret key was written to it",
+        fail_with_hint(destination.file, "this file belongs to another user, so no secret key was written to it",
                        "use a file of your own");
     }
     return destination;

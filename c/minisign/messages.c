@@ -2,6 +2,7 @@
 /* Prints the messages of the program. */
 #include "messages.h"
 
+#include "shared/error_words.h"
 #include "shared/reports.h"
 #include "shared/text.h"
 
@@ -85,7 +86,7 @@ void print_library_error(const char *file, enum minisign_error error)
             return;
         }
     }
-    minisign_error_text(error, text, sizeof text);
+    describe_error(error, text);
     print_error(file, text);
 }
 

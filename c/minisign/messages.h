@@ -35,7 +35,7 @@ _Noreturn void fail_with_hint(const char *file, const char *what, const char *hi
 void require_one_line(const char *comment);
 
 /* Prints an error that the library returned: Minisign's message for it if there is one, otherwise the name of the file
- * and the library's text. */
+ * and the error in this program's words. */
 void print_library_error(const char *file, enum minisign_error error);
 
 /* If the library returned an error, prints it and ends the program with STATUS_ERROR. */

@@ -489,7 +489,7 @@ const char *put_both_in_place(struct replacement *first, struct replacement *sec
                 || have_same_content(&first->destination, &second->destination))) {
             undo_stage(first);
             fail_with_hint(second->destination.file,
-                           "on this file system, this name and that of the other key file are the same",
+                           "on this file system, this is the same file as the other key file",
                            "use -s FILE and -p FILE to name two different files");
         }
         if (was_placed(second, place_stage(second))) {

@@ -243,7 +243,7 @@ static const char *diagnose_kind(const struct lines *lines, enum text_kind expec
     switch (actual) {
     case SIGNIFY_SIGNATURE: return "this is a signify signature, which has no trusted comment";
     case SIGNIFY_SECRET_KEY: return "this is a signify secret key";
-    case BARE_KEY_TEXT: return "this is a public key without its comment line, so it is not a public key file";
+    case BARE_KEY_TEXT: return "this public key file lacks its first line, the comment";
     case OTHER_TEXT: return NULL;
     default: break;
     }
@@ -275,7 +275,7 @@ static void explain_bare_key(const char *name, size_t len, enum minisign_error e
                 : error == MINISIGN_BARE_PUBLIC_KEY_NOT_BASE64 ? "it is not base64"
                                                                : "it is too short");
     }
-    print_hint("give the second line of the public key file");
+    print_hint("copy the second line of the public key file");
 }
 
 /* Returns what is wrong with the file, or NULL if the error does not say. */
@@ -299,7 +299,10 @@ static const char *damage_reason(enum minisign_error error)
     }
 }
 
-bool explain_other_kind(const char *name, const uint8_t *text, size_t len, enum text_kind expected, const char *hint)
+/* Prints an error and a hint only if the file is recognized as something other than the expected kind. Returns true if
+ * it is. */
+static bool explain_other_kind(const char *name, const uint8_t *text, size_t len, enum text_kind expected,
+                               const char *hint)
 {
     struct lines lines = split_lines(text, len);
     struct diagnosis diagnosis = diagnose_foreign(text, len);

@@ -25,8 +25,4 @@ enum text_kind {
 void explain_rejection(const char *name, const uint8_t *text, size_t len, enum text_kind expected,
                        enum minisign_error error, const char *hint);
 
-/* Prints an error and a hint only if the file is recognized as something other than the expected kind. Returns true if
- * it is. */
-bool explain_other_kind(const char *name, const uint8_t *text, size_t len, enum text_kind expected, const char *hint);
-
 #endif

@@ -619,7 +619,7 @@ const char *put_both_in_place(struct replacement *first, struct replacement *sec
         sync_new_name(first);
         if (!first->is_written_in_place && !second->is_written_in_place && is_stage_at(first, second)) {
             undo_uninterrupted(first);
-            fail_with_hint(second->file, "on this file system, this name and that of the other key file are the same",
+            fail_with_hint(second->file, "on this file system, this is the same file as the other key file",
                            "use -s FILE and -p FILE to name two different files");
         }
         if (was_placed(second, place_stage(second))) {

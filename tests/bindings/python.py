@@ -64,7 +64,7 @@ def python():
 
 # All programs that a build runs, except for Python. make is not one of them.
 NEEDED = ("gcc", "x86_64-linux-gnu-gcc", "ld", "as", "objcopy")
-NO_COMPILER = "minisign-proved needs a C compiler with GNU options, such as gcc or clang, and {} is none: name one in CC"
+NO_COMPILER = "minisign-proved needs a C compiler that accepts the options of gcc, and {} does not: set CC to gcc or clang"
 # The value of MINISIGN_PORTABLE for each case in which a mutant of setup.py has to fail.
 SETUPS = {"C alone": "1", "the archives": ""}
 

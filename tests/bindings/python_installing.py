@@ -48,10 +48,27 @@ HINTS = {
     minisign.KeptByVersion: "use --numbering version", minisign.KeptByTimestamp: "use --numbering timestamp",
     minisign.DifferentKeyIds: "use the public key of the signer", minisign.DirectoryNotSynced: "run the command again",
     minisign.TooLong: "use --max-size BYTES to accept larger data",
+    minisign.LegacyNotAccepted: "have the update signed again, without -l",
     **dict.fromkeys((minisign.OlderUpdate, minisign.Expired), "download the latest update"),
     **dict.fromkeys((minisign.SignatureRefused, minisign.CommentSignatureRefused, minisign.OtherSize), DOWNLOAD_AGAIN),
 }
-NO_NUMBER = {"version": "omit --numbering version if the comment has a field timestamp:", "timestamp": "use --numbering version if the comment has a field version:"}
+NO_NUMBER = {"version": 'omit --numbering version if the comment has a field "timestamp:"',
+             "timestamp": 'use --numbering version if the comment has a field "version:"'}
+# The errors that `minisign-install` describes in other words than the library.
+WORDS = {
+    minisign.DifferentKeyIds: "the signature was made with a key that has another key ID",
+    minisign.NoNumber: 'the trusted comment has no valid field "{numbering}:"',
+    minisign.BadExpiry: 'the trusted comment has an invalid or repeated field "expires:"',
+    minisign.BadSize: 'the trusted comment has an invalid or repeated field "size:"',
+    minisign.OtherSize: "the size of the data is not the one in the trusted comment",
+    minisign.RandomSourceFailed: "the system supplied no random bytes",
+}
+# What it prints for malformed keys and signatures.
+MALFORMED = {
+    minisign.BarePublicKeyLength: "a public key has 56 characters, but this has {length}\nhint: copy the second line of the public key file",
+    minisign.BarePublicKeyNotBase64: "this is not a public key: it is not base64\nhint: copy the second line of the public key file",
+    minisign.MissingTrustedComment: "this signature is truncated: it has only 2 of 4 lines\nhint: download or copy the file again",
+}
 HINTS_OF_CAUSES = {
     "this directory does not exist": "create it first",
     "only the owner of this file can open it": "use chown to change its owner to that of the installed file",
@@ -85,7 +102,8 @@ def rejection(data, signature, place, name, numbering, error):
     elif STATUSES.get(type(error)) in (FAILED, IN_USE, NOT_ON_DISK, SAME):
         file = place
     hint = NO_NUMBER[numbering] if isinstance(error, minisign.NoNumber) else HINTS.get(type(error))
-    return f"error: {file}: {error}", hint and hint.format(name=name)
+    words = WORDS.get(type(error), str(error)).format(numbering=numbering)
+    return f"error: {file}: {words}", hint and hint.format(name=name)
 
 
 def report(*errors):
@@ -99,7 +117,7 @@ def read_text(kind, word):
     try:
         return kind(word)
     except minisign.MinisignError as error:
-        text, status = error, REJECTED
+        text, status = MALFORMED.get(type(error), str(error)).format(length=len(word)), REJECTED
         if isinstance(error, minisign.TooLong):
             text = f"this file is larger than 1 MiB\nhint: {ARGUMENT_ORDER}"
     except OSError as why:

@@ -204,7 +204,7 @@ def check_pair(check, folding, public, secret, other):
     # A new file gets the inode number of the name with which it was created. If that name is `other`, the two names
     # look like different files, so this error cannot be expected.
     for force in ([], ["-f"]) if other != public else ():
-        rejects(2, f"error: {secret}: on this file system, this name and that of the other key file are the same\n", [*generating, *force], {})
+        rejects(2, f"error: {secret}: on this file system, this is the same file as the other key file\n", [*generating, *force], {})
     existing = {folded_name(secret): texts["s"], "data": b"data"}
     for files in ({folded_name(secret): texts["p"]}, existing):
         rejects(1, f"{public} already exists", generating, files)
@@ -295,7 +295,7 @@ def check_names_on_vfat(checks, scratch):
             if public == "k.pub":
                 checks.check(result.status == 0 and sorted(os.listdir(directory)) == ["k.key", "k.pub"], f"vfat: two names: {result}")
                 continue
-            output = b"k.key: on this file system, this name and that of the other key file are the same"
+            output = b"k.key: on this file system, this is the same file as the other key file"
             checks.check(result.status == 2 and output in result.stderr, f"vfat: {' '.join(arguments)} k.KEY and k.key: {result}")
             checks.check(not os.listdir(directory), f"vfat: {' '.join(arguments)} k.KEY and k.key: {os.listdir(directory)} are left")
 

@@ -67,7 +67,7 @@ PATHS = {
 NO_PROGRAM = "no SHA-256 program works here: install sha256sum, shasum or sha256"
 # The errors of make and of cargo for changed sources, and for a damaged archive.
 CHANGED_ERRORS = {"make": "the sources of the proved calls are not those that dist/ was built from",
-         "cargo": "dist is not built from the sources of the proved calls there"}
+         "cargo": "dist was not built from the sources that are there now"}
 DAMAGED_ERRORS = {"make": "is not the one that dist/SHA256SUMS names", "cargo": "is damaged: "}
 SOURCE, ARCHIVE = "crates/minisign_hash/src/lib.rt", "dist/calls-x86-64-v3.a"
 KEY = "RWQf6LRCGA9i53mlYecO4IzT51TGPpvWucNSCh1CBM0QTaLn73Y7GFO3"

@@ -359,7 +359,7 @@ class Cases:
 
     def rejects_arguments_that_are_not_unicode(self):
         ran = run_program([self.wine.program, self.helper, "lone", self.exe], self.scratch, None, SECONDS, env=self.wine.variables)
-        self.checks.same((ran.status, ran.stderr), (2, b"error: an argument is not Unicode\nhint: rename the file, or use another name for it\n"),
+        self.checks.same((ran.status, ran.stderr), (2, b"error: an argument is not valid Unicode\nhint: rename the file\n"),
                          "an argument that is not Unicode")
 
     def knows_two_names_of_one_file(self):
@@ -590,7 +590,7 @@ class Cases:
         check("one file", lines, 0, names=[cyrillic], output=f"{cyrillic}: OK\n")
         check("a copy", lines, 0, "", ["-o"], ["f3"], output=files["f3"].decode())
         check("a file of another digest", [*lines[1:], line("f0", b"x")], 4, output=all_good.replace("f0: OK\n", "") + "f0: FAILED\n")
-        check("an unlisted file", lines[:-1], 7, "empty: no line of the list has this file", ["--nothing-else"])
+        check("an unlisted file", lines[:-1], 7, "empty: this file is not in the list", ["--nothing-else"])
         check("a missing file", [*lines, line("none", b"")], 6, "none: No such file or directory")
         for name, why in (("C:/windows/system.ini", COLON), ("Z:/etc/passwd", COLON), ("f0:stream", COLON), ("NUL", "not a regular file"),
                           ("aux.txt", RESERVED), ("f0.", DROPPED), ("f0 ", DROPPED), ("sub", "not a regular file")):

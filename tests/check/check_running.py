@@ -21,20 +21,20 @@ PIPE = object()
 OK, UNUSABLE, MISUSED, REJECTED, DIFFERS, UNLISTED_NAME, MISSING, HAS_UNLISTED = range(8)
 
 # Errors of the library.
-MISMATCH = "the data does not have the listed digest"
-NAME_NOT_LISTED = "no line of the list has this name"
-TWICE = "two lines of the list have this name"
-BAD_NAME = "no list can contain this name"
+MISMATCH = "the digest of this file is not the one in the list"
+NAME_NOT_LISTED = "this file is not in the list"
+TWICE = "this file is in the list twice"
+BAD_NAME = 'a list can only contain relative paths without ".." or special characters'
 NO_SUCH_FILE = "No such file or directory"
 # Errors and hints of the program.
 NOT_REGULAR, ESCAPED = "this is not a regular file", "the list has this name with a backslash, so no file matches it"
-DOWNLOAD = "download the file again, or the list if it is older than the file"
-GIVE_NAMES = "give each FILE as the list names it; --in DIR names its directory"
+DOWNLOAD = "download the file again; if it is newer than the list, download the list too"
+GIVE_NAMES = "use the file names of the list, and --in DIR if the files are in another directory"
 LIST_ONCE = "have the signer list each file once"
 USE_LISTED = "use --listed to check only the files that exist"
 USE_IN = "use --in DIR if the files are in another directory"
 REMOVE = "remove the files that are not listed, or omit --nothing-else"
-FILE_NOT_LISTED = "no line of the list has this file"
+FILE_NOT_LISTED = "this file is not in the list"
 
 
 def digest(data, function=hashlib.sha256):

@@ -141,7 +141,7 @@ PLAIN, SIG = [*KEY, LIST, "a"], f"{LIST}.minisig"
 ALL = [*KEY, LIST]
 LINE_HINT = "see minisign-check(1) for the lines that a list may have"
 OTHER_LIST = "the trusted comment does not name the list"
-OTHER_KEY, LEGACY = "Signature key id is different from public key", "Legacy signatures are not accepted"
+OTHER_KEY, LEGACY = "the signature was made with a key that has another key ID", "Legacy signatures are not accepted"
 ANY_LIST = "use --any-list if you know that the list was signed under another name"
 MALFORMED = (
     ("an absolute path", entries(a=A) + entry("/a", A), 2),
@@ -169,9 +169,9 @@ FILES = (
      UNUSABLE, shown_comment(comment_of()) + errors(("none", NO_SUCH_FILE))),
     ("a changed list", with_byte(LIST, 0), PLAIN, REJECTED, errors((LIST, "Signature verification failed"), AGAIN)),
     ("a list with a line added", replaced(LIST, entries(a=A, b=B)), PLAIN, REJECTED, errors((LIST, "Signature verification failed"), AGAIN)),
-    ("a changed trusted comment", changed_signature(2), PLAIN, REJECTED, errors((SIG, "Comment signature verification failed"))),
+    ("a changed trusted comment", changed_signature(2), PLAIN, REJECTED, errors((SIG, "Comment signature verification failed"), AGAIN)),
     ("a list of another signer", resigned(secret=OTHER_SECRET_FILE), PLAIN, REJECTED,
-     errors((SIG, OTHER_KEY), "use the public key of the signer")),
+     errors((SIG, OTHER_KEY), "use -p or -P to give the public key of the signer")),
     ("a legacy signature", resigned(flags=("-l",)), PLAIN, REJECTED, errors((SIG, LEGACY), "have the list signed again, without -l")),
     ("a comment without file:", resigned(comment="timestamp:1"), PLAIN, REJECTED, errors((SIG, OTHER_LIST), ANY_LIST)),
     ("a comment with another list", resigned(comment=comment_of("SHA256SUMS2")), PLAIN, REJECTED, errors((SIG, OTHER_LIST), ANY_LIST)),
@@ -180,12 +180,12 @@ FILES = (
     ("a changed list with --any-list", with_byte(LIST, 0), [*PLAIN, "--any-list"], REJECTED,
      errors((LIST, "Signature verification failed"), AGAIN)),
     ("an unnamed list signed with another key with --any-list", resigned(secret=OTHER_SECRET_FILE, comment="x"), [*PLAIN, "--any-list"], REJECTED,
-     errors((SIG, OTHER_KEY), "use the public key of the signer")),
+     errors((SIG, OTHER_KEY), "use -p or -P to give the public key of the signer")),
     ("a key file as the signature", None, [*KEY, "-x", PUBLIC_FILE, LIST], REJECTED,
      errors((PUBLIC_FILE, "this is a public key, not a signature"), SIGNATURE_HINT)),
     ("a signature as the key file", None, ["-p", SIG, LIST], REJECTED, errors((SIG, "this is a signature, not a public key"), KEY_HINT)),
     ("a short key", None, ["-P", "RWQ", LIST], REJECTED,
-     errors(("-P", "a public key has 56 characters, but this has 3"), "give the second line of the public key file")),
+     errors(("-P", "a public key has 56 characters, but this has 3"), "copy the second line of the public key file")),
     ("a signature of more than 1 MiB", replaced(SIG, bytes(1 << 20) + b"x"), PLAIN, REJECTED,
      errors((SIG, "this file is larger than 1 MiB"), SIGNATURE_HINT)),
     ("a key file of more than 1 MiB", replaced(PUBLIC_FILE, bytes(1 << 20) + b"x"), PLAIN, REJECTED,

@@ -51,7 +51,7 @@ UNGUARDED = (NOT_STICKY, Parent(" in a private sticky directory", ROOT, 0o1755),
 OTHER_DIRECTORY = "\nhint: use a directory that only you can write to"
 IN_SHARED_DIRECTORY = "this file belongs to another user, and others can write to its directory" + OTHER_DIRECTORY
 THROUGH_LINK = "this path goes through another user's symbolic link in a directory that others can write to" + OTHER_DIRECTORY
-SECRET_TO_OTHER_USER = "this belongs to another user, so no secret key was written to it\nhint: use a file of your own"
+SECRET_TO_OTHER_USER = "this file belongs to another user, so no secret key was written to it\nhint: use a file of your own"
 NOT_PERMITTED = os.strerror(errno.EPERM)
 
 # Rows of docs/DIFFERENCES.md. For each, the name of a case that Minisign's own program fails.

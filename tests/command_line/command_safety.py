@@ -284,7 +284,7 @@ class Safety(Programs):
         self.ours(directory, "-Sm", "large", "-s", PLAIN_KEY)
         status, output, error_output = self.copy_changed_data(self.program, directory, "large", change)
         expect(status == 1 and before.startswith(output) and len(output) < len(before)
-               and error_output.endswith(b"\nerror: large: Data changed between verification and output\nhint: do not use the output\n"),
+               and error_output.endswith(b"\nerror: large: the file changed between verification and output\nhint: do not use the output\n"),
                f"it exited with status {status}, copied {len(output)} bytes, and said {error_output[-100:]}")
 
     @case("-o of {0} exits with status {1} for data that is replaced before it is copied {3}", ("ours", 1, b"", ""),

@@ -28,7 +28,7 @@ GZIP = bytes.fromhex("1f8b0800000000000003") + bytes(range(60))
 
 # First lines of Minisign's errors, and the lines of c/minisign that rows of docs/DIFFERENCES.md allow instead, for files that are not
 # UTF-8, for long lines, for extra bytes after a record, and for another order of the checks.
-NOT_UTF8 = b"error: wrong: stream did not contain valid UTF-8"
+NOT_UTF8 = b"error: wrong: this is not UTF-8 text"
 START = b'Untrusted signature comment should start with "untrusted comment: "'
 ALLOWED_FIRST_LINES = {b"Signature too long": (b"Trusted comment not present",), b"Untrusted signature comment too long": (START, NOT_UTF8),
                        START: (b"Error while reading the signature file", NOT_UTF8)}
@@ -90,7 +90,7 @@ class Messages(Programs):
         files = {"some.key": sealed(self.keys[PLAIN_KEY], PASSWORD, rows << 10, rows, times)}
         signing, typed = ("-Sm", "data", "-s", "some.key", *flags), PASSWORD + b"\n"
         if needed:
-            error_output = ("\nerror: some.key: scrypt work too high\n"
+            error_output = ("\nerror: some.key: decrypting this key takes more work than allowed\n"
                     f"hint: use -K {needed} to decrypt this key, which takes {needed} times the work of a default key\n")
             self.expect_rejected(error_output.encode(), *signing, files=files, typed=typed, seconds=10)
         else:
@@ -162,7 +162,7 @@ def wrong_texts(keys, signature):
         ("-x", b"this is a signify signature, which has no trusted comment", SIGNIFY),
         ("-s", b"this is a signify secret key", SIGNIFY_SECRET),
         ("-p", b"this is a program", b"\x7fELF\2"), ("-p", b"this is a PDF document", b"%PDF-1.7\n"),
-        ("-p", b"this is a public key without its comment line, so it is not a public key file", public.split(b"\n")[1] + b"\n"),
+        ("-p", b"this public key file lacks its first line, the comment", public.split(b"\n")[1] + b"\n"),
         ("-p", b"this is not a public key: it is not UTF-8", b"\xff\xff not a text"),
         ("-x", b'this is not a signature: its first line does not begin with "untrusted comment: "', b"some\nother\ntext\nof lines\n"),
     ):
@@ -212,9 +212,9 @@ def damaged_keys(text):
          *(text_of(flip_bit(record, at)) for at in (0, 1, 54, 61, 62, 93, 94, 125, 126, 157))),
         (damage + b"its key derivation function is unknown", b"Unsupported key derivation function",
          text_of(record[:2] + b"XX" + record[4:])),
-        (b"decrypting this key takes more than 1 GiB of memory", b"error: wrong: scrypt parameters too high",
+        (b"decrypting this key takes more than 1 GiB of memory", b"error: wrong: the scrypt limits of this key are too high",
          limited(1 << 15, (1 << 30) + 1)),
-        (damage + b"its scrypt parameters are invalid", b"error: wrong: invalid scrypt parameters", limited(1 << 40, 0)),
+        (damage + b"its scrypt parameters are invalid", b"error: wrong: the scrypt limits of this key are invalid", limited(1 << 40, 0)),
     ):
         hint = DOWNLOAD_HINT if b"empty" in words else RESTORE_HINT if b"GiB" not in words else None
         for wrong in texts:

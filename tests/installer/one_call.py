@@ -208,7 +208,7 @@ def reports_reading(directory, word, text, number):
 def reads_signed_size(directory):
     directory.offer(more=SIZE_FIELD)
     directory.put("new", NEW_DATA + b"more")
-    message = [(ERROR, "NULL", "the data does not have the signed size", 0)]
+    message = [(ERROR, "NULL", "the size of the data is not the one in the trusted comment", 0)]
     call(directory, ["read=new"], REJECTED, "OTHER_SIZE", [RECEIVING], message, 6)
     expect_old(directory)
 
@@ -303,7 +303,7 @@ NO_NAME = "this path does not end with a file name"
     ("options without a target", ["without=target"], "the options have no target"),
     ("options without a signature", ["without=signature"], "the options have no signature file"),
     ("options without a key", ["without=key"], "the options have no public key"),
-    ("options without a function that verifies", ["without=verify"], "the options have no function that verifies"),
+    ("options without a function that verifies", ["without=verify"], "the options have neither verify nor answer"),
     ("a mode above 0777", ["mode=1000"], "the mode in the options is above 0777"),
     ("a wait of more than a day", ["wait=86401"], "the wait in the options is longer than a day"),
     ("an empty name", ["name="], "the name in the options is empty"),

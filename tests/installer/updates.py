@@ -30,7 +30,7 @@ RECORD_PATH = f"./{RECORD}"
 LATEST_HINT = "download the latest update"
 OLDER_ERROR = error_text("new", "the update is older than the recorded version", LATEST_HINT)
 EXPIRED_ERROR = error_text("new.sig", "the update has expired", LATEST_HINT)
-LEGACY_ERROR = error_text("new.sig", "Legacy signatures are not accepted")
+LEGACY_ERROR = error_text("new.sig", "Legacy signatures are not accepted", "have the update signed again, without -l")
 COMMENT_ERROR = error_text("new.sig", "Comment signature verification failed", DOWNLOAD_AGAIN)
 OTHER_DATA_ERROR = error_text(TARGET, "this version is already recorded, but the installed file is different",
                               "use --again to install anyway")
@@ -41,16 +41,18 @@ FILE_NAME_ERROR = (error_text("new.sig", "the trusted comment does not name the 
 HOLDS_VERSION_ERROR, HOLDS_TIMESTAMP_ERROR = (
     error_text(RECORD_PATH, f"the version record holds a {recorded}, not a {other}", f"use --numbering {recorded}")
     for recorded, other in (("version", "timestamp"), ("timestamp", "version")))
+# The hint for a truncated key file or signature file.
+COPY_AGAIN = "download or copy the file again"
 # The text and the hint of the error for data above the limit of --max-size.
 TOO_LARGE_TEXTS = ("the data is larger than the limit", "use --max-size BYTES to accept larger data")
-BAD_EXPIRY_ERROR = error_text("new.sig", "the trusted comment has an invalid or repeated field expires:")
+BAD_EXPIRY_ERROR = error_text("new.sig", "the trusted comment has an invalid or repeated field \"expires:\"")
 NO_EXPIRY_ERROR = error_text("new.sig", "the trusted comment does not say when the update expires")
 NO_TIMESTAMP_ERROR, NO_VERSION_ERROR = (
-    error_text("new.sig", "the trusted comment has no valid version number", hint) for hint in (
-        "use --numbering version if the comment has a field version:",
-        "omit --numbering version if the comment has a field timestamp:"))
-SIZE_ERROR = error_text("new", "the data does not have the signed size", DOWNLOAD_AGAIN)
-BAD_SIZE_FIELD_ERROR = error_text("new.sig", "the trusted comment has an invalid or repeated field size:")
+    error_text("new.sig", f'the trusted comment has no valid field "{label}:"', hint) for label, hint in (
+        ("timestamp", 'use --numbering version if the comment has a field "version:"'),
+        ("version", 'omit --numbering version if the comment has a field "timestamp:"')))
+SIZE_ERROR = error_text("new", "the size of the data is not the one in the trusted comment", DOWNLOAD_AGAIN)
+BAD_SIZE_FIELD_ERROR = error_text("new.sig", "the trusted comment has an invalid or repeated field \"size:\"")
 
 # Fields of a trusted comment: the update has not expired, and the size of NEW_DATA.
 UNEXPIRED_FIELD = "\texpires:99999999999"
@@ -290,7 +292,7 @@ UPDATE_TABLE = (
      dict(number=4, forge=lambda text: text.replace(b"timestamp:4", b"timestamp:9"))),
     ("changed file name in the trusted comment", REJECTED, COMMENT_ERROR,
      dict(names="other", forge=lambda text: text.replace(b"file:other", f"file:{TARGET}".encode()))),
-    ("signature file of two lines", REJECTED, error_text("new.sig", "Missing trusted comment"),
+    ("signature file of two lines", REJECTED, error_text("new.sig", "this signature is truncated: it has only 2 of 4 lines", COPY_AGAIN),
      dict(forge=lambda text: b"".join(text.splitlines(True)[:2]))),
     ("truncated signature file, and a damaged record", UNRECORDED, DAMAGED_RECORD_ERROR,
      dict(record=b"five", forge=lambda text: text[:40])),
@@ -336,7 +338,7 @@ UPDATE_TABLE = (
     ("keys twin and twin", REJECTED, COMMENT_ERROR, dict(keys=["twin", "twin"])),
     *((f"older update with keys {' and '.join(keys)}", OLDER_VERSION, OLDER_ERROR, dict(keys=keys, number=4))
       for keys in (["own", "twin"], ["twin", "own"])),
-    ("keys other", REJECTED, error_text("new.sig", "Signature key id is different from public key", "use the public key of the signer"),
+    ("keys other", REJECTED, error_text("new.sig", "the signature was made with a key that has another key ID", "use the public key of the signer"),
      dict(keys=["other"])),
     # The record holds the greatest version number. Only an update under another key than the recorded one, with --first or
     # --new-key, is installed over it.
@@ -410,12 +412,12 @@ update_cases.table(*((f"{OUTCOMES.get(status, 'rejects')}: {name}", status, *mor
 
 
 @update_cases.table(
-    ("rejects a key that is too short", "RWQ", ""),
-    ("rejects a key that is not base64", "*" * 56, ": invalid base64"),
+    ("rejects a key that is too short", "RWQ", "a public key has 56 characters, but this has 3"),
+    ("rejects a key that is not base64", "*" * 56, "this is not a public key: it is not base64"),
 )
-def rejects_key(directory, key, more):
+def rejects_key(directory, key, text):
     """A key on the command line that cannot be parsed is rejected before the directory is opened."""
-    error_output = error_text(key, f"base64 conversion failed - was an actual public key given?{more}")
+    error_output = error_text(key, text, "copy the second line of the public key file")
     calls = check_and_install(directory, REJECTED, error_output, keys=[key])
     expect("open ." not in calls, f"its calls were {calls}")
 

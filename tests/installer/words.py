@@ -104,9 +104,9 @@ REPORTS = (
     ("rejects a signature file that is not UTF-8", [PK, "new", "bytes", TARGET], REJECTED,
      error_text("bytes", "this file is not UTF-8", ARGUMENT_ORDER)),
     ("hints at a key in place of the signature", [PK, "new", PK, TARGET], REJECTED,
-     b"\n" + error_text("key.pub", "this is a public key, not a signature", ARGUMENT_ORDER)),
+     error_text("key.pub", "this is a public key, not a signature", ARGUMENT_ORDER)),
     ("hints at a signature in place of the key", ["new.sig", *PATHS[1:]], REJECTED,
-     b"\n" + error_text("new.sig", "this is a signature, not a public key", ARGUMENT_ORDER)),
+     error_text("new.sig", "this is a signature, not a public key", ARGUMENT_ORDER)),
     *((f"{word} prints the usage", [word], 0, b"", USAGE) for word in ("--help", "-h")),
     ("--version prints the version", ["--version"], 0, b"", b"minisign-install 0.3.0\n"),
 )

@@ -156,7 +156,7 @@ impl fmt::Display for Error {
             Error::IoError(error) => error.fmt(f),
             Error::Scheme(error) => error.fmt(f),
             Error::WeakLimits => {
-                f.write_str("the key limits are below 524288 operations or 16 MiB")
+                f.write_str("the scrypt limits are below 524288 operations or 16 MiB")
             }
             _ => self.reason().map_or(Ok(()), |reason| reason.fmt(f)),
         }

@@ -53,7 +53,7 @@ def path_text(name: str, value: object) -> str:
     except TypeError:
         raise wrong_type(name, "a path: str, bytes or os.PathLike", value) from None
     if text == "" or "\0" in text:
-        raise ValueError(f"{name} must be a path, not {text!r}")
+        raise ValueError(f"{name} must be a valid path, not {text!r}")
     return text
 
 

@@ -214,9 +214,9 @@ class _Run:
 
     def _read(self, at: int, size: int, length: "ctypes._Pointer[Any]") -> None:
         """Reads a piece of an open file, which can be any object with a method read."""
-        piece = octets("what data reads", cast("IO[bytes]", self.data).read(size))
+        piece = octets("the result of data.read", cast("IO[bytes]", self.data).read(size))
         if len(piece) > size:
-            raise ValueError(f"data.read({size}) has returned {len(piece)} bytes")
+            raise ValueError(f"data.read({size}) returned {len(piece)} bytes")
         ctypes.memmove(at, piece, len(piece))
         length[0] = len(piece)
 

@@ -14,7 +14,7 @@ fn init() -> Result<(), SchemeError> {
 fn check(result: i32, name: &str) -> Result<(), SchemeError> {
     match result {
         0 => Ok(()),
-        _ => Err(SchemeError::new(format!("{name} of libsodium failed"))),
+        _ => Err(SchemeError::new(format!("libsodium: {name} failed"))),
     }
 }
 
