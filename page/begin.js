@@ -13,7 +13,7 @@ async function missingFeatures() {
   const features = hasWebAssembly ? [] : ["WebAssembly"];
   if (!await hasEd25519()) {
     features.push(isSecureContext ? "Ed25519 in WebCrypto"
-      : "Ed25519 for pages that are not opened from disk or by https");
+      : "Ed25519 for pages that were opened by http");
   }
   return features;
 }

@@ -104,7 +104,7 @@ function verdictByList(read, {data}, reading) {
     return {verdict, number: 0, keyIds, comment, listName: name, listedNames, otherNames};
   }
   const failed = rejectedVerdict(number === 0 ? DIGEST_MISMATCH : number, keyIds);
-  return {...failed, more: `The list is ${escaped(name)}${line ? `, line ${line}` : ""}.`, listName: name};
+  return {...failed, more: `List: ${escaped(name)}${line ? `, line ${line}` : ""}.`, listName: name};
 }
 
 // The verdicts by a list that contains the file, from best to worst.
@@ -141,10 +141,10 @@ function listLines({asList}) {
 // Returns the paragraph that says under which names a list contains a download.
 function listedLine({listName, listedNames, otherNames}, source) {
   const names = listedNames.flatMap((name, at) => [at === 0 ? "" : ", ", nameBox(name)]);
-  const line = element("p", otherNames.length > 0 ? "caution" : "", "This file is exactly what the list ", nameBox(listName), " has as ", ...names,
+  const line = element("p", otherNames.length > 0 ? "caution" : "", "This file is exactly the one that the list ", nameBox(listName), " names ", ...names,
     ". The list was signed with the key ", codeBox(key.keyId), ", ", ...sourceNodes(source), ".");
   if (otherNames.length > 0) {
-    line.append(" The file that you have is not the one that its name says. It may be an older version.");
+    line.append(" Your file has another name. It may be an older version.");
   }
   return line;
 }

@@ -18,7 +18,7 @@ const DIGEST_MISMATCH = 94;
 
 // Why there is no public key, by the error number.
 const KEY_REASONS = new Map([
-  [UNKNOWN_ALGORITHM, `This is not a Minisign public key: those begin with RW. ${KEY_HINT}`],
+  [UNKNOWN_ALGORITHM, `This is not a Minisign public key, which begins with RW. ${KEY_HINT}`],
   [NOT_UTF8, `The public key is not UTF-8 text. ${KEY_HINT}`],
   [16, `The public key is empty. ${KEY_HINT}`],
   [17, `The public key file has no second line. ${KEY_HINT}`],
@@ -47,12 +47,12 @@ const REASONS = new Map([
   [31, "This file is not the one that was signed, or the signature was not made with this key. Do not use the file."],
   [COMMENT_NOT_SIGNED, "The trusted comment was changed after the file was signed. Do not use the file."],
   [81, "The public key or the signature is weak or malformed, so it proves nothing about any file. Do not use the file."],
-  [89, "The trusted comment of its signature does not name it as a list."],
-  [90, "No list can have a file of this name. Do not use the file."],
-  [91, "It is not a line of a list. One such line makes the whole list unusable."],
+  [89, "The trusted comment does not name this list."],
+  [90, "This name has characters that no list can contain. Do not use the file."],
+  [91, "This line is malformed, so the page cannot use the list."],
   [NOT_LISTED, "The signed list has neither this file's name nor its content. Do not use the file."],
   [93, "The signed list has this file's name twice. Do not use the file."],
-  [DIGEST_MISMATCH, "This file is not the one that the signed list has under this name. Do not use the file."],
+  [DIGEST_MISMATCH, "The signed list has this file's name, but with other content. Do not use the file."],
 ]);
 
 // The reason if the trusted comment differs from the signed one only in white space at its beginning or end, which the library removes.
@@ -67,7 +67,7 @@ const TOO_LONG_A_KEY = "No public key: this file cannot be read, or is too large
 const HINTS = new Map([
   ["secret key", "This is a secret key. Nobody but its owner may see it, and no web page needs it. " +
     "The public key is in another file, usually minisign.pub."],
-  ["signature", "This is a signature, not a key. Add it together with its file, as a download."],
+  ["signature", "This is a signature, not a key. Add it together with the download."],
   ["cut signature", "This is part of a signature, not a key. A public key begins with RW."],
   ["key", `This is a public key, not a signature.${BUILT_IN_KEY ? "" : " Paste it into the field for the key."}`],
   ["PGP", "This is a PGP key or signature, which this page cannot verify. The name of a Minisign signature ends in .minisig, and a " +
@@ -88,8 +88,8 @@ const NO_KEY_IN_ADDRESS = "No public key: the link to this page has no key of 56
 const OTHER_KEY_IN_ADDRESS = "The link to this page contains another key or other text, which this page ignores. It accepts only its built-in key.";
 const NO_SIGNATURE_IN_ADDRESS = "The link to this page has no complete signature after sig=. It may have been cut off.";
 const NONE_FITS = "None of this page's signatures is for this file. Do not use the file.";
-const NOT_OF_RELEASE = "The file is not part of this release either: nothing that is built into this page is for it.";
-const UNLISTED = "The file is not one of those that are built into this page. Its signature came with the file or with the link. " +
+const NOT_OF_RELEASE = "The file is not part of this release either.";
+const UNLISTED = "The file is not in the release for which this page was built. Its signature came with the file or with the link. " +
   "The file may be from an older release, or something else that the owner of the key has signed.";
 const BAD_BUILT_IN_LIST = "The list that is built into this page is not valid, so the page cannot verify the files of the release.";
 const NO_KEY_IN_FIELD = "is not a key. Correct that text, or clear the field.";
@@ -123,7 +123,7 @@ const VERDICTS = new Map([
   ["good", ["✓", "Verified", ...["file", "files"].map(each => `You can use the ${each} if ${BUILT_IN_KEY ? "this page" : "the key"} is the project's own.`)]],
 ]);
 
-// What a verification needs, in the order in which the page names what is missing.
+// The parts that are needed to verify a file, in the order in which missingStep lists them.
 const PARTS = ["file", "signature", "public key"];
 
 // Returns the next step if a set of PARTS is missing.

@@ -187,7 +187,7 @@ function showVerdict(download, verdict, source) {
     download.row.dataset.number = number;
   }
   const [, words] = VERDICTS.get(name);
-  const before = verdict.listName === undefined ? "The signature is for a file named" : "The list has this file as";
+  const before = verdict.listName === undefined ? "The signature is for a file named" : "The name of this file in the list is";
   const names = otherNames.map(other => `${before} ${escaped(other)}.`);
   announce(download, [`${words}.`, hasComment ? `The key is ${keyIds.publicKeyId}.` : why, warning, ...names].filter(each => each).join(" "));
   const {action, row} = download;
@@ -254,7 +254,7 @@ function rejectionLines({why, more, number, keyIds}) {
     lines.push(element("p", "", more));
   }
   if (number !== undefined) {
-    lines.push(element("p", "aside", `Message of the library: ${library.errorText(number)}.`));
+    lines.push(element("p", "aside", `Library message: ${library.errorText(number)}.`));
   }
   return lines;
 }

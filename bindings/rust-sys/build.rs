@@ -110,7 +110,9 @@ fn check_dist(root: &str) {
         }
         let line = format!("{}  {name}", hash_by(command, &path));
         if !lines.lines().any(|each| each == line) {
-            fail(format!("{path} is damaged: its SHA-256 hash is not the one in {list}"));
+            fail(format!(
+                "{path} is damaged: its SHA-256 hash is not the one in {list}"
+            ));
         }
     }
 }
@@ -176,7 +178,7 @@ fn build(root: &str) {
         let (triple, path) = (cargo_variable("TARGET"), tool.path().display());
         let suffix = triple.replace('-', "_");
         fail(format!(
-            "{path} does not accept the options of gcc: set CC_{suffix} to gcc or clang for {triple}"
+            "{path} does not accept the options of gcc: set CC_{suffix} to gcc or clang"
         ));
     }
     let has_pages = target("OS") == "linux" && target("POINTER_WIDTH") == "64";

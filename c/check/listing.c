@@ -20,7 +20,7 @@
 
 #define KEY_HINT "use -p PUBKEY to name the public key file, or -P KEY to give the key itself"
 #define SIGNATURE_HINT "use -x SIG to name the signature of the list"
-#define DOWNLOAD_HINT "download the list and its signature again"
+#define DOWNLOAD_LIST_HINT "download the list and its signature again"
 
 /* The content of a file, in memory. */
 struct file_content {
@@ -188,9 +188,9 @@ static _Noreturn void reject_list(const struct listing *listing, const struct ve
     case MINISIGN_OTHER_LIST: hint = "use --any-list if you know that the list was signed under another name"; break;
     case MINISIGN_SIGNATURE_REFUSED:
         file = listing->file;
-        hint = DOWNLOAD_HINT;
+        hint = DOWNLOAD_LIST_HINT;
         break;
-    case MINISIGN_COMMENT_SIGNATURE_REFUSED: hint = DOWNLOAD_HINT; break;
+    case MINISIGN_COMMENT_SIGNATURE_REFUSED: hint = DOWNLOAD_LIST_HINT; break;
     default: break;
     }
     describe_error(error, text);

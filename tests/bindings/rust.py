@@ -240,7 +240,7 @@ def check_lists(program, room, minisign):
 # All programs that Debian's cargo runs to build the packed crate and a user's crate. make and objcopy are not among them.
 BUILD_PROGRAMS = ("cargo", "rustc", "gcc", "cc", "ld", "as", "ar", "git", "sh", "sha256sum", "find", "sort", "grep", "xargs", "cut", "dirname")
 WINDOWS, ARM = "x86_64-pc-windows-gnu", "aarch64-unknown-linux-gnu"
-NOT_GNU_ERROR = "cl does not accept the options of gcc: set CC_x86_64_unknown_linux_gnu to gcc or clang for x86_64-unknown-linux-gnu"
+NOT_GNU_ERROR = "cl does not accept the options of gcc: set CC_x86_64_unknown_linux_gnu to gcc or clang"
 # A C compiler that records each call, to show that the environment variables of the crate cc choose it.
 RECORDING = '#!/bin/sh\necho called >> "$0-calls"\nexec gcc "$@"\n'
 DEBIAN_LIBRARIES = "/usr/lib/x86_64-linux-gnu"

@@ -22,9 +22,9 @@ TITLE = "Verify a download of <b>Example & \"others\"</b>"
 # The elements that ask for more than the download, and words about keys, which a project's page must not show.
 KEY_ELEMENTS = ("signature-text", "key-text", "key-remove", "limit-key")
 KEY_WORDS = ("publishes", "website", "documentation", "minisign.pub", ".minisig", "paste", "1.", "2.", "3.")
-UNLISTED = ("The file is not one of those that are built into this page. Its signature came with the file or with the link. The file "
+UNLISTED = ("The file is not in the release for which this page was built. Its signature came with the file or with the link. The file "
             "may be from an older release, or something else that the owner of the key has signed.")
-NOT_OF_RELEASE = "The file is not part of this release either: nothing that is built into this page is for it."
+NOT_OF_RELEASE = "The file is not part of this release either."
 OTHER_KEY = "The link to this page contains another key or other text, which this page ignores. It accepts only its built-in key."
 ZIP, TAR = "app-1.0.zip", "app-1.0.tar.gz"
 

@@ -27,19 +27,19 @@ TEXT = "# a release\n" + "".join(line_of(name, data, kind) for (name, data), kin
     "sha256", "sha512", "blake2b", "sha256", "sha512"))) + 2 * line_of(TWICE, b"twice")
 # Files without signatures that are dropped: the name, the data, and the verdict, the error code and words of the row that the page shows.
 ROWS = (
-    (NEW, FILES[NEW], "good", 0, [f"the list {LIST} has as {NEW}", "signed on 2023-11-14"]),
-    ("app-1.0 (1).zip", FILES[OLD], "good", 0, [f"has as {OLD}"]),
-    (OTHER.rpartition("/")[2], FILES[OTHER], "good", 0, [f"has as {OTHER}"]),
-    (LARGE, FILES[LARGE], "good", 0, [f"has as {LARGE}"]),
-    (EMPTY, b"", "good", 0, [f"has as {EMPTY}"]),
+    (NEW, FILES[NEW], "good", 0, [f"the list {LIST} names {NEW}", "signed on 2023-11-14"]),
+    ("app-1.0 (1).zip", FILES[OLD], "good", 0, [f"names {OLD}"]),
+    (OTHER.rpartition("/")[2], FILES[OTHER], "good", 0, [f"names {OTHER}"]),
+    (LARGE, FILES[LARGE], "good", 0, [f"names {LARGE}"]),
+    (EMPTY, b"", "good", 0, [f"names {EMPTY}"]),
     # An old file under the name of a new one, and a file with another name.
-    (NEW, FILES[OLD], "renamed", 0, [f"has as {OLD}", "is not the one that its name says", "may be an older version"]),
-    ("download", FILES[LARGE], "renamed", 0, [f"has as {LARGE}"]),
-    ("APP-2.0.ZIP", FILES[NEW], "renamed", 0, [f"has as {NEW}"]),
-    (NEW, FILES[NEW] + b"x", "bad", 94, [f"The list is {LIST}.", "not the one that the signed list has under this name"]),
-    (LARGE, FILES[LARGE][:-1], "bad", 94, [f"The list is {LIST}."]),
+    (NEW, FILES[OLD], "renamed", 0, [f"names {OLD}", "Your file has another name", "may be an older version"]),
+    ("download", FILES[LARGE], "renamed", 0, [f"names {LARGE}"]),
+    ("APP-2.0.ZIP", FILES[NEW], "renamed", 0, [f"names {NEW}"]),
+    (NEW, FILES[NEW] + b"x", "bad", 94, [f"List: {LIST}.", "has this file's name, but with other content"]),
+    (LARGE, FILES[LARGE][:-1], "bad", 94, [f"List: {LIST}."]),
     ("other.zip", b"other", "bad", 92, ["neither this file's name nor its content"]),
-    (TWICE, b"twice", "bad", 93, ["has this file's name twice", f"The list is {LIST}, line 8."]),
+    (TWICE, b"twice", "bad", 93, ["has this file's name twice", f"List: {LIST}, line 8."]),
     (TWICE, b"2", "bad", 93, ["has this file's name twice"]),
 )
 
@@ -92,8 +92,8 @@ def check_lists_that_are_not_used(person):
     """A signed file with a malformed line, or whose trusted comment does not name it, is not used as a list, and the page says why."""
     data = person.put(NEW, FILES[NEW])
     for what, how, words in (
-            ("a malformed line", {"text": TEXT + "MD5 (b) = 00\n"}, ["Line 9: ", "It is not a line of a list."]),
-            ("a comment that does not name the list", {"comment": "version:2"}, ["does not name it as a list"]),
+            ("a malformed line", {"text": TEXT + "MD5 (b) = 00\n"}, ["Line 9: ", "This line is malformed"]),
+            ("a comment that does not name the list", {"comment": "version:2"}, ["The trusted comment does not name this list."]),
             ("a list of another name", {"comment": "file:OTHER", "name": LIST}, [])):
         person.begin(person.first.line, data, *put_list(person, **how))
         person.wait_seen("work")
@@ -170,7 +170,7 @@ def check_saved_list(person):
     changed = person.put(LIST, TEXT.encode() + b"\n")
     for files, words in (([path], "is not a signature file"), ([path, signature, *release.paths], "is not a signature file"),
                          ([changed, signature], "cannot be used as a list. This file is not the one that was signed"),
-                         ([*put_list(person, comment="version:2")], "does not name it as a list"),
+                         ([*put_list(person, comment="version:2")], "The trusted comment does not name this list."),
                          ([*put_list(person, TEXT + "x\n")], "Line 9: ")):
         fill(person, release, signatures=files)
         person.click("project-save")

@@ -156,7 +156,7 @@ def check_errors(person):
     for number, words, text in signature_errors(sig, person.sign(data, key="second")):
         person.click("clear")
         person.choose(*person.pair("data", data, text))
-        row = person.only(f"the error {number}", number=number, has=[words, f"Message of the library: {meaning[number]}."])
+        row = person.only(f"the error {number}", number=number, has=[words, f"Library message: {meaning[number]}."])
         said[number] = row.why
     person.same(len(set(said.values())), len(said), f"the number of different messages: {said}")
     # A legacy signature of a file that is too large for the page.

@@ -214,7 +214,8 @@ class _Run:
 
     def _read(self, at: int, size: int, length: "ctypes._Pointer[Any]") -> None:
         """Reads a piece of an open file, which can be any object with a method read."""
-        piece = octets("the result of data.read", cast("IO[bytes]", self.data).read(size))
+        result = cast("IO[bytes]", self.data).read(size)
+        piece = octets("the result of data.read", result)
         if len(piece) > size:
             raise ValueError(f"data.read({size}) returned {len(piece)} bytes")
         ctypes.memmove(at, piece, len(piece))
