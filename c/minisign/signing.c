@@ -1,7 +1,7 @@
 /* SPDX-License-Identifier: MIT */
 /*
  * Signs files: minisign -S. The library hashes the data, returns the messages to sign, and encodes the signature file.
- * libsodium signs the messages with Ed25519. The key is decrypted once. The first signature is verified as minisign -V
+ * libsodium signs the messages with Ed25519. The key is decrypted once. Each signature is verified as minisign -V
  * would do it. Each signature file is replaced in one step.
  */
 #include "signing.h"
@@ -135,7 +135,8 @@ static void verify_signature(const struct options *options, const minisign_state
     exit(STATUS_ERROR);
 }
 
-/* Signs a file. Verifies the signature under `public`, unless it is NULL. */
+/* Signs a file. Verifies the signature under `public` before it is written, because an invalid signature, made by faulty
+ * hardware, can reveal the secret key. */
 static void sign_file(const struct options *options, const char *data_file, const char *signature_file,
                       const minisign_public_key *public)
 {
@@ -154,9 +155,7 @@ static void sign_file(const struct options *options, const char *data_file, cons
     feed_data(&data, &state, options->legacy ? KEEP_BYTES : DIGEST_ONLY);
     hashed = state;
     make_signature(&text, &state, &data, options, &parts);
-    if (public != NULL) {
-        verify_signature(options, &hashed, &text, &data, public);
-    }
+    verify_signature(options, &hashed, &text, &data, public);
     queue_replacement(signature_file, SIGNATURE, text.bytes, text.len);
     close_data(&data);
 }
@@ -167,8 +166,8 @@ int sign_files(const struct options *options)
 
     require_one_line(options->trusted_comment);
     require_one_line(options->comment);
-    /* The first signature is verified under the public key that the options name, otherwise under the public half of
-     * the secret key. Errors in the public key file are reported before the password prompt, as in Minisign. */
+    /* The signatures are verified under the public key that the options name, otherwise under the public half of the
+     * secret key. Errors in the public key file are reported before the password prompt, as in Minisign. */
     if (name_of_public_key(options) != NULL) {
         public = load_public_key(options);
     }
@@ -180,7 +179,7 @@ int sign_files(const struct options *options)
               options->signature_file != NULL ? options->signature_file : join(options->data_file, ".minisig", ""),
               &public);
     for (char *const *file = options->further_files; *file != NULL; file++) {
-        sign_file(options, *file, join(*file, ".minisig", ""), NULL);
+        sign_file(options, *file, join(*file, ".minisig", ""), &public);
     }
     finish_replacements();
     return STATUS_OK;

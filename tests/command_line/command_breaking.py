@@ -12,7 +12,7 @@ from dataclasses import dataclass, replace
 from functools import partial
 
 import faults
-from command_running import DATA, OTHER_PUBLIC_KEY, PLAIN_KEY, PUBLIC_KEY, Programs, put_files
+from command_running import DATA, OTHER_PUBLIC_KEY, PLAIN_KEY, PUBLIC_KEY, Programs, case, put_files
 from faults import TaskFaultRunner, run_concurrently
 from permissions import KEPT, permission_cases
 from running import Skip, expect, read
@@ -95,6 +95,18 @@ class Breaking(TaskFaultRunner, Programs):
         expect(ran.status == 2 and os.strerror(number).encode() in ran.stderr, ran, f"expected {os.strerror(number)}")
 
     # ---- Failures ----
+
+    @case("writes no invalid signature: call {0} of Ed25519 with {1}", *((number, flag) for flag in ("-S", "-Sl") for number in range(1, 7)))
+    def invalid_signatures(self, number, flag):
+        """Signing three files takes six calls of Ed25519. One of them makes an invalid signature. The run fails, and writes only the
+        signature files of the files before."""
+        names = ("one", "two", "three")
+        directory = self.directory(**dict.fromkeys(names, b"data"))
+        ran = self.run_broken(directory, (flag, "-s", PLAIN_KEY, "-m", *names), dict(AT=number, CALLS="crypto_sign_detached", ERRNO=errno.EIO))
+        expect(ran.status == 2 and ran.stderr.endswith(b"Verification would fail with the given public key\n"), ran)
+        expected = [f"{name}.minisig" for name in names[:(number - 1) // 2]]
+        actual = [f"{name}.minisig" for name in names if os.path.exists(f"{directory}/{name}.minisig")]
+        expect(actual == expected, ran, f"it wrote {actual}, expected {expected}")
 
     def failing(self, task, number):
         """Each call of a run fails in turn. The run exits with status 2 and an error, or it writes all of its files. The two files of a
@@ -236,6 +248,7 @@ class Breaking(TaskFaultRunner, Programs):
                 yield f"{task.name}: {what}", run, task, *given
 
         yield "reports that libsodium cannot be initialized", self.reports_failing_libsodium
+        yield from super().cases()
 
         def prepare(directory):
             put_files(directory, replaced_signature.files)

@@ -11,7 +11,8 @@
    Breaking the Nth call. Calls are counted only if BREAK_AT is set:
      BREAK_CALLS     The names of the calls that are counted, separated by spaces. By default, all calls that this library replaces
                      are counted, except the following, which are counted only if they are named: calls that only inspect files,
-                     getrandom, chdir, lseek, pthread_create, `memory` (allocations) and `sodium_init`.
+                     getrandom, chdir, lseek, pthread_create, `memory` (allocations), `sodium_init` and
+                     `crypto_sign_detached`, which then makes a signature that is not valid.
                      A `write` is counted only if it is to a regular file that the program itself has opened.
      BREAK_AT=N      Break call number N, counted from 1. Unless BREAK_SIGNAL, BREAK_ERRNO or BREAK_SHORT is set, the program is
                      killed before the call.
@@ -412,11 +413,21 @@ int getentropy(void *bytes, size_t length)
 ALLOCATES(malloc, (size_t size), (size))
 ALLOCATES(realloc, (void *old, size_t size), (old, size))
 
-/* Only programs that are linked with libsodium call this. */
+/* Only programs that are linked with libsodium call this function and the next one. */
 int sodium_init(void)
 {
     NOTE_CALLER;
     return is_broken_if_named("sodium_init") ? -1 : REAL(sodium_init)();
+}
+
+int crypto_sign_detached(unsigned char *signature, unsigned long long *signature_length, const unsigned char *message,
+                         unsigned long long length, const unsigned char *secret)
+{
+    NOTE_CALLER;
+    int result = REAL(crypto_sign_detached)(signature, signature_length, message, length, secret);
+
+    signature[0] ^= (unsigned char)is_broken_if_named("crypto_sign_detached");
+    return result;
 }
 
 struct dirent *readdir(DIR *entries)
