@@ -16,9 +16,9 @@
     "and a version number that is not below the one that the last installation\n" \
     "recorded beside TARGET.\n" \
     "\n" \
-    "  --first            Install even if no version number from FIELD (see\n" \
-    "                     `--numbering`) is recorded for TARGET, or if the record\n" \
-    "                     was made under another key.\n" \
+    "  --first            Install even if the version record of TARGET is missing or\n" \
+    "                     damaged, contains a number from the other field (see\n" \
+    "                     `--numbering`), or was made under another key.\n" \
     "  --again            Install an update of the recorded version even if a\n" \
     "                     different file is installed.\n" \
     "  --new-key          Ignore a version record that was made under a key that you\n" \
@@ -80,11 +80,11 @@
     "      back the previous file. Run the command again.\n" \
     "  7   `--first` is not given, and the version record of TARGET is missing or\n" \
     "      damaged, or its number is from the other field (see `--numbering`).\n" \
-    "  8   The update has the recorded version number, but a different file is\n" \
-    "      installed, the record does not show that it was written for this update,\n" \
-    "      and `--again` is not given. Possible reasons: the key has signed two\n" \
-    "      updates with this number, an older update was installed with\n" \
-    "      `--roll-back`, or the record contains no digest.\n" \
+    "  8   The update has the recorded version number, but the installed file is\n" \
+    "      different, and `--again` is not given. (If the record contains the digest\n" \
+    "      of this update, the program finishes the installation instead.) Possible\n" \
+    "      reasons: the key has signed two updates with this number, an older update\n" \
+    "      was installed with `--roll-back`, or the record contains no digest.\n" \
     "  9   The update has expired.\n" \
     "  10  The update is already installed. TARGET and its record are unchanged.\n" \
     "      Without `--check`, the installed file was synced to the disk.\n" \
