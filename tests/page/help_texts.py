@@ -51,7 +51,7 @@ def check_wrong_files(person):
     bare = f"{line}\n".encode()
     person.open()
     person.says("introduction", "the first words", "signature", ".minisig", "beside the download", "RW", "website")
-    person.same(person.text_of("introduction").count(". "), 1, "the first words are two sentences")
+    person.same(person.text_of("introduction").count(". "), 2, "the first words are three sentences")
     person.check(person.see("isBefore", "introduction", "key-text"), "the first words stand after the first field")
     for name, data, *words in (("some.file", secret, "secret key"), ("some.file", sig, "is a signature, not a key"),
                                ("cut.pub", b"untrusted comment: x\n" + sig.split(b"\n")[1][:56] + b"\n", "part of a signature"),
