@@ -368,7 +368,7 @@ def failure_of(room, preload, mutant):
     mutants.apply(mutant, copy)
     program = os.path.join(own, "one_call")
     sources = [f"{copy}/c/install/{name}.c" for name in ("installing", "results", "directory")]
-    sources += [f"{copy}/c/shared/{name}.c" for name in ("handles", "permissions", "stages", "streams")]
+    sources += [f"{copy}/c/shared/{name}.c" for name in ("error_words", "handles", "permissions", "stages", "streams")]
     static_library.run_or_fail([needs.compiler_with_libsodium(), "-std=c11", "-pthread", f"-I{copy}/c", f"-I{copy}/include", "-o", program,
                                 f"{HERE}/one_call.c", *sources, f"{room}/out/libminisign.a", "-lsodium"])
     runner = InstallerRunner(program, Signer(own), own)
