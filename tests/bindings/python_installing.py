@@ -49,6 +49,7 @@ HINTS = {
     minisign.DifferentKeyIds: "use the public key of the signer", minisign.DirectoryNotSynced: "run the command again",
     minisign.TooLong: "use --max-size BYTES to accept larger data",
     minisign.LegacyNotAccepted: "have the update signed again, without -l",
+    minisign.MissingTrustedComment: "download or copy the file again",
     **dict.fromkeys((minisign.OlderUpdate, minisign.Expired), "download the latest update"),
     **dict.fromkeys((minisign.SignatureRefused, minisign.CommentSignatureRefused, minisign.OtherSize), DOWNLOAD_AGAIN),
 }
@@ -62,12 +63,12 @@ WORDS = {
     minisign.BadSize: 'the trusted comment has an invalid or repeated field "size:"',
     minisign.OtherSize: "the size of the data is not the one in the trusted comment",
     minisign.RandomSourceFailed: "the system supplied no random bytes",
+    minisign.MissingTrustedComment: "this signature is truncated: it has only 2 of 4 lines",
 }
-# What it prints for malformed keys and signatures.
+# What it prints for malformed keys.
 MALFORMED = {
     minisign.BarePublicKeyLength: "a public key has 56 characters, but this has {length}\nhint: copy the second line of the public key file",
     minisign.BarePublicKeyNotBase64: "this is not a public key: it is not base64\nhint: copy the second line of the public key file",
-    minisign.MissingTrustedComment: "this signature is truncated: it has only 2 of 4 lines\nhint: download or copy the file again",
 }
 HINTS_OF_CAUSES = {
     "this directory does not exist": "create it first",
