@@ -59,8 +59,8 @@ NO_NUMBER = {"version": 'omit --numbering version if the comment has a field "ti
 WORDS = {
     minisign.DifferentKeyIds: "the signature was made with a key that has another key ID",
     minisign.NoNumber: 'the trusted comment has no valid field "{numbering}:"',
-    minisign.BadExpiry: 'the trusted comment has an invalid or repeated field "expires:"',
-    minisign.BadSize: 'the trusted comment has an invalid or repeated field "size:"',
+    minisign.BadExpiry: 'the trusted comment has an invalid or repeated expires: field',
+    minisign.BadSize: 'the trusted comment has an invalid or repeated size: field',
     minisign.OtherSize: "the size of the data is not the one in the trusted comment",
     minisign.RandomSourceFailed: "the system supplied no random bytes",
     minisign.MissingTrustedComment: "this signature is truncated: it has only 2 of 4 lines",

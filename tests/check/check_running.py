@@ -24,7 +24,7 @@ OK, UNUSABLE, MISUSED, REJECTED, DIFFERS, UNLISTED_NAME, MISSING, HAS_UNLISTED =
 MISMATCH = "the digest of this file is not the one in the list"
 NAME_NOT_LISTED = "this file is not in the list"
 TWICE = "this file is in the list twice"
-BAD_NAME = 'a list can only contain relative paths without ".." or special characters'
+BAD_NAME = 'a list can only contain relative paths without .. or special characters'
 NO_SUCH_FILE = "No such file or directory"
 # Errors and hints of the program.
 NOT_REGULAR, ESCAPED = "this is not a regular file", "the list has this name with a backslash, so no file matches it"

@@ -45,14 +45,14 @@ HOLDS_VERSION_ERROR, HOLDS_TIMESTAMP_ERROR = (
 COPY_AGAIN = "download or copy the file again"
 # The text and the hint of the error for data above the limit of --max-size.
 TOO_LARGE_TEXTS = ("the data is larger than the limit", "use --max-size BYTES to accept larger data")
-BAD_EXPIRY_ERROR = error_text("new.sig", "the trusted comment has an invalid or repeated field \"expires:\"")
+BAD_EXPIRY_ERROR = error_text("new.sig", "the trusted comment has an invalid or repeated expires: field")
 NO_EXPIRY_ERROR = error_text("new.sig", "the trusted comment does not say when the update expires")
 NO_TIMESTAMP_ERROR, NO_VERSION_ERROR = (
     error_text("new.sig", f'the trusted comment has no valid field "{label}:"', hint) for label, hint in (
         ("timestamp", 'use --numbering version if the comment has a field "version:"'),
         ("version", 'omit --numbering version if the comment has a field "timestamp:"')))
 SIZE_ERROR = error_text("new", "the size of the data is not the one in the trusted comment", DOWNLOAD_AGAIN)
-BAD_SIZE_FIELD_ERROR = error_text("new.sig", "the trusted comment has an invalid or repeated field \"size:\"")
+BAD_SIZE_FIELD_ERROR = error_text("new.sig", "the trusted comment has an invalid or repeated size: field")
 
 # Fields of a trusted comment: the update has not expired, and the size of NEW_DATA.
 UNEXPIRED_FIELD = "\texpires:99999999999"

@@ -1,5 +1,5 @@
--- The assumptions of the law of a signature scheme: lists of bytes, and the random bytes for a
--- signature.
+-- What the laws of a signature scheme assume about its arguments: they are lists of bytes, and the
+-- random bytes for a signature are 64 bytes.
 use Rattle.std.specs.Prelude.{◌≡◌, ℕ, ◌<◌, List, Option, length, slice_index, IfSome}
 
 -- Each element of the list is a byte.

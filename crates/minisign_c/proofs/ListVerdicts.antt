@@ -92,7 +92,9 @@ module _ (accepts : Verifier) (v : PublicKeyValue) (sig_text text : List ℕ) (n
         none ∙ of_strict (is_strict_text v u) _ (subst (λ (k : ℕ). 0 < k) none some)
     of_asked (Err e) is some = rw is refl
 
-    -- If asking fails, the verdict on the list has the same error number.
+    -- If `minisign_list_ask_any` fails for another reason than misuse, so that Ed25519 is not called, the
+    -- verdict on the list under the strict scheme (which rejects weak keys and signatures) has the same error
+    -- number.
     pub unasked_list : (n : ℕ) → is_public_key v ≡ true → n ≡ asking_list_number v sig_text t room → 0 < n
         → n ≡ strict_read v (read_under v false sig_text) (list_verdict_number strict_list)
     unasked_list n public is some =
@@ -103,8 +105,8 @@ module _ (accepts : Verifier) (v : PublicKeyValue) (sig_text text : List ℕ) (n
         (WrongUse PublicKeyNotRead)))) public in
         returned ∙ of_asked (read_under v false sig_text) refl (subst (λ (k : ℕ). 0 < k) returned some)
 
-  -- If neither the key nor a signature is weak, the number of the strict verdict on the list is that of the
-  -- scheme's verdict.
+  -- If neither the key nor a signature is weak, the verdict on the list under the strict scheme has the same
+  -- number as the verdict under the scheme itself.
   pub strict_list_number : (t : SignatureTextRecord) → read_under v false sig_text ≡ Ok t
       → is_strict_text v t ≡ true
       → list_verdict_number (list_verdict_under accepts v sig_text name text)

@@ -8,9 +8,9 @@ use Rattle.minisign.specs.Reading.{ReadsWhole}
 use Rattle.minisign_lists.specs.declared.faults.ListFault.{ListFault}
 use Rattle.minisign_lists.specs.declared.faults.ListFault.TheVariants.{Library}
 
--- The function verdict gives the verdict on any data. The answer is the verdict on the download,
--- which was read to its end; or nothing was read, because the answer is the verdict on all data; or
--- reading failed.
+-- The function verdict gives the verdict on any data. Either the download was read to its end, and
+-- the answer is the verdict on it; or nothing was read, and the answer is the verdict that any data
+-- would get (for example, because the list is not signed); or reading failed.
 abbrev pub IsDownloadVerdict : {R : Type 0} → SourceOf R → R → R → (List ℕ → Result (List ℕ) ListFault)
     → Result (List ℕ) ListFault → Type 0
 IsDownloadVerdict source old new verdict answer =

@@ -32,15 +32,17 @@ use Rattle.minisign_external.specs.declared.state.Misuse.TheVariants.{Unreadable
 use Rattle.minisign_external.specs.declared.state.Refusal.{Refusal}
 use Rattle.minisign_external.specs.declared.state.Refusal.TheVariants.{WrongUse, Refused}
 
--- The signature box of two signatures, with a key ID and comments.
+-- The signature of the data, as the caller's scheme made it, with the key ID.
 abbrev pub answered_signature : List ℕ → List ℕ → SignatureRecord
 answered_signature key_id first =
     record { algorithm = prehashed_algorithm; keynum = key_id; signature = first }
 
+-- The comments, with the signature that the caller's scheme made of the trusted comment.
 abbrev pub answered_comments : ChosenComments → List ℕ → CommentsRecord
 answered_comments chosen second =
     record { untrusted = chosen.untrusted; trusted = chosen.trusted; signature = second }
 
+-- The signature file that consists of these two.
 abbrev pub answered_box : List ℕ → ChosenComments → List ℕ → List ℕ → SignatureBoxRecord
 answered_box key_id chosen first second =
     record { signature = answered_signature key_id first; comments = Some (answered_comments chosen second) }
@@ -156,8 +158,8 @@ IsWritingNumber v chosen first second bytes n =
 abbrev pub joined : List (Bor (List ℕ)) → List ℕ
 joined pieces = flat_map (λ piece. piece.now) pieces
 
--- The first len bytes of the buffer are the signature file of the two signatures that the scheme makes of a
--- message with an open key.
+-- The first len bytes of the buffer are the signature file of the message that the library makes itself, with
+-- an open key: it calls the scheme for both signatures.
 abbrev pub HoldsOwnText : {S : Type 0} → SchemeOf S → S → SecretKeyValue → ChosenComments → List ℕ → List ℕ
     → ℕ
     → Type 0

@@ -19,8 +19,9 @@ use Rattle.minisign_install.proofs.StepSafety.{Passed}
 abbrev NoRecord : Snapshot → Type 0
 NoRecord m = m.record_file ≡ None
 
--- When this operation is due, these temporary files do not exist: both, or only that of the record. With ⊤,
--- both may exist.
+-- The temporary files that cannot exist when this operation is due. For some operations neither the one of the
+-- data nor the one of the record exists. For others only the one of the record is known not to exist. ⊤ says
+-- nothing: both may exist.
 abbrev Lacks : Operation → Snapshot → Type 0
 Lacks due.CopyData m = NoRecord m
 Lacks due.ReadBack m = NoRecord m

@@ -37,13 +37,13 @@ install_row KeptByVersion =
     row 54 Io (codes "the version record holds a version, not a timestamp")
 install_row Expired = row 55 Verify (codes "the update has expired")
 install_row BadExpiry =
-    row 56 Verify (codes "the trusted comment has an invalid or repeated field expires:")
+    row 56 Verify (codes "the trusted comment has an invalid or repeated expires: field")
 install_row SameNumber =
     row 57 Verify (codes "this version is already recorded, but the installed file is different")
 install_row NoExpiry = row 58 Verify (codes "the trusted comment does not say when the update expires")
 install_row BadSize =
-    row 59 Verify (codes "the trusted comment has an invalid or repeated field size:")
-install_row OtherSize = row 60 Verify (codes "the data does not have the signed size")
+    row 59 Verify (codes "the trusted comment has an invalid or repeated size: field")
+install_row OtherSize = row 60 Verify (codes "the size of the data is not the one in the trusted comment")
 
 -- The number of an error. An error of the library keeps its number.
 abbrev pub install_number : InstallFault → ℕ

@@ -138,7 +138,7 @@ impl InstallFault {
             BadExpiry => &(
                 56,
                 Verify,
-                "the trusted comment has an invalid or repeated field expires:",
+                "the trusted comment has an invalid or repeated expires: field",
             ),
             SameNumber => &(
                 57,
@@ -153,9 +153,13 @@ impl InstallFault {
             BadSize => &(
                 59,
                 Verify,
-                "the trusted comment has an invalid or repeated field size:",
+                "the trusted comment has an invalid or repeated size: field",
             ),
-            OtherSize => &(60, Verify, "the data does not have the signed size"),
+            OtherSize => &(
+                60,
+                Verify,
+                "the size of the data is not the one in the trusted comment",
+            ),
         })
     }
 }

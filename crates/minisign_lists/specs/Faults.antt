@@ -35,11 +35,11 @@ checked (Err e) = Err e
 abbrev pub list_row : ListFault → FaultRow
 list_row (Library fault) = row (fault_number fault) (kind_of fault) (text_of fault)
 list_row OtherList = row 89 Verify (codes "the trusted comment does not name the list")
-list_row BadName = row 90 Misc (codes "no list can contain this name")
+list_row BadName = row 90 Misc (codes "a list can only contain relative paths without .. or special characters")
 list_row (MalformedLine line) = row 91 Misc (codes "a line of the list is malformed")
-list_row NotListed = row 92 Verify (codes "no line of the list has this name")
-list_row (ListedTwice line) = row 93 Verify (codes "two lines of the list have this name")
-list_row DigestMismatch = row 94 Verify (codes "the data does not have the listed digest")
+list_row NotListed = row 92 Verify (codes "the list does not contain this name")
+list_row (ListedTwice line) = row 93 Verify (codes "the list contains this name twice")
+list_row DigestMismatch = row 94 Verify (codes "the digest of the data is not the one in the list")
 
 -- The number of an error.
 abbrev pub list_number : ListFault → ℕ

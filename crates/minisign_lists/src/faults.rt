@@ -87,11 +87,19 @@ impl ListFault {
         Ok(match self {
             Library(fault) => return Err(fault),
             OtherList => &(89, Verify, "the trusted comment does not name the list"),
-            BadName => &(90, Misc, "no list can contain this name"),
+            BadName => &(
+                90,
+                Misc,
+                "a list can only contain relative paths without .. or special characters",
+            ),
             MalformedLine { line: _ } => &(91, Misc, "a line of the list is malformed"),
-            NotListed => &(92, Verify, "no line of the list has this name"),
-            ListedTwice { line: _ } => &(93, Verify, "two lines of the list have this name"),
-            DigestMismatch => &(94, Verify, "the data does not have the listed digest"),
+            NotListed => &(92, Verify, "the list does not contain this name"),
+            ListedTwice { line: _ } => &(93, Verify, "the list contains this name twice"),
+            DigestMismatch => &(
+                94,
+                Verify,
+                "the digest of the data is not the one in the list",
+            ),
         })
     }
 }

@@ -21,8 +21,8 @@ use std::alloc::Global;
 
 /// Verifies all the unread data of `data_reader` with the public key of 42 bytes in `pk_file` and
 /// the signature of 74 bytes in `sig_file`; later bytes of both are ignored. Both files are read
-/// whole, the key first, before the data is read. Writes the warning, and after it the status line
-/// or the line of an error, to `errors`. Returns the exit status: 0 if the signature is valid,
+/// whole, the key first, before the data is read. Writes to `errors` the warning that the toy scheme is
+/// not secure, and after it the status line or the line of an error. Returns the exit status: 0 if the signature is valid,
 /// otherwise 1.
 pub fn run_verify_raw<S: Scheme, P: Source, Q: Source, R: Rereader, W: Sink>(
     alloc: Global,
@@ -94,8 +94,9 @@ pub fn verify_raw<S: Scheme, R: Rereader, W: Sink>(
     data_reader: &mut R,
     errors: &mut W,
 ) -> Result<()>
-    // On success, the bytes begin with a public key and a bare signature of a known algorithm, and
-    // the signature is valid for the digest of all the unread data. Legacy signatures are rejected.
+    // On success, `key` begins with a public key, `signature` begins with a bare signature of a known
+    // algorithm, and the signature is valid for the digest of all the unread data. Legacy signatures are
+    // rejected.
     ensures accepted { OnOk result ((message : List ℕ)
         × ReadsWhole R.Source data_reader.old data_reader.new message
         × VouchesRaw (S.accepts scheme.now) key.now signature.now message) }

@@ -50,8 +50,8 @@ fn verifies_as_expected(rt: &HostRuntime, row: &(&str, &str, Outcome)) -> bool {
     gives_comment(&answer, "t", expected)
 }
 
-// The text of a secret key, empty for an encrypted key that was generated; the file to sign; the
-// number of random bytes; and the expected outcome.
+// The text of a secret key, or an empty text for an encrypted key that the test generates; the file
+// to sign; the number of random bytes that the random source returns; and the expected outcome.
 type Signed = (&'static str, &'static str, usize, Outcome);
 
 // An encrypted key is rejected before any file is opened.

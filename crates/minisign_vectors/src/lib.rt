@@ -1,6 +1,6 @@
-//! Tests that no request to `minisign_compare` can describe: calls that no request makes, devices
-//! that fail in other ways, failed allocations, and example callers. All other tests of the library
-//! are rows of the tables in `tests/rows/`. The calls for a scheme outside the library are tested
+//! Tests of the library that `tests/rows/` cannot contain, because the requests to
+//! `minisign_compare` cannot express them: calls for which there is no request, devices that fail at a
+//! chosen call, failed allocations, and example callers. The calls for a scheme outside the library are tested
 //! from C in `tests/c`, and installing is tested on real files by `tests/installer`.
 //!
 //! Each expected value comes from outside: from a standard, from Python's hashlib, from the

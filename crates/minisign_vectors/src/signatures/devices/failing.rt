@@ -1,7 +1,8 @@
-//! Tests of devices of which one call fails and later calls succeed, which no request to
-//! `minisign_compare` can describe. Each device of each call fails at each of its calls in turn,
-//! until a run has no error. `tests/rows/failing_devices.py` has data that fails at a read, for
-//! `sign`, `verify` and `verify_texts`.
+//! Tests of devices (sources, sinks, prompts and random sources) of which one operation fails and
+//! later operations succeed, which no request to `minisign_compare` can describe. For each call of
+//! the library, each of its devices fails at its first operation, then at its second one, and so on,
+//! until the call succeeds. `tests/rows/failing_devices.py` has data that fails at a read, for `sign`,
+//! `verify` and `verify_texts`.
 
 use crate::keys::sealed::calls::{OpeningCall, opened};
 use crate::signatures::calls::{
@@ -50,8 +51,9 @@ const ZEROS: [u8; 128] = [0; 128];
 // A number of calls that is never reached.
 const ALL: usize = 1000;
 
-// Returns true if verifying `abc` by both calls fails with `GoingBackFailed` when the data fails
-// after this number of calls, with this many status bytes, no copy, and these bytes unread.
+// Returns true if both `verify_texts` and `verify` fail with `GoingBackFailed` for the data `abc`, of
+// which the operation after this number of operations fails. Then this many status bytes were
+// written, no data was copied, and these bytes are unread.
 fn cannot_go_back(alloc: Global, calls: usize, status_lines: usize, left: &[u8]) -> bool {
     let expected_result = Expected {
         outcome: Refused(GoingBackFailed),

@@ -45,7 +45,8 @@ fn signed(alloc: Global, sk_text: &str) -> Result<bool> {
     has_text(text, SIGNATURE_TEXT)
 }
 
-// Makes a box with a public key to test and with the default comments.
+// Signs `abc` with key A at the time 7, with the default comments, and verifies the signature under
+// the public key before returning it.
 fn made_by_default(alloc: Global) -> Result<SignatureBox> {
     let secret = key_a()?;
     let public = PublicKey::from_secret_key(&secret)?;
@@ -54,7 +55,7 @@ fn made_by_default(alloc: Global) -> Result<SignatureBox> {
     signed_from(alloc, Some(&public), &secret, &mut data, &mut random, 7)
 }
 
-// Returns true if the text of a copy of such a box has its comments.
+// Returns true if a copy of this signature box, written as text, has the default trusted comment.
 fn made(alloc: Global) -> Result<bool> {
     let made = made_by_default(alloc)?;
     let text = copy_text(alloc, &made)?;
