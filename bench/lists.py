@@ -39,35 +39,35 @@ def make_files(directory, sizes):
         yield f"f{number}", data
 
 
-def make_list(room, minisign, name, function):
+def make_list(scratch, minisign, name, function):
     """Makes the files of a job and their signed list, and returns their directory."""
-    directory = os.path.join(room, f"{name}-{function}")
+    directory = os.path.join(scratch, f"{name}-{function}")
     os.mkdir(directory)
     lines = [f"{hashlib.new(function, data).hexdigest()}  {file}\n" for file, data in make_files(directory, SIZES[name])]
     if name == "long":
         lines += [f"{hashlib.new(function, b'%d' % number).hexdigest()}  name-{number}\n" for number in range(100_000)]
     with open(os.path.join(directory, LIST), "w", encoding="ascii") as file:
         file.write("".join(lines))
-    timed([[minisign, "-S", "-s", f"{room}/key.key", "-m", LIST, "-t", f"file:{LIST}"]], directory)
+    timed([[minisign, "-S", "-s", f"{scratch}/key.key", "-m", LIST, "-t", f"file:{LIST}"]], directory)
     return directory
 
 
 def main():
     minisign = installed(needs.minisign)
-    with tempfile.TemporaryDirectory() as room:
-        ours = os.path.realpath(sys.argv[1]) if len(sys.argv) > 1 else os.path.join(room, "out", "minisign-check")
+    with tempfile.TemporaryDirectory() as scratch:
+        ours = os.path.realpath(sys.argv[1]) if len(sys.argv) > 1 else os.path.join(scratch, "out", "minisign-check")
         if len(sys.argv) < 2:
             needs.compiler_with_libsodium()
-            static_library.run_make(f"OUT={room}/out", ours)
-        timed([[minisign, "-GW", "-p", "key.pub", "-s", "key.key"]], room)
+            static_library.run_make(f"OUT={scratch}/out", ours)
+        timed([[minisign, "-GW", "-p", "key.pub", "-s", "key.key"]], scratch)
         print("| Job | `minisign -V` and `sha256sum -c` | `minisign-check` | Ratio | Ratio of elapsed times | Peak memory |")
         print("|---|---|---|---|---|---|")
         for name, function, tool, flags in (("one", "sha256", "sha256sum", []), ("one", "blake2b", "b2sum", ["--blake2b"]),
                                             ("one", "sha512", "sha512sum", []), ("eight", "sha256", "sha256sum", []),
                                             ("many", "sha256", "sha256sum", []), ("long", "sha256", "sha256sum", ["--listed"])):
-            directory = make_list(room, minisign, name, function)
-            theirs = [[minisign, "-Vq", "-p", f"{room}/key.pub", "-m", LIST], [tool, "--strict", "--ignore-missing", "-c", LIST]]
-            both = ((theirs, their_times := []), ([[ours, "-p", f"{room}/key.pub", *flags, LIST]], own_times := []))
+            directory = make_list(scratch, minisign, name, function)
+            theirs = [[minisign, "-Vq", "-p", f"{scratch}/key.pub", "-m", LIST], [tool, "--strict", "--ignore-missing", "-c", LIST]]
+            both = ((theirs, their_times := []), ([[ours, "-p", f"{scratch}/key.pub", *flags, LIST]], own_times := []))
             for _ in range(ROUNDS):
                 for commands, times in both:
                     times.append(timed(commands, directory))

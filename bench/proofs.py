@@ -95,10 +95,10 @@ def main(words):
     if why:
         print(f"a library is not proved: {why}")
         return 1
-    with tempfile.TemporaryDirectory(prefix="proofs-") as room:
+    with tempfile.TemporaryDirectory(prefix="proofs-") as scratch:
         with ProcessorTimes() as times:
-            ran = proved.rattle("check", crate, f"{proved.ROOT}/crates/{crate}", "--incremental", room, *flags)
-        by_name = costs(modules(room, times))
+            ran = proved.rattle("check", crate, f"{proved.ROOT}/crates/{crate}", "--incremental", scratch, *flags)
+        by_name = costs(modules(scratch, times))
     for name, parts in sorted(by_name.items(), key=lambda value: -sum(value[1].values()))[:rows]:
         shown = ", ".join(f"{part} {seconds:.1f}" for part, seconds in parts.most_common(4) if seconds >= 0.1)
         print(f"{sum(parts.values()):7.1f}  {name}: {shown}")

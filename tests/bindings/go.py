@@ -105,9 +105,9 @@ class Go:
 
     OPTIMIZED = {"CGO_CFLAGS": "-g -O2"}
 
-    def __init__(self, room, **environment):
+    def __init__(self, scratch, **environment):
         self.go = needs.program("go", "golang-go")
-        self.environment = {"GOPROXY": "off", "GOFLAGS": "", "GOCACHE": f"{room}/cache", "GOPATH": f"{room}/path", "GOGC": "off",
+        self.environment = {"GOPROXY": "off", "GOFLAGS": "", "GOCACHE": f"{scratch}/cache", "GOPATH": f"{scratch}/path", "GOGC": "off",
                             "GOTOOLCHAIN": "local", "CGO_ENABLED": "1", "CC": needs.c_compiler(), "CGO_CFLAGS": "-O0",
                             "PATH": static_library.path_without_kit(), **environment}
 
@@ -154,10 +154,10 @@ def fields_line(fields):
     return " ".join([*(key_id.hex() for key_id in ids), *map(shared_cases.key_id_text, ids), "Ed" if fields.is_legacy else "ED"])
 
 
-def compare_results(program, room, minisign, cases):
+def compare_results(program, scratch, minisign, cases):
     """Checks all results of a program that verifies. For data in pieces, legacy signatures are rejected."""
     rejection = lambda name: rf'rejected {name} "minisign: .*"'
-    program.check_verdicts(minisign, cases, (["verify"], True), (["files", room], True),
+    program.check_verdicts(minisign, cases, (["verify"], True), (["files", scratch], True),
                         *((["pieces", str(length)], False) for length in (1, 128, 1000, 0)))
     program.check_vectors(["verify"], rejection)
     program.check_errors(["pieces", "7"], shared_cases.rejected_cases(), rejection)
@@ -182,11 +182,11 @@ def check_changed(checks, program):
         checks.check((verdict, error) == expected, f"changed, {name}: {verdict}, {error}, expected {expected}")
 
 
-def check_go_minisign(checks, go, room, program):
+def check_go_minisign(checks, go, scratch, program):
     """Checks that go-minisign has the same verdicts on cases, and on fields that the caller changed, except for those in the tables, and
     that each row of the tables is needed."""
     cases = shared_cases.corpus() + shared_cases.damaged_cases(DAMAGED_COUNT) + [case for case, _ in shared_cases.vector_files()]
-    go_minisign = Program(checks, go.build_with_go_minisign("verdicts.go", f"{room}/verdicts"))
+    go_minisign = Program(checks, go.build_with_go_minisign("verdicts.go", f"{scratch}/verdicts"))
     ours, theirs = (each.run("verify", cases=cases)[1].decode().splitlines() for each in (program, go_minisign))
     checks.check(len(ours) == len(theirs) == len(cases) > DAMAGED_COUNT, f"{len(ours)} and {len(theirs)} verdicts on {len(cases)} cases")
     differences = set()
@@ -197,7 +197,7 @@ def check_go_minisign(checks, go, room, program):
             differences.add(why)
             checks.check(why in table and table[why](case), f"{case.name}: this module: {our_line}; go-minisign: {their_line}")
     checks.check(differences == {*REJECTED_ONLY_HERE, *REJECTED_ONLY_BY_GO_MINISIGN}, f"go-minisign differs in {differences}")
-    rows = verdicts(go.build_with_go_minisign("changed.go", f"{room}/their"))
+    rows = verdicts(go.build_with_go_minisign("changed.go", f"{scratch}/their"))
     checks.check(len(rows) >= 28, f"only {len(rows)} changes with go-minisign")
     for name, why, verdict, _ in rows:
         expected = "false" if why and name not in ACCEPTED_BY_GO_MINISIGN else "true"
@@ -210,24 +210,24 @@ def check_errors(program):
     program.checks.check(len(output) == 1000 and len(names) > 50, f"{len(output)} numbers of errors")
     for number, line in enumerate(output):
         name = names.get(number)
-        wanted = f'{number} "{name}" true minisign: {shared_cases.error_texts()[name]}' if name else f'{number} "" true '
-        program.checks.check(line == wanted if name else line.startswith(wanted), f"the error {number}: {line}")
+        expected = f'{number} "{name}" true minisign: {shared_cases.error_texts()[name]}' if name else f'{number} "" true '
+        program.checks.check(line == expected if name else line.startswith(expected), f"the error {number}: {line}")
 
 
-def check_lists(program, room, minisign):
+def check_lists(program, scratch, minisign):
     """Checks the results of a program that verifies files with signed lists."""
     program.check_lists(minisign, spell_boolean=lambda is_true: str(is_true).lower())
-    program.check_pairs(24, "files", room)
+    program.check_pairs(24, "files", scratch)
 
 
-def check_signing(program, room, minisign, decrypts=True):
+def check_signing(program, scratch, minisign, decrypts=True):
     """Checks that the program and `c/minisign` can read each other's keys and signatures, that a key does not print its secret and is
     cleared, and that nil arguments are rejected."""
     program.check_pairs(20, "shown")
     program.check_pairs(9, "wrong")
-    shared_cases.check_signing(program, room, minisign, decrypts=decrypts)
-    shared_cases.check_key_ids(program, os.path.join(room, "ids"), minisign)
-    shared_cases.check_new_key_files(program, os.path.join(room, "written"))
+    shared_cases.check_signing(program, scratch, minisign, decrypts=decrypts)
+    shared_cases.check_key_ids(program, os.path.join(scratch, "ids"), minisign)
+    shared_cases.check_new_key_files(program, os.path.join(scratch, "written"))
 
 
 # The file of tests/corpus that is copied to `app`; true if its published signature is there; and the status, output and error of the example
@@ -236,10 +236,10 @@ README_CASES = [("test", True, 0, "trusted comment: timestamp:1556193335\tfile:t
             ("hello", True, 1, "", "Signature verification failed"), ("test", False, 1, "", "no such file or directory")]
 
 
-def check_readme(checks, go, room, package, minisign):
+def check_readme(checks, go, scratch, package, minisign):
     """Checks the examples of README.md, each pasted into a file of a user's module: they compile; accept a file that the key has signed,
     and reject another one; generate a key, sign with it, and verify a stream."""
-    directory = os.path.join(room, "readme")
+    directory = os.path.join(scratch, "readme")
     os.makedirs(directory)
     for number, example in enumerate(shared_cases.readme_blocks("go")):
         write(directory, f"example{number}.go", example.encode())
@@ -290,32 +290,32 @@ def check_own_tests(checks, go, package):
         checks.check(output.count("--- PASS: ") >= 6 and "--- SKIP" not in output, f"go test {words}: {output[-500:]}")
 
 
-def check_as_c(checks, go, room, package, minisign):
+def check_as_c(checks, go, scratch, package, minisign):
     """Checks the module with the proved functions as C: here, for 32-bit ARM, and for Windows under wine."""
-    windows, mingw = portable.Windows(room), needs.program("x86_64-w64-mingw32-gcc", "gcc-mingw-w64-x86-64")
+    windows, mingw = portable.Windows(scratch), needs.program("x86_64-w64-mingw32-gcc", "gcc-mingw-w64-x86-64")
     arm = next(kind for kind in portable.KINDS if kind.debian == "armhf")
     for what, before, words, environment in (
             ("as C", [], ["-tags", "portable"], {}),
             ("for ARM", emulated.emulator(arm), UNOPTIMIZED, {"GOOS": "linux", "GOARCH": "arm", "CC": emulated.compiler(arm)}),
             ("for Windows", [windows.program], UNOPTIMIZED, {"GOOS": "windows", "CC": mingw})):
-        program = go.build("answers.go", os.path.join(room, what.replace(" ", "-")), package, *words, **environment)
+        program = go.build("answers.go", os.path.join(scratch, what.replace(" ", "-")), package, *words, **environment)
         asked = Program(checks, *before, program, name=what, **windows.variables)
         asked.check_verdicts(minisign, shared_cases.corpus(), (["verify"], True))
         is_as_c = what == "for Windows" or "machine_minisign_update" in symbols_of(program)
         checks.check(is_as_c, f"{what}: it is not built from dist/calls.c")
     windows.end()
-    signing = go.build("signing.go", os.path.join(room, "signing-as-c"), package, "-tags", "portable")
-    check_signing(Program(checks, signing, name="as C"), os.path.join(room, "signed-as-c"), minisign, decrypts=False)
+    signing = go.build("signing.go", os.path.join(scratch, "signing-as-c"), package, "-tags", "portable")
+    check_signing(Program(checks, signing, name="as C"), os.path.join(scratch, "signed-as-c"), minisign, decrypts=False)
 
 
-def check_by_git(checks, room):
+def check_by_git(checks, scratch):
     """Checks that a program can depend on the commit that packaging/tag.sh makes, by a git path of `example.com` and its tag or its commit,
     in a path with spaces, with few programs in PATH and no make. It is linked with the archives. A commit without a tag does not have the C
     files, and cannot be built."""
-    clone, repository = commands.Clone(room), os.path.join(room, "repository.git")
+    clone, repository = commands.Clone(scratch), os.path.join(scratch, "repository.git")
     os.rename(clone.top, repository)
-    config = write(room, "gitconfig", f'[url "file://{room}/"]\n\tinsteadOf = https://example.com/\n'.encode())
-    go = Go(room, PATH=shared_cases.make_path_directory(room, *NEEDED), GIT_CONFIG_GLOBAL=config, GOSUMDB="off",
+    config = write(scratch, "gitconfig", f'[url "file://{scratch}/"]\n\tinsteadOf = https://example.com/\n'.encode())
+    go = Go(scratch, PATH=shared_cases.make_path_directory(scratch, *NEEDED), GIT_CONFIG_GLOBAL=config, GOSUMDB="off",
             GOFLAGS="-mod=mod -modcacherw", GOPROXY="direct")
     untagged, files = (clone.git("rev-parse", "HEAD", at=repository).strip(), clone.git("ls-files", at=repository))
     write(repository, ".git/config", read(repository, ".git/config") + b"[user]\n\tname = Ann\n\temail = ann@example.com\n")
@@ -329,33 +329,33 @@ def check_by_git(checks, room):
     status, output = process.run(["sh", "packaging/tag.sh"], repository)
     checks.check(status == 1 and "there is a tag" in output, f"a second tag: status {status}: {output}")
     for version in (commit, f"v{shared_cases.VERSION}"):
-        directory = os.path.join(room, f"a user's module at {version}")
+        directory = os.path.join(scratch, f"a user's module at {version}")
         program = go.build("answers.go", directory, f"example.com/repository.git/bindings/go@{version}")
         output = Program(checks, program).run("verify", cases=shared_cases.corpus()[:1])[1]
         has_archive = "machine_minisign_update" not in symbols_of(program)
         checks.check(output.startswith(b"accepted") and has_archive, f"by a git path at {version}: {output!r}")
     try:
-        go.build("answers.go", os.path.join(room, "without a tag"), f"example.com/repository.git/bindings/go@{untagged}")
+        go.build("answers.go", os.path.join(scratch, "without a tag"), f"example.com/repository.git/bindings/go@{untagged}")
         checks.check(False, "a commit without a tag can be built")
     except static_library.NotBuilt as why:
         checks.check("archive.h" in str(why), f"a commit without a tag: {why}")
 
 
-def check_without_cgo(checks, go, room, package):
+def check_without_cgo(checks, go, scratch, package):
     """Checks that a build without cgo first prints a sentence that says so, and that the sentence comes from cgo_needed.go."""
     environment = {**go.environment, "CGO_ENABLED": "0"}
     error_of = lambda directory: (run([go.go, "build", "."], directory, environment)[2].splitlines() + ["", ""])[1]
     checks.check(NO_CGO in error_of(package), f"without cgo: {error_of(package)}")
-    bare = os.path.join(room, "without-sentence")
+    bare = os.path.join(scratch, "without-sentence")
     shutil.copytree(package, bare)
     os.remove(os.path.join(bare, "cgo_needed.go"))
     checks.check(NO_CGO not in error_of(bare), "without cgo: the sentence is in another file")
 
 
-def with_compiled_c(go, package, room):
+def with_compiled_c(go, package, scratch):
     """Returns a copy of the package whose C files are already compiled into an object that go links. The mutants are in Go files, so C need
     not be compiled for each."""
-    copied = shutil.copytree(package, os.path.join(room, "with-compiled-c"))
+    copied = shutil.copytree(package, os.path.join(scratch, "with-compiled-c"))
     sources = go.run(copied, "list", "-f", '{{join .CFiles " "}}').split()
     static_library.run_or_fail([go.environment["CC"], "-O2", "-I.", "-r", "-nostdlib", "-o", "compiled.syso", *sources], copied)
     for name in sources:
@@ -363,7 +363,7 @@ def with_compiled_c(go, package, room):
     return copied
 
 
-def check_mutants(checks, go, package, room, minisign):
+def check_mutants(checks, go, package, scratch, minisign):
     """Checks that programs that use the package detect each mutant."""
     def ask(checks, changed, directory, word):
         build = lambda name: go.build(f"{name}.go", os.path.join(directory, name), changed, "-ldflags=-s -w")
@@ -375,45 +375,45 @@ def check_mutants(checks, go, package, room, minisign):
             compare_results(Program(checks, build("answers")), directory, minisign, shared_cases.corpus())
             check_changed(checks, build("changed"))
 
-    compiled = with_compiled_c(go, package, room)
-    shared_cases.check_mutants(checks, compiled, "bindings/go", mutants_of("bindings", "go", "mutants"), room, ask)
+    compiled = with_compiled_c(go, package, scratch)
+    shared_cases.check_mutants(checks, compiled, "bindings/go", mutants_of("bindings", "go", "mutants"), scratch, ask)
 
 
-def run_all(checks, room):
+def run_all(checks, scratch):
     check_sources(checks)
-    minisign = shared_cases.build_c_minisign(room)
-    package, go = shared_cases.pack_and_unpack("go", room), Go(room)
+    minisign = shared_cases.build_c_minisign(scratch)
+    package, go = shared_cases.pack_and_unpack("go", scratch), Go(scratch)
     check_own_tests(checks, go, package)
 
     def programs(source, name):
         """Builds a program twice: as a user builds it, and with the race detector."""
         ways = ("", [], Go.OPTIMIZED), ("-racing", ["-race", *UNOPTIMIZED], {})
-        paths = [go.build(source, os.path.join(room, name + what), package, *words, **environment) for what, words, environment in ways]
+        paths = [go.build(source, os.path.join(scratch, name + what), package, *words, **environment) for what, words, environment in ways]
         return [Program(checks, path, name=os.path.basename(os.path.dirname(path))) for path in paths]
 
     program, racing = programs("answers.go", "answers")
-    checks.check(go.run(os.path.join(room, "answers"), "vet", "./...") == "", "go vet reports problems in a program that uses the module")
-    compare_results(program, room, minisign, shared_cases.all_cases(checks, minisign))
+    checks.check(go.run(os.path.join(scratch, "answers"), "vet", "./...") == "", "go vet reports problems in a program that uses the module")
+    compare_results(program, scratch, minisign, shared_cases.all_cases(checks, minisign))
     check_errors(program)
     few = shared_cases.corpus() + shared_cases.damaged_cases(60)
     program.check_growth(CALLS, CALL_PAGES, few)
     program.check_threads(few)
     racing.check_threads(few)
     signing, racing = programs("signing.go", "signing")
-    check_signing(signing, os.path.join(room, "signed"), minisign)
+    check_signing(signing, os.path.join(scratch, "signed"), minisign)
     signing.check_growth(KEYS, KEY_PAGES)
     signing.check_threads()
     racing.check_threads()
     lists, racing = programs("lists.go", "lists")
-    check_lists(lists, os.path.join(room, "listed"), minisign)
-    racing.check_pairs(24, "files", os.path.join(room, "listed-racing"))
-    check_changed(checks, go.build("changed.go", os.path.join(room, "changed"), package, **Go.OPTIMIZED))
-    check_go_minisign(checks, go, room, program)
-    check_readme(checks, go, room, package, minisign)
-    check_mutants(checks, go, package, room, minisign)
-    check_without_cgo(checks, go, room, package)
-    check_as_c(checks, go, room, package, minisign)
-    check_by_git(checks, room)
+    check_lists(lists, os.path.join(scratch, "listed"), minisign)
+    racing.check_pairs(24, "files", os.path.join(scratch, "listed-racing"))
+    check_changed(checks, go.build("changed.go", os.path.join(scratch, "changed"), package, **Go.OPTIMIZED))
+    check_go_minisign(checks, go, scratch, program)
+    check_readme(checks, go, scratch, package, minisign)
+    check_mutants(checks, go, package, scratch, minisign)
+    check_without_cgo(checks, go, scratch, package)
+    check_as_c(checks, go, scratch, package, minisign)
+    check_by_git(checks, scratch)
 
 
 if __name__ == "__main__":

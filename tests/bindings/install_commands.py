@@ -41,48 +41,48 @@ USERS = {
 }
 
 
-def check_package(checks, package, room):
+def check_package(checks, package, scratch):
     """Checks that each command of a README succeeds, and that the user's program accepts a signed file and rejects another one."""
     described, source, place, program = USERS[package]
     readme = os.path.join("bindings", package, "README.md")
     dependencies = "".join(re.findall(r"^```toml\n(.*?)^```$", read(TOP, readme).decode(), re.M | re.S))
-    os.makedirs(os.path.dirname(os.path.join(room, place)))
-    shutil.copy(os.path.join(HERE, package, source), os.path.join(room, place))
+    os.makedirs(os.path.dirname(os.path.join(scratch, place)))
+    shutil.copy(os.path.join(HERE, package, source), os.path.join(scratch, place))
     for name, text in described.items():
-        write(room, name, (text + dependencies).encode())
-    shutil.copy(shared_cases.PUBLISHED_PATHS[2], os.path.join(room, "app.minisig"))
-    os.symlink(os.path.join("..", CLONE), os.path.join(room, CLONE))
+        write(scratch, name, (text + dependencies).encode())
+    shutil.copy(shared_cases.PUBLISHED_PATHS[2], os.path.join(scratch, "app.minisig"))
+    os.symlink(os.path.join("..", CLONE), os.path.join(scratch, CLONE))
     # C is compiled without optimization, which takes less time.
-    environment = {"PATH": static_library.path_without_kit(), "HOME": room, "GOPROXY": "off", "GOFLAGS": "", "GOTOOLCHAIN": "local",
-                   "CARGO_HOME": f"{room}/.cargo", "CARGO_NET_OFFLINE": "true", "CFLAGS": "-O0", "CGO_CFLAGS": "-O0"}
+    environment = {"PATH": static_library.path_without_kit(), "HOME": scratch, "GOPROXY": "off", "GOFLAGS": "", "GOTOOLCHAIN": "local",
+                   "CARGO_HOME": f"{scratch}/.cargo", "CARGO_NET_OFFLINE": "true", "CFLAGS": "-O0", "CGO_CFLAGS": "-O0"}
     lines = commands.commands_of(readme)
     checks.check(any(line.startswith(f"make -C {CLONE}/bindings {package}") for line in lines), f"{package}: README does not pack it")
     for line in lines:
         if not line.startswith(LEFT_OUT):
-            status, output, errors = run(["sh", "-c", line], room, environment)
+            status, output, errors = run(["sh", "-c", line], scratch, environment)
             checks.check(status == 0, f"{package}: {line}: status {status}: {output.decode(errors='replace')[-500:]}{errors[-800:]}")
     for data, expected in ((b"test", "true\n"), (b"another", "false\n")):
-        write(room, "app", data)
-        status, output, errors = run(["sh", "-c", program], room, environment)
+        write(scratch, "app", data)
+        status, output, errors = run(["sh", "-c", program], scratch, environment)
         is_right = (status, output.decode()) == (0, expected)
         checks.check(is_right, f"{package}: the user's program with the data {data}: {status}, {output}, {errors[-800:]}")
 
 
-def run_all(checks, room):
+def run_all(checks, scratch):
     needs.compiler_with_libsodium()
     for name, package in (("make", "make"), ("ld", "binutils"), ("go", "golang-go"), ("cargo", "cargo"), ("clang", "clang"), ("wasm-ld", "lld")):
         needs.program(name, package)
     needs.rust_compiler()
     needs.node()
     python()
-    clone = commands.Clone(room)
-    os.rename(clone.top, os.path.join(room, CLONE))
+    clone = commands.Clone(scratch)
+    os.rename(clone.top, os.path.join(scratch, CLONE))
     for package in USERS:
         if package == "javascript" and not shutil.which("npm", path=static_library.path_without_kit()):
             print("skipped: the commands for JavaScript: there is no npm")
         else:
-            check_package(checks, package, os.path.join(room, package))
-    changed = clone.git("status", "--porcelain", at=os.path.join(room, CLONE))
+            check_package(checks, package, os.path.join(scratch, package))
+    changed = clone.git("status", "--porcelain", at=os.path.join(scratch, CLONE))
     checks.check(not changed, f"the commands change files in the clone: {changed}")
 
 

@@ -71,15 +71,15 @@ STREAMS = ("aborted", "cancelled", "descriptors", "late", "event", "both", "abse
 VERIFICATION_ERRORS = {8, *range(16, 33), 44, 45, 81}
 
 
-def install(room, page):
+def install(scratch, page):
     """Creates a user's directory with the packed package and the test programs, and returns its path."""
-    user, packing = os.path.join(room, "user"), {"PAGE": page, "CLANG": needs.program("clang", "clang")}
+    user, packing = os.path.join(scratch, "user"), {"PAGE": page, "CLANG": needs.program("clang", "clang")}
     needs.program("wasm-ld", "lld")
     if shutil.which("npm", path=static_library.path_without_kit()) is None:
         print("there is no npm: packing all files that it could take")
         packing["NPM"] = os.path.join(HERE, "javascript", "npm.sh")
     os.makedirs(os.path.join(user, "node_modules"))
-    os.rename(shared_cases.pack_and_unpack("javascript", room, **packing), os.path.join(user, "node_modules", "minisign-proved"))
+    os.rename(shared_cases.pack_and_unpack("javascript", scratch, **packing), os.path.join(user, "node_modules", "minisign-proved"))
     for program in PROGRAMS:
         shutil.copy(program, user)
     return user
@@ -228,13 +228,13 @@ CASES = {"cases": check_cases, "pieces": check_pieces, "read": check_fields, "ar
          "lists": check_lists}
 
 
-def check_signing(checks, user, room, minisign, decrypts=True):
+def check_signing(checks, user, scratch, minisign, decrypts=True):
     """Checks that the program and `c/minisign` can read each other's keys and signatures, that keys do not show their secret and are
     cleared, that arguments of wrong types are rejected and streams closed, and that threads can sign concurrently."""
     program = by_node(checks, user, "signing.mjs")
     program.check_pairs(44, "checks", PUBLISHED_PATHS[1])
     program.check_threads()
-    shared_cases.check_signing(program, room, minisign, takes_limits=False, decrypts=decrypts)
+    shared_cases.check_signing(program, scratch, minisign, takes_limits=False, decrypts=decrypts)
     return program
 
 
@@ -244,33 +244,33 @@ NAMES = ["app", "an app (1) \u00e9.tar.gz", "below/app.zip", "tab\there"]
 KEY_IDS = [0, 1, 0x0F, 0x10, 0xABCDEF0123, 0x0123456789ABCDEF, 0xE7620F1842B4E81F, 2**64 - 1]
 
 
-def check_files(checks, user, room, minisign):
+def check_files(checks, user, scratch, minisign):
     """Checks that default trusted comments and key IDs are those of `c/minisign`, and that a new key file is readable by its owner only and
     replaces no existing file."""
-    os.makedirs(os.path.join(room, "below"))
-    os.makedirs(os.path.join(room, "full"))
-    program, secret = by_node(checks, user, "files.mjs"), os.path.join(room, "key")
-    run([minisign, "-G", "-W", "-s", "key", "-p", "pub"], room)
+    os.makedirs(os.path.join(scratch, "below"))
+    os.makedirs(os.path.join(scratch, "full"))
+    program, secret = by_node(checks, user, "files.mjs"), os.path.join(scratch, "key")
+    run([minisign, "-G", "-W", "-s", "key", "-p", "pub"], scratch)
     for name in NAMES:
-        write(room, name, b"data")
-        run([minisign, "-S", "-s", "key", "-m", name, "-x", "sig"], room)
-        wanted = re.sub(rb"timestamp:\d+", b"timestamp:TIME", read(room, "sig").split(b"\n")[2] + b"\n")
-        status, output, why = program.run("comments", os.path.join(room, name))
-        checks.check((status, output) == (0, wanted), f"the default comment of {name!r}: {output} {why}, expected {wanted}")
+        write(scratch, name, b"data")
+        run([minisign, "-S", "-s", "key", "-m", name, "-x", "sig"], scratch)
+        expected = re.sub(rb"timestamp:\d+", b"timestamp:TIME", read(scratch, "sig").split(b"\n")[2] + b"\n")
+        status, output, why = program.run("comments", os.path.join(scratch, name))
+        checks.check((status, output) == (0, expected), f"the default comment of {name!r}: {output} {why}, expected {expected}")
     program.check_pairs(25, "names")
-    os.makedirs(os.path.join(room, "new"))
-    program.check_pairs(33, "new", os.path.join(room, "new"))
+    os.makedirs(os.path.join(scratch, "new"))
+    program.check_pairs(33, "new", os.path.join(scratch, "new"))
     # With a file size limit of 0, each write fails with EFBIG. Node ignores SIGXFSZ.
-    command = ["sh", "-c", 'ulimit -f 0; exec "$@"', "sh", *program.command, "full", os.path.join(room, "full")]
+    command = ["sh", "-c", 'ulimit -f 0; exec "$@"', "sh", *program.command, "full", os.path.join(scratch, "full")]
     status, output, why = run(command, user, program.environment)
     checks.check((status, output) == (0, b"EFBIG\tEFBIG\n\t\n"), f"a new file that cannot be written: {status} {output} {why}")
     record = record_of(read(secret))
     for number in KEY_IDS:
-        path = write(room, "other", text_of(record[:54] + number.to_bytes(8, "little") + record[62:126] + bytes(32)))
-        run([minisign, "-R", "-f", "-s", path, "-p", "other.pub"], room)
-        wanted = f"{number:X}\n{read(room, 'other.pub').decode().splitlines()[0]}\n"
+        path = write(scratch, "other", text_of(record[:54] + number.to_bytes(8, "little") + record[62:126] + bytes(32)))
+        run([minisign, "-R", "-f", "-s", path, "-p", "other.pub"], scratch)
+        expected = f"{number:X}\n{read(scratch, 'other.pub').decode().splitlines()[0]}\n"
         status, output, why = program.run("ids", path)
-        checks.check((status, output.decode()) == (0, wanted), f"the key ID {number:#x}: {output} {why}, expected {wanted!r}")
+        checks.check((status, output.decode()) == (0, expected), f"the key ID {number:#x}: {output} {why}, expected {expected!r}")
 
 
 # The maximum number of copies of the seed in the heap of malloc. WebCrypto leaves a few copies in freed memory, but not one per signature.
@@ -279,12 +279,12 @@ MAX_FREED = 10
 SEARCHES = 3
 
 
-def check_memory(checks, user, room, minisign):
+def check_memory(checks, user, scratch, minisign):
     """Checks that the seed of a key is never in the heap of the JavaScript engine, where it could not be cleared, and that clearing the key
     leaves at most the copies of WebCrypto."""
-    run([minisign, "-G", "-W", "-s", "open", "-p", "pub"], room)
-    write(room, "sealed", shared_cases.sealed(read(room, "open"), shared_cases.KEY_LIMITS[4][0]))
-    program, ways = by_node(checks, user, "heap.mjs"), (["generate"], ["read", f"{room}/open"], ["read", f"{room}/sealed", shared_cases.PASSWORD])
+    run([minisign, "-G", "-W", "-s", "open", "-p", "pub"], scratch)
+    write(scratch, "sealed", shared_cases.sealed(read(scratch, "open"), shared_cases.KEY_LIMITS[4][0]))
+    program, ways = by_node(checks, user, "heap.mjs"), (["generate"], ["read", f"{scratch}/open"], ["read", f"{scratch}/sealed", shared_cases.PASSWORD])
     for words in ways:
         environment = dict(os.environ, **program.environment)
         for _ in range(SEARCHES):
@@ -300,7 +300,7 @@ def check_memory(checks, user, room, minisign):
 ONLY_IN_SIGNING = ("pkcs8", "minisign_signed_text", "minisign_read_secret_key")
 
 
-def check_bundles(checks, user, room, _):
+def check_bundles(checks, user, scratch, _):
     """Checks that the bundle of a program that only verifies contains no code for signing, that the bundle of a program that signs contains
     all of it, and that both run."""
     esbuild, of_module = needs.program("esbuild", "esbuild"), read(user, "node_modules", "minisign-proved", SIGNING_MODULE).decode()
@@ -308,7 +308,7 @@ def check_bundles(checks, user, room, _):
     words = [part.hex() for part in PUBLISHED[1:]]
     for name, comment in (("bundled", "timestamp:1556193335\tfile:test"), ("bundled_signing", "signed")):
         for form in [[f"--format={form}", f"--platform={platform}"] for form in ("esm", "cjs", "iife") for platform in ("node", "browser", "neutral")]:
-            bundle = os.path.join(room, "bundle.mjs" if "esm" in form[0] else "bundle.cjs")
+            bundle = os.path.join(scratch, "bundle.mjs" if "esm" in form[0] else "bundle.cjs")
             result = run([esbuild, f"{name}.mjs", "--bundle", "--minify", "--log-level=warning", f"--outfile={bundle}", *form], user)
             text = read(bundle).decode()
             has = [part in text for part in of_signing]
@@ -321,10 +321,10 @@ def check_bundles(checks, user, room, _):
                 checks.check(named and abs(len(text) - 1000 * int(named[1])) < 1000, f"README.md does not say that a bundle has {len(text)} bytes")
 
 
-def check_readme(checks, user, room, minisign):
+def check_readme(checks, user, scratch, minisign):
     """Checks that the examples of the README have the right types and run in one project, in their order. The examples that verify reject
     changed data, and `c/minisign` accepts the signature that the example for signing writes."""
-    directory = shutil.copytree(user, os.path.join(room, "user"))
+    directory = shutil.copytree(user, os.path.join(scratch, "user"))
     blocks = shared_cases.readme_blocks("javascript")
     for name, text in (("app", read(PUBLISHED_PATHS[1])), ("app.minisig", read(PUBLISHED_PATHS[2])), ("release.zip", b"a release\n")):
         write(directory, name, text)
@@ -347,10 +347,10 @@ def check_readme(checks, user, room, minisign):
             ("release.zip", streamed, "SIGNATURE_REFUSED"), ("app", "test test\n", "SIGNATURE_REFUSED"),
             ("release.zip", "", "SIGNATURE_REFUSED")]
     checks.same(len(blocks), len(rows), "the number of the README's examples")
-    for number, (data, wanted, reason) in enumerate(rows):
+    for number, (data, expected, reason) in enumerate(rows):
         program = by_node(checks, directory, f"readme-{number}.mjs")
         status, output, why = program.run()
-        checks.check(status == 0 and re.fullmatch(wanted, output.decode()) and why == "", f"README example {number}: {status} {output} {why}")
+        checks.check(status == 0 and re.fullmatch(expected, output.decode()) and why == "", f"README example {number}: {status} {output} {why}")
         if reason:
             write(directory, data, read(directory, data) + b"x")
             status, output, why = program.run()
@@ -374,11 +374,11 @@ def check_types(checks, user):
 
 def check_bare(checks, user):
     """Checks that the package works in a context and in a thread whose only globals are GLOBALS, and fails if one of them is missing."""
-    wanted = ["accepted timestamp:1556193335\tfile:test"] * 4 + ["rejected SIGNATURE_REFUSED"]
+    expected = ["accepted timestamp:1556193335\tfile:test"] * 4 + ["rejected SIGNATURE_REFUSED"]
     rows = [("context", GLOBALS), ("thread", GLOBALS), *(("context", [word for word in GLOBALS if word != left_out]) for left_out in GLOBALS)]
     for where, names in rows:
         status, output, why = by_node(checks, user, "bare.mjs").run(where, *names, cases=[PUBLISHED])
-        works = output.decode().splitlines() == wanted
+        works = output.decode().splitlines() == expected
         checks.check(works == (names is GLOBALS), f"in a bare {where} with {names}: {output} {status} {why[-500:]}")
 
 
@@ -397,22 +397,22 @@ class Handler(http.server.SimpleHTTPRequestHandler):
         pass
 
 
-def check_browsers(checks, user, room, minisign):
+def check_browsers(checks, user, scratch, minisign):
     """Checks the results in a page and in a worker of Chromium and of Firefox."""
     corpus, vectors = shared_cases.corpus(), [case for case, _ in shared_cases.vector_files()]
     cases = corpus + shared_cases.damaged_cases()
     asked = {"cases": cases, "pieces": corpus, "vectors": vectors, "lists": [case for case, _ in shared_cases.list_rows(minisign)]}
     digits = {what: [[part.hex() for part in case[1:]] for case in rows] for what, rows in asked.items()}
-    run([minisign, "-G", "-W", "-s", "strong", "-p", "public"], room)
-    sealed = shared_cases.sealed(read(room, "strong"), shared_cases.KEY_LIMITS[4][0]).decode()
-    directory = os.path.join(room, "served")
+    run([minisign, "-G", "-W", "-s", "strong", "-p", "public"], scratch)
+    sealed = shared_cases.sealed(read(scratch, "strong"), shared_cases.KEY_LIMITS[4][0]).decode()
+    directory = os.path.join(scratch, "served")
     shutil.copytree(os.path.join(user, "node_modules", "minisign-proved"), os.path.join(directory, "minisign-proved"))
     for name in ("browser.mjs", "index.html"):
         shutil.copy(os.path.join(HERE, "javascript", name), directory)
     write(directory, "asked.json", json.dumps({**digits, "sealed": sealed}).encode())
     with http.server.ThreadingHTTPServer(("127.0.0.1", 0), functools.partial(Handler, directory=directory)) as server:
         threading.Thread(target=server.serve_forever, daemon=True).start()
-        for start in (lambda: Firefox(needs.firefox(), room), lambda: Chromium(*needs.chromium(), room)):
+        for start in (lambda: Firefox(needs.firefox(), scratch), lambda: Chromium(*needs.chromium(), scratch)):
             browser = start()
             try:
                 browser.go(f"http://127.0.0.1:{server.server_port}/")
@@ -422,12 +422,12 @@ def check_browsers(checks, user, room, minisign):
                 browser.quit()
             for where in ("page", "thread"):
                 if checks.check(where in answers, f"{what}, {where}: {answers}"):
-                    check_answers(checks, f"{what}, {where}", answers[where], room, minisign, cases)
+                    check_answers(checks, f"{what}, {where}", answers[where], scratch, minisign, cases)
             print(f"bindings/javascript: in a page and in a worker of {what}", flush=True)
         server.shutdown()
 
 
-def check_answers(checks, what, answers, room, minisign, cases):
+def check_answers(checks, what, answers, scratch, minisign, cases):
     """Checks the results in a page or a worker of a browser."""
     program = Program(checks, name=what)
     program.run = lambda word, **_: (0, "\n".join(answers[word]).encode(), "")
@@ -441,9 +441,9 @@ def check_answers(checks, what, answers, room, minisign, cases):
     checks.same(answers["comment"], "timestamp:TIME\tfile:app 1.zip\thashed", f"{what}, the default comment of a File")
     checks.same(answers["signs"], "version:2,true,false,version:2,true,false KEY_NOT_OPENED", f"{what}, signing")
     for name, text in zip(("sealed", "sealed.pub"), answers["pair"]):
-        write(room, name, text.encode())
-    run([minisign, "-S", "-s", "sealed", "-m", "public", "-x", "sig", "-t", what], room, data=f"{shared_cases.PASSWORD}\n".encode())
-    verified = run([minisign, "-V", "-Q", "-p", "sealed.pub", "-m", "public", "-x", "sig"], room)
+        write(scratch, name, text.encode())
+    run([minisign, "-S", "-s", "sealed", "-m", "public", "-x", "sig", "-t", what], scratch, data=f"{shared_cases.PASSWORD}\n".encode())
+    verified = run([minisign, "-V", "-Q", "-p", "sealed.pub", "-m", "public", "-x", "sig"], scratch)
     checks.check(verified[:2] == (0, f"{what}\n".encode()), f"{what}: c/minisign cannot sign with the encrypted key of the package: {verified}")
 
 
@@ -451,13 +451,13 @@ def check_answers(checks, what, answers, room, minisign, cases):
 IN_DIRECTORIES = {"files": check_files, "memory": check_memory, "bundles": check_bundles, "readme": check_readme}
 
 
-def new_directory(room, name):
+def new_directory(scratch, name):
     """Creates a directory, and returns its path."""
-    os.makedirs(os.path.join(room, name))
-    return os.path.join(room, name)
+    os.makedirs(os.path.join(scratch, name))
+    return os.path.join(scratch, name)
 
 
-def check_mutants(checks, user, room, minisign):
+def check_mutants(checks, user, scratch, minisign):
     """Checks in Node that each mutant of the package fails the check that it names."""
     def ask(checks, changed, directory, word):
         """Runs the check of this name in a copy of the user's directory that has the mutant of the package."""
@@ -472,12 +472,12 @@ def check_mutants(checks, user, room, minisign):
 
     package = os.path.join(user, "node_modules", "minisign-proved")
     all_mutants = mutants_of("bindings", "javascript", "mutants")
-    shared_cases.check_mutants(checks, package, "bindings/javascript", all_mutants, room, ask, {"memory"})
+    shared_cases.check_mutants(checks, package, "bindings/javascript", all_mutants, scratch, ask, {"memory"})
 
 
-def run_all(checks, room):
+def run_all(checks, scratch):
     page = next(filter(os.path.isfile, sys.argv[1:]), os.path.join(TOP, "dist", "minisign.html"))
-    user, minisign = install(room, page), shared_cases.build_c_minisign(room)
+    user, minisign = install(scratch, page), shared_cases.build_c_minisign(scratch)
     check_sources(checks, user)
     cases = shared_cases.all_cases(checks, minisign)
     program = by_node(checks, user, "answers.mjs")
@@ -488,15 +488,15 @@ def run_all(checks, room):
     tested = {name for _, name in shared_cases.rejected_cases()} | {"BARE_PUBLIC_KEY_LENGTH", "BARE_PUBLIC_KEY_NOT_BASE64"}
     expected = {name for name, number in shared_cases.ERRORS.items() if number in VERIFICATION_ERRORS}
     checks.check(tested == expected, f"errors without a test, or tests of other errors: {tested ^ expected}")
-    signing = check_signing(checks, user, os.path.join(room, "signed"), minisign)
+    signing = check_signing(checks, user, os.path.join(scratch, "signed"), minisign)
     if signing:
         signing.check_growth(KEYS, KEY_GROWTH)
     for name, check in IN_DIRECTORIES.items():
-        check(checks, user, new_directory(room, name), minisign)
+        check(checks, user, new_directory(scratch, name), minisign)
     check_types(checks, user)
     check_bare(checks, user)
-    check_browsers(checks, user, room, minisign)
-    check_mutants(checks, user, room, minisign)
+    check_browsers(checks, user, scratch, minisign)
+    check_mutants(checks, user, scratch, minisign)
 
 
 if __name__ == "__main__":

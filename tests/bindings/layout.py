@@ -96,10 +96,10 @@ def check_language(checks, language, top):
         checks.check(text == json.dumps(json.loads(text), indent=2, ensure_ascii=False) + "\n", f"{PACKAGE} is not indented by 2")
 
 
-def run_all(checks, room):
+def run_all(checks, scratch):
     for language in LANGUAGES:
         check_language(checks, language, TOP)
-    check_mutants(checks, copy_sources(room, "bindings", "examples"), "", mutants_of("bindings", "layout_mutants"), room,
+    check_mutants(checks, copy_sources(scratch, "bindings", "examples"), "", mutants_of("bindings", "layout_mutants"), scratch,
                   lambda checks, changed, _, language: check_language(checks, language, changed))
 
 

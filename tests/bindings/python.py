@@ -86,13 +86,13 @@ def check_loaded(checks, what, compiler, library, before=(), **variables):
     checks.check(re.fullmatch(expected, output), f"{what}: {output}")
 
 
-def check_builds(checks, archive, room):
+def check_builds(checks, archive, scratch):
     """Builds the archive of sources in a path with spaces: as C by Debian's compiler and with musl, for AArch64 with the archive of proved
     functions, and for Windows. Checks that a compiler without GNU options is rejected with an error that says so."""
-    programs, arm, windows = shared.make_path_directory(room, *NEEDED), emulated.AARCH64, portable.Windows(room)
+    programs, arm, windows = shared.make_path_directory(scratch, *NEEDED), emulated.AARCH64, portable.Windows(scratch)
 
     def unpacked(name):
-        directory = os.path.join(room, f"sources of {name}")
+        directory = os.path.join(scratch, f"sources of {name}")
         shutil.unpack_archive(archive, directory)
         return glob.glob(f"{glob.escape(directory)}/*")[0]
 
@@ -118,17 +118,17 @@ def check_builds(checks, archive, room):
         checks.check(status == 0, why)
         check_loaded(checks, "a mutant", gcc, library)
 
-    shared.check_mutants(checks, unpacked("mutants"), "bindings/python", mutants_of("bindings", "python", "setup_mutants"), room, ask)
+    shared.check_mutants(checks, unpacked("mutants"), "bindings/python", mutants_of("bindings", "python", "setup_mutants"), scratch, ask)
     return programs
 
 
-def build_wheel(checks, room):
+def build_wheel(checks, scratch):
     """Builds the wheel from the packed archive of sources, with the archives of proved functions, and checks it. Returns its path."""
-    package = shared.pack_and_unpack("python", room, PYTHON=python())
-    archive, = glob.glob(os.path.join(room, "packed", "*.tar.gz"))
-    command = [python(), "-m", "pip", "wheel", "-q", "--no-index", "--no-build-isolation", "--no-deps", "-w", room, archive]
-    run_or_fail(command, PATH=check_builds(checks, archive, room))
-    path, = glob.glob(os.path.join(room, "*.whl"))
+    package = shared.pack_and_unpack("python", scratch, PYTHON=python())
+    archive, = glob.glob(os.path.join(scratch, "packed", "*.tar.gz"))
+    command = [python(), "-m", "pip", "wheel", "-q", "--no-index", "--no-build-isolation", "--no-deps", "-w", scratch, archive]
+    run_or_fail(command, PATH=check_builds(checks, archive, scratch))
+    path, = glob.glob(os.path.join(scratch, "*.whl"))
     with zipfile.ZipFile(path) as wheel:
         names = {name.partition("/")[2] for name in wheel.namelist() if name.startswith(PACKAGE + "/")}
         metadata, = (wheel.read(name).decode() for name in wheel.namelist() if name.endswith("METADATA"))
@@ -140,9 +140,9 @@ def build_wheel(checks, room):
     return path
 
 
-def environment(room, name, wheel, *words):
+def environment(scratch, name, wheel, *words):
     """Creates a new environment with the wheel. Returns the paths of its Python and of the installed package."""
-    path = os.path.join(room, name)
+    path = os.path.join(scratch, name)
     run_or_fail([python(), "-m", "venv", "--without-pip", *words, path])
     run_or_fail([python(), "-m", "pip", "--python", f"{path}/bin/python", "install", "-q", "--no-index", wheel])
     return os.path.join(path, "bin", "python"), glob.glob(f"{path}/lib/python3*/site-packages/{PACKAGE}")[0]
@@ -183,7 +183,7 @@ print(json.dumps([[[number, kind.__name__, str(_calls.error_of(number))] for num
 """
 
 
-def check_headers(checks, room, python_path, package):
+def check_headers(checks, scratch, python_path, package):
     """Checks that the library is linked with the archives, and that the exceptions, the constants and the structs are those of the headers,
     and those of minisign_installing.h that the package declares."""
     checks.check("v3_minisign_update" in shared.symbols_of(f"{package}/libminisign.so"), "the library is not linked with the archives")
@@ -191,8 +191,8 @@ def check_headers(checks, room, python_path, package):
     expected = [[number, "".join(map(str.capitalize, name.split("_"))), shared.error_texts()[name]]
                 for name, number in shared.ERRORS.items()]
     checks.same(sorted(errors), sorted(expected), "the exceptions")
-    checks.same(places, shared.struct_layout(room), "the structs")
-    in_c = shared.c_values(room, ['"minisign_installing.h"'], [(expression, expression) for expression in installer])
+    checks.same(places, shared.struct_layout(scratch), "the structs")
+    in_c = shared.c_values(scratch, ['"minisign_installing.h"'], [(expression, expression) for expression in installer])
     checks.check(installer == in_c and len(in_c) > 30, f"the structs of the installer are {installer}, and in C {in_c}")
 
 
@@ -228,27 +228,27 @@ def compare_results(user, minisign, cases):
     user.check_lists(minisign)
 
 
-def check_examples(checks, python_path, room):
+def check_examples(checks, python_path, scratch):
     """Runs the examples of README.md, pasted into one program, in a directory with the files that they name."""
-    os.makedirs(os.path.join(room, "there"))
+    os.makedirs(os.path.join(scratch, "there"))
     for name, data in (("app-2", b"version 2"), ("app-3", b"version 3"), ("data", b"data")):
-        write(room, name, data)
-    minisign = lambda *words: run([needs.minisign(), *words], room)
+        write(scratch, name, data)
+    minisign = lambda *words: run([needs.minisign(), *words], scratch)
     minisign("-G", "-W", "-p", "app.pub", "-s", "app.key")
     digests = "".join(f"{shared.hex_digest('sha256', data)}  {name}\n" for name, data in (("app-2", b"version 2"), ("data", b"data")))
-    write(room, "SHA256SUMS", digests.encode())
+    write(scratch, "SHA256SUMS", digests.encode())
     for name, comment in (("app-2", "version:2\tfile:app"), ("data", "data"), ("SHA256SUMS", "file:SHA256SUMS")):
         minisign("-S", "-s", "app.key", "-m", name, "-t", comment)
-    status, _, why = run([python_path, write(room, "program.py", shared.readme_examples("python").encode())], room)
-    checks.check(status == 0 and read(room, "there", "app") == b"version 2", f"the examples of the README: {why[-500:]}")
+    status, _, why = run([python_path, write(scratch, "program.py", shared.readme_examples("python").encode())], scratch)
+    checks.check(status == 0 and read(scratch, "there", "app") == b"version 2", f"the examples of the README: {why[-500:]}")
     status, _, why = minisign("-V", "-p", "new.pub", "-m", "app-3")
     checks.check(status == 0, f"minisign verifies what the example has signed: {why}")
 
 
-def check_installing(checks, python_path, room):
+def check_installing(checks, python_path, scratch):
     """Runs the cases of tests/installer with the package. Only system calls of the library are disturbed and traced, not those of
     Python."""
-    preload = build_preload(room, "faulty_calls", "libminisign.so")
+    preload = build_preload(scratch, "faulty_calls", "libminisign.so")
     output = checks.ended("installing", process.run([python_path, INSTALLER], LD_PRELOAD=preload), says=" passed, 0 failed\n")
     skipped, passed = re.fullmatch(r"(.*?)(\d*)(?: passed, \d+ failed\n)?", output, re.S).groups()
     print(skipped, end="")
@@ -257,7 +257,7 @@ def check_installing(checks, python_path, room):
 
 # ---- Mutants ----
 
-def check_mutants(checks, python_path, package, room, minisign):
+def check_mutants(checks, python_path, package, scratch, minisign):
     """Checks that the case that each mutant of the package names detects it."""
     def ask(checks, changed, directory, word):
         # libsodium is used where possible, because it loads faster.
@@ -272,33 +272,33 @@ def check_mutants(checks, python_path, package, room, minisign):
                  "sign": lambda: shared.check_signing(user, os.path.join(directory, "signed"), minisign)}
         cases.get(word, lambda: user.check_pairs(1, word, directory))()
 
-    shared.check_mutants(checks, package, f"bindings/python/src/{PACKAGE}", mutants_of("bindings", "python", "mutants"), room, ask)
+    shared.check_mutants(checks, package, f"bindings/python/src/{PACKAGE}", mutants_of("bindings", "python", "mutants"), scratch, ask)
 
 
-def run_all(checks, room):
-    minisign, wheel = shared.build_c_minisign(room), build_wheel(checks, room)
-    with_libsodium, installed = environment(room, "with-libsodium", wheel)
-    with_cryptography, package = environment(room, "with-cryptography", wheel, "--system-site-packages")
+def run_all(checks, scratch):
+    minisign, wheel = shared.build_c_minisign(scratch), build_wheel(checks, scratch)
+    with_libsodium, installed = environment(scratch, "with-libsodium", wheel)
+    with_cryptography, package = environment(scratch, "with-cryptography", wheel, "--system-site-packages")
     check_sources(checks)
-    check_headers(checks, room, with_libsodium, installed)
+    check_headers(checks, scratch, with_libsodium, installed)
     check_types(checks, with_cryptography, package)
-    check_examples(checks, with_libsodium, os.path.join(room, "examples"))
+    check_examples(checks, with_libsodium, os.path.join(scratch, "examples"))
     cases = shared.all_cases(checks, minisign)
     # The words of python_checks.py, and how many results each has at least.
     words = {"memory": 1, "threads": 3, "installing": 40, "signals": 3, "arguments": 1000, "parts": 25, "keys": 30, "writing": 40,
              "lists": 15}
     for kind, python_path, more in (("libsodium", with_libsodium, {"passwords": 10, "documentation": 100}),
                                     ("cryptography", with_cryptography, {})):
-        user, directory = user_of(checks, python_path, kind), os.path.join(room, kind)
+        user, directory = user_of(checks, python_path, kind), os.path.join(scratch, kind)
         os.mkdir(directory)
         compare_results(user, minisign, cases)
         for word, least in {**words, **more}.items():
             user.check_pairs(least, word, directory)
         shared.check_signing(user, os.path.join(directory, "signed"), needs.minisign())
         shared.check_key_ids(user, os.path.join(directory, "ids"), minisign)
-    shared.check_new_key_files(user, os.path.join(room, "written"))
-    check_mutants(checks, with_cryptography, package, room, minisign)
-    check_installing(checks, with_libsodium, room)
+    shared.check_new_key_files(user, os.path.join(scratch, "written"))
+    check_mutants(checks, with_cryptography, package, scratch, minisign)
+    check_installing(checks, with_libsodium, scratch)
 
 
 if __name__ == "__main__":

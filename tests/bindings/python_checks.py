@@ -32,11 +32,11 @@ import stat
 import struct
 import sys
 import threading
-from typing import Any, Callable, Dict, Iterator, List, NamedTuple, Optional, Sequence, Tuple, Type
+from typing import Any, Callable, Dict, Iterator, List, NamedTuple, Sequence, Tuple, Type
 from unittest import mock
 
 import minisign_proved as minisign
-from minisign_proved import Data, PublicKey, SecretKey, Signature, Text, Verifier, _calls, _header
+from minisign_proved import Data, PublicKey, SecretKey, Signature, Text, Verifier, _calls
 from minisign_proved import installing as installer
 from python_user import result_of, write
 
@@ -68,9 +68,9 @@ def resident() -> int:
         return int(file.read().split()[1]) * os.sysconf("SC_PAGESIZE") // 1024
 
 
-def memory(room: str) -> None:
+def memory(scratch: str) -> None:
     """Memory does not grow with the number of calls."""
-    key, path = SecretKey.generate(), write(room, "data", b"data" * 500)
+    key, path = SecretKey.generate(), write(scratch, "data", b"data" * 500)
     signature, public = key.sign(path), key.public_bytes()
     calls: List[Callable[[], object]] = [
         lambda: PublicKey(public).verify(b"data" * 500, signature), lambda: key.public_key.verify(b"other", signature),
@@ -87,17 +87,17 @@ def memory(room: str) -> None:
     check(grown <= MAX_GROWTH, f"memory grows by {grown} KiB in {CALLS} calls")
 
 
-def threads(room: str) -> None:
+def threads(scratch: str) -> None:
     """Threads can sign, verify, and share a Verifier."""
     key, piece = SecretKey.generate(), os.urandom(400_000)
-    path = write(room, "data", piece)
+    path = write(scratch, "data", piece)
     signature = key.sign(path, trusted_comment="in threads")
-    shared = Verifier(key.public_key, key.sign(write(room, "all", piece * 160), trusted_comment="by all"))
+    shared = Verifier(key.public_key, key.sign(write(scratch, "all", piece * 160), trusted_comment="by all"))
 
     def is_right(thread: int) -> bool:
         """Signs and verifies data of this thread, and verifies a file that all threads verify."""
         data = bytes([thread]) * 50_000
-        file = write(room, f"data-{thread}", data)
+        file = write(scratch, f"data-{thread}", data)
         return all(key.public_key.verify(data, key.sign(file, trusted_comment=f"{thread} {number}")) == f"{thread} {number}"
                    and minisign.verify(path, key.public_key, signature) == "in threads" for number in range(20))
 
@@ -115,16 +115,16 @@ def threads(room: str) -> None:
 # ---- Keys, signing and installing ----
 
 
-def keys(room: str) -> None:
+def keys(scratch: str) -> None:
     """Keys are read, written, changed and cleared."""
-    data = write(room, "data", b"what is signed")
+    data = write(scratch, "data", b"what is signed")
     key = SecretKey.generate()
     check(key.public_key.key_id == PublicKey(key.public_bytes()).key_id and len(key.public_key.key) == 32, "the parts of a public key")
     check(key.public_key == PublicKey.from_base64(key.public_bytes().split(b"\n")[1].decode()), "a key from base64")
     check(key.public_key != SecretKey.generate().public_key and key.public_key != 1, "another key")
     check(len({key.public_key, PublicKey(key.public_bytes())}) == 1, "keys in a set")
-    write(room, "ours.key", key.to_bytes(None))
-    check(SecretKey.from_file(os.path.join(room, "ours.key")).public_key == key.public_key, "a key that is not encrypted")
+    write(scratch, "ours.key", key.to_bytes(None))
+    check(SecretKey.from_file(os.path.join(scratch, "ours.key")).public_key == key.public_key, "a key that is not encrypted")
     made = minisign.sign(data, key, trusted_comment="by Python \u00e9", untrusted_comment="another comment")
     check(Signature.from_file(data + ".minisig").text == made.text, "the file of a signature")
     seen: List[Tuple[int, int]] = []
@@ -137,17 +137,17 @@ def keys(room: str) -> None:
                           (minisign.NotUtf8, "\udcff")):
         rejects(kind, lambda comment=comment: key.sign(data, trusted_comment=comment), f"the comment {comment[:9]!r}")  # type: ignore[misc]
 
-    minisign.change_password(os.path.join(room, "ours.key"), None, None)
-    check(os.stat(os.path.join(room, "ours.key")).st_mode & 0o777 == 0o600, "the mode of a key file after change_password")
-    with SecretKey.from_file(os.path.join(room, "ours.key")) as opened:
+    minisign.change_password(os.path.join(scratch, "ours.key"), None, None)
+    check(os.stat(os.path.join(scratch, "ours.key")).st_mode & 0o777 == 0o600, "the mode of a key file after change_password")
+    with SecretKey.from_file(os.path.join(scratch, "ours.key")) as opened:
         check(opened.public_key == key.public_key, "a key after change_password")
     rejects(minisign.KeyNotOpened, lambda: opened.sign(data), "signing with a cleared key")
     check(not opened.is_weak, "a key that is not encrypted is weak")
     # A key file whose limits make scrypt run many times (a high p).
     many = b"EdScB2" + bytes(32) + struct.pack("<QQ", 2**40, 2**24) + bytes(104)
-    costly = write(room, "costly.key", key.to_bytes(None).split(b"\n")[0] + b"\n" + base64.b64encode(many) + b"\n")
+    costly = write(scratch, "costly.key", key.to_bytes(None).split(b"\n")[0] + b"\n" + base64.b64encode(many) + b"\n")
     rejects(minisign.WorkTooHigh, lambda: SecretKey.from_file(costly, "x"), "a key that takes too much work")
-    link, away = os.path.join(room, "link.key"), os.path.join(room, "away")
+    link, away = os.path.join(scratch, "link.key"), os.path.join(scratch, "away")
     os.symlink("ours.key", link)
     minisign.change_password(link, None, None)
     check(os.path.islink(link) and SecretKey.from_file(link).public_key == key.public_key, "change_password through a link")
@@ -178,10 +178,10 @@ def keys(room: str) -> None:
         check(comparable(reader(text.decode())) == comparable(reader(text)), f"{reader} of a str")
         for surrogate in ("\ud800", "\udcff"):
             rejects(minisign.NotUtf8, lambda: reader(f"key {surrogate}"), f"{reader} of {surrogate!r}", "^text has a surrogate at index 4, ")
-    check(key.public_key.verify(b"", key.sign(write(room, "empty", b""), trusted_comment="empty")) == "empty", "an empty file")
+    check(key.public_key.verify(b"", key.sign(write(scratch, "empty", b""), trusted_comment="empty")) == "empty", "an empty file")
 
-    rejects(minisign.TooLong, lambda: PublicKey.from_file(write(room, "long", bytes(1 << 20 | 1))), "a file of more than 1 MiB")
-    rejects(FileNotFoundError, lambda: minisign.verify(os.path.join(room, "none"), key.public_key), "a missing file")
+    rejects(minisign.TooLong, lambda: PublicKey.from_file(write(scratch, "long", bytes(1 << 20 | 1))), "a file of more than 1 MiB")
+    rejects(FileNotFoundError, lambda: minisign.verify(os.path.join(scratch, "none"), key.public_key), "a missing file")
     check(issubclass(minisign.WrongPassword, minisign.MinisignError) and minisign.WrongPassword.number > 0, "the classes of errors")
 
 
@@ -209,30 +209,30 @@ def mode_of(path: str) -> int:
     return stat.S_IMODE(os.stat(path).st_mode)
 
 
-def writing(room: str) -> None:
+def writing(scratch: str) -> None:
     """After an error, key files and signature files are unchanged, and no other file is left."""
-    key, room = SecretKey.generate(), os.path.join(room, "writing")
-    os.mkdir(room)
-    data, old, fresh = write(room, "data", b"data"), os.path.join(room, "data.minisig"), os.path.join(room, "fresh.key")
+    key, scratch = SecretKey.generate(), os.path.join(scratch, "writing")
+    os.mkdir(scratch)
+    data, old, fresh = write(scratch, "data", b"data"), os.path.join(scratch, "data.minisig"), os.path.join(scratch, "fresh.key")
 
     def changes_nothing_on_failure(call: Callable[[], object], what: str, *steps: str) -> None:
         """Checks that a call changes no file and leaves none on a full disk, and if it is interrupted in one of these steps."""
-        before, links = files(room), sorted(os.listdir(room))
+        before, links = files(scratch), sorted(os.listdir(scratch))
         with full_disk():
             rejects(OSError, call, f"{what} on a full disk")
-        check((files(room), sorted(os.listdir(room))) == (before, links), f"{what} on a full disk: {set(files(room).items()) ^ set(before.items())}")
+        check((files(scratch), sorted(os.listdir(scratch))) == (before, links), f"{what} on a full disk: {set(files(scratch).items()) ^ set(before.items())}")
         for name in steps:
             with mock.patch.object(os, name, side_effect=KeyboardInterrupt):
                 rejects(KeyboardInterrupt, call, f"{what}, interrupted in {name}")
-            check((files(room), sorted(os.listdir(room))) == (before, links), f"{what}, interrupted in {name}: {set(files(room)) ^ set(before)}")
+            check((files(scratch), sorted(os.listdir(scratch))) == (before, links), f"{what}, interrupted in {name}: {set(files(scratch)) ^ set(before)}")
 
     changes_nothing_on_failure(lambda: minisign.write_new(fresh, key.to_bytes(None)), "a new key", "fsync")
     for mask in (0o777, 0o277, 0o022, 0):
         with umask(mask):
             minisign.write_new(fresh, b"text")
-        check((mode_of(fresh), files(room)[fresh]) == (0o600, b"text"), f"the mode of a new key under the umask {mask:o} is {mode_of(fresh):o}")
+        check((mode_of(fresh), files(scratch)[fresh]) == (0o600, b"text"), f"the mode of a new key under the umask {mask:o} is {mode_of(fresh):o}")
         rejects(FileExistsError, lambda: minisign.write_new(fresh, b"other"), "a new key at an existing path")
-        check(files(room)[fresh] == b"text", "write_new changed an existing file")
+        check(files(scratch)[fresh] == b"text", "write_new changed an existing file")
         os.remove(fresh)
     os.symlink("elsewhere", fresh)
     rejects(FileExistsError, lambda: minisign.write_new(fresh, b"text"), "a new key at a dangling link")
@@ -241,16 +241,16 @@ def writing(room: str) -> None:
     changes_nothing_on_failure(lambda: minisign.sign(data, key), "the first signature", "fsync", "replace")
     with umask(0o027):
         first = minisign.sign(data, key, trusted_comment="first")
-    check((mode_of(old), files(room)[old]) == (0o640, first.text), "the mode of a new signature file is not that of the umask")
+    check((mode_of(old), files(scratch)[old]) == (0o640, first.text), "the mode of a new signature file is not that of the umask")
     changes_nothing_on_failure(lambda: minisign.sign(data, key), "replacing a signature", "fsync", "replace")
     os.chmod(old, 0o604)
-    link = os.path.join(room, "linked.minisig")
+    link = os.path.join(scratch, "linked.minisig")
     os.rename(old, link)
     os.symlink("linked.minisig", old)
     with open(old, "rb") as opened:
         second = minisign.sign(data, key, trusted_comment="second")
         check(opened.read() == first.text, "an open signature file changed")
-    check(os.path.islink(old) and (mode_of(link), files(room)[link]) == (0o604, second.text), "replacing a signature changed the link or the mode")
+    check(os.path.islink(old) and (mode_of(link), files(scratch)[link]) == (0o604, second.text), "replacing a signature changed the link or the mode")
     os.remove(old)
     os.mkfifo(old)
     pipe = os.open(old, os.O_RDONLY | os.O_NONBLOCK)
@@ -258,7 +258,7 @@ def writing(room: str) -> None:
     check(stat.S_ISFIFO(os.stat(old).st_mode) and os.read(pipe, 10_000) == piped.text, "a pipe was replaced, or got another signature")
     os.close(pipe)
 
-    secret = write(room, "secret.key", key.to_bytes(None))
+    secret = write(scratch, "secret.key", key.to_bytes(None))
     changes_nothing_on_failure(lambda: minisign.change_password(secret, None, None), "changing a password", "fsync", "replace")
     for mode in (0o644, 0o400):
         os.chmod(secret, mode)
@@ -293,10 +293,10 @@ def check_syncs(call: Callable[[], object], what: str, number: int, fails: bool 
     check(synced == ["file", "directory"], f"{what}: synced {synced}, expected the file and the directory")
 
 
-def parts(room: str) -> None:
+def parts(scratch: str) -> None:
     """Keys, signatures and verifiers have the right properties before there is data, and show nothing secret."""
     key, another_key = SecretKey.generate(), SecretKey.generate()
-    data, secret = write(room, "data", b"what is signed"), bytes(key._opened.secret)
+    data, secret = write(scratch, "data", b"what is signed"), bytes(key._opened.secret)
     comments: Dict[str, Any] = {"trusted_comment": "one", "untrusted_comment": "two"}
     made = key.sign(data, **comments)
     ways: List[Data] = [b"what is signed", bytearray(b"what is signed"), io.BytesIO(b"what is signed"), [b"what is", b"", b" signed"]]
@@ -330,7 +330,7 @@ def parts(room: str) -> None:
         rejects(AttributeError, lambda value=value, name=name: setattr(value, name, getattr(another_key, name, b"")), f"setting {name}")  # type: ignore[misc]
 
 
-def documentation(room: str) -> None:
+def documentation(scratch: str) -> None:
     """`help` shows exactly the public names, and each function, class and error has a docstring."""
     shown = pydoc.plain(pydoc.render_doc(minisign))
     for name in minisign.__all__:
@@ -343,12 +343,12 @@ def documentation(room: str) -> None:
     check(names == set(minisign.__all__) and len(minisign.__all__) == len(names), f"__all__ and the public names differ: {names ^ set(minisign.__all__)}")
 
 
-def passwords(room: str) -> None:
+def passwords(scratch: str) -> None:
     """Encrypted keys are decrypted with the right password only, and passwords are changed. The first password is used with the lowest
     limits, the second with the default limits."""
     key = SecretKey.generate()
     text = key.to_bytes("pass \u00e9", low_memory=True, operations_limit=2**19, memory_limit=2**24)
-    sealed = write(room, "sealed.key", text)
+    sealed = write(scratch, "sealed.key", text)
     for password, wrong in ((None, minisign.KeySealed), ("pass", minisign.WrongPassword), ("", minisign.WrongPassword), ("\ud800", minisign.NotUtf8)):
         rejects(wrong, lambda password=password: SecretKey.from_file(sealed, password), f"the password {password}")  # type: ignore[misc]
     rejects(minisign.WrongPassword, lambda: minisign.change_password(sealed, "old", "newer"), "a change with a wrong password")
@@ -358,19 +358,19 @@ def passwords(room: str) -> None:
         check(SecretKey.from_file(sealed, way, low_memory=True).public_key == key.public_key, "an encrypted key")
     minisign.change_password(sealed, "pass \u00e9", "new")
     check(os.stat(sealed).st_mode & 0o777 == 0o600, "the mode of a key file after change_password")
-    check(not [name for name in os.listdir(room) if name.startswith("sealed.key.")], "change_password leaves a temporary file")
+    check(not [name for name in os.listdir(scratch) if name.startswith("sealed.key.")], "change_password leaves a temporary file")
     check(SecretKey.from_file(sealed, "new").public_key == key.public_key, "a key with its new password")
 
 
-def installing(room: str) -> None:
+def installing(scratch: str) -> None:
     """Installing works with the cases that tests/installer does not have: data of other kinds, and errors that Python code raises."""
-    key, directory = SecretKey.generate(), os.path.join(room, "there")
+    key, directory = SecretKey.generate(), os.path.join(scratch, "there")
     public, other_public = key.public_key, SecretKey.generate().public_key
     os.mkdir(directory)
-    place, path = os.path.join(directory, "app"), os.path.join(room, "update")
+    place, path = os.path.join(directory, "app"), os.path.join(scratch, "update")
 
     def signed(data: bytes, comment: str) -> Signature:
-        return key.sign(write(room, "update", data), trusted_comment=comment)
+        return key.sign(write(scratch, "update", data), trusted_comment=comment)
 
     first_update, second_update = signed(b"one", "version:1\tfile:app"), signed(b"two", "version:2\tfile:app")
 
@@ -483,19 +483,19 @@ def check_pipes(key: SecretKey, place: str) -> None:
         check(source.tell() == count, f"version {number}: read {source.tell()} bytes, expected {count}")
 
 
-def lists(room: str) -> None:
+def lists(scratch: str) -> None:
     """Lists and files are found by their names, and what is wrong with them is reported."""
     key, other = SecretKey.generate(), SecretKey.generate()
-    public, path, list_path = key.public_key, write(room, "app", b"data"), os.path.join(room, "SHA512SUMS")
+    public, path, list_path = key.public_key, write(scratch, "app", b"data"), os.path.join(scratch, "SHA512SUMS")
 
     def write_list(text: str, comment: str = "version:1\tfile:SHA512SUMS") -> None:
-        write(room, "SHA512SUMS", text.encode())
+        write(scratch, "SHA512SUMS", text.encode())
         minisign.sign(list_path, key, trusted_comment=comment)
 
     line = hashlib.sha512(b"data").hexdigest() + "  app\n"
     write_list(line)
     check(minisign.verify_listed(path, list_path, public) == "version:1\tfile:SHA512SUMS", "a file of a list")
-    renamed = write(room, "renamed", b"data")
+    renamed = write(scratch, "renamed", b"data")
     seen: List[Tuple[int, int]] = []
     check(minisign.verify_listed(renamed, list_path, public, name="app", progress=lambda done, size: seen.append((done, size))) != "", "a renamed file of a list")
     check(seen == [(4, 4)], f"progress: {seen}")
@@ -509,7 +509,7 @@ def lists(room: str) -> None:
     check((signed.text, signed.trusted_comment) == (line.encode(), "version:1\tfile:SHA512SUMS"), "the parts of a list")
     entry = minisign.ListEntry("app", "sha512", hashlib.sha512(b"data").digest(), 1, False)
     check([signed.find("./app"), *signed.entries()] == [entry, entry], "the entry of a list")
-    moved = os.path.join(room, "OTHERSUMS")
+    moved = os.path.join(scratch, "OTHERSUMS")
     for suffix in ("", ".minisig"):
         shutil.copy(list_path + suffix, moved + suffix)
     rejects(minisign.OtherList, lambda: minisign.SignedList.from_file(moved, public), "a renamed list")
@@ -549,10 +549,10 @@ def check_offers(key: SecretKey, path: str, place: str) -> None:
         rejects(minisign.NoExpiry, lambda: minisign.install(key.public_key, path, update, place, **expires), "install of an update without an expiry date")
 
 
-def signals(room: str) -> None:
+def signals(scratch: str) -> None:
     """A signal between the renaming of the record and of the target ends the process only after both, and no signal handler is left."""
     key = SecretKey.generate()
-    path, place = write(room, "update", b"one"), os.path.join(room, "app")
+    path, place = write(scratch, "update", b"one"), os.path.join(scratch, "app")
 
     def show_phase(run: Any, passed: Any) -> None:
         """Sends a signal when the record is to be renamed."""
@@ -575,7 +575,7 @@ def signals(room: str) -> None:
         install(1, first=True)
         os._exit(0)
     ended = os.waitpid(child, 0)[1]
-    names = sorted(name for name in os.listdir(room) if "app" in name)
+    names = sorted(name for name in os.listdir(scratch) if "app" in name)
     is_killed = os.WIFSIGNALED(ended) and os.WTERMSIG(ended) == signal.SIGTERM
     check(is_killed and names == [".app.lock", ".app.number", "app"], f"the process ended with status {ended}, and left {names}")
     before = {number: signal.getsignal(number) for number in (signal.SIGHUP, signal.SIGINT, signal.SIGQUIT, signal.SIGTERM)}
@@ -666,15 +666,15 @@ def anew(value: object) -> Any:
     return value() if inspect.isfunction(value) else value
 
 
-def table(room: str) -> List[Call]:
+def table(scratch: str) -> List[Call]:
     """Returns the calls of all functions and methods, in a directory with a key, data and a signature."""
-    secret, path, key_path = SecretKey.generate(), os.path.join(room, "data"), os.path.join(room, "data.key")
+    secret, path, key_path = SecretKey.generate(), os.path.join(scratch, "data"), os.path.join(scratch, "data.key")
     public = secret.public_key
     pathlib.Path(path).write_bytes(b"data")
     minisign.write_new(key_path, secret.to_bytes(None))
-    minisign.write_new(os.path.join(room, "data.pub"), secret.public_bytes())
+    minisign.write_new(os.path.join(scratch, "data.pub"), secret.public_bytes())
     signature = minisign.sign(path, secret, trusted_comment="version:1\tfile:app")
-    list_path = os.path.join(room, "SHA256SUMS")
+    list_path = os.path.join(scratch, "SHA256SUMS")
     list_text = f"{hashlib.sha256(b'data').hexdigest()}  data\n"
     pathlib.Path(list_path).write_text(list_text)
     list_signature = minisign.sign(list_path, secret, trusted_comment="file:SHA256SUMS")
@@ -682,7 +682,7 @@ def table(room: str) -> List[Call]:
     kind = "libsodium" if isinstance(_calls.ed25519(), _calls.Sodium) else "cryptography"
 
     def there() -> str:
-        directory = os.path.join(room, "fresh")
+        directory = os.path.join(scratch, "fresh")
         shutil.rmtree(directory, ignore_errors=True)
         os.mkdir(directory)
         return os.path.join(directory, "app")
@@ -709,7 +709,7 @@ def table(room: str) -> List[Call]:
         Call("Signature", minisign, text=("text", signature.text.decode())),
         Call("Signature.from_file", Signature, path=("path", path + ".minisig")),
         Call("PublicKey", minisign, text=("text", secret.public_bytes().decode())),
-        Call("PublicKey.from_file", PublicKey, path=("path", os.path.join(room, "data.pub"))),
+        Call("PublicKey.from_file", PublicKey, path=("path", os.path.join(scratch, "data.pub"))),
         Call("PublicKey.from_base64", PublicKey, letters=("text", secret.public_bytes().split(b"\n")[1].decode())),
         Call("PublicKey.verify", public, data=("data", b"data"), signature=("signature", signature), allow_legacy=("truth", False)),
         Call("Verifier", minisign, key=("public key", public), signature=("signature", signature), allow_legacy=("truth", True)),
@@ -760,9 +760,9 @@ def public_calls() -> Iterator[Tuple[str, Callable[..., object]]]:
                     yield f"{name}.{method}", getattr(item, method)
 
 
-def files(room: str) -> Dict[str, bytes]:
+def files(scratch: str) -> Dict[str, bytes]:
     """Returns the contents of all files below a directory, by path."""
-    return {str(path): path.read_bytes() for path in pathlib.Path(room).rglob("*") if path.is_file()}
+    return {str(path): path.read_bytes() for path in pathlib.Path(scratch).rglob("*") if path.is_file()}
 
 
 def comparable(result: object) -> object:
@@ -771,15 +771,15 @@ def comparable(result: object) -> object:
     return getattr(result, part) if part else result
 
 
-def check_call(row: Call, room: str) -> None:
+def check_call(row: Call, scratch: str) -> None:
     expected = comparable(row.call()())
     for argument, (name, _) in row.arguments.items():
         kind = KINDS[name.replace(OR_NONE, "")]
         wrong = [(TypeError, value) for value in kind.wrong if value is not None or OR_NONE not in name]
         for error, value in [*wrong, *((ValueError, value) for value in kind.bad)]:
-            what, call, before = f"{row.name}, {argument}={value!r}", row.call(), files(room)
+            what, call, before = f"{row.name}, {argument}={value!r}", row.call(), files(scratch)
             rejects(error, lambda: call(**{argument: value}), what, rf"\b{argument}\b")
-            check(files(room) == before, f"{what}: a file was written")
+            check(files(scratch) == before, f"{what}: a file was written")
         for number, form in enumerate(kind.same):
             call = row.call()
             try:
@@ -789,18 +789,18 @@ def check_call(row: Call, room: str) -> None:
                 check(False, f"{row.name}, form {number} of {argument}: {why!r}")
 
 
-def arguments(room: str) -> None:
+def arguments(scratch: str) -> None:
     """Each public function accepts all valid forms of its arguments, and rejects all others."""
-    room = os.path.join(room, "arguments")
-    os.mkdir(room)
-    rows = table(room)
+    scratch = os.path.join(scratch, "arguments")
+    os.mkdir(scratch)
+    rows = table(scratch)
     calls = dict(public_calls())
     check({row.name for row in rows} == set(calls), f"the table and the package differ in {set(calls) ^ {row.name for row in rows}}")
     for row in rows:
         taken = [name for name in inspect.signature(calls[row.name]).parameters if name != "self" and name[0] != "_"]
         check(taken == list(row.arguments), f"the arguments of {row.name}: {taken}")
-        check_call(row, room)
-    place = os.path.join(room, "there", "app")
+        check_call(row, scratch)
+    place = os.path.join(scratch, "there", "app")
     os.mkdir(os.path.dirname(place))
     install = rows[-1].call()
     for mode in (0, 0o777, 0o755):

@@ -201,11 +201,11 @@ def run_as_program(words, environment, descriptors):
         os._exit(status)
 
 
-def run_all(room):
+def run_all(scratch):
     """Runs the cases, and returns the failures and the number of cases."""
     # find_library runs other programs, which the cases would trace. Without it, the package loads libsodium by its usual name.
     ctypes.util.find_library = lambda _: None
-    runner = InstallerRunner(__file__, Signer(room), room)
+    runner = InstallerRunner(__file__, Signer(scratch), scratch)
     runner.preload, popen = os.environ.pop("LD_PRELOAD"), subprocess.Popen
 
     def begin(command, preexec_fn=None, pass_fds=(), **how):

@@ -33,16 +33,16 @@ RENAMING, ENTERING, RUNNING = commands_of(f"{EXAMPLE}/README.md")
 RT_RUN, _, ARGUMENTS = RUNNING.partition(" -- ")
 
 
-def build(room, libsodium):
+def build(scratch, libsodium):
     """Proves and builds the program in a copy of the example. Returns its path, and the output of the prover."""
-    shutil.copytree(os.path.join(TOP, EXAMPLE), room, ignore=shutil.ignore_patterns("out", "*.a"))
-    proved.require_success(proved.run(["sh", "-c", RENAMING], room), RENAMING)
-    lines = read(os.path.join(room, "crates.txt")).decode().splitlines()
+    shutil.copytree(os.path.join(TOP, EXAMPLE), scratch, ignore=shutil.ignore_patterns("out", "*.a"))
+    proved.require_success(proved.run(["sh", "-c", RENAMING], scratch), RENAMING)
+    lines = read(os.path.join(scratch, "crates.txt")).decode().splitlines()
     crate = proved.Crate(next(line for line in lines if line.startswith(f"{NAME}:")), proved.crates())
     error = proved.build_libraries(crate.dependencies)
     if error:
         raise proved.NotBuilt(error)
-    directory, kit, target = os.path.join(room, "crates", NAME), proved.kit(), "x86_64-unknown-linux-gnu"
+    directory, kit, target = os.path.join(scratch, "crates", NAME), proved.kit(), "x86_64-unknown-linux-gnu"
     built = proved.rattle("build", NAME, directory, "--toolchain", f"{kit}/toolchain", "--backend", "llvm", "--links", f"{NAME}=c",
                           "-o", f"{NAME}.o", crate=crate)
     proved.require_success(built, NAME)
@@ -54,25 +54,25 @@ def build(room, libsodium):
     return os.path.join(directory, NAME), built.stdout
 
 
-def check_files(checks, program, room):
+def check_files(checks, program, scratch):
     """Checks that the program accepts a signed file, with the file names of README.md, and rejects other keys, files and signatures. One
     of the rejected signatures is a legacy signature under a public key of small order, which would be valid for every file. The
     program rejects it before it calls libsodium."""
 
     def minisign(*arguments):
-        return run([needs.minisign(), *arguments], room)
+        return run([needs.minisign(), *arguments], scratch)
 
     for name in ("app", "two"):
         minisign("-G", "-W", "-p", f"{name}.pub", "-s", f"{name}.key")
-    write(room, "app", os.urandom(300_000))
+    write(scratch, "app", os.urandom(300_000))
     minisign("-S", "-s", "app.key", "-m", "app", "-t", "version:1\tfile:app")
     minisign("-S", "-l", "-s", "app.key", "-m", "app", "-x", "legacy.minisig")
-    write(room, "changed", b"x" + read(room, "app"))
-    write(room, "comment.minisig", read(room, "app.minisig").replace(b"version:1", b"version:2"))
+    write(scratch, "changed", b"x" + read(scratch, "app"))
+    write(scratch, "comment.minisig", read(scratch, "app.minisig").replace(b"version:1", b"version:2"))
     for name, text in zip(("every.pub", "every.minisig"), ed25519_edge_cases.files_accepted_for_all_data()):
-        write(room, name, text)
+        write(scratch, name, text)
     checks.same((ENTERING, RT_RUN), (f"cd crates/{NAME}", f"RT_ALLOW_C={NAME} rt run"), f"{EXAMPLE}/README.md")
-    status, output, errors = run([program, *ARGUMENTS.split()], room)
+    status, output, errors = run([program, *ARGUMENTS.split()], scratch)
     checks.check((status, output) == (0, b"version:1\tfile:app\n"), f"a signed file: status {status}, {output}, {errors}")
     # The arguments, and a part of the error that is expected.
     for arguments, reason in ((("app.pub", "app.minisig", "changed"), "Signature verification failed"),
@@ -80,18 +80,18 @@ def check_files(checks, program, room):
                           (("two.pub", "app.minisig", "app"), "key"), (("app.pub", "legacy.minisig", "app"), "Legacy"),
                           (("app.minisig", "app.minisig", "app"), ""), (("app.pub", "app.minisig", "none"), ""),
                           (("none", "app.minisig", "app"), ""), (("every.pub", "every.minisig", "app"), "")):
-        status, output, errors = run([program, *arguments], room)
+        status, output, errors = run([program, *arguments], scratch)
         checks.check(status == 1 and output == b"" and reason in errors,
                      f"{arguments}: status {status}, {output}, {errors}, expected status 1 and an error with {reason!r}")
-    status, output, _ = run([program], room)
+    status, output, _ = run([program], scratch)
     checks.check(status == 2 and output == b"", f"no arguments: status {status}, {output}, expected status 2 and no output")
 
 
-def run_all(checks, room):
+def run_all(checks, scratch):
     _, archive, _ = run([needs.compiler_with_libsodium(), "-print-file-name=libsodium.a"])
-    program, output = build(os.path.join(room, "copy"), archive.decode().strip())
+    program, output = build(os.path.join(scratch, "copy"), archive.decode().strip())
     checks.check(re.search(r"logic=proved", output) is not None, f"the output of the build does not say logic=proved: {output[-1500:]}")
-    check_files(checks, program, room)
+    check_files(checks, program, scratch)
 
 
 if __name__ == "__main__":

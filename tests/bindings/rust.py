@@ -87,9 +87,9 @@ def patch_options(unpacked, *names):
     return [word for name in names for word in ("--config", f'patch.crates-io.{name}.path="{unpacked}/{name}-{shared_cases.VERSION}"')]
 
 
-def new_crate(room, name, dependency, source):
+def new_crate(scratch, name, dependency, source):
     """Creates a user's crate in a new directory, with a file of tests/bindings/rust as src/main.rs. Returns the directory."""
-    directory = os.path.join(room, name)
+    directory = os.path.join(scratch, name)
     os.makedirs(os.path.join(directory, "src"))
     write(directory, "Cargo.toml", read(HERE, "rust", "user.toml") + dependency.encode())
     shutil.copy(os.path.join(HERE, "rust", source), os.path.join(directory, "src", "main.rs"))
@@ -102,14 +102,14 @@ class Cargo:
 
     UNOPTIMIZED = {"CFLAGS": "-O0", "CARGO_PROFILE_DEV_DEBUG": "0", "CARGO_PROFILE_DEV_STRIP": "debuginfo"}
 
-    def __init__(self, room, cargo, rustc, **environment):
-        self.cargo, self.target = cargo, os.path.join(room, "target")
+    def __init__(self, scratch, cargo, rustc, **environment):
+        self.cargo, self.target = cargo, os.path.join(scratch, "target")
         self.environment = {"CARGO_NET_OFFLINE": "true", "CARGO_TARGET_DIR": self.target, "CARGO_INCREMENTAL": "0", "RUSTC": rustc,
                             "RUSTFLAGS": "-D warnings", "RUSTDOC": os.path.join(os.path.dirname(rustc), "rustdoc"),
                             "PATH": static_library.path_without_kit()}
         # CARGO_HOME is not set for rustup, which finds its toolchains in the home directory.
         if os.path.dirname(cargo) == needs.DEBIAN_PROGRAMS:
-            self.environment["CARGO_HOME"] = os.path.join(room, "home")
+            self.environment["CARGO_HOME"] = os.path.join(scratch, "home")
         self.environment.update(environment)
 
     def try_to_run(self, directory, *words, **environment):
@@ -168,11 +168,11 @@ def check_archives(checks, sys_crate):
     checks.check(len(archives) == 3, f"the packed crate has the archives {archives}")
 
 
-def check_inside(checks, cargo, crate, room):
+def check_inside(checks, cargo, crate, scratch):
     """Runs inside.rs within the crate: the structs have the layout of the C structs of the header, and secret keys are cleared."""
     sys_crate = f"{os.path.dirname(crate)}/minisign-proved-sys-{shared_cases.VERSION}"
     source, inside, lines = read(sys_crate, GENERATED_SYS), read(HERE, "rust", "inside.rs").decode(), []
-    for place, expected in shared_cases.struct_layout(room).items():
+    for place, expected in shared_cases.struct_layout(scratch).items():
         struct, _, field = place.partition(".")
         if f"pub struct {struct} " in source.decode():
             lines.append(f"        {'offset' if field else 'size'}!({struct}, {expected}{field and ', '}{field});")
@@ -201,7 +201,7 @@ def fields_line(fields):
     return " ".join([*(key_id.hex() for key_id in ids), *map(shared_cases.key_id_text, ids), str(fields.is_legacy).lower()])
 
 
-def compare_results(program, room, minisign, cases):
+def compare_results(program, scratch, minisign, cases):
     """Checks the results of the program answers.rs, which uses the crate."""
     program.check_verdicts(minisign, cases, (["verify"], True), (["strict"], False), (["reader"], False),
                         *((["pieces", str(length)], False) for length in (1, 128, 1000, 0)))
@@ -217,22 +217,22 @@ def compare_results(program, room, minisign, cases):
     program.check_pairs(6, "shown")
     # The traits of the types, records, bare signatures, and secret keys before they are decrypted.
     program.check_pairs(36, "types")
-    shared_cases.check_signing(program, os.path.join(room, "signed"), minisign, lambda name: f"Err(Rejected({name}))", "Ok(())")
-    shared_cases.check_key_ids(program, os.path.join(room, "ids"), minisign)
-    shared_cases.check_new_key_files(program, os.path.join(room, "written"), "Ok(())")
+    shared_cases.check_signing(program, os.path.join(scratch, "signed"), minisign, lambda name: f"Err(Rejected({name}))", "Ok(())")
+    shared_cases.check_key_ids(program, os.path.join(scratch, "ids"), minisign)
+    shared_cases.check_new_key_files(program, os.path.join(scratch, "written"), "Ok(())")
 
 
-def check_lists(program, room, minisign):
+def check_lists(program, scratch, minisign):
     """Checks the results of the program lists.rs, which verifies files with signed lists, for cases and for files in a directory."""
     program.check_lists(minisign, spell_boolean=lambda is_true: str(is_true).lower())
-    os.makedirs(room)
-    write(room, "app", b"data")
-    run([minisign, "-G", "-W", "-p", "a.pub", "-s", "a.key"], room)
-    write(room, "SUMS", f"{shared_cases.hex_digest('sha256', b'data')}  app\n".encode())
-    run([minisign, "-S", "-s", "a.key", "-m", "SUMS", "-t", "version:1\tfile:SUMS"], room)
+    os.makedirs(scratch)
+    write(scratch, "app", b"data")
+    run([minisign, "-G", "-W", "-p", "a.pub", "-s", "a.key"], scratch)
+    write(scratch, "SUMS", f"{shared_cases.hex_digest('sha256', b'data')}  app\n".encode())
+    run([minisign, "-S", "-s", "a.key", "-m", "SUMS", "-t", "version:1\tfile:SUMS"], scratch)
     for ending in ("", ".minisig"):
-        shutil.copy(os.path.join(room, f"SUMS{ending}"), os.path.join(room, f"OTHER{ending}"))
-    program.check_pairs(9, "files", room)
+        shutil.copy(os.path.join(scratch, f"SUMS{ending}"), os.path.join(scratch, f"OTHER{ending}"))
+    program.check_pairs(9, "files", scratch)
 
 
 # ---- Builds ----
@@ -259,10 +259,10 @@ def messages():
 README_CASES = [("test", 0, "timestamp:1556193335\tfile:test\n", ""), ("hello", 1, "", "InvalidSignature(SIGNATURE_REFUSED)")]
 
 
-def check_readme(checks, cargo, room, crate, minisign):
+def check_readme(checks, cargo, scratch, crate, minisign):
     """Checks that the examples of README.md compile, pasted into one file of a crate with the dependency of README.md; that they accept a
     signed file and reject another one; and that they generate a key, sign with it, and verify a stream."""
-    directory = os.path.join(room, "readme")
+    directory = os.path.join(scratch, "readme")
     dependency, = re.findall(r"^```toml\n(.*?)^```$", read(CRATE, "README.md").decode(), re.M | re.S)
     os.makedirs(os.path.join(directory, "src", "bin"))
     os.makedirs(os.path.join(directory, "vendor"))
@@ -294,8 +294,8 @@ def check_readme(checks, cargo, room, crate, minisign):
 class UserCrate:
     """A user's crate in a new directory, which is built with only the given programs in PATH."""
 
-    def __init__(self, programs, room, name, dependency):
-        self.directory = new_crate(room, name, dependency, "target.rs")
+    def __init__(self, programs, scratch, name, dependency):
+        self.directory = new_crate(scratch, name, dependency, "target.rs")
         self.cargo = Cargo(self.directory, *(os.path.join(needs.DEBIAN_PROGRAMS, name) for name in ("cargo", "rustc")), PATH=programs)
 
     def build(self, target="", **environment):
@@ -325,61 +325,61 @@ def rust_for_arm():
     return directory
 
 
-def check_here(checks, programs, crate, room):
+def check_here(checks, programs, crate, scratch):
     """Checks builds for this system, in a path with spaces and without make and libsodium: with the archives, from C, with other compilers,
     and as a git dependency."""
-    user_crate = UserCrate(programs, room, "a user's crate", depends_on(WITHOUT_SODIUM, crate))
-    for what, has_archives, portable in (("with the archives", True, ""), ("from C", False, "1")):
-        user_crate.check(checks, f"without make, {what}", {"v3_minisign_update": has_archives, **NO_SODIUM}, MINISIGN_PORTABLE=portable)
+    user_crate = UserCrate(programs, scratch, "a user's crate", depends_on(WITHOUT_SODIUM, crate))
+    for what, has_archives, is_portable in (("with the archives", True, ""), ("from C", False, "1")):
+        user_crate.check(checks, f"without make, {what}", {"v3_minisign_update": has_archives, **NO_SODIUM}, MINISIGN_PORTABLE=is_portable)
     status, why = user_crate.build(CC="cl", MINISIGN_PORTABLE="")
     checks.check(status != 0 and NOT_GNU_ERROR in why, f"a compiler without GNU options: {why[-500:]}")
-    compiler = write(room, "recording", RECORDING.encode())
+    compiler = write(scratch, "recording", RECORDING.encode())
     os.chmod(compiler, 0o755)
     status, why = user_crate.build(CC_x86_64_unknown_linux_gnu=compiler, MINISIGN_PORTABLE="")
     checks.check(status == 0 and os.path.exists(f"{compiler}-calls"), f"a compiler for one target: {why[-500:]}")
-    check_libsodium(checks, crate, room)
-    dependency = f'minisign-proved = {{ git = "file://{commands.Clone(room).top}", default-features = false }}'
-    user_crate = UserCrate(programs, room, "git dependency", dependency)
+    check_libsodium(checks, crate, scratch)
+    dependency = f'minisign-proved = {{ git = "file://{commands.Clone(scratch).top}", default-features = false }}'
+    user_crate = UserCrate(programs, scratch, "git dependency", dependency)
     user_crate.check(checks, "a git dependency", {"v3_minisign_update": True, "v2_minisign_update": True}, CARGO_NET_OFFLINE="false")
 
 
-def check_libsodium(checks, crate, room):
+def check_libsodium(checks, crate, scratch):
     """Checks that the build finds libsodium with pkg-config or in SODIUM_LIB_DIR, and links the shared or the static library as the variables
     say. Without pkg-config, the error says what to install."""
-    user_crate = UserCrate(static_library.path_without_kit(), room, "with libsodium", depends_on(PLAIN, crate))
+    user_crate = UserCrate(static_library.path_without_kit(), scratch, "with libsodium", depends_on(PLAIN, crate))
     for variables, is_shared in (({}, True), ({"SODIUM_LIB_DIR": DEBIAN_LIBRARIES}, False),
                                  ({"SODIUM_LIB_DIR": DEBIAN_LIBRARIES, "SODIUM_SHARED": "1"}, True)):
         user_crate.check(checks, f"with libsodium, {variables}", {}, **variables)
         needed = run([needs.program("readelf", "binutils"), "-d", f"{user_crate.cargo.target}/debug/user"])[1].decode()
         checks.check(("libsodium.so" in needed) == is_shared, f"with libsodium, {variables}: {needed}")
-    programs = shared_cases.make_path_directory(os.path.join(room, "for-libsodium"), *BUILD_PROGRAMS)
-    without_pkg_config = UserCrate(programs, room, "without pkg-config", depends_on(PLAIN, crate))
+    programs = shared_cases.make_path_directory(os.path.join(scratch, "for-libsodium"), *BUILD_PROGRAMS)
+    without_pkg_config = UserCrate(programs, scratch, "without pkg-config", depends_on(PLAIN, crate))
     status, why = without_pkg_config.build()
     checks.check(status != 0 and "libsodium was not found: install it" in why and "SODIUM_LIB_DIR" in why, f"without pkg-config: {why[-800:]}")
 
 
-def check_targets(checks, programs, crate, room):
+def check_targets(checks, programs, crate, scratch):
     """Checks the crate for Windows, under wine, and for AArch64, under qemu."""
-    wine, arm = portable.Windows(room), emulated.AARCH64
+    wine, arm = portable.Windows(scratch), emulated.AARCH64
     needs.need(lambda: True if os.path.isdir(f"/usr/lib/rustlib/{WINDOWS}") else None, "Rust for Windows", "libstd-rust-dev-windows")
     needs.program("x86_64-w64-mingw32-gcc", "gcc-mingw-w64-x86-64")
     emulator, compiler, library = emulated.emulator(arm), emulated.compiler(arm), rust_for_arm()
     for name in ("x86_64-w64-mingw32-gcc", os.path.basename(compiler)):
         os.symlink(os.path.join(needs.DEBIAN_PROGRAMS, name), os.path.join(programs, name))
-    user_crate = UserCrate(programs, room, "other targets", depends_on(WITHOUT_SODIUM, crate))
+    user_crate = UserCrate(programs, scratch, "other targets", depends_on(WITHOUT_SODIUM, crate))
     user_crate.check(checks, "for Windows", {}, [wine.program], WINDOWS, ".exe", wine.variables)
     wine.end()
-    os.makedirs(f"{room}/sysroot/lib")
-    os.symlink(f"{library}/usr/lib/rustlib", f"{room}/sysroot/lib/rustlib")
+    os.makedirs(f"{scratch}/sysroot/lib")
+    os.symlink(f"{library}/usr/lib/rustlib", f"{scratch}/sysroot/lib/rustlib")
     linker = {f"CARGO_TARGET_{ARM.upper().replace('-', '_')}_LINKER": compiler}
-    user_crate.check(checks, "for AArch64", {"aarch64_minisign_update": True}, emulator, ARM, RUSTFLAGS=f"--sysroot {room}/sysroot", **linker)
+    user_crate.check(checks, "for AArch64", {"aarch64_minisign_update": True}, emulator, ARM, RUSTFLAGS=f"--sysroot {scratch}/sysroot", **linker)
 
 
-def check_mutants(checks, cargo, crate, room, minisign):
+def check_mutants(checks, cargo, crate, scratch, minisign):
     """Checks that the checks of a user's crate fail with each mutant. A mutant may cause warnings. All mutants are built in one directory,
     so that cargo compiles only the files that differ from the previous mutant."""
-    crate_path = os.path.join(room, "changed")
-    users = {name: new_crate(room, f"mutants-{name}", depends_on(RENAMED, crate_path, os.path.dirname(crate)), f"{name}.rs")
+    crate_path = os.path.join(scratch, "changed")
+    users = {name: new_crate(scratch, f"mutants-{name}", depends_on(RENAMED, crate_path, os.path.dirname(crate)), f"{name}.rs")
              for name in ("answers", "lists")}
 
     def check_mutant(checks, changed, directory, word):
@@ -394,24 +394,24 @@ def check_mutants(checks, cargo, crate, room, minisign):
         else:
             compare_results(program, directory, minisign, shared_cases.corpus())
 
-    shared_cases.check_mutants(checks, crate, "bindings/rust", mutants_of("bindings", "rust", "mutants"), room, check_mutant)
+    shared_cases.check_mutants(checks, crate, "bindings/rust", mutants_of("bindings", "rust", "mutants"), scratch, check_mutant)
 
 
-def check_toolchain(checks, room, toolchain, minisign, is_first):
+def check_toolchain(checks, scratch, toolchain, minisign, is_first):
     """Checks the builds of one cargo. With the first cargo, it checks more cases, and also memory, threads, mutants and other targets."""
-    cargo = Cargo(room, *toolchain, **({} if is_first else Cargo.UNOPTIMIZED))
+    cargo = Cargo(scratch, *toolchain, **({} if is_first else Cargo.UNOPTIMIZED))
     # UNOPTIMIZED because `cargo package` also builds the crate.
-    crate = shared_cases.pack_and_unpack("rust", room, {**cargo.environment, **Cargo.UNOPTIMIZED}, CARGO=cargo.cargo)
-    answers = new_crate(room, "answers", depends_on(RENAMED, crate), "answers.rs")
+    crate = shared_cases.pack_and_unpack("rust", scratch, {**cargo.environment, **Cargo.UNOPTIMIZED}, CARGO=cargo.cargo)
+    answers = new_crate(scratch, "answers", depends_on(RENAMED, crate), "answers.rs")
     cargo.run(answers, "build", "--release")
     program = Program(checks, shutil.copy(os.path.join(cargo.target, "release", "user"), answers))
     few_cases = shared_cases.corpus() + shared_cases.damaged_cases(60)
-    compare_results(program, room, minisign, shared_cases.all_cases(checks, minisign) if is_first else few_cases)
-    lists = new_crate(room, "lists", depends_on(RENAMED, crate), "lists.rs")
+    compare_results(program, scratch, minisign, shared_cases.all_cases(checks, minisign) if is_first else few_cases)
+    lists = new_crate(scratch, "lists", depends_on(RENAMED, crate), "lists.rs")
     cargo.run(lists, "build", "--release")
-    check_lists(Program(checks, shutil.copy(os.path.join(cargo.target, "release", "user"), lists)), os.path.join(room, "listed"), minisign)
-    check_readme(checks, cargo, room, crate, minisign)
-    check_inside(checks, cargo, crate, room)
+    check_lists(Program(checks, shutil.copy(os.path.join(cargo.target, "release", "user"), lists)), os.path.join(scratch, "listed"), minisign)
+    check_readme(checks, cargo, scratch, crate, minisign)
+    check_inside(checks, cargo, crate, scratch)
     if not is_first:
         return
     unpacked = os.path.dirname(crate)
@@ -421,23 +421,23 @@ def check_toolchain(checks, room, toolchain, minisign, is_first):
     check_tests(checks, cargo, crate, 40, *patch_options(unpacked, "minisign-proved-sys"))
     program.check_growth(CALLS, MAX_PAGES, few_cases)
     program.check_threads(few_cases)
-    check_mutants(checks, cargo, crate, room, minisign)
-    programs = shared_cases.make_path_directory(room, *BUILD_PROGRAMS)
-    check_here(checks, programs, crate, room)
-    check_targets(checks, programs, crate, room)
+    check_mutants(checks, cargo, crate, scratch, minisign)
+    programs = shared_cases.make_path_directory(scratch, *BUILD_PROGRAMS)
+    check_here(checks, programs, crate, scratch)
+    check_targets(checks, programs, crate, scratch)
     shutil.rmtree(os.path.join(sys_crate, "library"))
     status, _ = cargo.try_to_run(sys_crate, "build", "--profile", "bench")
     checks.check(status != 0, "the crate can be built without its directory library")
 
 
-def run_all(checks, room):
-    debian_crates.use(room)
-    minisign = shared_cases.build_c_minisign(room)
+def run_all(checks, scratch):
+    debian_crates.use(scratch)
+    minisign = shared_cases.build_c_minisign(scratch)
     check_sources(checks)
     pairs = toolchains()
     checks.check(not needs.may_install() or pairs[0][0] == f"{needs.DEBIAN_PROGRAMS}/cargo", f"Debian's cargo is not tested: {pairs}")
     for number, toolchain in enumerate(pairs):
-        directory = os.path.join(room, str(number))
+        directory = os.path.join(scratch, str(number))
         os.mkdir(directory)
         check_toolchain(checks, directory, toolchain, minisign, number == 0)
 

@@ -171,12 +171,12 @@ def escaped(output):
     return re.sub(r"[\x00-\x09\x0b-\x1f\x7f]", lambda found: f"\\u{{{ord(found[0]):x}}}", text).encode(errors="surrogateescape")
 
 
-def compare_random(checking, room, seed):
+def compare_random(checking, scratch, seed):
     """Compares the results for one random list. Returns our status, whether sha256sum accepts the list, and the known reason for a
     difference, or "" if there is none."""
     rng = random.Random(seed)
     text, long_hash = random_list(rng), rng.choice(["sha512", "blake2b"])
-    with tempfile.TemporaryDirectory(dir=room) as directory:
+    with tempfile.TemporaryDirectory(dir=scratch) as directory:
         files = os.path.join(directory, "files")
         os.mkdir(files)
         checking.put(directory, {LIST: text, PUBLIC_FILE: checking.public_text})
@@ -212,15 +212,15 @@ def reason_of(text, long_hash, ours, their_output):
 
 def agrees_on_random_lists(checking, first, count):
     """The results for random lists follow the rules. Each difference from sha256sum has a known reason."""
-    with tempfile.TemporaryDirectory(dir=checking.runs) as room, concurrent.futures.ThreadPoolExecutor(os.cpu_count()) as pool:
-        found = Counter(pool.map(lambda seed: compare_random(checking, room, seed), range(first, first + count)))
+    with tempfile.TemporaryDirectory(dir=checking.runs) as scratch, concurrent.futures.ThreadPoolExecutor(os.cpu_count()) as pool:
+        found = Counter(pool.map(lambda seed: compare_random(checking, scratch, seed), range(first, first + count)))
     for (ours, theirs, reason), times in found.items():
         expect((ours == OK) == theirs or reason, f"{times} lists: our status is {ours}, and sha256sum {'accepts' if theirs else 'rejects'} them")
     expect(found[OK, True, ""] > count // 50, f"too few lists are accepted by both: {found}")
     expect({status for status, *_ in found} == {OK, UNUSABLE, REJECTED, DIFFERS, UNLISTED_NAME, MISSING}, f"not every status occurs: {found}")
 
 
-def compare_signify(checking, signify, keys, room, seed):
+def compare_signify(checking, signify, keys, scratch, seed):
     """Compares the result for a random list in BSD form with that of `signify -C`. Returns our status, and whether signify accepts the
     list. Fails if they differ for an unknown reason."""
     rng, lines = random.Random(seed), []
@@ -228,7 +228,7 @@ def compare_signify(checking, signify, keys, room, seed):
         name, digits = rng.choice([b"a", b"a", b"a", b"b", b"a b"]), rng.choice([H, H, H, OTHER, H.upper(), H[:-1]])
         line = b"SHA256 (" + name + b") = " + digits
         lines.append(line if rng.random() < 0.93 else rng.choice([b"# a", b"x", digits + b"  " + name]))
-    with tempfile.TemporaryDirectory(dir=room) as directory:
+    with tempfile.TemporaryDirectory(dir=scratch) as directory:
         checking.put(directory, {LIST: b"\n".join(lines) + b"\n", "a": DATA, PUBLIC_FILE: checking.public_text})
         checking.sign(directory)
         ours = checking.run(directory, [*KEY, LIST, "a"]).status
@@ -248,9 +248,9 @@ def compare_signify(checking, signify, keys, room, seed):
 def agrees_with_signify(checking):
     """The results for random lists in BSD form are those of `signify -C`, except for known reasons."""
     signify = needs.program("signify-openbsd", "signify-openbsd")
-    with tempfile.TemporaryDirectory(dir=checking.runs) as room, concurrent.futures.ThreadPoolExecutor(os.cpu_count()) as pool:
-        subprocess.run([signify, "-G", "-n", "-p", "k.pub", "-s", "k.sec"], cwd=room, check=True, stdout=subprocess.DEVNULL)
-        found = Counter(pool.map(lambda seed: compare_signify(checking, signify, room, room, seed), range(SIGNIFY_LISTS)))
+    with tempfile.TemporaryDirectory(dir=checking.runs) as scratch, concurrent.futures.ThreadPoolExecutor(os.cpu_count()) as pool:
+        subprocess.run([signify, "-G", "-n", "-p", "k.pub", "-s", "k.sec"], cwd=scratch, check=True, stdout=subprocess.DEVNULL)
+        found = Counter(pool.map(lambda seed: compare_signify(checking, signify, scratch, scratch, seed), range(SIGNIFY_LISTS)))
     expect(found[OK, True] > SIGNIFY_LISTS // 20 and found[DIFFERS, False] and found[UNLISTED_NAME, True], f"too few of a kind: {found}")
 
 

@@ -43,14 +43,14 @@ def cases_of(checking):
         yield from cases(checking)
 
 
-def run_all(room):
+def run_all(scratch):
     """Runs all cases. Returns the failures and the number of cases."""
-    os.chmod(room, 0o711)
-    program = selected.file_argument() or os.path.join(room, "out", NAME)
+    os.chmod(scratch, 0o711)
+    program = selected.file_argument() or os.path.join(scratch, "out", NAME)
     if not selected.file_argument():
         needs.compiler_with_libsodium()
-        static_library.run_make(f"OUT={room}/out", program)
-    checking = Checking(program, tempfile.mkdtemp(dir=room))
+        static_library.run_make(f"OUT={scratch}/out", program)
+    checking = Checking(program, tempfile.mkdtemp(dir=scratch))
     with checking.directories:
         return run_cases(cases_of(checking))
 

@@ -65,21 +65,21 @@ def shown_comment(comment):
 
 
 class Checking(FaultRunner):
-    """Runs `minisign-check` in fresh directories. The keys are in the directory `room`."""
+    """Runs `minisign-check` in fresh directories. The keys are in the directory `scratch`."""
 
     seconds = SECONDS
 
-    def __init__(self, program, room):
+    def __init__(self, program, scratch):
         # Some tests run the program as an unprivileged user, who must be able to enter this directory.
-        super().__init__(shutil.copy(program, room), room)
-        os.chmod(room, 0o711)
+        super().__init__(shutil.copy(program, scratch), scratch)
+        os.chmod(scratch, 0o711)
         self.minisign = needs.minisign()
         self.directories = tempfile.TemporaryDirectory(prefix="minisign-check-", dir=self.parent)
         self.runs = self.directories.name
         os.chmod(self.runs, 0o755)
         for public, secret in ((PUBLIC_FILE, SECRET_FILE), (OTHER_PUBLIC_FILE, OTHER_SECRET_FILE)):
-            self.run_minisign(room, "-G", "-W", "-p", public, "-s", secret)
-        self.public_text = read(room, PUBLIC_FILE)
+            self.run_minisign(scratch, "-G", "-W", "-p", public, "-s", secret)
+        self.public_text = read(scratch, PUBLIC_FILE)
         self.key = self.public_text.split()[-1].decode()
 
     def run_minisign(self, directory, *arguments):

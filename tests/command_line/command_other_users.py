@@ -108,8 +108,8 @@ class Existing(namedtuple("Existing", "kind owner parent", defaults=(LIKE_TMP,))
 class OtherUsers(Programs):
     """Runs the program in new directories with the user's own files and with files of other users."""
 
-    def __init__(self, programs, room, keys):
-        super().__init__(programs, room, keys)
+    def __init__(self, programs, scratch, keys):
+        super().__init__(programs, scratch, keys)
         own = ("-s", "own/k.key")
         self.commands = [
             Command("a new secret key", ("-GWf", "-p", "own/a.pub", "-s", "it"), is_secret, True),

@@ -94,11 +94,11 @@ def case(name, *rows):
 class Programs(FaultRunner):
     """Runs the programs in new directories that other users can reach. Subclasses have the test cases."""
 
-    def __init__(self, programs, room, keys):
-        super().__init__(shutil.copy(programs.ours, room), room)
+    def __init__(self, programs, scratch, keys):
+        super().__init__(shutil.copy(programs.ours, scratch), scratch)
         self.programs, self.keys = programs, keys
         self.directories = tempfile.TemporaryDirectory(dir=self.parent)
-        for path in (room, self.directories.name):
+        for path in (scratch, self.directories.name):
             os.chmod(path, PARENT_MODE)
 
     def cases(self):

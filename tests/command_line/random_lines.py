@@ -219,10 +219,10 @@ def failure_of_line(programs, initial, seed, end, number):
     return ""
 
 
-def run_all(seed, numbers, room):
+def run_all(seed, numbers, scratch):
     """Tries the command lines, several at a time. Returns the failures and the number of command lines."""
-    programs = ProgramPaths(needs.minisign(), build_program(room, f"CFLAGS={SANITIZER_FLAGS}", "C_CALLS="),
-                            build_preload(room, "fixed_random_and_time"))
+    programs = ProgramPaths(needs.minisign(), build_program(scratch, f"CFLAGS={SANITIZER_FLAGS}", "C_CALLS="),
+                            build_preload(scratch, "fixed_random_and_time"))
     failure_of = partial(failure_of_line, programs, initial_files(programs), seed, time.time() + MAX_SECONDS)
     with concurrent.futures.ProcessPoolExecutor() as pool:
         results = [failure for failure in pool.map(failure_of, numbers) if failure is not None]
@@ -237,7 +237,7 @@ def main(words):
     seed = int(words[0]) if words else random.SystemRandom().randrange(2**32)
     numbers = [int(words[1])] if len(words) > 1 else range(LINE_COUNT)
     print(f"seed {seed}", flush=True)
-    return test_script.run_cases("random-lines", lambda room: run_all(seed, numbers, room), RuntimeError)
+    return test_script.run_cases("random-lines", lambda scratch: run_all(seed, numbers, scratch), RuntimeError)
 
 
 if __name__ == "__main__":

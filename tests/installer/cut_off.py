@@ -418,8 +418,8 @@ def mounted_disk(image):
 def new_disk(runner):
     """Makes an image file with a file system in which an update is installed and a newer one is offered. Yields its path."""
     require_root("mount")
-    with tempfile.TemporaryDirectory(dir=runner.work_directory) as room:
-        image = write(room, "image", b"")
+    with tempfile.TemporaryDirectory(dir=runner.work_directory) as scratch:
+        image = write(scratch, "image", b"")
         os.truncate(image, 8 << 20)
         if not succeeds("mkfs.ext4", "-q", "-F", image):
             raise Skip("mkfs.ext4 of the package e2fsprogs is missing, or failed")
@@ -447,8 +447,8 @@ def survives_crash(directory):
     and a record that is not older, and the next run finishes the update. The copy after the last call has the new update."""
     runner, states = directory.runner, set()
 
-    def attempt(number, room):
-        image, crashed = (os.path.join(room, name) for name in ("image", "crashed"))
+    def attempt(number, scratch):
+        image, crashed = (os.path.join(scratch, name) for name in ("image", "crashed"))
         shutil.copyfile(fresh, image)
         with mounted_disk(image) as path:
             ran = Directory(path, runner).run_stopped_before(number, lambda _: shutil.copyfile(image, crashed))

@@ -346,9 +346,9 @@ def accepts_two_keys(directory):
         (expect_new if is_accepted else expect_old)(directory)
 
 
-def build(room, directory, *words):
+def build(scratch, directory, *words):
     """Builds the program with the static libraries, and returns its path."""
-    program, out = os.path.join(room, "one_call"), os.path.join(room, "out")
+    program, out = os.path.join(scratch, "one_call"), os.path.join(scratch, "out")
     libraries = [f"{out}/libminisign-installing.a", f"{out}/libminisign.a"]
     static_library.run_make(f"OUT={out}", *words, *libraries)
     static_library.run_or_fail([needs.compiler_with_libsodium(), "-std=c99", "-Wall", "-Wextra", "-Werror", f"-I{proved.ROOT}/include",
@@ -362,15 +362,15 @@ def cases_of(runner):
         yield name, runner.run_case, case, *given
 
 
-def failure_of(room, preload, mutant):
+def failure_of(scratch, preload, mutant):
     """Tries a mutant. Returns an error if its case passes, otherwise an empty string."""
-    copy, own = mutants.copy_sources(room, "c", "include"), tempfile.mkdtemp(dir=room)
+    copy, own = mutants.copy_sources(scratch, "c", "include"), tempfile.mkdtemp(dir=scratch)
     mutants.apply(mutant, copy)
     program = os.path.join(own, "one_call")
     sources = [f"{copy}/c/install/{name}.c" for name in ("installing", "results", "directory")]
     sources += [f"{copy}/c/shared/{name}.c" for name in ("error_words", "handles", "permissions", "stages", "streams")]
     static_library.run_or_fail([needs.compiler_with_libsodium(), "-std=c11", "-pthread", f"-I{copy}/c", f"-I{copy}/include", "-o", program,
-                                f"{HERE}/one_call.c", *sources, f"{room}/out/libminisign.a", "-lsodium"])
+                                f"{HERE}/one_call.c", *sources, f"{scratch}/out/libminisign.a", "-lsodium"])
     runner = InstallerRunner(program, Signer(own), own)
     runner.preload = preload
     try:
@@ -380,15 +380,15 @@ def failure_of(room, preload, mutant):
     return f"the case `{mutant.case}` does not notice the mutant {mutant.name}"
 
 
-def run_all(room):
-    os.chmod(room, 0o711)
-    runner = InstallerRunner(build(room, None), Signer(room), tempfile.mkdtemp(dir=room))
+def run_all(scratch):
+    os.chmod(scratch, 0o711)
+    runner = InstallerRunner(build(scratch, None), Signer(scratch), tempfile.mkdtemp(dir=scratch))
     failures, count = run_cases(cases_of(runner))
     if len(sys.argv) < 2:
         found = mutants.mutants_of("installer", "one_call_mutants")
         # Each mutant is tried in a process of its own, because cases may change the user ID of the process.
         with concurrent.futures.ProcessPoolExecutor(os.cpu_count() or 1) as pool:
-            failures += filter(None, pool.map(partial(failure_of, room, runner.preload), found))
+            failures += filter(None, pool.map(partial(failure_of, scratch, runner.preload), found))
         count += len(found)
     return failures, count
 

@@ -58,14 +58,14 @@ def cases_of(runner):
                                 KEPT + REQUESTED + WITHOUT_PROC)
 
 
-def run_all(room):
+def run_all(scratch):
     """Runs all cases and returns the failures and the number of cases."""
-    os.chmod(room, 0o711)
-    program = selected.file_argument() or os.path.join(room, "out", NAME)
+    os.chmod(scratch, 0o711)
+    program = selected.file_argument() or os.path.join(scratch, "out", NAME)
     if not selected.file_argument():
         needs.compiler_with_libsodium()
-        static_library.run_make(f"OUT={room}/out", program)
-    return run_cases(cases_of(InstallerRunner(program, Signer(room), tempfile.mkdtemp(dir=room))))
+        static_library.run_make(f"OUT={scratch}/out", program)
+    return run_cases(cases_of(InstallerRunner(program, Signer(scratch), tempfile.mkdtemp(dir=scratch))))
 
 
 if __name__ == "__main__":

@@ -403,9 +403,9 @@ def overtaken(directory):
 NO_FORTIFICATION = ("-U_FORTIFY_SOURCE", "-D_FORTIFY_SOURCE=0")
 
 
-def compile_object(path, room, name, *more):
+def compile_object(path, scratch, name, *more):
     """Compiles a file, and returns the path of the object file."""
-    made = os.path.join(room, name)
+    made = os.path.join(scratch, name)
     include = [f"-I{proved.ROOT}/c", f"-I{proved.ROOT}/include"]
     static_library.run_or_fail([needs.compiler_with_libsodium(), "-std=c11", "-O1", *NO_FORTIFICATION, "-pthread", *include, *more,
                                 "-c", "-o", made, path])
@@ -415,15 +415,15 @@ def compile_object(path, room, name, *more):
 class Sources:
     """Builds `minisign-install` with recorded_calls.c, with or without a mutant."""
 
-    def __init__(self, room):
-        self.room, self.library = room, static_library.library(os.path.join(room, "out"))
+    def __init__(self, scratch):
+        self.scratch, self.library = scratch, static_library.library(os.path.join(scratch, "out"))
         paths = [*glob.glob(f"{proved.ROOT}/c/install/*.c"), *glob.glob(f"{proved.ROOT}/c/shared/*.c"), f"{HERE}/recorded_calls.c"]
-        self.objects = {os.path.relpath(path, proved.ROOT): compile_object(path, room, os.path.basename(path).replace(".c", ".o"))
+        self.objects = {os.path.relpath(path, proved.ROOT): compile_object(path, scratch, os.path.basename(path).replace(".c", ".o"))
                         for path in paths}
 
     def program(self, name="recorded", changed=None):
         """Links the program. `changed` has object files that replace others, by source file."""
-        made = os.path.join(self.room, name)
+        made = os.path.join(self.scratch, name)
         objects = {**self.objects, **(changed or {})}
         static_library.run_or_fail([needs.compiler_with_libsodium(), "-pthread", "-o", made, *objects.values(), *WRAP_OPTIONS,
                                     self.library, "-lsodium"])
@@ -431,7 +431,7 @@ class Sources:
 
     def mutant(self, mutant):
         """Builds the program with a mutant."""
-        copy = mutants.copy_sources(self.room, "c")
+        copy = mutants.copy_sources(self.scratch, "c")
         mutants.apply(mutant, copy)
         return self.program(f"recorded-{mutant.name}", {mutant.file: compile_object(os.path.join(copy, mutant.file), copy, "mutant.o")})
 
@@ -467,13 +467,13 @@ class Forked:
         return os.waitstatus_to_exitcode(os.waitpid(self.process_id, 0)[1])
 
 
-def load_package(room):
+def load_package(scratch):
     """Builds the Python package with recorded_calls.c and imports it. Returns a function like `program_starter`'s."""
-    calls = compile_object(f"{HERE}/recorded_calls.c", room, "recorded_calls_shared.o", "-fPIC")
-    arguments = ["-q", "build", "--build-base", f"{room}/base", "--build-lib", f"{room}/package"]
+    calls = compile_object(f"{HERE}/recorded_calls.c", scratch, "recorded_calls_shared.o", "-fPIC")
+    arguments = ["-q", "build", "--build-base", f"{scratch}/base", "--build-lib", f"{scratch}/package"]
     static_library.run_or_fail([python(), "setup.py", *arguments], f"{proved.ROOT}/bindings/python", CC=needs.c_compiler(),
                                CFLAGS=" ".join(["-O1", *NO_FORTIFICATION, calls, *WRAP_OPTIONS]))
-    sys.path.insert(0, f"{room}/package")
+    sys.path.insert(0, f"{scratch}/package")
     # find_library runs other programs. Without it, the package loads libsodium by its usual name.
     ctypes.util.find_library = lambda _: None
     import minisign_proved
@@ -551,12 +551,12 @@ def check_mutant(sources, signer, mutant):
     return "" if found else f"no run of the case `{mutant.case}` with the mutant {mutant.name} has an offence"
 
 
-def run_all(checks, room):
+def run_all(checks, scratch):
     if not os.access(PROGRAM, os.X_OK):
         raise needs.Missing(f"{PROGRAM} is missing: run rt ci")
-    signer, sources = Signer(room), Sources(room)
+    signer, sources = Signer(scratch), Sources(scratch)
     check_cases(checks, program_starter(sources.program()), signer, "minisign-install", cases)
-    check_cases(checks, load_package(room), signer, "the Python package", package_cases)
+    check_cases(checks, load_package(scratch), signer, "the Python package", package_cases)
     for mutant in mutants.mutants_of("installer", "recorded_mutants"):
         if selected.is_selected(mutant.name):
             why = check_mutant(sources, signer, mutant)

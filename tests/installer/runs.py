@@ -242,10 +242,10 @@ class InstallerRunner(FaultRunner):
 
     seconds = SECONDS
 
-    def __init__(self, program, signer, room):
-        super().__init__(shutil.copy(program, os.path.join(room, "program")), room)
+    def __init__(self, program, signer, scratch):
+        super().__init__(shutil.copy(program, os.path.join(scratch, "program")), scratch)
         self.signer = signer
-        os.chmod(room, 0o711)
+        os.chmod(scratch, 0o711)
 
     def new_directory(self, path):
         """Makes a directory in which an older update is installed and a newer one is offered."""

@@ -47,10 +47,10 @@ TWO_ALLOCATIONS = "reserves_all_rows_in_a_single_request"
 
 def listed_tests():
     """Yields the program and the name of each test in the crates that contain a test for this script."""
-    wanted, crates = [NAME_PART, *(function for function, *_ in MEMORY_LIMITS)], set()
+    names, crates = [NAME_PART, *(function for function, *_ in MEMORY_LIMITS)], set()
     for path in glob.glob(os.path.join(CRATES, "*", "src", "**", "*.rt"), recursive=True):
         text = read(path).decode()
-        if any(word in text for word in wanted):
+        if any(word in text for word in names):
             crates.add(os.path.relpath(path, CRATES).split(os.sep)[0])
     for tests in [os.path.join(CRATES, crate, "out", f"{crate}_tests") for crate in sorted(crates)]:
         ran = run_program([tests, "--list"], None)

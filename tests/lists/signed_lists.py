@@ -258,11 +258,11 @@ def beside_coreutils(checks, rng, count):
         for _ in range(count):
             text = random_list(rng)
             name = looked_up(rng, text)
-            with tempfile.TemporaryDirectory(dir=directory) as room:
-                os.mkdir(os.path.join(room, "d"))
-                make(room, name)
-                make(room, "L", text)
-                ran = subprocess.run(["sha256sum", "--strict", "--ignore-missing", "-c", "L"], cwd=room,
+            with tempfile.TemporaryDirectory(dir=directory) as scratch:
+                os.mkdir(os.path.join(scratch, "d"))
+                make(scratch, name)
+                make(scratch, "L", text)
+                ran = subprocess.run(["sha256sum", "--strict", "--ignore-missing", "-c", "L"], cwd=scratch,
                                      stdin=subprocess.DEVNULL, stdout=subprocess.PIPE, stderr=subprocess.PIPE)
             requests.append(("-", text, name, DATA))
             theirs.append((ran.returncode == 0, ran.stdout + ran.stderr))
@@ -281,8 +281,8 @@ def beside_coreutils(checks, rng, count):
                 why = expected("-", text, name, DATA)[1]
                 checks.check(why in TAKEN_BY_COREUTILS.get(ours, ()), f"sha256sum accepts {text!r}, our response is {answer}: {why}")
                 differences[ours, why] += 1
-            wanted = expected("-", text, name, DATA)[0]
-            checks.check(answer == wanted, f"{name!r} in {text!r}: got {answer}, expected {wanted}")
+            expected_answer = expected("-", text, name, DATA)[0]
+            checks.check(answer == expected_answer, f"{name!r} in {text!r}: got {answer}, expected {expected_answer}")
     checks.check(kinds["ok", True] > count // 50, f"too few lists are accepted by both to compare: {kinds}")
     print("accepted by sha256sum only:", {" ".join(filter(None, kind)): times for kind, times in differences.items()})
     return kinds

@@ -24,7 +24,7 @@ class Chromium(Person):
 
     def __init__(self, chromium, chromedriver, directory):
         flags = [*FLAGS, f"--user-data-dir={os.path.join(directory, 'profile')}"]
-        self.wanted = {"goog:chromeOptions": {"binary": chromium, "args": flags},
+        self.requested_capabilities = {"goog:chromeOptions": {"binary": chromium, "args": flags},
                        "goog:loggingPrefs": {"browser": "ALL", "performance": "ALL"}}
         with socket.create_server(("127.0.0.1", 0)) as free:
             self.port = free.getsockname()[1]
@@ -32,7 +32,7 @@ class Chromium(Person):
 
     def begin_session(self):
         try:
-            session = self.send_request("POST", "/session", capabilities={"alwaysMatch": self.wanted})
+            session = self.send_request("POST", "/session", capabilities={"alwaysMatch": self.requested_capabilities})
         except ConnectionRefusedError:
             return None
         self.path = f"/session/{session['sessionId']}"

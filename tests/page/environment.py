@@ -88,10 +88,10 @@ def check_keyboard_and_screen_reader(person):
     person.choose(*person.signed("data", b"data", trusted="t"), *person.pair("bad", b"bad", person.sign(b"data", trusted="t")))
     person.settled("the keyboard")
     nodes = person.nodes()
-    wanted = {("textbox", "Paste the content of the public key file, or only its line of 56 characters", None), ("button", "Clear the list", None),
+    expected = {("textbox", "Paste the content of the public key file, or only its line of 56 characters", None), ("button", "Clear the list", None),
               ("main", "", None), ("heading", "3. The result", 2), ("heading", "Verified data", 3), ("heading", "NOT verified bad", 3)}
     announced = {(role, name, properties.get("level")) for role, name, properties in nodes}
-    person.same(wanted - announced, set(), "the nodes that screen readers do not find")
+    person.same(expected - announced, set(), "the nodes that screen readers do not find")
     focusable = [(role, name.strip()) for role, name, properties in nodes if properties.get("focusable")]
     for part in ("minisign.pub", ".minisig"):
         person.check(any(part in name for _, name in focusable), f"no focusable element for screen readers names {part}: {focusable}")
@@ -113,16 +113,16 @@ def check_release_for_screen_readers(person):
     person.open(build_page(release, "--name", "Example", "--version", "1.2.3", "--link", f"{ZIP}={LINK}"))
     release.drop(ZIP, None, "screen readers", verdict="good")
     found = {(role, name, properties.get("level")) for role, name, properties in person.nodes()}
-    for wanted in (("heading", "Files of Example 1.2.3", 2), ("link", ZIP, None), ("StaticText", "\u2713 Verified", None),
+    for expected in (("heading", "Files of Example 1.2.3", 2), ("link", ZIP, None), ("StaticText", "\u2713 Verified", None),
                    ("region", "Files of Example 1.2.3", None)):
-        person.check(wanted in found, f"the page of a release: screen readers do not find {wanted}")
+        person.check(expected in found, f"the page of a release: screen readers do not find {expected}")
     person.open()
     person.run("document.getElementById('project').open = true")
     nodes = person.nodes()
     fields = [name for role, name, properties in nodes if properties.get("focusable") and role in ("textbox", "button", "DisclosureTriangle")]
-    for wanted in ("Save as a page for this project", "Title of the page", "Name of the program", "Version of the release", "Signatures of a release",
+    for expected in ("Save as a page for this project", "Title of the page", "Name of the program", "Version of the release", "Signatures of a release",
                    "Links to the files", "Save the page"):
-        person.check(any(wanted in name for name in fields), f"the form: screen readers do not find {wanted!r} among {fields}")
+        person.check(any(expected in name for name in fields), f"the form: screen readers do not find {expected!r} among {fields}")
     person.click("project-save")
     person.wait(lambda: person.text_of("project-message") != "")
     person.check(any(role == "status" and properties.get("live") == "polite" for role, _, properties in person.nodes()),

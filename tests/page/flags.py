@@ -14,6 +14,6 @@ def check_allow_legacy_flag(person):
     key, sig = (list(read(CORPUS, name)) for name in ("first.pub", "hello.minisig"))
     for flag in (0, 1, 2, 3, 2**31, 2**32 - 1):
         for is_begun in (True, False):
-            wanted = BAD_LEGACY_FLAG if flag > 1 else OK if is_begun else NOT_BEGUN
+            expected = BAD_LEGACY_FLAG if flag > 1 else OK if is_begun else NOT_BEGUN
             what = f"`allow_legacy` {flag}, and begun: {is_begun}"
-            person.same(person.see("askWithFlag", key, sig, flag, is_begun), [wanted, wanted != OK], what)
+            person.same(person.see("askWithFlag", key, sig, flag, is_begun), [expected, expected != OK], what)

@@ -126,7 +126,7 @@ def check_pasted_signatures(person):
     """A signature can be pasted before or after its file, and again. Another text gets a message."""
     path, (sig, other) = person.put("update.zip", b"data"), (person.sign(data, trusted="t").decode() for data in (b"data", b"x"))
     person.open()
-    for what, texts, wanted in (("unchanged", [sig], 0), ("with spaces", [sig.replace("\n", "\n    ")], 0),
+    for what, texts, expected in (("unchanged", [sig], 0), ("with spaces", [sig.replace("\n", "\n    ")], 0),
                                 ("with empty lines", ["\n" + sig.replace("\n", "\n\n\u00a0 ")], 0), ("without its end", [sig.rstrip()], 0),
                                 ("of other data", [other], 31), ("again", [other, sig], 0)):
         for is_file_first in (True, False):
@@ -135,7 +135,7 @@ def check_pasted_signatures(person):
                 person.type_text("signature-text", text)
             if not is_file_first:
                 person.choose(path)
-            person.only(f"a pasted signature {what}", number=wanted, name="update.zip")
+            person.only(f"a pasted signature {what}", number=expected, name="update.zip")
     # A signature for the next file. The file before it no longer has a signature (replaced_inputs.py).
     for name in ("one", "two"):
         person.choose(person.put(name, name.encode()))

@@ -45,14 +45,14 @@ HOSTILE_NAMES = {
 def check_comments_and_names(person):
     """Comments and names are shown as text, and change nothing around them."""
     made = Case("made", person.first.text, person.sign(b"data", trusted="t"), b"data")
-    wanted, paths = {}, []
+    expected, paths = {}, []
     for number, (comment, shown) in enumerate(HOSTILE_COMMENTS.items()):
         # libsodium signs with the unencrypted secret key, because not every comment can be passed to minisign on a command line.
         case = with_comment(made, person.minisign.read("first.key"), comment.encode(), sign_by_libsodium)
         paths += person.pair(f"comment{number}", case.data, case.sig)
-        wanted[f"comment{number}"] = 0, shown or comment
+        expected[f"comment{number}"] = 0, shown or comment
     person.begin(person.first.line, *paths)
-    person.expect_each("number comment", wanted, "hostile comments")
+    person.expect_each("number comment", expected, "hostile comments")
     # A comment without a valid signature is not shown.
     person.choose(*person.pair("forged", b"data", with_line(made.sig, 2, b"trusted comment: \xe2\x9c\x93 Verified")))
     person.named("forged", "a forged comment", number=32, comment=None, lacks=["\u2713"])

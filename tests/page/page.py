@@ -87,18 +87,18 @@ def run_in(begin):
         person.quit()
 
 
-def run_all(checks, room):
+def run_all(checks, scratch):
     page = selected.file_argument() or os.path.join(static_library.DIST, "minisign.html")
     if selected.is_selected("sources"):
         page_sources.check_contracts(checks)
         page_sources.check_file(checks, page)
         page_sources.check_digests(checks, page)
-    minisign = Minisign(needs.minisign(), tempfile.mkdtemp(dir=room))
+    minisign = Minisign(needs.minisign(), tempfile.mkdtemp(dir=scratch))
     for name in ("first", "second"):
         minisign.make_pair(name)
-    given = page, room, checks, minisign, verdicts.Programs(room)
-    run_in(lambda: Firefox(needs.firefox(), room).use(*given))
-    run_in(lambda: Chromium(*needs.chromium(), room).use(*given))
+    given = page, scratch, checks, minisign, verdicts.Programs(scratch)
+    run_in(lambda: Firefox(needs.firefox(), scratch).use(*given))
+    run_in(lambda: Chromium(*needs.chromium(), scratch).use(*given))
 
 
 if __name__ == "__main__":

@@ -28,13 +28,13 @@ class Counting:
         self.failed += not is_right
         return is_right
 
-    def same(self, seen, wanted, _=""):
-        return self.check(seen == wanted)
+    def same(self, seen, expected, _=""):
+        return self.check(seen == expected)
 
 
-def changed_sources(room, mutant):
+def changed_sources(scratch, mutant):
     """Returns a copy of the repository with a mutant applied."""
-    copy = mutants.copy_sources(room, *COPIED)
+    copy = mutants.copy_sources(scratch, *COPIED)
     for name in os.listdir(proved.ROOT):
         if name not in (*COPIED, ".git"):
             os.symlink(os.path.join(proved.ROOT, name), os.path.join(copy, name))
@@ -47,8 +47,8 @@ def failures(person, mutant, case):
     """Returns how many checks of a step fail in a page that is built with a mutant, or without one."""
     module, _, name = case.partition(", ")
     step, counting, before = vars(importlib.import_module(module))[f"check_{name}"], Counting(), vars(person).copy()
-    copy, places = changed_sources(person.room, mutant), (build.TOP, build.HERE)
-    page = os.path.join(tempfile.mkdtemp(dir=person.room), "page.html")
+    copy, places = changed_sources(person.scratch, mutant), (build.TOP, build.HERE)
+    page = os.path.join(tempfile.mkdtemp(dir=person.scratch), "page.html")
     status, output = run([sys.executable, os.path.join(copy, "page", "build.py"), page, "--from", person.page], copy)
     expect(status == 0, f"build.py in a copy: exit status {status}: {output}")
     try:

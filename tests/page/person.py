@@ -170,9 +170,9 @@ class Person:
     def version(self):
         return self.capabilities["browserVersion"]
 
-    def use(self, page, room, checks, minisign, programs):
+    def use(self, page, scratch, checks, minisign, programs):
         """Sets the page, the directory for files, the checks, and the programs that make signatures; returns the person."""
-        self.page, self.address, self.room, self.minisign, self.programs = page, f"file://{page}", room, minisign, programs
+        self.page, self.address, self.scratch, self.minisign, self.programs = page, f"file://{page}", scratch, minisign, programs
         self.check, self.same = checks.check, checks.same
         self.first, self.second = (Key(text, text.decode().split("\n")[1]) for text in map(minisign.read, ("first.pub", "second.pub")))
         return self
@@ -181,7 +181,7 @@ class Person:
 
     def put(self, name, data, beside=None):
         """Writes a file into a new directory, or into the directory of another file, and returns its path."""
-        return write(os.path.dirname(beside) if beside else tempfile.mkdtemp(dir=self.room), name, data)
+        return write(os.path.dirname(beside) if beside else tempfile.mkdtemp(dir=self.scratch), name, data)
 
     def pair(self, name, data, sig):
         """Writes a file and its signature into a new directory, and returns their paths."""
@@ -197,7 +197,7 @@ class Person:
 
     def sparse(self, name, length, *flags):
         """Returns the paths of a sparse file of zeros and its signature, which are made once for both browsers."""
-        path = os.path.join(self.room, "sparse", name)
+        path = os.path.join(self.scratch, "sparse", name)
         if not os.path.exists(f"{path}.minisig"):
             os.makedirs(os.path.dirname(path), exist_ok=True)
             os.truncate(self.put(name, b"", path), length)
@@ -359,31 +359,31 @@ class Person:
         self.same(verdicts, sorted(verdicts, reverse=True), f"{what}: if rows are bad, in their order")
         return rows
 
-    def only(self, what, **wanted):
+    def only(self, what, **expected):
         """Checks the only row, once nothing is being verified, and returns it."""
         rows = self.settled(what)
         self.check(len(rows) == 1, f"{what}: {len(rows)} rows, expected one")
-        return self.expect(rows[0], what, **wanted)
+        return self.expect(rows[0], what, **expected)
 
-    def named(self, name, what, **wanted):
+    def named(self, name, what, **expected):
         """Checks the row of this name, once nothing is being verified, and returns it."""
-        return self.expect(next(row for row in self.settled(what) if row.name == name), what, **wanted)
+        return self.expect(next(row for row in self.settled(what) if row.name == name), what, **expected)
 
     def expect(self, row, what, has=(), lacks=(), **parts):
         """Checks the attributes of a row, and that its text has the words of `has` and none of `lacks`. Returns the row."""
-        for name, wanted in parts.items():
-            self.same(getattr(row, name), wanted, f"{what}: {name} of the row {row.name!r}")
+        for name, expected in parts.items():
+            self.same(getattr(row, name), expected, f"{what}: {name} of the row {row.name!r}")
         if has or lacks:
             self.check(has_words(row.text, has, lacks), f"{what}: {row.text!r}, expected {has}, without {lacks}")
         return row
 
-    def expect_each(self, parts, wanted, what):
+    def expect_each(self, parts, expected, what):
         """Checks that exactly these rows exist, once nothing is being verified, and one attribute of each, or several (separated by
-        spaces). `wanted` has their values by name."""
+        spaces). `expected` has their values by name."""
         rows, of = self.settled(what), operator.attrgetter(*parts.split())
-        self.same(sorted(row.name for row in rows), sorted(wanted), f"{what}: the rows")
+        self.same(sorted(row.name for row in rows), sorted(expected), f"{what}: the rows")
         for row in rows:
-            self.same(of(row), wanted.get(row.name), f"{what}: {parts} of {row.name}")
+            self.same(of(row), expected.get(row.name), f"{what}: {parts} of {row.name}")
 
     # ---- Resources ----
 

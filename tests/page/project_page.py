@@ -44,7 +44,7 @@ class Release:
 
     def build(self, *words, **environment):
         """Runs build.py with a new directory for its output. Returns the exit status and standard error."""
-        self.out = os.path.join(tempfile.mkdtemp(dir=self.person.room), "example.html")
+        self.out = os.path.join(tempfile.mkdtemp(dir=self.person.scratch), "example.html")
         status, said, why = run_with_stderr([sys.executable, os.path.join(build.HERE, "build.py"), self.out, *words], **environment)
         if status == 0:
             self.person.same(said.split()[-1], hashlib.sha256(read(self.out)).hexdigest(), "the digest that build.py prints")
@@ -57,13 +57,13 @@ class Release:
         self.person.same(ran, (0, ""), "build.py --key --signature")
         return f"file://{self.out}"
 
-    def drop(self, name, data, what, at=None, **wanted):
+    def drop(self, name, data, what, at=None, **expected):
         """Drops a file on the page, after opening the page if an address is given. The default data is that of the release. Checks the
         file's row and that its verdict is in view, and returns the row."""
         if at:
             self.person.open(at)
         self.person.drop("downloads", self.person.put(name, self.files[name] if data is None else data))
-        row = self.person.named(name, what, **wanted)
+        row = self.person.named(name, what, **expected)
         self.person.check(row.verdict == "waiting" or self.person.see("isInView", name), f"{what}: the verdict is out of view")
         return row
 
@@ -113,8 +113,8 @@ def check_signature_by_name(person, release):
         row = release.drop(name, data, what, verdict=verdict, number=number,
                            has=["None of this page's signatures is for this file. Do not use the file."] if number is None else [])
         person.expect(row, what, **{"has": [f"{NAMED}{signed_name}."]} if signed_name else {"lacks": [NAMED]})
-        wanted = [f"{NAMED}{signed_name}. {OTHER_FILE}"] if verdict == "renamed" else []
-        person.same(row.cautions, wanted, f"{what}: the warnings")
+        expected = [f"{NAMED}{signed_name}. {OTHER_FILE}"] if verdict == "renamed" else []
+        person.same(row.cautions, expected, f"{what}: the warnings")
     # A signature without a name in its comment is for the file after which the signature file is named.
     plain = release.build_own(*(person.put(f"App ({year}).zip.minisig", person.sign(year.encode(), trusted="t"))
                                 for year in ("2024", "2025")))
@@ -146,7 +146,7 @@ def check_given_signatures(person, release):
     old, other_key = release.sign(ZIP, b"older"), release.sign(ZIP, b"older", "second")
     older = {"verdict": "unlisted", "number": 0, "cautions": [UNLISTED]}
     signature = with_record(old, 1, b"XX" + record_of(old)[2:])
-    for what, name, data, given, wanted in (
+    for what, name, data, given, expected in (
             ("the file of the release with an older signature", ZIP, release.files[ZIP], old, {"verdict": "good", "number": 0}),
             ("the file of the release with a foreign signature", ZIP, release.files[ZIP], other_key, {"verdict": "good", "number": 0}),
             ("the file of the release with a malformed signature", ZIP, release.files[ZIP], b"x", {"verdict": "good", "number": 0}),
@@ -165,7 +165,7 @@ def check_given_signatures(person, release):
             paths = person.pair(name, data, given)
             for dropped in ([paths] if is_together else [paths[:1], paths[1:]]):
                 person.drop("downloads", *dropped)
-            row = person.only(f"{what}, together: {is_together}", **{"verdict": "bad", **wanted})
+            row = person.only(f"{what}, together: {is_together}", **{"verdict": "bad", **expected})
             is_expected = row.verdict == "bad" and row.number != 32
             person.same(NOT_OF_RELEASE in row.text, is_expected,
                         f"{what}, together: {is_together}: the row says that it is not of the release")
@@ -207,9 +207,9 @@ def check_links(person, release):
         person.type_key(typed)
         person.only("a key that is pasted after a link with a key", verdict=verdict, number=number, cautions=[])
     words = [f"{NAMED}{ZIP}. {OTHER_FILE}", f"with the signature {ZIP}.minisig"]
-    for name, content, wanted in (("app-0.9.zip", data, {"verdict": "unchecked", "number": 0, "has": words}),
+    for name, content, expected in (("app-0.9.zip", data, {"verdict": "unchecked", "number": 0, "has": words}),
                                   (ZIP, b"x", {"verdict": "bad", "number": 31, "lacks": words})):
-        release.drop(name, content, f"a link, and {name} with {content}", f"{person.address}#key={key}&sig={text}", **wanted)
+        release.drop(name, content, f"a link, and {name} with {content}", f"{person.address}#key={key}&sig={text}", **expected)
     # A link without a key.
     what = "a link with only a signature"
     person.open(f"{person.address}#sig={text}")
@@ -243,11 +243,11 @@ def check_links_to_project_page(person, release):
         release.drop(ZIP, None, f"{what}, and a download whose signature is built in", verdict="good")
     # A link with an older signature of a file of the release.
     older = base64.b64encode(release.sign(ZIP, b"older")).decode()
-    for at, data, wanted in ((release.own, b"older", {"verdict": "unlisted", "number": 0, "cautions": [UNLISTED]}),
+    for at, data, expected in ((release.own, b"older", {"verdict": "unlisted", "number": 0, "cautions": [UNLISTED]}),
                              (release.own, None, {"verdict": "good", "number": 0}),
                              (release.own, b"x", {"verdict": "bad", "number": 31, "has": [NOT_OF_RELEASE]}),
                              (release.build_own(), b"older", {"verdict": "good", "number": 0})):
-        release.drop(ZIP, data, f"a link with an older signature, and {data}", f"{at}#sig={older}", **wanted)
+        release.drop(ZIP, data, f"a link with an older signature, and {data}", f"{at}#sig={older}", **expected)
 
 
 def check_page_without_signatures(person, release):

@@ -54,8 +54,8 @@ def check_random_actions(person):
             continue
         what = f"action {count}, after {done[-4:]}"
         rows = [(row.name, row.verdict, row.number) for row in person.settled(what)]
-        wanted = [(name, *model.verdict(**parts)) for name, parts in model.downloads.items()]
-        person.same(rows, sorted(wanted, key=lambda row: row[1] != "bad"), what)
+        expected = [(name, *model.verdict(**parts)) for name, parts in model.downloads.items()]
+        person.same(rows, sorted(expected, key=lambda row: row[1] != "bad"), what)
         whole = f"In full: {keys[model.key].line}" if model.key else ""
         person.same(person.text_of("key-full") if person.is_shown("key-full") else "", whole, f"{what}: the key")
 

@@ -104,10 +104,10 @@ def check_safe_links(person):
     """build.py and the page accept the same links: those that are relative or begin with https."""
     person.open()
     links = SAFE_LINKS + UNSAFE_LINKS
-    wanted = [link in SAFE_LINKS for link in links]
+    expected = [link in SAFE_LINKS for link in links]
     for what, found in (("build.py", [build.is_safe_link(link) for link in links]),
                         ("the page", person.run("return arguments[0].map(isSafeLink)", links))):
-        person.same([link for link, is_safe, right in zip(links, found, wanted) if is_safe != right], [], f"{what}: links with a wrong result")
+        person.same([link for link, is_safe, right in zip(links, found, expected) if is_safe != right], [], f"{what}: links with a wrong result")
 
 
 def check_many_signatures(person):

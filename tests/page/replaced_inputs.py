@@ -44,8 +44,8 @@ def check_replaced_files(person):
             seen = {name: "queued" if verdict == "reading" else verdict for name, verdict in seen.items()}
             person.same(seen, at_once, f"{what} is replaced, and being read")
             several = sum(verdict == "queued" for verdict in at_once.values()) > 1
-            wanted = WAITS[several] if "queued" in at_once.values() else NEXT_STEPS["good"][1]
-            person.same(step, wanted, f"{what} is replaced, and being read: the next step")
+            expected = WAITS[several] if "queued" in at_once.values() else NEXT_STEPS["good"][1]
+            person.same(step, expected, f"{what} is replaced, and being read: the next step")
             if at_once is both and "key" in what:
                 person.check(not person.is_shown("key-full"), f"{what} is replaced: the old key is still shown")
         person.expect_each("verdict", after, f"{what} is replaced")
@@ -92,12 +92,12 @@ def check_while_verifying(person):
 
     begin()
     person.choose_key(no_key)
-    wanted = {name: "waiting" for name in ("small", "lone.txt", "long")}
-    person.expect_each("verdict", wanted, "a file that is not a key is chosen as the key while a large file is read")
+    expected = {name: "waiting" for name in ("small", "lone.txt", "long")}
+    person.expect_each("verdict", expected, "a file that is not a key is chosen as the key while a large file is read")
     begin()
     person.drop("downloads", person.put("other.txt", b"other"), *paths)
-    wanted = {"small": "good", "lone.txt": "waiting", "long": "good", "other.txt": "waiting"}
-    person.expect_each("verdict", wanted, "a large file is dropped again while it is read")
+    expected = {"small": "good", "lone.txt": "waiting", "long": "good", "other.txt": "waiting"}
+    person.expect_each("verdict", expected, "a large file is dropped again while it is read")
 
 
 def check_signature_field(person):

@@ -73,8 +73,8 @@ def check_changed_file(person):
         person.put("update.zip", after, path)
         os.utime(path, (1, 1))
         person.type_key(person.first.line)
-        wanted = {"verdict": "bad", "has": ["it changed while it was read"]} if person.is_chromium else {"number": number}
-        person.only("a file that changed", **wanted)
+        expected = {"verdict": "bad", "has": ["it changed while it was read"]} if person.is_chromium else {"number": number}
+        person.only("a file that changed", **expected)
 
 
 def processor_seconds(person):

@@ -25,7 +25,7 @@ def fill(person, release, title="", signatures=(), name="", version="", links=()
 
 def save_page(person):
     """Presses the button, and returns the bytes of the page that the browser saves."""
-    directory = tempfile.mkdtemp(dir=person.room)
+    directory = tempfile.mkdtemp(dir=person.scratch)
     person.save_into(directory)
     person.click("project-save")
     person.wait(lambda: person.text_of("project-message") != "")

@@ -27,8 +27,8 @@ WEAK = 81
 class Programs:
     """The program `c/minisign`, and the messages of the library and of the program for each error number of the header."""
 
-    def __init__(self, room):
-        self.program, numbers = shared_cases.build_c_minisign(room), shared_cases.ERRORS
+    def __init__(self, scratch):
+        self.program, numbers = shared_cases.build_c_minisign(scratch), shared_cases.ERRORS
         self.meaning = {numbers[name]: text for name, text in shared_cases.error_texts().items() if name in numbers}
         own = re.findall(r'\{ MINISIGN_(\w+), "(.*)" \}', build.read("c/minisign/messages.c"))
         self.words = {**self.meaning, **{numbers[name]: text.replace('\\"', '"') for name, text in own}}
@@ -133,9 +133,9 @@ def check_ed25519_vectors(person):
         person.choose(*paths)
         rows = {row.name: row.number for row in person.settled("vectors")}
         for at, vector in enumerate(vectors):
-            wanted = shared_cases.ERRORS[ed25519_edge_cases.expected_error(vector)]
-            person.same(rows.get(str(at)), wanted, f"the vector {vector['name']}")
-            numbers[wanted] += 1
+            expected = shared_cases.ERRORS[ed25519_edge_cases.expected_error(vector)]
+            person.same(rows.get(str(at)), expected, f"the vector {vector['name']}")
+            numbers[expected] += 1
     person.same((numbers[WEAK], numbers[32], sum(numbers.values())), (ed25519_edge_cases.WEAK_COUNT, ed25519_edge_cases.ACCEPTED_COUNT, ed25519_edge_cases.VECTOR_COUNT),
                 "the numbers of weak, of accepted and of all vectors")
 
@@ -181,7 +181,7 @@ def check_matching(person):
     a, b = sign(b"a"), sign(b"b")
     two, parts_of = {"b": b"b", "b.minisig": b}, {0: ("good", 0, "t"), None: ("waiting", None, None)}
     person.begin(person.first.line)
-    for what, given, wanted, *has in (
+    for what, given, expected, *has in (
             ("only a signature", [{"a.minisig": a}], {"a": None}, "file itself is missing"),
             ("a file and a signature with different names", [{"a": b"a", "b.minisig": b}], {"a": 31}, "with the signature b.minisig"),
             ("several pairs, and a file without a signature", [{"b.minisig": b, "a": b"a", "c": b"c", "a.minisig": a, "b": b"b"}],
@@ -207,7 +207,7 @@ def check_matching(person):
         for files in given:
             first = person.put("unused", b"")
             person.choose(*(person.put(name, data, first) for name, data in files.items()))
-        parts = {name: parts_of.get(number, ("bad", number, None)) for name, number in wanted.items()}
+        parts = {name: parts_of.get(number, ("bad", number, None)) for name, number in expected.items()}
         person.expect_each("verdict number comment", parts, what)
         for words in has:
             person.says("verdicts", what, words)

@@ -62,12 +62,12 @@ def check_modules(person, page):
     person.check(REQUIRED_ERRORS <= numbers, f"the results lack the error numbers {sorted(REQUIRED_ERRORS - numbers)}")
 
 
-def run_all(checks, room):
+def run_all(checks, scratch):
     page = os.path.join(static_library.DIST, "minisign.html")
-    minisign = Minisign(needs.minisign(), tempfile.mkdtemp(dir=room))
+    minisign = Minisign(needs.minisign(), tempfile.mkdtemp(dir=scratch))
     for name in ("first", "second"):
         minisign.make_pair(name)
-    person = Chromium(*needs.chromium(), room).use(page, room, checks, minisign, verdicts.Programs(room))
+    person = Chromium(*needs.chromium(), scratch).use(page, scratch, checks, minisign, verdicts.Programs(scratch))
     try:
         check_modules(person, page)
     finally:

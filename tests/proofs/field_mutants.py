@@ -320,8 +320,8 @@ class Generator:
         if item.owner and (names and self.function not in names or item.trait):
             # In the prover's name of a method of a trait, the name of the trait follows that of the type, without a separator. The
             # name of a generic type may have arguments, each after a plus sign.
-            wanted = rf"(?:\w+::)*{item.owner}[\w+]*{item.trait}\w*::{item.name}"
-            self.function = next((name for name in names if re.fullmatch(wanted, name)), "" if item.trait else self.function)
+            pattern = rf"(?:\w+::)*{item.owner}[\w+]*{item.trait}\w*::{item.name}"
+            self.function = next((name for name in names if re.fullmatch(pattern, name)), "" if item.trait else self.function)
         self.bare = self.reader.bare
         self.opened = {closed - 1: begin for begin, closed in self.reader.closed.items()}
         self.parameters = self.read_parameters()
@@ -623,13 +623,13 @@ class FieldTrial(Trial):
     def run(self, group):
         """Checks a copy of the crate with a group. Returns the output, and a function that gives the mutants at a line of a file."""
         checked = {body.checked for body in group}
-        with tempfile.TemporaryDirectory(prefix="field-mutants-") as room:
-            self.copy_into(room, group)
+        with tempfile.TemporaryDirectory(prefix="field-mutants-") as scratch:
+            self.copy_into(scratch, group)
             for body in group:
-                body.copy_proof(room)
-            assume(room, self.crate, [each for each in self.proved if each not in checked])
-            text = self.check(room, checked)
-            spans = {path: copies_in(f"{room}/{path}") for path in {body.path for body in group}}
+                body.copy_proof(scratch)
+            assume(scratch, self.crate, [each for each in self.proved if each not in checked])
+            text = self.check(scratch, checked)
+            spans = {path: copies_in(f"{scratch}/{path}") for path in {body.path for body in group}}
         self.learn(text)
         lines = lambda path, line: [body for body in group for name, first, last in spans.get(path, ())
                                     if body.path == path and name.endswith(body.suffix) and first <= line <= last]
@@ -680,11 +680,11 @@ def names_of(crate, known):
     if not modules:
         return known
     supply(crate)
-    with tempfile.TemporaryDirectory(prefix="field-mutants-names-") as room:
-        FieldTrial(crate).copy_into(room, [])
-        shutil.rmtree(f"{room}/proofs", ignore_errors=True)
+    with tempfile.TemporaryDirectory(prefix="field-mutants-names-") as scratch:
+        FieldTrial(crate).copy_into(scratch, [])
+        shutil.rmtree(f"{scratch}/proofs", ignore_errors=True)
         words = [word for module in sorted(modules) for word in ("--only", module)]
-        output = proved.rattle("check", crate, room, *(words if all(modules) else ()), "--allow-holes").stdout
+        output = proved.rattle("check", crate, scratch, *(words if all(modules) else ()), "--allow-holes").stdout
     names = re.findall(rf"(?m)^fn {crate}::(.+?): ", output)
     if not names:
         raise SystemExit(f"{crate}: the prover names no function: {proved.first_error(output)}")
@@ -878,19 +878,19 @@ class Run:
         """Returns the functions of a crate that have mutants, each with its mutants, and those of them that are named."""
         generators = generators_of(crate, self.is_unchanged, names_of(crate, tuple(recorded().get(crate, ()))))
         every = {generator: bodies for generator in generators if (bodies := list(generator.all()))}
-        wanted = [generator for generator in every
+        selected = [generator for generator in every
                   if not self.names or {crate, f"{crate}/{generator.function}"} & {*self.names}]
-        return every, wanted
+        return every, selected
 
-    def try_crate(self, crate, every, wanted):
+    def try_crate(self, crate, every, selected):
         """Tries the mutants of a crate, except those of functions that are recorded and not named, and records the results."""
         digests = Digests(crate)
         digest = {generator: digests.of(generator, bodies) for generator, bodies in every.items()}
         known = {name: value for name, (value, _) in recorded().get(crate, {}).items()}
-        tried = {generator: every[generator] for generator in wanted
+        tried = {generator: every[generator] for generator in selected
                  if self.flags or f"{crate}/{generator.function}" in self.names
                  or known.get(generator.function) != digest[generator]}
-        skipped = sum(len(every[generator]) for generator in wanted if generator not in tried)
+        skipped = sum(len(every[generator]) for generator in selected if generator not in tried)
         self.skipped += skipped
         if not tried:
             print(f"{crate}: {f'{skipped} mutants, which are recorded' if skipped else 'no mutants'}", flush=True)
@@ -923,11 +923,11 @@ def main(words):
     with ThreadPoolExecutor(places.most) as pool:
         run = Run(names, flags, pool, places)
         for crate in (each for each in proved.crates() if not names or each in {name.partition("/")[0] for name in names}):
-            every, wanted = run.mutants_of(crate)
+            every, selected = run.mutants_of(crate)
             if "--list" in flags:
-                print("".join(f"{body.label}\n" for generator in wanted for body in every[generator]), end="")
+                print("".join(f"{body.label}\n" for generator in selected for body in every[generator]), end="")
             else:
-                run.try_crate(crate, every, wanted)
+                run.try_crate(crate, every, selected)
     if "--list" in flags:
         return 0
     passed = sum(run.outcomes[kind] for kind in run.good)

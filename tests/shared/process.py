@@ -10,7 +10,7 @@ SECONDS = 1800
 
 @dataclass(frozen=True)
 class RunResult:
-    """The result of running a program. `reached` is true if the program made the system call that the test wanted
+    """The result of running a program. `reached` is true if the program made the system call that the test expected
     to break."""
 
     status: int

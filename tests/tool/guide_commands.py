@@ -33,25 +33,25 @@ VERIFIED = "Signature and comment signature verified"
 INSTALLED, DATA = "crates/minisign_tool/out/installed", b"version 2\n"
 
 
-def rt_wrapper_directory(room):
+def rt_wrapper_directory(scratch):
     """Creates a directory with the replacement for `rt`, and returns its path."""
-    path = os.path.join(room, "kit")
+    path = os.path.join(scratch, "kit")
     os.mkdir(path)
     os.chmod(write(path, "rt", RT_WRAPPER.format(rt=shutil.which("rt")).encode()), 0o755)
     return path
 
 
-def run_all(checks, room):
+def run_all(checks, scratch):
     """Checks that each command succeeds, that those that verify report success, and that the last one installs the
     data."""
-    clone = Clone(room)
+    clone = Clone(scratch)
     os.makedirs(os.path.join(clone.top, os.path.dirname(PROGRAM)))
     shutil.copy(os.path.join(proved.ROOT, PROGRAM), os.path.join(clone.top, PROGRAM))
     lines = commands_of("docs/GUIDE.md")
     verifying = [line for line in lines if "verify" in line]
     checks.check(len(lines) >= 9 and len(verifying) == 3, f"docs/GUIDE.md: expected 9 commands or more, 3 with `verify`, got {lines}")
-    path = os.pathsep.join([rt_wrapper_directory(room), os.environ["PATH"]])
-    for command, status, output in run_in_shell(clone.top, lines, room, path):
+    path = os.pathsep.join([rt_wrapper_directory(scratch), os.environ["PATH"]])
+    for command, status, output in run_in_shell(clone.top, lines, scratch, path):
         checks.check(status == 0, f"{command}: exit status {status}, expected 0: {output[-600:]}")
         is_reported = command not in verifying or VERIFIED in output
         checks.check(is_reported, f"{command}: expected `{VERIFIED}` in {output[-600:]}")

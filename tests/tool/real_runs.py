@@ -71,7 +71,7 @@ USAGE_CASES = [
 CASES = {"usage": USAGE_CASES, "keygen": keygen_runs.CASES, "sign": sign_runs.CASES, "verify": VERIFY, "verify-raw": RAW, "cat": CAT}
 
 
-def run_as_nobody(program, room):
+def run_as_nobody(program, scratch):
     """Runs all cases of CASES with a program, as nobody if this process is root and may change its user. Returns the failures and the
     number of cases. (The whole process changes its user, because starting each program as another user takes ten times as long.)"""
     if os.geteuid() == 0:
@@ -79,7 +79,7 @@ def run_as_nobody(program, room):
             os.setgroups([])
             os.setgid(NOBODY)
             os.setuid(NOBODY)
-    runner = Runner(program, room)
+    runner = Runner(program, scratch)
     return run_cases((f"{command}: {case.name}", runner.run, case) for command, cases in CASES.items() for case in cases)
 
 
@@ -92,21 +92,21 @@ def built_programs():
     return [each for each in (program, program + ".by-rattle") if os.path.exists(each)]
 
 
-def run_all(room):
+def run_all(scratch):
     """Runs the cases with the program of the command line, or with each built program. Returns the failures and the number of cases."""
-    os.chmod(room, 0o711)
+    os.chmod(scratch, 0o711)
     # These are installed now if they are missing, because the user nobody cannot install packages.
     needs.c_compiler()
     needs.program("setfacl", "acl")
     failures, count = [], 0
     for program in [selected.file_argument()] if selected.file_argument() else built_programs():
-        directory = tempfile.mkdtemp(dir=room)
+        directory = tempfile.mkdtemp(dir=scratch)
         copy = shutil.copy(program, os.path.join(directory, "program"))
         with contextlib.suppress(OSError):
             os.chown(directory, NOBODY, NOBODY)
         with concurrent.futures.ProcessPoolExecutor(1) as pool:
             as_nobody = pool.submit(run_as_nobody, copy, directory)
-            for failed, ran in (run_cases(surviving.cases(program, tempfile.mkdtemp(dir=room))), as_nobody.result()):
+            for failed, ran in (run_cases(surviving.cases(program, tempfile.mkdtemp(dir=scratch))), as_nobody.result()):
                 failures, count = failures + [f"{os.path.basename(program)}: {failure}" for failure in failed], count + ran
     return (failures, count) if count else (["the program was not built"], 1)
 

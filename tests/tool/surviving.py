@@ -118,8 +118,8 @@ class Surviving(TaskFaultRunner):
         for name in taken:
             expect(content_or_none(directory, name) == b"another file", f"{name} was changed to {content_or_none(directory, name)!r}")
             os.remove(os.path.join(directory, name))
-        ended, wanted = (ran.status, sum(task.check(directory))), (0, 2) if count < 99 else (1, 0)
-        expect(ended == wanted, ran, f"exit status and new files {ended}, expected {wanted}")
+        ended, expected = (ran.status, sum(task.check(directory))), (0, 2) if count < 99 else (1, 0)
+        expect(ended == expected, ran, f"exit status and new files {ended}, expected {expected}")
 
     def under_odd_path(self, task, directory):
         """Checks that a program runs from a path that is not UTF-8."""
@@ -174,10 +174,10 @@ def of_task(surviving, task):
     yield "the limit on file sizes is exceeded, SIGXFSZ ignored", surviving.check_file_size_limit, signal.SIG_IGN
 
 
-def cases(program, room):
+def cases(program, scratch):
     """Yields all cases: a name, a function, and its arguments."""
-    os.chmod(room, 0o711)
-    surviving = Surviving(shutil.copy(program, room), room)
+    os.chmod(scratch, 0o711)
+    surviving = Surviving(shutil.copy(program, scratch), scratch)
     for task in TASKS:
         for name, run, *given in of_task(surviving, task):
             yield f"{task.name}, {name}", run, task, *given
