@@ -21,13 +21,13 @@ HERE = os.path.dirname(os.path.realpath(__file__))
 sys.path += [os.path.join(HERE, "..", name) for name in ("shared", "tool", "installer")]
 
 import test_script
+from command_lines import command_line_cases
 from cut_off import INITIAL_STATES, CUTS
 from downloads import download_cases
 from installers import DOWNLOAD_AGAIN, ARGUMENT_ORDER, Signer
 from real_installing import cases_of
 from running import expect, run_cases
 from runs import InstallerRunner
-from words import word_cases
 
 FAILED, MISUSED, REJECTED, OLDER, IN_USE, NOT_ON_DISK, UNRECORDED, SAME, EXPIRED, THERE = range(1, 11)
 OFFERS = {minisign.Offer.NEWER: 0, minisign.Offer.THERE: THERE, minisign.Offer.OLDER: OLDER}
@@ -176,7 +176,7 @@ def chosen_cases(runner):
     # Interrupted runs that begin in other ways are left out, because the cases of `minisign-install` test the same C code.
     cut_off = {f"recovers from {cut}, over {begin}" for begin, *_ in INITIAL_STATES[1:] for cut, _ in CUTS}
     # The cases of downloads are left out, because the updater script runs `minisign-install`.
-    left_out = LEFT_OUT | cut_off | {name for name, *_ in (*word_cases, *download_cases)} - INCLUDED
+    left_out = LEFT_OUT | cut_off | {name for name, *_ in (*command_line_cases, *download_cases)} - INCLUDED
     cases = [*cases_of(runner)]
     expect(left_out | INCLUDED <= {case[0] for case in cases}, "a name of LEFT_OUT or INCLUDED is not the name of a case")
     return [case for case in cases if case[0] not in left_out]

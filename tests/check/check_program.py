@@ -6,9 +6,9 @@
 PROGRAM is a build of minisign-check. Without it, the script builds the program. WORD selects the cases whose name
 contains it. Minisign's own program makes keys and signatures.
 
-- check_words.py: command lines, and keys, signatures and lists that are rejected;
+- check_command_lines.py: command lines, and keys, signatures and lists that are rejected;
 - check_results.py: the results of each mode, option and kind of file;
-- check_disturbed.py: failures of each system call and allocation, files that others own or change, and terminals;
+- check_faults.py: failures of each system call and allocation, files that others own or change, and terminals;
 - check_compared.py: lists written by other programs, and random lists, compared with the rules, with `sha256sum -c` and
 with `signify -C`.
 
@@ -29,17 +29,17 @@ import needs
 import selected
 import static_library
 import test_script
+from check_command_lines import command_line_cases
 from check_compared import compared_cases
-from check_disturbed import disturbed_cases
+from check_faults import fault_cases
 from check_results import result_cases
 from check_running import NAME, Checking
-from check_words import word_cases
 from running import run_cases
 
 
 def cases_of(checking):
     """Yields the names of all cases, with their functions and arguments."""
-    for cases in (word_cases, result_cases, disturbed_cases, compared_cases):
+    for cases in (command_line_cases, result_cases, fault_cases, compared_cases):
         yield from cases(checking)
 
 

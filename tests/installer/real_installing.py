@@ -8,11 +8,11 @@ PROGRAM is a build of minisign-install. Without it, the script builds the progra
 the cases whose name contains it. Minisign's own program makes keys and signatures.
 
 - updates.py: newer, older and bad updates, and each option;
-- words.py: command lines and messages;
+- command_lines.py: command lines and messages;
 - checking.py: --check, and the systemd unit of docs/INSTALLING.md;
 - downloads.py: the updater script of docs/INSTALLING.md;
 - owners.py and permissions.py: runs by root, links and access control lists;
-- meanwhile.py: concurrent runs, stalled pipes, and files that others change during a run;
+- concurrent_changes.py: concurrent runs, stalled pipes, and files that others change during a run;
 - cut_off.py: kills, failures and interruptions of each system call, failing allocations, a full disk, and crashes of the
 machine. After each, the next run has to finish the update.
 
@@ -36,21 +36,21 @@ import selected
 import static_library
 import test_script
 from checking import check_cases
+from command_lines import command_line_cases
+from concurrent_changes import concurrent_cases
 from cut_off import cut_off_cases
 from downloads import download_cases
 from installers import NAME, PK, TARGET, Signer
-from meanwhile import meanwhile_cases
 from owners import owner_cases
 from permissions import KEPT, REQUESTED, WITHOUT_PROC, permission_cases
 from running import run_cases
 from runs import InstallerRunner
 from updates import update_cases
-from words import word_cases
 
 
 def cases_of(runner):
     """Yields all test cases: tuples of a name, a function, and its arguments."""
-    for cases in (update_cases, owner_cases, meanwhile_cases, cut_off_cases, check_cases, download_cases, word_cases):
+    for cases in (update_cases, owner_cases, concurrent_cases, cut_off_cases, check_cases, download_cases, command_line_cases):
         for name, case, *arguments in cases:
             yield name, runner.run_case, case, *arguments
     yield from permission_cases(runner, lambda path: runner.new_directory(path).path_of(TARGET),

@@ -29,8 +29,8 @@ import needs
 import real_runs
 import rows
 import test_script
-from asking import ERROR_TEXTS, encoded, rejected
 from process import run
+from request_format import ERROR_TEXTS, encoded, rejected
 from sources import read
 
 LIST = "tests/library/vectors.txt"

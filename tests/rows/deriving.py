@@ -3,7 +3,7 @@ and of Python's hashlib (OpenSSL)."""
 
 import hashlib
 
-from asking import response, rows
+from request_format import response, rows
 
 # The first three vectors of the RFC: password, salt, the logarithm of N, r, p, and the key. (The fourth one takes 1 GB of memory.)
 VECTORS = (

@@ -1,5 +1,5 @@
 """Test cases with failing readers and random sources. Each read of the data fails in turn, the data changes when it is read a second
-time, it comes in pieces, or there are too few random bytes. The cases for generating key pairs are in `made_pairs`.
+time, it comes in pieces, or there are too few random bytes. The cases for generating key pairs are in `generating_keys`.
 
 Each read returns one byte unless a case says otherwise, so that `abc` takes four reads.
 """

@@ -3,7 +3,7 @@ hashlib; one is that of RFC 7693."""
 
 import hashlib
 
-from asking import OUTSIDE_PRECONDITION, Word, response, rows
+from request_format import OUTSIDE_PRECONDITION, Word, response, rows
 from toy import some_data
 
 # The digest of `abc`, from RFC 7693, appendix A.

@@ -6,8 +6,8 @@ from collections import namedtuple
 
 import public_keys
 import toy
-from asking import Row, encode_request, rejected, rows, secret_key, signature, typed
-from made_pairs import DECRYPTED, sealed
+from generating_keys import DECRYPTED, sealed
+from request_format import Row, encode_request, rejected, rows, secret_key, signature, typed
 from running import unreadable
 from sealed_keys import WHOLE_OUTPUT, OUTPUT_IF_EMPTY
 

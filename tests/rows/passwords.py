@@ -1,6 +1,6 @@
 """Test cases for typed passwords. A password is one line of at most 1024 bytes, without its line feed."""
 
-from asking import NOTHING_TYPED, rejected, response, rows, typed
+from request_format import NOTHING_TYPED, rejected, response, rows, typed
 
 PROMPT = b"Password: "
 PROMPT_AND_EMPTY = PROMPT + b"<empty>\n"

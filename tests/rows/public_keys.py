@@ -3,7 +3,7 @@
 import base64
 
 import toy
-from asking import public_key, response, rows
+from request_format import public_key, response, rows
 from texts import text_of
 
 RECORD = toy.RECORD

@@ -3,7 +3,7 @@
 import public_keys
 import secret_keys
 import toy
-from asking import response, rows, secret_key
+from request_format import response, rows, secret_key
 
 
 def parsing_and_comparison(name, kind, record, answer, begin, end):

@@ -22,13 +22,13 @@ HERE = os.path.dirname(os.path.realpath(__file__))
 sys.path.append(os.path.join(HERE, "..", "shared"))
 
 import named_errors
-from asking import encoded, rejected
 from checks import Checks
+from request_format import encoded, rejected
 from running import make_files
 
 PROGRAM = os.path.realpath(f"{HERE}/../../crates/minisign_compare/out/minisign_compare")
 SECONDS = 120
-MODULES = sorted({name[:-3] for name in os.listdir(HERE) if name.endswith(".py")} - {"asking", "named_errors", "rows"})
+MODULES = sorted({name[:-3] for name in os.listdir(HERE) if name.endswith(".py")} - {"request_format", "named_errors", "rows"})
 
 
 def responses_to(requests, directory):

@@ -5,8 +5,8 @@
 import base64
 
 import toy
-from asking import NOTHING_TYPED, rejected, response, rows, secret_key, typed
 from passwords import PROMPT, PROMPT_AND_EMPTY
+from request_format import NOTHING_TYPED, rejected, response, rows, secret_key, typed
 from toy import KEY_A, NOT_ENCRYPTED, NO_LIMITS, SCRYPT, SMALL_LIMITS, USUAL_LIMITS, Limits, secret_text
 
 # The salt with which key A is encrypted.

@@ -3,8 +3,8 @@
 import base64
 
 import toy
-from asking import response, rows, secret_key
 from public_keys import COMMENTS
+from request_format import response, rows, secret_key
 from toy import secret_text
 
 RECORD = toy.SECRET_RECORD

@@ -4,8 +4,8 @@ and data of many sizes."""
 import base64
 
 import toy
-from asking import public_key, response, rows, signature
 from public_keys import SIZES
+from request_format import public_key, response, rows, signature
 from signing import signing_cases
 from texts import record_of, text_of, with_line, with_record
 from toy import DEFAULT_COMMENT, RECORD

@@ -5,7 +5,7 @@ at once, the other one byte by byte.
 """
 
 import toy
-from asking import Row, data, encode_request, rejected, signature
+from request_format import Row, data, encode_request, rejected, signature
 from toy import DEFAULT_COMMENT, KEY_A, OTHER_RECORD, RECORD, SCRYPT, SECRET_RECORD
 from verifying import ACCEPTED, AT_ONCE_AND_BY_BYTES, BY_BYTES, name_with_read_size, verification_cases, reads_of
 

@@ -4,8 +4,8 @@ far the data is read."""
 from itertools import product
 
 import toy
-from asking import Row, bones, data, encode_request, rejected, response
 from public_keys import UPSTREAM_RECORD, UPSTREAM_TEXT
+from request_format import Row, bones, data, encode_request, rejected, response
 from texts import lines, record_of
 from toy import OTHER_RECORD, RECORD
 

@@ -1,6 +1,6 @@
 #!/usr/bin/env python3
 """Checks that `minisign_tool` gives exactly the expected output on real files, and that failing system calls, signals and kills do no
-harm (`surviving.py`).
+harm (`tool_faults.py`).
 
     tests/tool/real_runs.py [PROGRAM] [WORD ..]
 
@@ -26,8 +26,8 @@ import keygen_runs
 import needs
 import selected
 import sign_runs
-import surviving
 import test_script
+import tool_faults
 from running import CLOSED, FULL, NOBODY, Case, Runner, run_cases
 from toy import WARNING
 from verify_runs import CAT, KEY, RAW, SIGNATURE, VERIFY
@@ -106,7 +106,7 @@ def run_all(scratch):
             os.chown(directory, NOBODY, NOBODY)
         with concurrent.futures.ProcessPoolExecutor(1) as pool:
             as_nobody = pool.submit(run_as_nobody, copy, directory)
-            for failed, ran in (run_cases(surviving.cases(program, tempfile.mkdtemp(dir=scratch))), as_nobody.result()):
+            for failed, ran in (run_cases(tool_faults.cases(program, tempfile.mkdtemp(dir=scratch))), as_nobody.result()):
                 failures, count = failures + [f"{os.path.basename(program)}: {failure}" for failure in failed], count + ran
     return (failures, count) if count else (["the program was not built"], 1)
 

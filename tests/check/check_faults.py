@@ -313,7 +313,7 @@ def runs_at_once(checking):
             expect((ran.status, ran.stdout) == (OK, b"a: OK\nb: OK\n"), ran)
 
 
-def disturbed_cases(checking):
+def fault_cases(checking):
     """Yields the names of the cases, with their functions and arguments."""
     done = b"a: OK\nb: OK\n"
     for arguments, output, mode in ((ALL, done, "all files"), ([*ALL, "b", "a"], done, "given files"), (COPY, A, "-o")):

@@ -1,7 +1,7 @@
 #!/usr/bin/env python3
 """Lists the processor time that the prover takes to reject each mutant of a crate, the longest first.
 
-    bench/edits.py CRATE[/NAME] ..
+    bench/mutant_times.py CRATE[/NAME] ..
 
 NAME selects a mutant of the crate. The mutants are tried as by `tests/proofs/wrong_bodies.py`, with one check of the prover at a
 time. The prover saves each module when it is done with it. The time of a module is the processor time of the prover since the
@@ -49,7 +49,7 @@ def main(names):
     os.chdir(proved.ROOT)
     crates = list(dict.fromkeys(name.partition("/")[0] for name in names))
     if not crates or not {*crates} <= {*proved.crates()}:
-        print("usage: bench/edits.py CRATE[/NAME] ..")
+        print("usage: bench/mutant_times.py CRATE[/NAME] ..")
         return 2
     for crate in crates:
         bodies = [body for body in wrong_bodies.bodies_of(crate, False) if {crate, body.label} & {*names} and not body.why_not]

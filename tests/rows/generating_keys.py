@@ -2,8 +2,8 @@
 generated keys."""
 
 import toy
-from asking import (COUNTING, NOTHING_TYPED, data, public_key, rejected, response, rows, secret_key, signature, sink,
-                    typed)
+from request_format import (COUNTING, NOTHING_TYPED, data, public_key, rejected, response, rows, secret_key, signature,
+                            sink, typed)
 from signing import expected_signature
 from toy import DEFAULT_COMMENT, KEY_A, SCRYPT, USUAL_LIMITS, Key, secret_text
 from verifying import ACCEPTED, verification_cases

@@ -20,7 +20,7 @@ from running import NOBODY, SECONDS, expect, for_each_call, wait_until
 from runs import Cases, Directory, repeating
 from updates import SIZE_FIELD, key_arguments
 
-meanwhile_cases = Cases()
+concurrent_cases = Cases()
 
 TARGET_IN_USE = error_text(TARGET, "another installation of this file is running",
                            "use --wait SECONDS to wait for it")
@@ -28,7 +28,7 @@ TARGET_IN_USE = error_text(TARGET, "another installation of this file is running
 
 # == Pipes ==
 
-@meanwhile_cases.table(
+@concurrent_cases.table(
     ("a stalled pipe blocks no other run", "later", LATER_DATA, 7, OLDER_VERSION),
     ("a killed run with a stalled pipe leaves nothing", "later", LATER_DATA, 7, -signal.SIGKILL),
     ("a run with a slow pipe finds the update installed", "same", NEW_DATA, 6, ALREADY_INSTALLED),
@@ -54,7 +54,7 @@ def stalled_pipe(directory, name, data, number, status):
     expect(os.stat(directory.path_of(TARGET)).st_ino == before.st_ino, "the update was installed a second time")
 
 
-@meanwhile_cases.table("a stalled device blocks no other run")
+@concurrent_cases.table("a stalled device blocks no other run")
 def stalled_device(directory):
     """A run that waits for data from a terminal, as an example of a device, does not hold the lock."""
     directory.offer("later", LATER_DATA, 7)
@@ -74,7 +74,7 @@ def stalled_device(directory):
     os.close(terminal)
 
 
-@meanwhile_cases.table(
+@concurrent_cases.table(
     ("reads one byte more from a pipe than the signed size", len(NEW_DATA) + 1, dict(more=SIZE_FIELD)),
     ("reads one byte more from a pipe than --max-size allows", 1001, dict(options=("--max-size", "1000"))),
     ("reads one byte more from a pipe than the smaller of both limits", 1001,
@@ -109,7 +109,7 @@ def run_while_swapping(directory, swap, check):
             expect(not directory.temporary_files(), f"it left {directory.temporary_files()}")
 
 
-@meanwhile_cases.table("installs complete data while the data file is swapped")
+@concurrent_cases.table("installs complete data while the data file is swapped")
 def swapped_data(directory):
     """The data file is overwritten and replaced while it is copied. The target holds the old or the new update, complete."""
     path = directory.path_of("new")
@@ -134,7 +134,7 @@ def swapped_data(directory):
     run_while_swapping(directory, swap, check)
 
 
-@meanwhile_cases.table("does not follow or open what is swapped in at the target")
+@concurrent_cases.table("does not follow or open what is swapped in at the target")
 def swapped_target(directory):
     """Files, links, directories and pipes replace the target. No link is followed, and no pipe is waited for or written to."""
     directory.put("behind", b"behind")
@@ -165,7 +165,7 @@ def swapped_target(directory):
     run_while_swapping(directory, swap, check)
 
 
-@meanwhile_cases.table("verifies the temporary file, not the copied data")
+@concurrent_cases.table("verifies the temporary file, not the copied data")
 def changed_temporary_file(directory):
     """Another process changes the temporary file after all data was copied. The update is rejected."""
 
@@ -176,7 +176,7 @@ def changed_temporary_file(directory):
     directory.expect_result(directory.run_stopped_when_staged(change), REJECTED, WRONG_SIGNATURE_ERROR)
 
 
-@meanwhile_cases.table("installs into the moved directory")
+@concurrent_cases.table("installs into the moved directory")
 def moved_directory(directory):
     """If the directory is moved during a run, the update is installed there, and not in another directory under the old path."""
     sub, moved = (Directory(directory.path_of(name), directory.runner) for name in ("sub", "moved"))
@@ -196,7 +196,7 @@ def moved_directory(directory):
     expect({*os.listdir(sub.path)} == {PK, TARGET, RECORD, "new", "new.sig"}, f"the other directory has {os.listdir(sub.path)}")
 
 
-@meanwhile_cases.table(
+@concurrent_cases.table(
     ("opens a replaced target again if the update is installed", True),
     ("opens a replaced target again if an older update is installed", False),
 )
@@ -216,7 +216,7 @@ def replaced_target(directory, is_installed):
     for_each_call(directory.runner.parent, attempt)
 
 
-@meanwhile_cases.table(
+@concurrent_cases.table(
     ("notices a removed lock file", "read-back", 1),
     ("notices a removed lock file before it renames the record", "sync", 2),
     ("notices a removed lock file before it renames the target", "sync", 3),
@@ -236,7 +236,7 @@ def notices_lost_lock(directory, call, at):
     expect(directory.installed_state() == (LATER_DATA, b"7"), f"the record holds {directory.content(RECORD)}")
 
 
-@meanwhile_cases.table("a run by root locks the lock file that it replaces")
+@concurrent_cases.table("a run by root locks the lock file that it replaces")
 def locks_replaced_lock_file(directory):
     """The target belongs to another user than the lock file. A run by root replaces the lock file, and locks the new one."""
     directory.put(LOCK, b"")
@@ -253,7 +253,7 @@ def locks_replaced_lock_file(directory):
 
 # == Several runs ==
 
-@meanwhile_cases.table("four concurrent runs install in order", ("four slow concurrent runs install in order", 8, dict(SLOW="20000")))
+@concurrent_cases.table("four concurrent runs install in order", ("four slow concurrent runs install in order", 8, dict(SLOW="20000")))
 def concurrent_runs(directory, rounds=25, **slow):
     """Four runs at the same time: two with newer updates, one with data that was not signed, and one with an older update. Before
     each call, slow runs wait for up to 20 milliseconds. Meanwhile, a reader checks that the target always holds a complete update,
@@ -288,7 +288,7 @@ def concurrent_runs(directory, rounds=25, **slow):
 
 # == While another run holds the lock ==
 
-@meanwhile_cases.table(
+@concurrent_cases.table(
     ("reports that another run holds the lock", OLD_DATA, b"5", 0),
     ("reports a held lock before an installed update", NEW_DATA, b"6", ALREADY_INSTALLED),
 )
@@ -306,7 +306,7 @@ def reports_held_lock(directory, installed, record, status):
     directory.expect_install("new", status)
 
 
-@meanwhile_cases.table(
+@concurrent_cases.table(
     ("waits for the lock", "new"),
     ("waits for the lock with data from a pipe", "/dev/stdin"),
     ("waits for the lock with data of the signed size", "/dev/stdin", NEW_DATA, 0, dict(more=SIZE_FIELD)),

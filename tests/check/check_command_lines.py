@@ -215,7 +215,7 @@ def escapes_trusted_comment(checking):
     expect(ran.status == OK and ran.stderr == shown_comment(f"file:{LIST}\t\\u{{1b}}[31mred"), ran)
 
 
-def word_cases(checking):
+def command_line_cases(checking):
     """Yields the names of the cases, with their functions and arguments."""
     for name, *given in MISUSES:
         yield name, rejects_usage, checking, *given

@@ -9,7 +9,7 @@ from installers import (ARGUMENT_ORDER, CHECK_ARGUMENTS, FAILED, FIRST, LOCK, MI
 from running import expect
 from runs import Cases
 
-word_cases = Cases()
+command_line_cases = Cases()
 
 USAGE = b"usage: minisign-install [OPTION ..] PK DATA SIG TARGET\n"
 # The arguments PK DATA SIG TARGET.
@@ -110,10 +110,10 @@ REPORTS = (
     *((f"{word} prints the usage", [word], 0, b"", USAGE) for word in ("--help", "-h")),
     ("--version prints the version", ["--version"], 0, b"", b"minisign-install 0.3.0\n"),
 )
-word_cases.table(*REPORTS)(reports)
+command_line_cases.table(*REPORTS)(reports)
 
 
-@word_cases.table(
+@command_line_cases.table(
     ("takes options after the paths", [*PATHS, "--first", "--mode", "0640"], 0o640),
     ("takes options between the paths", [PK, "--mode", "640", "new", "--max-size", "1000000", "new.sig", "--first", TARGET], 0o640),
     ("takes options before the paths", ["--max-size", "1000000", "--numbering", "timestamp", "--name", TARGET, *PATHS]),
@@ -136,7 +136,7 @@ def takes_arguments(directory, arguments, mode=0o751, name=TARGET, names=TARGET)
     directory.expect_mode(mode, name)
 
 
-@word_cases.table("reports that libsodium cannot be initialized")
+@command_line_cases.table("reports that libsodium cannot be initialized")
 def reports_failing_libsodium(directory):
     ran = directory.install_broken(AT=1, CALLS="sodium_init", ERRNO=errno.EIO)
     error_output = b"error: libsodium could not be initialized\n"
@@ -144,7 +144,7 @@ def reports_failing_libsodium(directory):
     expect(directory.content() == OLD_DATA, "the update was installed")
 
 
-@word_cases.table("shows progress at a terminal")
+@command_line_cases.table("shows progress at a terminal")
 def shows_progress(directory):
     """If standard error is a terminal, the run shows there how much was copied and verified."""
     data = b"large" * 1000000
