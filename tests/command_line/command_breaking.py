@@ -31,7 +31,7 @@ class Task(faults.Task):
     (/dev/shm), the paths begin with /dev/. The files must be replaced as elsewhere, and not be written directly like /dev/stdout."""
 
     by_path: bool = False
-    stage = TEMPORARY
+    temporary_prefix = TEMPORARY
 
     @property
     def belong_together(self):

@@ -91,7 +91,7 @@ class Task:
     command replaces them. If a write fails, at most `before_failing` of them may be new.
 
     Subclasses define `make`, which fills a directory and returns the program's arguments, `may_have`, which returns
-    true if a file may have a mode, and `stage`, the prefix of the names of temporary files."""
+    true if a file may have a mode, and `temporary_prefix`, the prefix of the names of temporary files."""
 
     name: str
     arguments: list
@@ -109,9 +109,9 @@ class Task:
         expect(files.keys() >= self.files.keys(), f"{sorted(self.files.keys() - files.keys())} are gone")
         new = {name for name in self.targets if name in files and files[name][1] != self.files.get(name)}
         for name, (mode, data) in files.items():
-            is_stage = killed and os.path.basename(name).startswith(self.stage)
-            expect(name in new or is_stage or data == self.files.get(name), f"{name} was left behind or changed")
-            expect(self.may_have(name, mode, data, files), f"{name} has the mode {mode:o}")
+            is_temporary = killed and os.path.basename(name).startswith(self.temporary_prefix)
+            expect(name in new or is_temporary or data == self.files.get(name), f"{name} was left behind or changed")
+            expect(self.may_have(name, mode, data, files), f"{name} has the mode {mode:o}, which it may not have")
         for name in new:
             self.targets[name](files[name][1])
         return [name in new for name in self.targets]
@@ -143,9 +143,9 @@ class TaskFaultRunner(FaultRunner):
             new = sum(task.check(directory))
             if ran.reached:
                 self.expect_unwritten(ran, number)
-                expect(new <= task.before_failing, ran, f"{new} files are new")
+                expect(new <= task.before_failing, ran, f"{new} files are new, expected at most {task.before_failing}")
             else:
-                expect((ran.status, new) == (0, len(task.targets)), ran, f"{new} files are new")
+                expect((ran.status, new) == (0, len(task.targets)), ran, f"{new} files are new, expected {len(task.targets)}")
 
         expect(self.break_each(task.make, check_run, CALLS="write", ERRNO=number, **fault), "the run made no write")
 
@@ -181,8 +181,8 @@ class TaskFaultRunner(FaultRunner):
         with tempfile.TemporaryDirectory(dir=self.parent) as directory:
             command = [self.program, *task.make(directory)]
             for _ in range(times):
-                ended = run_concurrently(command, directory, environment, runs)
-                expect(not any(status for status, _ in ended), f"expected exit status 0 of each run, got {ended}")
+                results = run_concurrently(command, directory, environment, runs)
+                expect(not any(status for status, _ in results), f"expected exit status 0 of each run, got {results}")
             expect(all(task.check(directory)), "not all files are new")
 
 

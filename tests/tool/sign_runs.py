@@ -13,7 +13,7 @@ from running import (CLOSED, DIRECTORY, FULL, MISSING, READ_ONLY_DIRECTORY, WRIT
                      expect)
 from tool_cases import ExpectedFiles, command_case, in_order, opening, out_of_memory, without_stderr
 from toy import NOT_UTF8, OUT_OF_MEMORY, READING_FAILED, TOO_SHORT, WARNING, WRITING_FAILED
-from verify_runs import LARGE, LENGTHS, NO_TEXT, REJECTED, VERIFIED_RAW
+from verify_runs import LARGE, LENGTHS, REJECTED, TEXT_NOT_UTF8, VERIFIED_RAW
 
 WRONG_PASSWORD = "error: Wrong password for that key\n"
 CLOCK_INCORRECT = "error: system clock is incorrect\n"
@@ -87,7 +87,7 @@ ORDER = list(in_order(
     opening(SK, "key", OPEN_KEY),
     opening(FILE, "data", b"abc"),
     (SK, [("a directory as key", DIRECTORY, READING_FAILED),
-          ("a key that is not UTF-8", NO_TEXT, NOT_UTF8),
+          ("a key that is not UTF-8", TEXT_NOT_UTF8, NOT_UTF8),
           ("a key that ends inside a character", OPEN_KEY + b"\xc3", NOT_UTF8),
           ("an empty key", b"", "error: Missing comment in secret key\n"),
           ("a key of one line", b"c\n", "error: Missing encoded key in secret key\n"),

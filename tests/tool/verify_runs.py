@@ -16,7 +16,7 @@ REJECTED = "error: Signature verification failed\n"
 COMMENT_REJECTED = "error: Comment signature verification failed\n"
 LEGACY = "error: Legacy signatures are not accepted\n"
 UNSUPPORTED = "error: Unsupported signature algorithm\n"
-OTHER_KEYNUM = "error: Signature key id: 0807060504030201 is different from public key: E7620F1842B4E81F\n"
+OTHER_KEY_ID_ERROR = "error: Signature key id: 0807060504030201 is different from public key: E7620F1842B4E81F\n"
 NO_PUBLIC_KEY, NO_ENCODED_KEY = "error: Missing comment in public key\n", "error: Missing encoded key in public key\n"
 NO_BASE64 = "error: Base64 conversion failed - was an actual public key given?"
 NO_SIGNATURE = "error: Missing untrusted comment\n"
@@ -26,11 +26,12 @@ INPUT_IS_OUTPUT = "error: input file is output file\n"
 
 PK, FILE, SIG = "key.pub", "data", "data.minisig"
 GOOD = {PK: toy.public_text(), FILE: b"abc", SIG: toy.signature_text(b"abc")}
-NO_TEXT = b"untrusted comment: \xff\n"
-# A key with another key ID, and lengths of data.
+TEXT_NOT_UTF8 = b"untrusted comment: \xff\n"
+# A key with another key ID.
 OTHER_KEY = toy.public_text(keynum=toy.OTHER_KEYNUM)
+# Lengths of data around those of BLAKE2b's blocks and of the pieces that the program reads.
 LENGTHS = (0, 1, 127, 128, 129, 65535, 65536, 65537, 131073, 5_000_000)
-# Standard error takes only the warning and five more bytes.
+# Expectations for a run whose standard error takes only the warning and five more bytes.
 CUT_SHORT = {"status": 1, "stderr": SizeLimit(len(WARNING) + 5)}
 
 
@@ -55,8 +56,9 @@ def signed(data=b"abc", **changes):
     return {FILE: data, SIG: toy.signature_text(data, **changes)}
 
 
+# The records of the signature in GOOD and of its comment signature, and the lines of its file.
 RECORD = toy.signature_record(b"abc")
-COMMENT = toy.signature_of(RECORD[10:] + b"t")
+COMMENT_SIGNATURE = toy.signature_of(RECORD[10:] + b"t")
 FIRST, SECOND, THIRD, FOURTH = GOOD[SIG].splitlines(keepends=True)
 LARGE = toy.some_data(300_000)
 
@@ -68,9 +70,9 @@ VERDICTS = [
     ("one more letter", {FILE: b"abcd"}, REJECTED),
     ("a changed signature", signed(record=toy.flip_bit(RECORD)), REJECTED),
     ("a changed trusted comment", {SIG: GOOD[SIG].replace(b"comment: t\n", b"comment: u\n")}, COMMENT_REJECTED),
-    ("a changed comment signature", signed(comment_signature=toy.flip_bit(COMMENT)), COMMENT_REJECTED),
-    ("a short comment signature", signed(comment_signature=COMMENT[:63]), COMMENT_REJECTED),
-    ("a longer comment signature", signed(comment_signature=COMMENT + b"\xff"), VERIFIED),
+    ("a changed comment signature", signed(comment_signature=toy.flip_bit(COMMENT_SIGNATURE)), COMMENT_REJECTED),
+    ("a short comment signature", signed(comment_signature=COMMENT_SIGNATURE[:63]), COMMENT_REJECTED),
+    ("a longer comment signature", signed(comment_signature=COMMENT_SIGNATURE + b"\xff"), VERIFIED),
     ("another untrusted comment", signed(untrusted=b"u"), VERIFIED),
     ("another key", {PK: toy.public_text(key=b"z" * 32)}, REJECTED),
     ("a signature of the data itself", signed(record=toy.signature_record(b"abc", algorithm=b"Ed")), LEGACY),
@@ -109,25 +111,26 @@ BOTH = [
         opening(PK, "key", GOOD[PK]),
         opening(FILE, "data", GOOD[FILE]),
         opening(SIG, "signature", GOOD[SIG]),
-        (PK, [("a directory as key", DIRECTORY, READING_FAILED), ("a key that is not UTF-8", NO_TEXT, NOT_UTF8)]),
-        (SIG, [("a directory as signature", DIRECTORY, READING_FAILED), ("a signature that is not UTF-8", NO_TEXT, NOT_UTF8)]),
+        (PK, [("a directory as key", DIRECTORY, READING_FAILED), ("a key that is not UTF-8", TEXT_NOT_UTF8, NOT_UTF8)]),
+        (SIG, [("a directory as signature", DIRECTORY, READING_FAILED), ("a signature that is not UTF-8", TEXT_NOT_UTF8, NOT_UTF8)]),
         (PK, [("an empty key", b"", NO_PUBLIC_KEY)]),
         (SIG, [("an empty signature", b"", NO_SIGNATURE)]),
         (FILE, [("a directory as data", DIRECTORY, READING_FAILED)]),
-        (PK, [("another key ID", OTHER_KEY, OTHER_KEYNUM)]),
+        (PK, [("another key ID", OTHER_KEY, OTHER_KEY_ID_ERROR)]),
         (FILE, [("other data", b"abd", REJECTED)])),
 ]
 
 
 def over_streams(make, *cases):
-    """Returns each case four times: with standard input empty or closed, and standard output open or closed."""
+    """Returns each case four times: with standard input empty or closed, and standard output open or closed. Each case has a name, the
+    files that differ from the default ones, and the expected lines."""
     return [make(f"{what}, stdin {stdin or 'empty'}, stdout {stdout or 'open'}", *lines, files=files, stdin=stdin, stdout=stdout)
             for stdin, stdout in [(b"", None), (CLOSED, None), (b"", CLOSED), (CLOSED, CLOSED)]
             for what, files, *lines in cases]
 
 
 def failing_allocations(make, *more_lines):
-    """Returns cases in which each allocation fails in turn."""
+    """Returns cases in which each allocation fails in turn. The error output is the warning and the error, or one of `more_lines`."""
     named_files = [("a good signature", {}), ("other data", {FILE: b"abd"}), ("an empty key", {PK: b""})]
     return out_of_memory(OneOf(([WARNING, OUT_OF_MEMORY], *more_lines)),
                          *((name, make("", OUT_OF_MEMORY, files=files)) for name, files in named_files), output=PrefixOf(b"abc"))
@@ -147,7 +150,7 @@ VERIFY = [
 
 
 def holding(name, data):
-    """Returns the expected files after a run: this content of one file, and no new file."""
+    """Returns the expected files after a run: the file `name` contains this data, and there is no new file."""
     return ExpectedFiles({name: data}, optional={*GOOD, "other"} - {name})
 
 
@@ -221,11 +224,11 @@ def verify_raw(name, *lines, files=None, arguments=(PK, SIG), **changes):
     return command_case(name, ["verify-raw", *arguments], lines, stdin=files.pop(FILE), files=files, **changes)
 
 
-# Data that comes byte by byte or in pieces, and large data.
+# Data that comes byte by byte or in pieces; and large data with its signature.
 BY_BYTES = Pieces((b"a", b"b", b"c"))
 PIECES = (toy.some_data(1), toy.some_data(70_000), toy.some_data(128), toy.some_data(3))
-MUCH = toy.some_data(32_000_000)
-OF_MUCH = toy.signature_record(MUCH)
+LARGE_RAW = toy.some_data(32_000_000)
+SIGNATURE_OF_LARGE = toy.signature_record(LARGE_RAW)
 
 RAW = [
     *(verify_raw(name, line, files=files) for name, files, line in (
@@ -255,7 +258,7 @@ RAW = [
         (PK, [("a short key", KEY[:41], TOO_SHORT)]),
         (SIG, [("a short signature", SIGNATURE[:73], TOO_SHORT), ("an unknown algorithm", UNKNOWN_ALGORITHM, UNSUPPORTED)]),
         (FILE, [("a directory as data", DIRECTORY, READING_FAILED)]),
-        (PK, [("another key ID", toy.OTHER_RECORD, OTHER_KEYNUM)]),
+        (PK, [("another key ID", toy.OTHER_RECORD, OTHER_KEY_ID_ERROR)]),
         (SIG, [("a prehashed signature with the algorithm of a legacy signature", LEGACY_ALGORITHM, LEGACY),
                ("a changed signature", toy.flip_bit(SIGNATURE), REJECTED)])),
     # Each read of the key, of the signature and of data that comes byte by byte fails in turn, including the one that finds the end. This
@@ -281,9 +284,9 @@ RAW = [
         ("data in pieces", Pieces(PIECES), toy.signature_record(b"".join(PIECES)), VERIFIED_RAW),
         ("data from a file", FromFile(b"abc"), SIGNATURE, VERIFIED_RAW),
         ("no data from a file", FromFile(b""), SIGNATURE, REJECTED),
-        ("large data", MUCH, OF_MUCH, VERIFIED_RAW),
-        ("large data from a file", FromFile(MUCH), OF_MUCH, VERIFIED_RAW),
-        ("large data and one more byte", MUCH + b"\0", OF_MUCH, REJECTED))),
+        ("large data", LARGE_RAW, SIGNATURE_OF_LARGE, VERIFIED_RAW),
+        ("large data from a file", FromFile(LARGE_RAW), SIGNATURE_OF_LARGE, VERIFIED_RAW),
+        ("large data and one more byte", LARGE_RAW + b"\0", SIGNATURE_OF_LARGE, REJECTED))),
     # The exit status depends on standard error only if the status line cannot be written.
     *without_stderr([verify_raw(name, files=files) for name, files in (
         ("good data", {}), ("other data", {FILE: b"abd"}), ("a missing key", {PK: MISSING}))], status=1),
