@@ -24,6 +24,7 @@ SPACES = [' ', '\t', '\x0b', '\x0c', '\r', '\x1c', '\x85', '\xa0', '\u1680', '\u
 
 
 def hexed(data):
+    """Encodes bytes for a request."""
     return 'x' + data.hex()
 
 
@@ -80,9 +81,9 @@ def files():
 # ---- texts ------------------------------------------------------------------------------------------
 
 
-def texts_of(pieces, most, ends=(b'\n',)):
-    """Yields every text of up to `most` lines from these pieces, with and without a last line ending."""
-    for count in range(most + 1):
+def texts_of(pieces, max_lines, ends=(b'\n',)):
+    """Yields every text of up to `max_lines` lines from these pieces, with each of these line endings, and without the last one."""
+    for count in range(max_lines + 1):
         for lines in itertools.product(pieces, repeat=count):
             for end in ends:
                 joined = end.join(lines)
@@ -406,13 +407,13 @@ def pairs(rng, count):
         yield f'gen_write_plain {hexed(bytes(range(length)))} - -'
     for first in range(0, 256, 5):
         yield f'gen_plain c{first}'
-    for room in list(range(45)) + [157, 158, 159]:
-        yield f'gen_write_plain c7 {room} -'
-        yield f'gen_write_plain c7 - {room}'
-        yield f'gen_write_plain c7 f{room} -'
-        yield f'gen_write_plain c7 - f{room}'
-    for room in range(45, 158, 7):
-        yield f'gen_write_plain c7 - {room}'
+    for capacity in list(range(45)) + [157, 158, 159]:
+        yield f'gen_write_plain c7 {capacity} -'
+        yield f'gen_write_plain c7 - {capacity}'
+        yield f'gen_write_plain c7 f{capacity} -'
+        yield f'gen_write_plain c7 - f{capacity}'
+    for capacity in range(45, 158, 7):
+        yield f'gen_write_plain c7 - {capacity}'
     for left, right in itertools.product(('-', 'f', '0', 'f0', '42', 'f42', '158', 'f158'), repeat=2):
         yield f'gen_write_plain c9 {left} {right}'
     for length in (0, 31, 32, 39, 40, 71, 72, 73):

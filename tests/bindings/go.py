@@ -58,13 +58,13 @@ def line_of(text, number):
     return (text.split(b"\n") + [b""] * 4)[number - 1]
 
 
-def has_blank_comment(case):
+def has_spaces_around_comment(case):
     """Returns True if the trusted comment begins or ends with white space."""
     comment = line_of(case.signature, 3).decode().removeprefix("trusted comment: ").rstrip("\r")
     return comment != comment.strip()
 
 
-def is_broken(case):
+def continues_after_line_break(case):
     """Returns True if the base64 of the comment signature continues after a line break."""
     return line_of(case.signature, 5) != b""
 
@@ -79,20 +79,20 @@ def is_canonical(letters):
 
 # Cases that go-minisign accepts and this module rejects: by the name of our error, a function that returns true for them.
 REJECTED_ONLY_HERE = {
-    "COMMENT_SIGNATURE_REFUSED": lambda case: has_blank_comment(case) or is_broken(case),
+    "COMMENT_SIGNATURE_REFUSED": lambda case: has_spaces_around_comment(case) or continues_after_line_break(case),
     "NOT_UTF8": lambda case: any(text.decode(errors="ignore").encode() != text for text in (case.key, case.signature)),
     "UNTRUSTED_COMMENT_PREFIX": lambda case: not case.signature.startswith(b"untrusted comment: "),
     "PUBLIC_KEY_LENGTH": lambda case: len(line_of(case.key, 2)) != 56,
-    "SIGNATURE_NOT_BASE64": lambda case: is_broken(case) or not all(is_canonical(line_of(case.signature, number)) for number in (2, 4)),
+    "SIGNATURE_NOT_BASE64": lambda case: continues_after_line_break(case) or not all(is_canonical(line_of(case.signature, number)) for number in (2, 4)),
     # A comment signature that is cut short is 64 zero bytes in a Signature.
-    "WEAK_ED25519": lambda case: is_broken(case) or case in [vector for vector, _ in shared_cases.vector_files()],
+    "WEAK_ED25519": lambda case: continues_after_line_break(case) or case in [vector for vector, _ in shared_cases.vector_files()],
 }
 # Cases that go-minisign rejects and this module accepts: by the text of go-minisign's error, a function that returns true for them.
 REJECTED_ONLY_BY_GO_MINISIGN = {
     "Invalid encoded signature": lambda case: [len(line_of(case.signature, number).rstrip(b"\r=")) for number in (2, 4)] != [99, 86]
                                  or len(case.signature.rstrip(b"\r\n").split(b"\n")) > 4,
     "Invalid encoded public key": lambda case: case.key.rstrip(b"\r\n").count(b"\n") > 1 or len(line_of(case.key, 2).rstrip(b"\r")) != 56,
-    "Invalid global signature": has_blank_comment,
+    "Invalid global signature": has_spaces_around_comment,
     "Incompatible signature algorithm": lambda case: base64.b64decode(line_of(case.key, 2))[:2] != b"Ed",
 }
 

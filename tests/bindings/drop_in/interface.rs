@@ -1,5 +1,6 @@
-//! Checks that each public item of the crate minisign 0.10 exists here with the same type (`types`, which only has to compile) and the same
-//! behaviour. `interface DIRECTORY STEP` runs the checks of one step, with files in an empty directory, and panics if one fails.
+//! Checks that each public item of the crate minisign 0.10 exists here with the same type (`types`, which only has to
+//! compile) and the same behaviour. `interface DIRECTORY STEP` runs the checks of one step, with files in an empty
+//! directory, and panics if one fails.
 
 use minisign::*;
 use std::error::Error as StdError;
@@ -21,7 +22,8 @@ trusted comment: timestamp:1556193335\tfile:test
 y/rUw2y8/hOUYjZU71eHp/Wo1KZ40fGy2VJEDl34XMJM+TX48Ss/17u3IvIfbVR1FkZZSNCisQbuQY+bHwhEBg==
 ";
 
-// A secret key with the unknown algorithm `XX` and a correct checksum, encrypted with the password `p`; and its public key, with `Ed`.
+// A secret key with the unknown algorithm `XX` and a correct checksum, encrypted with the password `p`; and its public
+// key, with `Ed`.
 const OTHER_ALGORITHM: &str = "untrusted comment: rsign encrypted secret key
 WFhTY0IyIUmKmrROCcev0qEoVqPJFIpZNBnnO9n4T+DVxB7Q2O0AABAAAAAAAAAAAAIAAAAAyI4sbgHgFNO5V8XexgeqzFtloF2Jpufc9X2Du2cB9B0CA8dxiVMSzDZ+Y/k2koyzIwiAgXZlyoMevrX4HJXFPjYbC7ygHuznPoR92E1vWSZY6J/wXf9oDhQ3QclbGVU0gHvwfJrFqmw=
 ";
@@ -39,7 +41,8 @@ fn types() {
     let _: fn(&PublicKey, &SignatureBox, File, bool, bool, bool) -> Result<()> = verify;
     let _: fn() -> Result<KeyPair> = KeyPair::generate_unencrypted_keypair;
     let _: fn(Option<String>) -> Result<KeyPair> = KeyPair::generate_encrypted_keypair;
-    let _: fn(Vec<u8>, Vec<u8>, Option<&str>, Option<String>) -> Result<KeyPair> = KeyPair::generate_and_write_encrypted_keypair;
+    let _: fn(Vec<u8>, Vec<u8>, Option<&str>, Option<String>) -> Result<KeyPair> =
+        KeyPair::generate_and_write_encrypted_keypair;
     let _: fn(Vec<u8>, Vec<u8>) -> Result<KeyPair> = KeyPair::generate_and_write_unencrypted_keypair;
     let _: fn(&PublicKey) -> &[u8] = PublicKey::keynum;
     let _: fn(&[u8]) -> Result<PublicKey> = PublicKey::from_bytes;
@@ -115,16 +118,35 @@ fn fails<T>(result: Result<T>, kind: ErrorKind, text: &str) {
 }
 
 fn constants() {
-    let names = [DEFAULT_COMMENT, SIG_DEFAULT_CONFIG_DIR_ENV_VAR, SIG_DEFAULT_CONFIG_DIR, SIG_DEFAULT_PKFILE, SIG_DEFAULT_SKFILE, SIG_SUFFIX];
-    assert_eq!(names, ["signature from rsign secret key", "RSIGN_CONFIG_DIR", ".rsign", "rsign.pub", "rsign.key", ".minisig"]);
+    let names = [
+        DEFAULT_COMMENT,
+        SIG_DEFAULT_CONFIG_DIR_ENV_VAR,
+        SIG_DEFAULT_CONFIG_DIR,
+        SIG_DEFAULT_PKFILE,
+        SIG_DEFAULT_SKFILE,
+        SIG_SUFFIX,
+    ];
+    assert_eq!(
+        names,
+        ["signature from rsign secret key", "RSIGN_CONFIG_DIR", ".rsign", "rsign.pub", "rsign.key", ".minisig"]
+    );
     assert_eq!(SignatureBones::BYTES, 74);
 }
 
 fn errors() {
     use ErrorKind::*;
-    let names = [(Generate, "generate error"), (Sign, "sign error"), (Verify, "verify error"), (Io, "io error"), (Misc, "misc error"),
-                 (Hash, "hash error"), (KDF, "key derivation error"), (RNG, "random number generator error"), (Encoding, "encoding error"),
-                 (EncryptedKey, "encrypted key error")];
+    let names = [
+        (Generate, "generate error"),
+        (Sign, "sign error"),
+        (Verify, "verify error"),
+        (Io, "io error"),
+        (Misc, "misc error"),
+        (Hash, "hash error"),
+        (KDF, "key derivation error"),
+        (RNG, "random number generator error"),
+        (Encoding, "encoding error"),
+        (EncryptedKey, "encrypted key error"),
+    ];
     for (kind, name) in names {
         let error = PError::new(kind, "a text");
         #[allow(deprecated)]
@@ -147,12 +169,20 @@ fn public_keys(directory: &str) {
     assert_eq!(key.keynum(), [0x1f, 0xe8, 0xb4, 0x42, 0x18, 0x0f, 0x62, 0xe7]);
     assert_eq!(key.to_box().unwrap().to_string(), text);
     let key_box = PublicKeyBox::from_string(&text).unwrap();
-    assert_eq!((key_box.to_bytes(), key_box.clone().into_string(), String::from(key_box.clone())),
-               (text.clone().into_bytes(), text.clone(), text.clone()));
+    assert_eq!(
+        (key_box.to_bytes(), key_box.clone().into_string(), String::from(key_box.clone())),
+        (text.clone().into_bytes(), text.clone(), text.clone())
+    );
     let path = format!("{directory}/key.pub");
     std::fs::write(&path, &text).unwrap();
-    let keys = [key_box.clone().into_public_key().unwrap(), PublicKey::from_box(key_box.clone()).unwrap(), key_box.into(),
-                PublicKey::from_file(path).unwrap(), PublicKey::from_bytes(&key.to_bytes()).unwrap(), PublicKey::from_bytes(&[key.to_bytes(), vec![1]].concat()).unwrap()];
+    let keys = [
+        key_box.clone().into_public_key().unwrap(),
+        PublicKey::from_box(key_box.clone()).unwrap(),
+        key_box.into(),
+        PublicKey::from_file(path).unwrap(),
+        PublicKey::from_bytes(&key.to_bytes()).unwrap(),
+        PublicKey::from_bytes(&[key.to_bytes(), vec![1]].concat()).unwrap(),
+    ];
     assert!(keys.iter().all(|each| *each == key && each.keynum() == key.keynum()));
     let mut bytes = key.to_bytes();
     assert_eq!((bytes.len(), &bytes[..2], &bytes[2..10]), (42, &b"Ed"[..], key.keynum()));
@@ -163,8 +193,16 @@ fn public_keys(directory: &str) {
     assert!(PublicKey::from_bytes(&bytes).unwrap() != key);
     fails(PublicKey::from_bytes(&bytes[..41]), ErrorKind::Io, "failed to fill whole buffer");
     fails(PublicKeyBox::from_string("").unwrap().into_public_key(), ErrorKind::Io, "Missing comment in public key");
-    fails(PublicKeyBox::from_string("c\n").unwrap().into_public_key(), ErrorKind::Io, "Missing encoded key in public key");
-    fails(PublicKeyBox::from_string("c\nabc").unwrap().into_public_key(), ErrorKind::Io, "Base64 conversion failed - was an actual public key given?");
+    fails(
+        PublicKeyBox::from_string("c\n").unwrap().into_public_key(),
+        ErrorKind::Io,
+        "Missing encoded key in public key",
+    );
+    fails(
+        PublicKeyBox::from_string("c\nabc").unwrap().into_public_key(),
+        ErrorKind::Io,
+        "Base64 conversion failed - was an actual public key given?",
+    );
     fails(PublicKey::from_base64("abc"), ErrorKind::Io, "base64 conversion failed - was an actual public key given?");
     assert!(catch_unwind(|| PublicKey::from(PublicKeyBox::from(String::from("c")))).is_err());
     assert!(PublicKey::from_file(format!("{directory}/none")).is_err());
@@ -178,7 +216,11 @@ fn secret_keys(directory: &str) {
     let KeyPair { pk, sk } = KeyPair::generate_encrypted_keypair(password()).unwrap();
     assert!(sk.is_encrypted() && sk.keynum() != pk.keynum());
     let text = sk.to_box(None).unwrap().to_string();
-    assert!(text.starts_with("untrusted comment: rsign encrypted secret key\nRWRTY0Iy") && text.ends_with('\n') && text.lines().count() == 2);
+    assert!(
+        text.starts_with("untrusted comment: rsign encrypted secret key\nRWRTY0Iy")
+            && text.ends_with('\n')
+            && text.lines().count() == 2
+    );
     let record = sk.to_bytes();
     assert_eq!((record.len(), &record[..6]), (158, &b"EdScB2"[..]));
     assert_eq!(record[38..54], [(1_u64 << 20).to_le_bytes(), (1_u64 << 25).to_le_bytes()].concat());
@@ -187,13 +229,26 @@ fn secret_keys(directory: &str) {
     let path = format!("{directory}/key");
     std::fs::write(&path, &text).unwrap();
     let key_box = SecretKeyBox::from_string(&text).unwrap();
-    assert_eq!((key_box.to_bytes(), key_box.clone().into_string(), String::from(key_box.clone())),
-               (text.clone().into_bytes(), text.clone(), text.clone()));
-    for opened in [key_box.clone().into_secret_key(password()), SecretKey::from_box(key_box.clone(), password()),
-                   SecretKey::from_file(&path, password())] {
+    assert_eq!(
+        (key_box.to_bytes(), key_box.clone().into_string(), String::from(key_box.clone())),
+        (text.clone().into_bytes(), text.clone(), text.clone())
+    );
+    for opened in [
+        key_box.clone().into_secret_key(password()),
+        SecretKey::from_box(key_box.clone(), password()),
+        SecretKey::from_file(&path, password()),
+    ] {
         let opened = opened.unwrap();
-        assert!(!opened.is_encrypted() && opened.keynum() == pk.keynum() && PublicKey::from_secret_key(&opened).unwrap() == pk);
-        assert_eq!(opened.to_bytes()[..54], record[..54], "the record of a decrypted key still has the key derivation, the salt and the limits");
+        assert!(
+            !opened.is_encrypted()
+                && opened.keynum() == pk.keynum()
+                && PublicKey::from_secret_key(&opened).unwrap() == pk
+        );
+        assert_eq!(
+            opened.to_bytes()[..54],
+            record[..54],
+            "the record of a decrypted key still has the key derivation, the salt and the limits"
+        );
         assert!(SecretKey::from_bytes(&opened.to_bytes()).unwrap() == opened && opened != sk);
     }
     // A key with an unknown algorithm can be decrypted and signs. Its record then has the algorithm `Ed`.
@@ -212,8 +267,16 @@ fn secret_keys(directory: &str) {
         assert_eq!(read.unwrap().to_bytes(), plain.sk.to_bytes());
     }
     fails(plain_box.clone().into_secret_key(password()), ErrorKind::Io, "Key is not encrypted");
-    fails(SecretKeyBox::from(String::new()).into_unencrypted_secret_key(), ErrorKind::Io, "Missing comment in secret key");
-    fails(SecretKeyBox::from(String::from("c")).into_unencrypted_secret_key(), ErrorKind::Io, "Missing encoded key in secret key");
+    fails(
+        SecretKeyBox::from(String::new()).into_unencrypted_secret_key(),
+        ErrorKind::Io,
+        "Missing comment in secret key",
+    );
+    fails(
+        SecretKeyBox::from(String::from("c")).into_unencrypted_secret_key(),
+        ErrorKind::Io,
+        "Missing encoded key in secret key",
+    );
     fails(SecretKey::from_bytes(&record[..157]), ErrorKind::Io, "failed to fill whole buffer");
     // An unknown key derivation, parameters that are too high, more work than minisign -G asks for, and a damaged key.
     let changed = |record: &[u8], at: usize, with: &[u8]| {
@@ -221,11 +284,26 @@ fn secret_keys(directory: &str) {
         SecretKey::from_bytes(&bytes).unwrap().to_box(None).unwrap()
     };
     fails(changed(&record, 2, b"XX").into_secret_key(password()), ErrorKind::Io, "Unsupported encryption algorithm");
-    fails(changed(&record, 46, &(1_u64 << 31).to_le_bytes()).into_secret_key(password()), ErrorKind::KDF, "scrypt parameters too high");
-    fails(changed(&record, 38, &(1_u64 << 40).to_le_bytes()).into_secret_key(password()), ErrorKind::KDF, "scrypt work too high");
-    fails(changed(&plain.sk.to_bytes(), 130, &[1, 2, 3]).into_unencrypted_secret_key(), ErrorKind::Verify, "Corrupted key");
-    fails(plain.sk.to_box(Some("a\nb")).map(|_| ()), ErrorKind::Sign,
-          "a comment contains a line break, or the trusted comment begins or ends with white space");
+    fails(
+        changed(&record, 46, &(1_u64 << 31).to_le_bytes()).into_secret_key(password()),
+        ErrorKind::KDF,
+        "scrypt parameters too high",
+    );
+    fails(
+        changed(&record, 38, &(1_u64 << 40).to_le_bytes()).into_secret_key(password()),
+        ErrorKind::KDF,
+        "scrypt work too high",
+    );
+    fails(
+        changed(&plain.sk.to_bytes(), 130, &[1, 2, 3]).into_unencrypted_secret_key(),
+        ErrorKind::Verify,
+        "Corrupted key",
+    );
+    fails(
+        plain.sk.to_box(Some("a\nb")).map(|_| ()),
+        ErrorKind::Sign,
+        "a comment contains a line break, or the trusted comment begins or ends with white space",
+    );
     // Unencrypted keys that the program minisign writes have a checksum of zeros.
     let zeros = changed(&plain.sk.to_bytes(), 126, &[0; 32]).into_unencrypted_secret_key().unwrap();
     verify(&plain.pk, &sign(Some(&plain.pk), &zeros, data(), None, None).unwrap(), data(), true, false, false).unwrap();
@@ -235,13 +313,16 @@ fn secret_keys(directory: &str) {
     let base64 = plain_box.to_string().lines().nth(1).unwrap()[84..100].to_string();
     let numbers = format!("{:?}", &plain.sk.to_bytes()[62..70]);
     let is_shown = |text: &str| shown.contains(text);
-    assert!(!is_shown(&secret.concat()) && !is_shown(&base64) && !is_shown(numbers.trim_matches(&['[', ']'][..])), "{shown}");
+    assert!(
+        !is_shown(&secret.concat()) && !is_shown(&base64) && !is_shown(numbers.trim_matches(&['[', ']'][..])),
+        "{shown}"
+    );
     // An empty password is allowed, as in the crate.
     let empty = KeyPair::generate_encrypted_keypair(Some(String::new())).unwrap();
     assert!(empty.sk.is_encrypted() && empty.sk.to_box(None).unwrap().into_secret_key(Some(String::new())).is_ok());
 }
 
-/// A writer that stores the bytes, and true if it was flushed after the last write.
+/// A writer that stores the written bytes, and true if it was flushed after the last write.
 #[derive(Default)]
 struct Recorder(Vec<u8>, bool);
 
@@ -271,14 +352,19 @@ impl Write for Full {
 
 fn written_keys() {
     let (mut public, mut secret) = (Recorder::default(), Recorder::default());
-    let pair = KeyPair::generate_and_write_encrypted_keypair(&mut public, &mut secret, Some("mine"), Some("p".into())).unwrap();
+    let pair = KeyPair::generate_and_write_encrypted_keypair(&mut public, &mut secret, Some("mine"), Some("p".into()))
+        .unwrap();
     assert_eq!((public.0, public.1), (pair.pk.to_box().unwrap().to_bytes(), true));
     assert_eq!((secret.0, secret.1), (pair.sk.to_box(Some("mine")).unwrap().to_bytes(), true));
     let (mut public, mut secret) = (Recorder::default(), Recorder::default());
     let pair = KeyPair::generate_and_write_unencrypted_keypair(&mut public, &mut secret).unwrap();
     assert_eq!((public.0, public.1, secret.0, secret.1), (pair.pk.to_bytes(), true, pair.sk.to_bytes(), true));
     fails(KeyPair::generate_and_write_unencrypted_keypair(Full, vec![]), ErrorKind::Io, "disk full");
-    fails(KeyPair::generate_and_write_encrypted_keypair(vec![], Full, None, Some("p".into())), ErrorKind::Io, "disk full");
+    fails(
+        KeyPair::generate_and_write_encrypted_keypair(vec![], Full, None, Some("p".into())),
+        ErrorKind::Io,
+        "disk full",
+    );
 }
 
 /// A reader that returns an error if `fails`, or whose data is different after it was rewound if `changes`.
@@ -290,7 +376,11 @@ struct FaultyReader {
 
 impl Read for FaultyReader {
     fn read(&mut self, to: &mut [u8]) -> io::Result<usize> {
-        if self.fails { Err(io::Error::new(io::ErrorKind::Other, "bad sector")) } else { self.inner.read(to) }
+        if self.fails {
+            Err(io::Error::new(io::ErrorKind::Other, "bad sector"))
+        } else {
+            self.inner.read(to)
+        }
     }
 }
 
@@ -322,17 +412,29 @@ fn signing() {
     verify(&pk, &signature, data(), true, false, false).unwrap();
     let signature = sign(None, &sk, &b"test"[..], Some("trusted \u{e9}"), Some("untrusted")).unwrap();
     let lines: Vec<String> = signature.to_string().lines().map(String::from).collect();
-    assert_eq!((&*lines[0], &*lines[2], lines.len()), ("untrusted comment: untrusted", "trusted comment: trusted \u{e9}", 4));
+    assert_eq!(
+        (&*lines[0], &*lines[2], lines.len()),
+        ("untrusted comment: untrusted", "trusted comment: trusted \u{e9}", 4)
+    );
     // Signing reads from the current position of the reader.
     let mut later = Cursor::new(b"not test".to_vec());
     later.set_position(4);
     let again = sign(None, &sk, later, Some("trusted \u{e9}"), Some("untrusted")).unwrap();
     assert_eq!(again.to_string(), signature.to_string(), "signatures contain no random bytes");
     let other = KeyPair::generate_encrypted_keypair(Some("p".into())).unwrap();
-    fails(sign(Some(&other.pk), &sk, data(), None, None).map(|_| ()), ErrorKind::Verify, &format!(
-        "Could not verify signature with the provided public key ID: {:016X}", u64::from_le_bytes(other.pk.keynum().try_into().unwrap())));
+    fails(
+        sign(Some(&other.pk), &sk, data(), None, None).map(|_| ()),
+        ErrorKind::Verify,
+        &format!(
+            "Could not verify signature with the provided public key ID: {:016X}",
+            u64::from_le_bytes(other.pk.keynum().try_into().unwrap())
+        ),
+    );
     let error = sign(None, &other.sk, data(), None, None).err().unwrap();
-    assert!(*error.kind() == ErrorKind::EncryptedKey && error.to_string().starts_with("Cannot sign with an encrypted secret key. The key must"));
+    assert!(
+        *error.kind() == ErrorKind::EncryptedKey
+            && error.to_string().starts_with("Cannot sign with an encrypted secret key. The key must")
+    );
     fails(sign(None, &sk, unreadable(), None, None).map(|_| ()), ErrorKind::Io, "bad sector");
     for comment in ["a\nb", " a", "a\t", "a\0", "a\rb"] {
         let error = sign(None, &sk, data(), Some(comment), None).err().expect(comment);
@@ -341,7 +443,11 @@ fn signing() {
     // A key with a wrong checksum is rejected.
     let mut record = sk.to_bytes();
     record[130] ^= 1;
-    fails(sign(None, &SecretKey::from_bytes(&record).unwrap(), data(), None, None).map(|_| ()), ErrorKind::Verify, "Corrupted key");
+    fails(
+        sign(None, &SecretKey::from_bytes(&record).unwrap(), data(), None, None).map(|_| ()),
+        ErrorKind::Verify,
+        "Corrupted key",
+    );
 }
 
 fn verifying() {
@@ -352,7 +458,11 @@ fn verifying() {
         let bare = SignatureBox::from(SignatureBones::from(file.clone()));
         for signature in [&file, &bare] {
             verify(&key, signature, data(), true, false, true).unwrap();
-            fails(verify(&key, signature, Cursor::new(b"tesT"), true, false, true), ErrorKind::Verify, "Signature verification failed");
+            fails(
+                verify(&key, signature, Cursor::new(b"tesT"), true, false, true),
+                ErrorKind::Verify,
+                "Signature verification failed",
+            );
             let error = verify(&other, signature, data(), true, false, true).unwrap_err().to_string();
             assert!(error.starts_with("Signature key id: E7620F1842B4E81F is different from public key: "), "{error}");
             let strict = verify(&key, signature, data(), true, false, false);
@@ -365,15 +475,21 @@ fn verifying() {
         }
         // A changed trusted comment, a short comment signature, and an empty one.
         let lines: Vec<&str> = text.lines().collect();
-        let with = |comment: &str, second: &str| SignatureBox::from_string(&[lines[0], lines[1], comment, second].join("\n")).unwrap();
+        let with = |comment: &str, second: &str| {
+            SignatureBox::from_string(&[lines[0], lines[1], comment, second].join("\n")).unwrap()
+        };
         for damaged in [with("trusted comment: other", lines[3]), with(lines[2], "AAAA"), with(lines[2], " ")] {
-            fails(verify(&key, &damaged, data(), true, false, true), ErrorKind::Verify, "Comment signature verification failed");
+            fails(
+                verify(&key, &damaged, data(), true, false, true),
+                ErrorKind::Verify,
+                "Comment signature verification failed",
+            );
         }
     }
 }
 
-/// Verifies with `quiet` and `output` set and not set. drop_in.py compares the status lines on standard error, and the copies of the data on
-/// standard output.
+/// Verifies with `quiet` and `output` set and not set. drop_in.py compares the status lines on standard error, and the
+/// copies of the data on standard output.
 fn printing() {
     let key = PublicKey::from_base64(KEY).unwrap();
     let file = SignatureBox::from_string(PREHASHED).unwrap();
@@ -389,15 +505,21 @@ fn printing() {
     let changed = "Data changed between verification and output";
     fails(verify(&key, &file, changing(), true, true, false), ErrorKind::Verify, changed);
     fails(verify(&key, &bare, changing(), true, true, false), ErrorKind::Verify, changed);
-    fails(verify(&key, &file, Cursor::new(b"Test"), false, true, false), ErrorKind::Verify, "Signature verification failed");
+    fails(
+        verify(&key, &file, Cursor::new(b"Test"), false, true, false),
+        ErrorKind::Verify,
+        "Signature verification failed",
+    );
 }
 
 fn signatures(directory: &str) {
     let path = format!("{directory}/signature");
     std::fs::write(&path, PREHASHED).unwrap();
     let file = SignatureBox::from_file(&path).unwrap();
-    assert_eq!((file.to_string(), file.to_bytes(), file.clone().into_string(), String::from(file.clone())),
-               (PREHASHED.into(), PREHASHED.as_bytes().to_vec(), PREHASHED.into(), PREHASHED.into()));
+    assert_eq!(
+        (file.to_string(), file.to_bytes(), file.clone().into_string(), String::from(file.clone())),
+        (PREHASHED.into(), PREHASHED.as_bytes().to_vec(), PREHASHED.into(), PREHASHED.into())
+    );
     assert_eq!(SignatureBox::from(PREHASHED.to_string()).to_string(), PREHASHED);
     assert_eq!(SignatureBox::from_string(&PREHASHED.replace('\n', "\r\n")).unwrap().to_string(), PREHASHED);
     assert_eq!(file.untrusted_comment().unwrap(), "signature from minisign secret key");
@@ -412,27 +534,46 @@ fn signatures(directory: &str) {
     assert_eq!(bare.untrusted_comment().unwrap(), "");
     fails(bare.trusted_comment(), ErrorKind::Misc, "trusted comment is not present");
     assert_eq!(SignatureBones::from(bare.clone()).to_bytes(), bytes);
-    let calls: [fn(&SignatureBox) -> String; 4] =
-        [|it| it.to_string(), |it| it.clone().into_string(), |it| format!("{:?}", it.to_bytes()), |it| it.clone().into()];
+    let calls: [fn(&SignatureBox) -> String; 4] = [
+        |signature| signature.to_string(),
+        |signature| signature.clone().into_string(),
+        |signature| format!("{:?}", signature.to_bytes()),
+        |signature| signature.clone().into(),
+    ];
     for call in calls {
-        assert!(catch_unwind(AssertUnwindSafe(|| call(&bare))).is_err(), "a bare signature cannot be encoded as a file");
+        assert!(
+            catch_unwind(AssertUnwindSafe(|| call(&bare))).is_err(),
+            "a bare signature cannot be encoded as a file"
+        );
     }
     assert!(catch_unwind(|| SignatureBox::from(String::new())).is_err());
     fails(SignatureBones::from_bytes(&bytes[..73]), ErrorKind::Io, "failed to fill whole buffer");
-    fails(SignatureBones::from_bytes(&[b"XX", &bytes[2..]].concat()), ErrorKind::Verify, "Unsupported signature algorithm");
+    fails(
+        SignatureBones::from_bytes(&[b"XX", &bytes[2..]].concat()),
+        ErrorKind::Verify,
+        "Unsupported signature algorithm",
+    );
     let missing = ["untrusted comment", "signature", "trusted comment", "global signature"];
     for (count, what) in missing.iter().enumerate() {
         let text = PREHASHED.lines().take(count).collect::<Vec<_>>().join("\n");
         fails(SignatureBox::from_string(&text), ErrorKind::Io, &format!("Missing {what}"));
     }
-    fails(SignatureBox::from_string(&PREHASHED[1..]), ErrorKind::Verify, "Untrusted comment must start with: untrusted comment: ");
-    fails(SignatureBox::from_string(&PREHASHED.replace("\ntrusted", "\nTrusted")), ErrorKind::Verify,
-          "Trusted comment should start with: trusted comment: ");
+    fails(
+        SignatureBox::from_string(&PREHASHED[1..]),
+        ErrorKind::Verify,
+        "Untrusted comment must start with: untrusted comment: ",
+    );
+    fails(
+        SignatureBox::from_string(&PREHASHED.replace("\ntrusted", "\nTrusted")),
+        ErrorKind::Verify,
+        "Trusted comment should start with: trusted comment: ",
+    );
 }
 
 fn main() {
     let arguments: Vec<String> = std::env::args().skip(1).collect();
-    // Prints only the panics of failed checks, which are in this file, and not those of the crate, which the checks expect.
+    // Prints only the panics of failed checks, which are in this file, and not those of the crate, which the checks
+    // expect.
     std::panic::set_hook(Box::new(|info| {
         if std::thread::panicking() && info.location().map_or(false, |at| at.file().ends_with("main.rs")) {
             eprintln!("{info}");

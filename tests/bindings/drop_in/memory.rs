@@ -1,21 +1,21 @@
-//! Searches the memory of this process for secrets after all values that held them were dropped: the password and the seed of an encrypted
-//! key, and part of the file of an unencrypted key. Prints how often each is found. With any argument, the program keeps a copy of the first
-//! two, so that the search must find them.
+//! Searches the memory of this process for secrets after all values with secrets were dropped: the password and the
+//! seed of an encrypted key, and part of the file of an unencrypted key. Prints how often each is found. With any
+//! argument, the program keeps a copy of the password and the seed, so that the search must find them.
 
 use minisign::{sign, verify, KeyPair, PublicKey, SecretKeyBox};
 use std::fs;
 use std::io::{Cursor, Read, Seek, SeekFrom};
 
-/// The number of bytes that are searched again with the next page. It is longer than each pattern.
+/// The number of bytes of a page that are searched again together with the next page. It is longer than each pattern.
 const OVERLAP: usize = 64;
 
-/// Returns how often each pattern is in the writable memory of this process. The patterns have inverted bits, so that the search does not
-/// find them.
+/// Returns how often each pattern is in the writable memory of this process. All bits of the patterns are inverted, so
+/// that the search does not find the patterns themselves.
 fn count_in_memory(patterns: &[Vec<u8>]) -> Vec<usize> {
     let mut memory = fs::File::open("/proc/self/mem").unwrap();
     let mut found = vec![0; patterns.len()];
     let maps = fs::read_to_string("/proc/self/maps").unwrap();
-    // Without the areas vdso and vvar of the kernel.
+    // The areas vdso and vvar of the kernel cannot be read.
     for line in maps.lines().filter(|line| line.contains(" rw") && !line.contains("[v")) {
         let range = line.split(' ').next().unwrap().split_once('-').unwrap();
         let [from, to] = [range.0, range.1].map(|digits| u64::from_str_radix(digits, 16).unwrap());
@@ -44,7 +44,10 @@ fn inverted(bytes: &[u8]) -> Vec<u8> {
 
 /// Decodes the password at run time, so that the program file contains it only with inverted bits.
 fn password() -> String {
-    [0x9c, 0x90, 0x8d, 0x8d, 0x9a, 0x9c, 0x8b, 0xdf, 0x97, 0x90, 0x8d, 0x8c, 0x9a].map(|byte: u8| char::from(!byte)).iter().collect()
+    [0x9c, 0x90, 0x8d, 0x8d, 0x9a, 0x9c, 0x8b, 0xdf, 0x97, 0x90, 0x8d, 0x8c, 0x9a]
+        .map(|byte: u8| char::from(!byte))
+        .iter()
+        .collect()
 }
 
 /// Uses keys and a password in all calls that handle them, and drops them. Appends the inverted secrets to `patterns`.

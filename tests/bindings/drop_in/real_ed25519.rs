@@ -1,10 +1,22 @@
-//! The module `crypto::ed25519` of the crate minisign, over libsodium, because its own arithmetic is not among its sources here. Like the
-//! original, `verify` reads 64 bytes of the signature, and panics if it is shorter.
+//! Replaces the module `crypto::ed25519` of the crate minisign with calls of libsodium, because the sources of the
+//! crate that the test uses lack its curve arithmetic. Like the original, `verify` reads 64 bytes of the signature, and
+//! panics if it is shorter.
 
 extern "C" {
     fn crypto_sign_seed_keypair(public_key: *mut u8, secret_key: *mut u8, seed: *const u8) -> i32;
-    fn crypto_sign_detached(signature: *mut u8, len: *mut u64, message: *const u8, message_len: u64, secret_key: *const u8) -> i32;
-    fn crypto_sign_verify_detached(signature: *const u8, message: *const u8, message_len: u64, public_key: *const u8) -> i32;
+    fn crypto_sign_detached(
+        signature: *mut u8,
+        len: *mut u64,
+        message: *const u8,
+        message_len: u64,
+        secret_key: *const u8,
+    ) -> i32;
+    fn crypto_sign_verify_detached(
+        signature: *const u8,
+        message: *const u8,
+        message_len: u64,
+        public_key: *const u8,
+    ) -> i32;
 }
 
 pub fn keypair(seed: &[u8]) -> ([u8; 64], [u8; 32]) {
@@ -25,5 +37,8 @@ pub fn signature(message: &[u8], secret_key: &[u8], _: Option<&[u8]>) -> [u8; 64
 pub fn verify(message: &[u8], public_key: &[u8], signature: &[u8]) -> bool {
     let signature = &signature[..64];
     assert_eq!(public_key.len(), 32);
-    unsafe { crypto_sign_verify_detached(signature.as_ptr(), message.as_ptr(), message.len() as u64, public_key.as_ptr()) == 0 }
+    unsafe {
+        crypto_sign_verify_detached(signature.as_ptr(), message.as_ptr(), message.len() as u64, public_key.as_ptr())
+            == 0
+    }
 }

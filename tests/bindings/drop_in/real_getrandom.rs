@@ -1,4 +1,5 @@
-//! The parts of the crate getrandom 0.3 that the crate minisign uses, over libsodium. Debian 12 has version 0.2, which lacks `fill`.
+//! The parts of the crate getrandom 0.3 that the crate minisign uses, over libsodium. Debian 12 has version 0.2, which
+//! lacks `fill`.
 
 extern "C" {
     fn randombytes_buf(bytes: *mut u8, len: usize);

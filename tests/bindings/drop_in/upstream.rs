@@ -1,5 +1,6 @@
-//! Runs the tests of the crate minisign with this crate. tests/bindings/drop_in.py adds this file to a copy of the crate; `UPSTREAM` names
-//! the directory of the tests. They use a few private functions and fields of their crate, which this file provides.
+//! Runs the tests of the crate minisign with this crate. tests/bindings/drop_in.py adds this file to a copy of the
+//! crate; `UPSTREAM` names the directory of the tests. They use a few private functions and fields of their crate,
+//! which this file provides.
 
 use crate::{Result, SecretKey};
 use minisign_proved::{Random, SchemeError, Sign, Verify};
@@ -45,16 +46,17 @@ impl Deref for SecretKey {
     }
 }
 
-/// Makes a key of given parts, so that the library computes its checksum.
-struct Given(Parts);
+/// Replaces Ed25519 and the random source, so that `SecretKey::generate` makes a key with these parts and computes its
+/// checksum.
+struct FixedParts(Parts);
 
-impl Verify for Given {
+impl Verify for FixedParts {
     fn verify(&self, _: &[u8; 64], _: &[u8], _: &[u8; 32]) -> std::result::Result<(), SchemeError> {
         Err(SchemeError::new("not used"))
     }
 }
 
-impl Sign for Given {
+impl Sign for FixedParts {
     fn sign(&self, _: &[u8], _: &[u8; 64]) -> std::result::Result<[u8; 64], SchemeError> {
         Err(SchemeError::new("not used"))
     }
@@ -64,7 +66,7 @@ impl Sign for Given {
     }
 }
 
-impl Random for Given {
+impl Random for FixedParts {
     fn fill(&self, bytes: &mut [u8]) -> std::result::Result<(), SchemeError> {
         if bytes.len() == 8 {
             bytes.copy_from_slice(&self.0.keynum);
@@ -75,7 +77,7 @@ impl Random for Given {
 
 impl SecretKey {
     pub(crate) fn read_checksum(&self) -> Result<Vec<u8>> {
-        let key = minisign_proved::SecretKey::generate(&Given(self.keynum_sk.clone()))?;
+        let key = minisign_proved::SecretKey::generate(&FixedParts(self.keynum_sk.clone()))?;
         Ok(key.to_record()?[126..].to_vec())
     }
 

@@ -1,5 +1,5 @@
-// A test program that uses the module as go-minisign. It runs the check that its first argument names, most of them on the cases on
-// standard input, and prints the results, which tests/bindings/go.py compares.
+// A test program that uses the module as go-minisign. It runs the check that its first argument names, most of them on
+// the cases on standard input, and prints the results, which tests/bindings/go.py compares.
 package main
 
 import (
@@ -20,10 +20,12 @@ import (
 	"proved/minisign"
 )
 
-type line struct{ key, data, signature []byte }
+// A verifyCase is a line on standard input.
+type verifyCase struct{ key, data, signature []byte }
 
-func lines() []line {
-	var result []line
+// readCases returns the cases on standard input.
+func readCases() []verifyCase {
+	var result []verifyCase
 	scanner := bufio.NewScanner(os.Stdin)
 	scanner.Buffer(nil, 1<<24)
 	for scanner.Scan() {
@@ -31,7 +33,7 @@ func lines() []line {
 		for index, digits := range strings.Split(scanner.Text(), " ") {
 			parts[index], _ = hex.DecodeString(strings.Trim(digits, "-"))
 		}
-		result = append(result, line{parts[0], parts[1], parts[2]})
+		result = append(result, verifyCase{parts[0], parts[1], parts[2]})
 	}
 	return result
 }
@@ -58,14 +60,14 @@ func (from *pieces) Read(to []byte) (int, error) {
 	return length, nil
 }
 
-// A way verifies data.
-type way func(key *minisign.PublicKey, data []byte, signature minisign.Signature) (bool, error)
+// A verifyFunc verifies data with one of the functions of the module.
+type verifyFunc func(key *minisign.PublicKey, data []byte, signature minisign.Signature) (bool, error)
 
 func atOnce(key *minisign.PublicKey, data []byte, signature minisign.Signature) (bool, error) {
 	return key.Verify(data, signature)
 }
 
-func inPieces(length int) way {
+func inPieces(length int) verifyFunc {
 	return func(key *minisign.PublicKey, data []byte, signature minisign.Signature) (bool, error) {
 		next := length
 		if next == 0 {
@@ -76,7 +78,7 @@ func inPieces(length int) way {
 }
 
 // fromFile reads the key, the signature and the data from files.
-func fromFile(directory string) way {
+func fromFile(directory string) verifyFunc {
 	return func(_ *minisign.PublicKey, data []byte, signature minisign.Signature) (bool, error) {
 		key, err := minisign.NewPublicKeyFromFile(filepath.Join(directory, "key"))
 		if err != nil {
@@ -93,7 +95,7 @@ func fromFile(directory string) way {
 	}
 }
 
-func verify(testCase line, verifyData way) (string, error) {
+func verify(testCase verifyCase, verifyData verifyFunc) (string, error) {
 	key, err := minisign.DecodePublicKey(string(testCase.key))
 	if err != nil {
 		return "", err
@@ -104,12 +106,12 @@ func verify(testCase line, verifyData way) (string, error) {
 	}
 	good, err := verifyData(&key, testCase.data, signature)
 	if good != (err == nil) {
-		panic("the verdict and the error differ")
+		panic(fmt.Sprintf("the verdict is %t, but the error is %v", good, err))
 	}
 	return strings.TrimPrefix(signature.TrustedComment, "trusted comment: "), err
 }
 
-func answer(testCase line, verifyData way) string {
+func answer(testCase verifyCase, verifyData verifyFunc) string {
 	comment, err := verify(testCase, verifyData)
 	if err != nil {
 		number, _ := err.(minisign.Error)
@@ -121,8 +123,8 @@ func answer(testCase line, verifyData way) string {
 	return "accepted " + hex.EncodeToString([]byte(comment))
 }
 
-// fields returns the key IDs of a key and of a signature, and its algorithm, before anything is verified.
-func fields(testCase line) string {
+// fields returns the key IDs of a key and of a signature, and the algorithm of the signature. Nothing is verified.
+func fields(testCase verifyCase) string {
 	key, err := minisign.DecodePublicKey(string(testCase.key))
 	if err != nil {
 		return err.Error()
@@ -135,6 +137,7 @@ func fields(testCase line) string {
 	return fmt.Sprintf("%s %s", ids, signature.SignatureAlgorithm)
 }
 
+// pages returns the number of pages of this process that are in memory.
 func pages() int {
 	debug.FreeOSMemory()
 	text, _ := os.ReadFile("/proc/self/statm")
@@ -142,11 +145,11 @@ func pages() int {
 	return number
 }
 
-// growth verifies count times, and returns by how many pages the memory has grown after a tenth of them.
-func growth(cases []line, count int) int {
+// growth verifies count times, and returns by how many pages the memory grows after the first tenth of these calls.
+func growth(cases []verifyCase, count int) int {
 	early := 0
 	for number := 0; number < count; number++ {
-		verifyData := way(atOnce)
+		verifyData := verifyFunc(atOnce)
 		if number%2 == 1 {
 			verifyData = inPieces(7000)
 		}
@@ -158,8 +161,9 @@ func growth(cases []line, count int) int {
 	return pages() - early
 }
 
-// threads verifies all cases in many goroutines at once. It returns true if each gets the results of a single one.
-func threads(cases []line) bool {
+// threads verifies all cases in concurrent goroutines. It returns true if each of them gets the same results as a
+// single one.
+func threads(cases []verifyCase) bool {
 	answers := func() string {
 		var all bytes.Buffer
 		for _, testCase := range cases {
@@ -186,23 +190,23 @@ func threads(cases []line) bool {
 }
 
 func main() {
-	verifyData := way(atOnce)
+	verifyData := verifyFunc(atOnce)
 	switch word := os.Args[1]; word {
 	case "pieces":
 		length, _ := strconv.Atoi(os.Args[2])
 		verifyData = inPieces(length)
 	case "growth":
 		count, _ := strconv.Atoi(os.Args[2])
-		fmt.Println(growth(lines(), count))
+		fmt.Println(growth(readCases(), count))
 		return
 	case "threads":
-		fmt.Println(threads(lines()))
+		fmt.Println(threads(readCases()))
 		return
 	case "errors":
 		for number := minisign.Error(0); number < 1000; number++ {
 			wrapped := fmt.Errorf("the file: %w", number)
-			is := errors.Is(wrapped, number) && !errors.Is(wrapped, number+1)
-			fmt.Printf("%d %q %t %s\n", number, number.Name(), is, number)
+			isRecognized := errors.Is(wrapped, number) && !errors.Is(wrapped, number+1)
+			fmt.Printf("%d %q %t %s\n", number, number.Name(), isRecognized, number)
 		}
 		return
 	case "bare":
@@ -210,7 +214,7 @@ func main() {
 		fmt.Printf("%x %x %v\n", key.KeyId, key.PublicKey, err)
 		return
 	}
-	for _, testCase := range lines() {
+	for _, testCase := range readCases() {
 		if os.Args[1] == "read" {
 			fmt.Println(fields(testCase))
 			continue

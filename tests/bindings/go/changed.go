@@ -1,8 +1,8 @@
-// Verifies with keys and signatures whose fields the program has changed or composed. It uses only functions of go-minisign, so
-// tests/bindings/go.py builds it with go-minisign too.
+// Verifies with keys and signatures whose fields were changed or set by the program. It uses only functions of
+// go-minisign, so tests/bindings/go.py builds it with go-minisign too.
 //
-// The arguments are the paths of a public key, of data and of a signature. For each change it prints its name, the error that it must be
-// rejected with, the verdict, and the error.
+// The arguments are the paths of a public key, of data and of a signature. For each change, the program prints the name
+// of the change, the expected error, the verdict, and the error.
 package main
 
 import (
@@ -13,10 +13,11 @@ import (
 	"proved/minisign"
 )
 
-// A change has the name in minisign.h of the error that it must be rejected with, or "" if it must be accepted.
+// A change is applied to a key and a signature. expectedError is the name of an error in minisign.h, or "" if the
+// changed key and signature must be accepted.
 type change struct {
-	name, why string
-	make      func(key *minisign.PublicKey, signature *minisign.Signature)
+	name, expectedError string
+	apply               func(key *minisign.PublicKey, signature *minisign.Signature)
 }
 
 var changes = []change{
@@ -41,16 +42,30 @@ var changes = []change{
 			panic("JSON")
 		}
 	}},
-	{"a key of zeros", "UNSUPPORTED_ALGORITHM", func(key *minisign.PublicKey, signature *minisign.Signature) { *key = minisign.PublicKey{} }},
-	{"a signature of zeros", "UNTRUSTED_COMMENT_PREFIX", func(key *minisign.PublicKey, signature *minisign.Signature) { *signature = minisign.Signature{} }},
-	{"another algorithm of the key", "UNSUPPORTED_ALGORITHM", func(key *minisign.PublicKey, signature *minisign.Signature) { key.SignatureAlgorithm[1] = 'D' }},
-	{"another key ID of the key", "DIFFERENT_KEY_IDS", func(key *minisign.PublicKey, signature *minisign.Signature) { key.KeyId[7] ^= 1 }},
-	{"another key", "SIGNATURE_REFUSED", func(key *minisign.PublicKey, signature *minisign.Signature) { key.PublicKey[31] ^= 1 }},
+	{"a key of zeros", "UNSUPPORTED_ALGORITHM", func(key *minisign.PublicKey, signature *minisign.Signature) {
+		*key = minisign.PublicKey{}
+	}},
+	{"a signature of zeros", "UNTRUSTED_COMMENT_PREFIX", func(key *minisign.PublicKey, signature *minisign.Signature) {
+		*signature = minisign.Signature{}
+	}},
+	{"another algorithm of the key", "UNSUPPORTED_ALGORITHM", func(key *minisign.PublicKey, signature *minisign.Signature) {
+		key.SignatureAlgorithm[1] = 'D'
+	}},
+	{"another key ID of the key", "DIFFERENT_KEY_IDS", func(key *minisign.PublicKey, signature *minisign.Signature) {
+		key.KeyId[7] ^= 1
+	}},
+	{"another key", "SIGNATURE_REFUSED", func(key *minisign.PublicKey, signature *minisign.Signature) {
+		key.PublicKey[31] ^= 1
+	}},
 	{"another untrusted comment", "", func(key *minisign.PublicKey, signature *minisign.Signature) {
 		signature.UntrustedComment = "untrusted comment: other"
 	}},
-	{"no untrusted comment", "UNTRUSTED_COMMENT_PREFIX", func(key *minisign.PublicKey, signature *minisign.Signature) { signature.UntrustedComment = "" }},
-	{"another first line", "UNTRUSTED_COMMENT_PREFIX", func(key *minisign.PublicKey, signature *minisign.Signature) { signature.UntrustedComment = "other" }},
+	{"no untrusted comment", "UNTRUSTED_COMMENT_PREFIX", func(key *minisign.PublicKey, signature *minisign.Signature) {
+		signature.UntrustedComment = ""
+	}},
+	{"another first line", "UNTRUSTED_COMMENT_PREFIX", func(key *minisign.PublicKey, signature *minisign.Signature) {
+		signature.UntrustedComment = "other"
+	}},
 	{"an untrusted comment of two lines", "SIGNATURE_NOT_BASE64", func(key *minisign.PublicKey, signature *minisign.Signature) {
 		signature.UntrustedComment = "untrusted comment: other\nof two lines"
 	}},
@@ -61,27 +76,45 @@ var changes = []change{
 		}
 		signature.UntrustedComment, signature.TrustedComment = string(text), "trusted comment: other"
 	}},
-	{"the legacy algorithm", "SIGNATURE_REFUSED", func(key *minisign.PublicKey, signature *minisign.Signature) { signature.SignatureAlgorithm[1] = 'd' }},
-	{"another algorithm", "UNSUPPORTED_ALGORITHM", func(key *minisign.PublicKey, signature *minisign.Signature) { signature.SignatureAlgorithm[0] = 'X' }},
-	{"another key ID", "DIFFERENT_KEY_IDS", func(key *minisign.PublicKey, signature *minisign.Signature) { signature.KeyId[0] ^= 1 }},
-	{"another signature", "SIGNATURE_REFUSED", func(key *minisign.PublicKey, signature *minisign.Signature) { signature.Signature[63] ^= 1 }},
+	{"the legacy algorithm", "SIGNATURE_REFUSED", func(key *minisign.PublicKey, signature *minisign.Signature) {
+		signature.SignatureAlgorithm[1] = 'd'
+	}},
+	{"another algorithm", "UNSUPPORTED_ALGORITHM", func(key *minisign.PublicKey, signature *minisign.Signature) {
+		signature.SignatureAlgorithm[0] = 'X'
+	}},
+	{"another key ID", "DIFFERENT_KEY_IDS", func(key *minisign.PublicKey, signature *minisign.Signature) {
+		signature.KeyId[0] ^= 1
+	}},
+	{"another signature", "SIGNATURE_REFUSED", func(key *minisign.PublicKey, signature *minisign.Signature) {
+		signature.Signature[63] ^= 1
+	}},
 	{"another trusted comment", "COMMENT_SIGNATURE_REFUSED", func(key *minisign.PublicKey, signature *minisign.Signature) {
 		signature.TrustedComment = "trusted comment: other"
 	}},
-	{"a longer trusted comment", "COMMENT_SIGNATURE_REFUSED", func(key *minisign.PublicKey, signature *minisign.Signature) { signature.TrustedComment += "2" }},
-	{"a space after the trusted comment", "BAD_COMMENT", func(key *minisign.PublicKey, signature *minisign.Signature) { signature.TrustedComment += " " }},
+	{"a longer trusted comment", "COMMENT_SIGNATURE_REFUSED", func(key *minisign.PublicKey, signature *minisign.Signature) {
+		signature.TrustedComment += "2"
+	}},
+	{"a space after the trusted comment", "BAD_COMMENT", func(key *minisign.PublicKey, signature *minisign.Signature) {
+		signature.TrustedComment += " "
+	}},
 	{"a line feed after the trusted comment", "BAD_COMMENT", func(key *minisign.PublicKey, signature *minisign.Signature) {
 		signature.TrustedComment += "\n"
 	}},
 	{"a carriage return after the trusted comment", "BAD_COMMENT", func(key *minisign.PublicKey, signature *minisign.Signature) {
 		signature.TrustedComment += "\r"
 	}},
-	{"no trusted comment", "TRUSTED_COMMENT_PREFIX", func(key *minisign.PublicKey, signature *minisign.Signature) { signature.TrustedComment = "" }},
-	{"another third line", "TRUSTED_COMMENT_PREFIX", func(key *minisign.PublicKey, signature *minisign.Signature) { signature.TrustedComment = "other" }},
+	{"no trusted comment", "TRUSTED_COMMENT_PREFIX", func(key *minisign.PublicKey, signature *minisign.Signature) {
+		signature.TrustedComment = ""
+	}},
+	{"another third line", "TRUSTED_COMMENT_PREFIX", func(key *minisign.PublicKey, signature *minisign.Signature) {
+		signature.TrustedComment = "other"
+	}},
 	{"a trusted comment that is not UTF-8", "NOT_UTF8", func(key *minisign.PublicKey, signature *minisign.Signature) {
 		signature.TrustedComment += "\xff"
 	}},
-	{"another signature of the comment", "COMMENT_SIGNATURE_REFUSED", func(key *minisign.PublicKey, signature *minisign.Signature) { signature.GlobalSignature[0] ^= 1 }},
+	{"another signature of the comment", "COMMENT_SIGNATURE_REFUSED", func(key *minisign.PublicKey, signature *minisign.Signature) {
+		signature.GlobalSignature[0] ^= 1
+	}},
 	{"no signature of the comment", "WEAK_ED25519", func(key *minisign.PublicKey, signature *minisign.Signature) {
 		signature.GlobalSignature = [64]byte{}
 	}},
@@ -108,12 +141,12 @@ func main() {
 	}
 	for _, change := range changes {
 		key, signature := read(paths)
-		change.make(&key, &signature)
+		change.apply(&key, &signature)
 		good, err := key.Verify(data, signature)
 		fromFile, fileErr := key.VerifyFromFile(paths[1], signature)
 		if good != fromFile || fmt.Sprint(err) != fmt.Sprint(fileErr) {
-			panic(change.name)
+			panic(fmt.Sprintf("%s: Verify: %t, %v; VerifyFromFile: %t, %v", change.name, good, err, fromFile, fileErr))
 		}
-		fmt.Printf("%s: %s: %t, %v\n", change.name, change.why, good, err)
+		fmt.Printf("%s: %s: %t, %v\n", change.name, change.expectedError, good, err)
 	}
 }

@@ -1,6 +1,7 @@
-// A test program that verifies files with signed lists. `verify_listed` verifies the file of each case on standard input in each way
-// of the module, and `entries` prints the entries of each list. `files DIRECTORY` verifies files and lists that it writes to a
-// directory, and checks what its functions do with wrong arguments. tests/bindings/go.py compares the output.
+// A test program that verifies files with signed lists. `verify_listed` verifies the file of each case on standard
+// input with each function of the module, and `entries` prints the entries of each list. `files DIRECTORY` verifies
+// files and lists that it writes to a directory, and checks the errors for wrong arguments. tests/bindings/go.py
+// compares the output.
 package main
 
 import (
@@ -26,7 +27,7 @@ var longDigests = map[string]minisign.LongDigest{
 	"sha512": minisign.LongSHA512, "blake2b": minisign.LongBLAKE2b, "none": minisign.LongRejected,
 }
 
-// A listCase has the parts of a case in tests/bindings/shared_cases.py.
+// A listCase is a case on standard input. It corresponds to ListCase in tests/bindings/shared_cases.py.
 type listCase struct {
 	key, text, signature                []byte
 	listName, longDigest, name, content string
@@ -58,17 +59,17 @@ func verified(testCase listCase) (*minisign.SignedList, error) {
 	options := minisign.ListOptions{Name: testCase.listName, AnyName: testCase.listName == "", LongDigest: longDigests[testCase.longDigest]}
 	text := append([]byte(nil), testCase.text...)
 	list, err := key.VerifyList(text, signature, options)
-	// The list must be a copy: what the caller does with its text later has no effect.
+	// The SignedList must contain a copy of the text, so clearing the text has no effect.
 	for index := range text {
 		text[index] = 0
 	}
 	return list, err
 }
 
-// A way verifies the data of a case.
-type way func(list *minisign.SignedList, testCase listCase) (minisign.ListEntry, error)
+// A verifyFunc verifies the data of a case with one of the functions of the module.
+type verifyFunc func(list *minisign.SignedList, testCase listCase) (minisign.ListEntry, error)
 
-var ways = []way{
+var verifyFuncs = []verifyFunc{
 	func(list *minisign.SignedList, testCase listCase) (minisign.ListEntry, error) {
 		return list.VerifyListed([]byte(testCase.content), testCase.name)
 	},
@@ -84,7 +85,9 @@ var ways = []way{
 	},
 }
 
-func number(err error) (string, uint64) {
+// nameAndLine returns the name of an error, and the number of the line at fault, or 0. It also checks the text of a
+// LineError.
+func nameAndLine(err error) (string, uint64) {
 	var atLine *minisign.LineError
 	if errors.As(err, &atLine) {
 		if !errors.Is(err, atLine.Err) || err.Error() != fmt.Sprintf("%v: line %d", atLine.Err, atLine.Line) {
@@ -99,7 +102,7 @@ func number(err error) (string, uint64) {
 	return err.Error(), 0
 }
 
-func answer(testCase listCase, verify way) string {
+func answer(testCase listCase, verify verifyFunc) string {
 	list, err := verified(testCase)
 	if err == nil {
 		var entry minisign.ListEntry
@@ -109,16 +112,16 @@ func answer(testCase listCase, verify way) string {
 			return "an entry with an error"
 		}
 	}
-	name, line := number(err)
+	name, line := nameAndLine(err)
 	return fmt.Sprintf("rejected %s %d", name, line)
 }
 
 func verifyListed() {
 	for _, testCase := range cases() {
-		expected := answer(testCase, ways[0])
-		for index, verify := range ways {
+		expected := answer(testCase, verifyFuncs[0])
+		for index, verify := range verifyFuncs {
 			if other := answer(testCase, verify); other != expected {
-				expected = fmt.Sprintf("%s, but way %d: %s", expected, index, other)
+				expected = fmt.Sprintf("%s, but function %d: %s", expected, index, other)
 			}
 		}
 		fmt.Println(expected)
@@ -144,16 +147,17 @@ func entries() {
 	}
 }
 
+// show prints the expected result, a tab, and the actual result or the name of the error.
 func show(expected string, result interface{}, err error) {
 	actual := fmt.Sprint(result)
 	if err != nil {
-		actual, _ = number(err)
+		actual, _ = nameAndLine(err)
 	}
 	fmt.Printf("%s\t%s\n", expected, actual)
 }
 
-// inTheListOf returns a list that a new key has signed, in a directory, and the key.
-func inTheListOf(directory, text, comment string) minisign.PublicKey {
+// writeSignedList writes a list, and its signature by a new key, into a directory. It returns the public key.
+func writeSignedList(directory, text, comment string) minisign.PublicKey {
 	key, err := minisign.GenerateKey()
 	if err == nil {
 		err = os.WriteFile(filepath.Join(directory, "SHA512SUMS"), []byte(text), 0o644)
@@ -172,6 +176,7 @@ func inTheListOf(directory, text, comment string) minisign.PublicKey {
 	return public
 }
 
+// files checks the functions that read files.
 func files(directory string) {
 	at := func(name string) string { return filepath.Join(directory, name) }
 	os.MkdirAll(at("sub"), 0o755)
@@ -180,7 +185,7 @@ func files(directory string) {
 	}
 	os.WriteFile(at("other"), []byte("other data"), 0o644)
 	digest := sha512.Sum512([]byte("data"))
-	key := inTheListOf(directory, fmt.Sprintf("%[1]x  app\n%[1]x  other\n%[1]x  sub/app\n%[1]x  absent\n", digest), "version:1\tfile:SHA512SUMS")
+	key := writeSignedList(directory, fmt.Sprintf("%[1]x  app\n%[1]x  other\n%[1]x  sub/app\n%[1]x  absent\n", digest), "version:1\tfile:SHA512SUMS")
 	var none minisign.ListOptions
 	list, err := key.VerifyListFromFile(at("SHA512SUMS"), minisign.ListOptions{Name: "not used"})
 	show("version:1 file:SHA512SUMS", strings.ReplaceAll(list.TrustedComment(), "\t", " "), err)
@@ -227,7 +232,7 @@ func files(directory string) {
 	wrong.SignatureAlgorithm = [2]byte{}
 	_, err = wrong.VerifyList(nil, signature, none)
 	show("UNSUPPORTED_ALGORITHM", "", err)
-	key = inTheListOf(directory, "", "file:SHA512SUMS")
+	key = writeSignedList(directory, "", "file:SHA512SUMS")
 	_, err = key.VerifyListFromFile(at("SHA512SUMS"), minisign.ListOptions{LongDigest: 3})
 	show("BAD_HASH", "", err)
 	signature, _ = minisign.NewSignatureFromFile(at("SHA512SUMS.minisig"))
@@ -242,6 +247,7 @@ func files(directory string) {
 	show("true", sharedByGoroutines(list), nil)
 }
 
+// wrongArguments checks the errors for nil arguments.
 func wrongArguments(list *minisign.SignedList) {
 	var key *minisign.PublicKey
 	_, err := key.VerifyList(nil, minisign.Signature{}, minisign.ListOptions{})
@@ -256,7 +262,7 @@ func wrongArguments(list *minisign.SignedList) {
 	show("minisign: reader is nil", "", err)
 }
 
-// sharedByGoroutines returns true if many goroutines that share a list get the right results.
+// sharedByGoroutines returns true if concurrent goroutines that share a list get the right results.
 func sharedByGoroutines(list *minisign.SignedList) bool {
 	var all sync.WaitGroup
 	good := make(chan bool, 8)

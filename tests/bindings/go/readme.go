@@ -1,4 +1,5 @@
-// Runs the examples of bindings/go/README.md that their main does not call. tests/bindings/go.py adds this file to them.
+// Runs the examples of bindings/go/README.md that their main does not call. tests/bindings/go.py adds this file to
+// them.
 package main
 
 import (

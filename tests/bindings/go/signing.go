@@ -1,5 +1,5 @@
-// A test program that makes keys and signatures. It runs the check that its first argument names, and prints the results, which
-// tests/bindings/go.py compares.
+// A test program that makes keys and signatures. It runs the check that its first argument names, and prints the
+// results, which tests/bindings/go.py compares.
 package main
 
 import (
@@ -32,6 +32,7 @@ func nameOf(err error) string {
 	return err.Error()
 }
 
+// must panics if there is an error.
 func must(err error) {
 	if err != nil {
 		panic(err)
@@ -41,6 +42,7 @@ func must(err error) {
 // The lowest limits that Encode accepts.
 var lowestLimits = minisign.Work{OperationsLimit: 524288, MemoryLimit: 1 << 24}
 
+// makePair writes a key pair into a directory. With a password, the secret key is encrypted.
 func makePair(directory string, password []byte) error {
 	key, err := minisign.GenerateKey()
 	must(err)
@@ -103,6 +105,7 @@ func sign(file, data, to, comment string, password []byte) error {
 	return err
 }
 
+// strength returns "weak" for a key that is encrypted with limits below the minimum, otherwise "strong", or an error.
 func strength(file string, password []byte) string {
 	key, err := minisign.NewSecretKeyFromFile(file, password, minisign.Work{})
 	if err != nil {
@@ -114,6 +117,7 @@ func strength(file string, password []byte) string {
 	return "strong"
 }
 
+// encrypt encrypts a new key with these limits, and returns "OK" or an error.
 func encrypt(words []string) string {
 	operations, _ := strconv.ParseUint(words[0], 10, 64)
 	memory, _ := strconv.ParseUint(words[1], 10, 64)
@@ -195,6 +199,7 @@ func keyIDs(file string) {
 	fmt.Printf("%s %s\n%s", key.KeyIdText(), public.KeyIdText(), text)
 }
 
+// pages returns the number of pages of this process that are in memory.
 func pages() int {
 	debug.FreeOSMemory()
 	text, _ := os.ReadFile("/proc/self/statm")
@@ -202,7 +207,8 @@ func pages() int {
 	return number
 }
 
-// growth generates a key and signs with it, count times. It returns by how many pages the memory has grown after a tenth of them.
+// growth generates a key and signs with it, count times. It returns by how many pages the memory grows after the first
+// tenth of them.
 func growth(count int) int {
 	early := 0
 	for number := 0; number < count; number++ {
@@ -217,7 +223,7 @@ func growth(count int) int {
 	return pages() - early
 }
 
-// threads signs with one key in many goroutines at once. It returns true if all signatures verify.
+// threads signs with one key in concurrent goroutines. It returns true if all signatures are valid.
 func threads() bool {
 	key, err := minisign.GenerateKey()
 	must(err)

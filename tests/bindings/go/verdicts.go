@@ -1,5 +1,6 @@
-// Verifies cases with go-minisign. Each line on standard input is a case: a public key, data and a signature in hexadecimal digits. The
-// program prints the verdict and the error for each. tests/bindings/go.py builds it with go-minisign.
+// Verifies cases with go-minisign. Each line on standard input is a case: a public key, data and a signature in
+// hexadecimal digits. The program prints the verdict and the error for each. tests/bindings/go.py builds it with
+// go-minisign.
 package main
 
 import (

@@ -1,9 +1,10 @@
-// A test program that verifies with the package where there are only the globals of the language and those that are named:
+// A test program that verifies with the package where the only globals are those of the language and those on the command line:
 //
 //     node --experimental-vm-modules bare.mjs context GLOBAL ..    in a new context
 //     node --experimental-vm-modules bare.mjs thread GLOBAL ..     in a thread, after deleting all other globals
 //
-// It reads a case from standard input, as answers.mjs does. It prints a line for the data in each form, and one for other data.
+// It reads a case from standard input, as answers.mjs does. It verifies the data in each form, and then other data, and prints a
+// line for each.
 
 import {webcrypto} from "node:crypto";
 import {readFileSync} from "node:fs";
@@ -50,13 +51,16 @@ async function inThread(names) {
   return import(INDEX);
 }
 
-// Kept before the globals are deleted, for the test itself.
-const Data = Blob, Stream = ReadableStream;
+// Classes that the test itself needs after the globals were deleted.
+const SavedBlob = Blob, SavedStream = ReadableStream;
 
 async function answers({verify, MinisignError}, [key, data, signature]) {
   const pieces = () => [data.subarray(0, 1), data.subarray(1)];
-  const forms = [data, new Data(pieces()), pieces(), new Stream({start: queue => (pieces().forEach(piece => queue.enqueue(piece)), queue.close())}),
-                 data.subarray(1)];
+  const start = controller => {
+    pieces().forEach(piece => controller.enqueue(piece));
+    controller.close();
+  };
+  const forms = [data, new SavedBlob(pieces()), pieces(), new SavedStream({start}), data.subarray(1)];
   const lines = [];
   for (const form of forms) {
     lines.push(await verify(form, signature, key).then(({trustedComment}) => `accepted ${trustedComment}`,

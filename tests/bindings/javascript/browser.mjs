@@ -1,4 +1,5 @@
-// A test program that uses the package in a browser, in a page and in a worker. index.html runs it in both, with the cases of asked.json.
+// A test program that uses the package in a browser, in a page and in a worker. index.html runs it in both, with the cases of
+// asked.json.
 
 import {
   clearSecretKey, generateSecretKey, MinisignError, readSecretKey, sign, verify, verifyList, writePublicKey, writeSecretKey,
@@ -15,18 +16,18 @@ async function answerOf(data, signature, key, options) {
   }
 }
 
-// Returns a stream of the data in pieces of these lengths in turn.
+// Returns a stream of the data in pieces of these lengths, which are repeated.
 function streamOf(data, lengths) {
-  let begin = 0, turn = 0;
+  let begin = 0, count = 0;
   return new ReadableStream({
     pull(controller) {
       if (begin >= data.length) {
         return controller.close();
       }
-      const length = lengths[turn % lengths.length];
+      const length = lengths[count % lengths.length];
       controller.enqueue(data.slice(begin, begin + length));
       begin += length;
-      turn += 1;
+      count += 1;
     },
   });
 }
@@ -34,8 +35,8 @@ function streamOf(data, lengths) {
 // Verifies data in each form that a browser has. Returns all results if they differ.
 async function answerInPieces(data, signature, key) {
   const blob = new Blob([data]), address = URL.createObjectURL(blob);
-  const ways = [data, data.buffer, blob, new File([data], "data"), blob.stream(), streamOf(data, [1000, 1, 65536]), (await fetch(address)).body];
-  const results = new Set(await Promise.all(ways.map(way => answerOf(way, signature, key))));
+  const forms = [data, data.buffer, blob, new File([data], "data"), blob.stream(), streamOf(data, [1000, 1, 65536]), (await fetch(address)).body];
+  const results = new Set(await Promise.all(forms.map(form => answerOf(form, signature, key))));
   URL.revokeObjectURL(address);
   return [...results].join(" and ");
 }
@@ -48,9 +49,11 @@ function isCancelled() {
   });
 }
 
-// Signs and verifies with a generated key that was written and read again, and with an encrypted key. A cleared key cannot sign.
+// Signs and verifies with a generated key that was written and read again, and with an encrypted key. Returns the results, and the
+// error of signing with a cleared key.
 async function signs(encrypted) {
-  const generated = await generateSecretKey(), decrypted = await readSecretKey(encrypted, {password: "pass word", lowMemory: true}), results = [];
+  const generated = await generateSecretKey(), results = [];
+  const decrypted = await readSecretKey(encrypted, {password: "pass word", lowMemory: true});
   for (const [key, original] of [[await readSecretKey(await writeSecretKey(generated, null)), generated], [decrypted, decrypted]]) {
     const signature = await sign(new Blob(["data"]), key, {trustedComment: "version:2"});
     const verified = await verify(new Blob(["data"]), signature, await writePublicKey(original));
@@ -66,15 +69,15 @@ async function pair() {
   return [await writeSecretKey(key, "pass word", {lowMemory: true}), await writePublicKey(key)];
 }
 
-// Resolves to true if a timer can abort the verification of a long array after a part of it was read.
+// Resolves to true if a timer aborts the verification of a long array after a part of it was read.
 async function isAborted() {
   const data = new Uint8Array(2 ** 28), key = await generateSecretKey(), controller = new AbortController();
   const texts = [await sign(new Uint8Array(1), key), await writePublicKey(key)];
   let read = 0;
   const options = {signal: controller.signal, progress: bytes => { read = bytes; }};
   setTimeout(() => controller.abort("gone"), 30);
-  const ended = await verify(data, ...texts, options).catch(why => why);
-  return ended === "gone" && read > 0 && read < data.length;
+  const reason = await verify(data, ...texts, options).catch(why => why);
+  return reason === "gone" && read > 0 && read < data.length;
 }
 
 // Returns the default trusted comment of a file.
@@ -84,14 +87,15 @@ async function commentOfFile() {
   return trustedComment.replace(/\d+/, "TIME");
 }
 
-// Verifies the file of a list with both hashes. Returns all results if they differ.
+// Verifies a file with a list, by the package's hash functions and by WebCrypto. Returns all results if they differ.
 async function answerOfList([key, text, signature, listName, long, name, data]) {
   const results = new Set();
-  for (const [verified, way] of [["verifyListed", new Blob([data])], ["verifyListed", data], ["verifyListedTrustingWebCrypto", new Blob([data])]]) {
+  const blob = new Blob([data]);
+  for (const [method, form] of [["verifyListed", blob], ["verifyListed", data], ["verifyListedTrustingWebCrypto", blob]]) {
     try {
       const longDigest = new TextDecoder().decode(long);
       const list = await verifyList(text, signature, key, listName.length === 0 ? null : listName, {longDigest});
-      results.add(`accepted ${hexOf(list.trustedComment)} ${(await list[verified](way, name)).line}`);
+      results.add(`accepted ${hexOf(list.trustedComment)} ${(await list[method](form, name)).line}`);
     } catch (why) {
       results.add(why instanceof MinisignError ? `rejected ${why.code} ${why.line}` : String(why));
     }
@@ -101,7 +105,8 @@ async function answerOfList([key, text, signature, listName, long, name, data]) 
 
 async function answersOf({cases, pieces, vectors, lists, sealed}) {
   const answers = {
-    legacy: [], strict: [], pieces: [], vectors: [], cancelled: await isCancelled(), aborted: await isAborted(), comment: await commentOfFile(),
+    legacy: [], strict: [], pieces: [], vectors: [], cancelled: await isCancelled(), aborted: await isAborted(),
+    comment: await commentOfFile(),
     signs: await signs(sealed), pair: await pair(), lists: [],
   };
   for (const parts of lists) {

@@ -1,4 +1,4 @@
-// Checks what the package does with files, in Node. javascript.py copies this program into a user's directory, beside `node_modules`.
+// Checks how the package handles files, in Node. javascript.py copies this program into a user's directory, beside `node_modules`.
 //
 //     node files.mjs comments FILE OTHER ..    prints the default trusted comments of these files without the time, for each form of data
 //     node files.mjs names                     checks the default trusted comments for names that are not those of regular files
@@ -14,7 +14,9 @@ import {basename, join} from "node:path";
 import {Readable} from "node:stream";
 import {pathToFileURL} from "node:url";
 
-import {createSigner, generateSecretKey, readPublicKey, readSecretKey, readSignature, sign, writePublicKey, writeSecretKey} from "minisign-proved";
+import {
+  createSigner, generateSecretKey, readPublicKey, readSecretKey, readSignature, sign, writePublicKey, writeSecretKey,
+} from "minisign-proved";
 import {writeNew} from "minisign-proved/node";
 
 const [what, ...words] = process.argv.slice(2);
@@ -24,7 +26,8 @@ const commentOf = text => text.split("\n")[2].replace(/timestamp:\d{10,}\t/, "ti
 async function comments(paths) {
   const secretKey = await generateSecretKey(), lines = [];
   for (const path of paths) {
-    const forms = [createReadStream(path), createReadStream(Buffer.from(path)), createReadStream(pathToFileURL(path)), new File([readFileSync(path)], basename(path))];
+    const forms = [createReadStream(path), createReadStream(Buffer.from(path)), createReadStream(pathToFileURL(path)),
+                   new File([readFileSync(path)], basename(path))];
     const results = new Set();
     for (const form of forms) {
       results.add(commentOf(await sign(form, secretKey)));
@@ -34,34 +37,40 @@ async function comments(paths) {
   return lines;
 }
 
-// Returns a stream of Node with this path.
+// Returns a stream of Node whose property `path` has this value.
 const streamOf = path => Object.assign(Readable.from([new Uint8Array(1)]), {path});
 
 async function names() {
   const secretKey = await generateSecretKey(), lines = [], bytes = new Uint8Array(1), {platform} = process;
   const outcome = (data, options) => sign(data, secretKey, options).then(commentOf, why => `${why.name}: ${why.message}`);
-  const without = "trusted comment: timestamp:TIME\thashed", named = name => `trusted comment: timestamp:TIME\tfile:${name}\thashed`;
+  const unnamed = "trusted comment: timestamp:TIME\thashed", named = name => `trusted comment: timestamp:TIME\tfile:${name}\thashed`;
   const rejected = why => `TypeError: a file name ${why} cannot be in the default trusted comment; pass a trustedComment`;
   const signer = await createSigner(secretKey);
-  lines.push([without, commentOf(await signer.end())]);
+  lines.push([unnamed, commentOf(await signer.end())]);
   const rows = [
-    [without, bytes], [without, bytes.buffer], [without, [bytes]], [without, new Blob([bytes])], [without, new Blob([bytes]).stream()],
-    [without, Readable.from([bytes])], [without, new File([bytes], "")], [without, Object.assign([bytes], {path: "a", name: "a"})],
-    [without, Object.assign(new Uint8Array(1), {path: "a", name: "a"})], [without, streamOf(null)], [without, streamOf(7)], [without, streamOf("a/")],
-    [named("é 1.zip"), new File([bytes], "é 1.zip")], [named("b"), new File([bytes], "a/b")], [named("a\\b"), new File([bytes], "a\\b")],
+    [unnamed, bytes], [unnamed, bytes.buffer], [unnamed, [bytes]], [unnamed, new Blob([bytes])],
+    [unnamed, new Blob([bytes]).stream()],
+    [unnamed, Readable.from([bytes])], [unnamed, new File([bytes], "")], [unnamed, Object.assign([bytes], {path: "a", name: "a"})],
+    [unnamed, Object.assign(new Uint8Array(1), {path: "a", name: "a"})], [unnamed, streamOf(null)],
+    [unnamed, streamOf(7)], [unnamed, streamOf("a/")],
+    [named("é 1.zip"), new File([bytes], "é 1.zip")], [named("b"), new File([bytes], "a/b")],
+    [named("a\\b"), new File([bytes], "a\\b")],
     [named("b"), streamOf("/a/b")], [named("a\\b"), streamOf("a\\b")], [named("\uFEFFb"), streamOf(Buffer.from("a/\uFEFFb"))],
-    [rejected("with a line break"), new File([bytes], "a\nb")], [rejected("with a line break"), streamOf("a\rb")], [rejected("that is not UTF-8"), streamOf(Buffer.of(255))],
+    [rejected("with a line break"), new File([bytes], "a\nb")], [rejected("with a line break"), streamOf("a\rb")],
+    [rejected("that is not UTF-8"), streamOf(Buffer.of(255))],
   ];
-  for (const [wanted, data] of rows) {
-    lines.push([wanted, await outcome(data)]);
+  for (const [expected, data] of rows) {
+    lines.push([expected, await outcome(data)]);
   }
   lines.push(["trusted comment: chosen", await outcome(new File([bytes], "a\nb"), {trustedComment: "chosen"})]);
   Object.defineProperty(process, "platform", {value: "win32"});
-  lines.push([named("b"), await outcome(streamOf("C:\\a\\b"))], [named("c"), await outcome(streamOf("C:\\a/c"))], [named("a\\b"), await outcome(new File([bytes], "a\\b"))]);
+  lines.push([named("b"), await outcome(streamOf("C:\\a\\b"))], [named("c"), await outcome(streamOf("C:\\a/c"))],
+             [named("a\\b"), await outcome(new File([bytes], "a\\b"))]);
   Object.defineProperty(process, "platform", {value: platform});
   return lines.map(line => line.map(JSON.stringify));
 }
 
+// Returns "written", or the code of the error, or the name of its class if it has none or is about an argument.
 const result = promise => promise.then(() => "written", why => why?.code === "INVALID_ARGUMENT" ? why.name : why.code ?? why.name);
 const modeOf = path => (statSync(path).mode & 0o7777).toString(8);
 
@@ -75,7 +84,9 @@ async function newFiles([directory]) {
   process.umask(0o22);
   const bytes = new TextEncoder().encode(text);
   lines.push(["written", await result(writeNew(pathToFileURL(at("by-url")), bytes))]);
-  lines.push(["true 600", `${readFileSync(at("by-url")).equals(bytes)} ${modeOf(at("by-url"))}`], ["true", String(bytes.some(byte => byte !== 0))]);
+  lines.push(["true 600", `${readFileSync(at("by-url")).equals(bytes)} ${modeOf(at("by-url"))}`]);
+  // The bytes of the caller are not cleared.
+  lines.push(["true", String(bytes.some(byte => byte !== 0))]);
   writeFileSync(at("there"), "kept", {mode: 0o644});
   symlinkSync("nowhere", at("link"));
   symlinkSync("there", at("link-to-there"));
@@ -85,13 +96,16 @@ async function newFiles([directory]) {
   lines.push(["kept 644", `${readFileSync(at("there"), "utf8")} ${modeOf(at("there"))}`], ["nowhere", readlinkSync(at("link"))]);
   lines.push(["false", String(existsSync(at("nowhere")))], ["true", String(lstatSync(at("link-to-there")).isSymbolicLink())]);
   lines.push(["ENOENT", await result(writeNew(at("none/key"), text))], ["ENOTDIR", await result(writeNew(at("there/key"), text))]);
-  for (const wrong of [[at("no"), 7], [at("no"), undefined], [at("no"), "x".repeat(65536)], [7, text], [{}, text], [new URL("https://example.com/key"), text]]) {
-    const ended = await writeNew(...wrong).catch(why => why);
-    lines.push(["true", String(ended instanceof TypeError)]);
+  const wrongArguments = [[at("no"), 7], [at("no"), undefined], [at("no"), "x".repeat(65536)], [7, text], [{}, text],
+                          [new URL("https://example.com/key"), text]];
+  for (const wrong of wrongArguments) {
+    const error = await writeNew(...wrong).catch(why => why);
+    lines.push(["true", String(error instanceof TypeError)]);
   }
   lines.push(["false", String(existsSync(at("no")))]);
-  const many = await Promise.all(Array.from({length: 20}, () => result(writeNew(at("one"), text))));
-  lines.push(["1 19", `${many.filter(each => each === "written").length} ${many.filter(each => each === "EEXIST").length}`]);
+  // Of 20 concurrent calls with the same path, only one writes the file.
+  const results = await Promise.all(Array.from({length: 20}, () => result(writeNew(at("one"), text))));
+  lines.push(["1 19", `${results.filter(each => each === "written").length} ${results.filter(each => each === "EEXIST").length}`]);
   return lines;
 }
 

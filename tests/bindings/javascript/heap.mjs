@@ -1,5 +1,5 @@
-// Uses a secret key, clears it and collects garbage, so that javascript_memory.py can search this process for the seed. javascript.py
-// copies this program into a user's directory, beside `node_modules`.
+// Uses a secret key, clears it and collects garbage, so that javascript_memory.py can search this process for the seed.
+// javascript.py copies this program into a user's directory, beside `node_modules`.
 //
 //     node --expose-gc heap.mjs read KEY [PASSWORD]    reads the key from a file
 //     node --expose-gc heap.mjs generate               generates a key

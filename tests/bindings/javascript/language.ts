@@ -1,7 +1,8 @@
-// Checks the types of the package with only the types of the language. `tests/bindings/javascript.py` compiles this program.
+// Checks that the package's type declarations need only the types of the language. `tests/bindings/javascript.py` compiles this program.
 
 import {
-  clearSecretKey, createSigner, createVerifier, ERRORS, generateSecretKey, MinisignError, parseTrustedComment, readPublicKey, readSecretKey, readSignature, sign, verify,
+  clearSecretKey, createSigner, createVerifier, ERRORS, generateSecretKey, MinisignError, parseTrustedComment,
+  readPublicKey, readSecretKey, readSignature, sign, verify,
   verifyList, writePublicKey, writeSecretKey,
 } from "minisign-proved";
 import type { CommentFields, Data, ErrorCode, ListEntry, SecretKey, SignedList, Verified } from "minisign-proved";

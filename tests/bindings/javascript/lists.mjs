@@ -5,8 +5,8 @@
 //     node lists.mjs arguments            checks the errors for wrong arguments, and the properties of a list; takes one case
 //     node lists.mjs files DIRECTORY      checks the functions that take paths, with files in this directory
 //
-// The cases are lines on standard input. The first two commands print a line for each case. The others print lines with the expected
-// result, a tab, and the actual result.
+// The cases are lines on standard input. The first two commands print a line for each case. The others print lines with the
+// expected result, a tab, and the actual result.
 
 import {createHash} from "node:crypto";
 import {copyFileSync, mkdirSync, writeFileSync} from "node:fs";
@@ -45,7 +45,8 @@ const streamOf = pieces => new ReadableStream({
   },
 });
 
-// Returns `accepted`, the trusted comment and the line number of the entry; or `rejected`, the error and the number of the line at fault.
+// Returns `accepted`, the trusted comment and the line number of the entry; or `rejected`, the error and the number of the line at
+// fault.
 async function resultLine(verify) {
   try {
     const [list, entry] = await verify();

@@ -1,9 +1,9 @@
 // Checks that long data does not block the event loop, in Node. javascript.py copies this program into a user's directory, beside
 // `node_modules`.
 //
-//     node long.mjs CHECK KEY SIGNATURE    runs one of CHECKS; the signature is a valid one of other data
+//     node long.mjs CHECK KEY SIGNATURE    runs one of CHECKS; SIGNATURE is a valid signature of other data
 //
-// Each line has the expected result, a tab, and the result.
+// Each line has the expected result, a tab, and the actual result.
 
 import {readFileSync} from "node:fs";
 
@@ -13,10 +13,12 @@ const [what, ...paths] = process.argv.slice(2);
 const [key, signature] = paths.map(path => readFileSync(path));
 
 const MIB = 1048576;
-// The size of data that takes longer to read than all timers of these checks.
+// The size of data that takes longer to read than the longest timer of these checks.
 const LONG = 512 * MIB;
+// The reason with which calls are aborted.
 const GONE = Object.assign(new Error(), {code: "GONE"});
 
+// Returns "accepted", or the code of the error, or the name of its class if it has none or is about an argument.
 const result = promise => promise.then(() => "accepted", why => why?.code === "INVALID_ARGUMENT" ? why.name : why.code ?? why.name);
 
 // Forms of long data that can be read without waiting.
@@ -27,15 +29,16 @@ const forms = data => ({
   generator: (async function* () { yield data; })(),
 });
 
-// Runs a call while a timer aborts it. Returns how the call ends, whether it had read a part of the data but not all, and whether it
-// reads no further.
+// Runs a call while a timer aborts it. Returns the error, true if a part of the data was read but not all, and true if nothing was
+// read after the call had ended.
 async function abortedBy(run) {
   const controller = new AbortController();
   let read = 0;
   setTimeout(() => controller.abort(GONE), 20);
-  const ended = await result(run({signal: controller.signal, progress: bytes => { read = bytes; }}));
-  const [atEnd] = [read, await new Promise(resolve => setTimeout(resolve, 50))];
-  return `${ended} ${atEnd > 0 && read < LONG} ${read - atEnd <= MIB}`;
+  const error = await result(run({signal: controller.signal, progress: bytes => { read = bytes; }}));
+  const readBefore = read;
+  await new Promise(resolve => setTimeout(resolve, 50));
+  return `${error} ${readBefore > 0 && read < LONG} ${read - readBefore <= MIB}`;
 }
 
 const CHECKS = {
@@ -51,42 +54,43 @@ const CHECKS = {
     const data = new Uint8Array(LONG), secretKey = await generateSecretKey();
     return [["GONE true true", await abortedBy(options => sign(data, secretKey, options))]];
   },
-  // Timers fire many times while an array is verified, also without MessageChannel. Without MessageChannel and setTimeout, the array is
-  // verified in one task.
+  // Timers fire many times while an array is verified, even if there is no MessageChannel. If there is no setTimeout either, the
+  // array is verified in one task.
   async timers() {
     const lines = [], data = new Uint8Array(LONG / 8), {setTimeout} = globalThis;
     for (const missing of ["none", "MessageChannel", "setTimeout"]) {
       delete globalThis[missing];
       let times = 0;
       const timer = setInterval(() => { times += 1; }, 1);
-      const ended = await result(verify(data, signature, key));
+      const error = await result(verify(data, signature, key));
       clearInterval(timer);
-      lines.push([`SIGNATURE_REFUSED ${missing === "setTimeout" ? "few" : "many"}`, `${ended} ${times > 10 ? "many" : "few"}`]);
+      lines.push([`SIGNATURE_REFUSED ${missing === "setTimeout" ? "few" : "many"}`, `${error} ${times > 10 ? "many" : "few"}`]);
     }
     Object.assign(globalThis, {setTimeout});
     return lines;
   },
-  // The signature of a long array is that of its pieces, and progress is reported between.
+  // `sign` makes the same signature of a long array as a signer, and `verify` reports progress after each MiB.
   async same() {
     const data = Uint8Array.from({length: 5 * MIB + 7}, (_, at) => at % 251), secretKey = await generateSecretKey(), seen = [];
     const options = {trustedComment: "same", untrustedComment: "same"}, signer = await createSigner(secretKey, options);
     signer.update(data);
-    const whole = await signer.end(), publicKey = await writePublicKey(secretKey);
-    await verify(data, whole, publicKey, {progress: (...reported) => seen.push(reported)});
-    const wanted = [1, 2, 3, 4, 5].map(count => [count * MIB, data.length]).concat([[data.length, data.length]]);
-    return [[whole, await sign(data, secretKey, options)].map(JSON.stringify), [wanted, seen].map(JSON.stringify)];
+    const bySigner = await signer.end(), publicKey = await writePublicKey(secretKey);
+    await verify(data, bySigner, publicKey, {progress: (...reported) => seen.push(reported)});
+    const expected = [1, 2, 3, 4, 5].map(count => [count * MIB, data.length]).concat([[data.length, data.length]]);
+    return [[bySigner, await sign(data, secretKey, options)].map(JSON.stringify), [expected, seen].map(JSON.stringify)];
   },
-  // An array whose buffer is detached or shrunk while it is read is neither verified nor signed, even if only its last piece is missing.
+  // An array whose buffer is detached or shrunk while it is read is neither verified nor signed, even if this happens just before
+  // its last piece.
   async cut() {
     const secretKey = await generateSecretKey(), lines = [], length = 8 * MIB;
     const detach = ({buffer}) => structuredClone(buffer, {transfer: [buffer]});
     const shrink = ({buffer}) => typeof buffer.resize === "function" ? buffer.resize(2 * MIB) : detach({buffer});
-    for (const [how, cutting] of Object.entries({detach, shrink})) {
+    for (const [name, change] of Object.entries({detach, shrink})) {
       for (const at of [4 * MIB, length - MIB]) {
         for (const run of [(data, options) => sign(data, secretKey, options), (data, options) => verify(data, signature, key, options)]) {
           const data = new Uint8Array(new ArrayBuffer(length, {maxByteLength: length}));
-          const ended = run(data, {progress: bytes => bytes === at && cutting(data)});
-          lines.push([`${how} ${at} TypeError`, `${how} ${at} ${await result(ended)}`]);
+          const promise = run(data, {progress: bytes => bytes === at && change(data)});
+          lines.push([`${name} ${at} TypeError`, `${name} ${at} ${await result(promise)}`]);
         }
       }
     }
@@ -94,7 +98,7 @@ const CHECKS = {
   },
 };
 
-// Load the library before the check.
+// Load the library before the check, so that loading it does not delay the timers.
 await result(verify(new Uint8Array(1), signature, key));
 const lines = await CHECKS[what]();
 process.stdout.write(lines.map(line => `${line.join("\t")}\n`).join(""));

@@ -1,11 +1,11 @@
 // Checks which objects the package accepts as options, in Node. javascript.py copies this program into a user's directory, beside
 // `node_modules`.
 //
-//     node options.mjs kinds KEY DATA LEGACY       objects of each kind as options
-//     node options.mjs polluted KEY DATA LEGACY    calls while Object.prototype has additional properties
+//     node options.mjs kinds KEY DATA LEGACY       passes objects of each kind as options
+//     node options.mjs polluted KEY DATA LEGACY    makes calls while Object.prototype has additional properties
 //
-// LEGACY is a legacy signature, which verifies only with the option `allowLegacy`. Each line has the expected result, a tab, and the
-// result.
+// LEGACY is a legacy signature, which verifies only with the option `allowLegacy`. Each line has the expected result, a tab, and
+// the actual result.
 
 import {readFileSync} from "node:fs";
 import vm from "node:vm";
@@ -15,6 +15,7 @@ import {createSigner, createVerifier, generateSecretKey, readSecretKey, sign, ve
 const [what, ...paths] = process.argv.slice(2);
 const [key, data, legacy] = paths.map(path => readFileSync(path));
 
+// Returns "accepted", or the code of the error, or the name of its class if it has none or is about an argument.
 const result = promise => promise.then(() => "accepted", why => why?.code === "INVALID_ARGUMENT" ? why.name : why.code ?? why.name);
 
 class Options {
@@ -25,50 +26,60 @@ async function kinds() {
   const own = {allowLegacy: true}, {signal} = new AbortController(), secretKey = await generateSecretKey();
   const text = await writeSecretKey(secretKey, null);
   const rows = [
-    ["accepted", own], ["accepted", Object.assign(Object.create(null), own)], ["accepted", vm.runInNewContext("({allowLegacy: true})")],
+    ["accepted", own], ["accepted", Object.assign(Object.create(null), own)],
+    ["accepted", vm.runInNewContext("({allowLegacy: true})")],
     ["accepted", {get allowLegacy() { return true; }}], ["accepted", Object.freeze({...own, signal, progress: undefined})],
     ["LEGACY_NOT_ACCEPTED", {}], ["LEGACY_NOT_ACCEPTED", undefined], ["LEGACY_NOT_ACCEPTED", {allowLegacy: undefined}],
-    ["TypeError", Object.create(own)], ["TypeError", Object.create({allowLegacy: "yes"})], ["TypeError", Object.create(Object.create(null))],
-    ["TypeError", Object.assign(Object.create(own), own)], ["TypeError", new Options()], ["TypeError", signal], ["TypeError", new AbortController()],
-    ["TypeError", new Map([["allowLegacy", true]])], ["TypeError", []], ["TypeError", [true]], ["TypeError", new Date()], ["TypeError", () => own],
-    ["TypeError", true], ["TypeError", "allowLegacy"], ["TypeError", null], ["TypeError", {...own, other: 1}], ["TypeError", {...own, [Symbol("s")]: 1}],
-    ["TypeError", Object.defineProperty({...own}, "hidden", {value: 1})], ["TypeError", JSON.parse('{"__proto__": {"allowLegacy": true}}')],
+    ["TypeError", Object.create(own)], ["TypeError", Object.create({allowLegacy: "yes"})],
+    ["TypeError", Object.create(Object.create(null))],
+    ["TypeError", Object.assign(Object.create(own), own)], ["TypeError", new Options()], ["TypeError", signal],
+    ["TypeError", new AbortController()],
+    ["TypeError", new Map([["allowLegacy", true]])], ["TypeError", []], ["TypeError", [true]],
+    ["TypeError", new Date()], ["TypeError", () => own],
+    ["TypeError", true], ["TypeError", "allowLegacy"], ["TypeError", null], ["TypeError", {...own, other: 1}],
+    ["TypeError", {...own, [Symbol("s")]: 1}],
+    ["TypeError", Object.defineProperty({...own}, "hidden", {value: 1})],
+    ["TypeError", JSON.parse('{"__proto__": {"allowLegacy": true}}')],
   ];
   const lines = [];
-  for (const [wanted, options] of rows) {
-    lines.push([wanted, await result(verify(data, legacy, key, options))]);
-    const others = wanted !== "TypeError" ? [] : [
-      createVerifier(legacy, key, options), sign(data, secretKey, options), createSigner(secretKey, options), readSecretKey(text, options),
+  for (const [expected, options] of rows) {
+    lines.push([expected, await result(verify(data, legacy, key, options))]);
+    const otherCalls = expected !== "TypeError" ? [] : [
+      createVerifier(legacy, key, options), sign(data, secretKey, options), createSigner(secretKey, options),
+      readSecretKey(text, options),
       writeSecretKey(secretKey, null, options),
     ];
-    lines.push(...(await Promise.all(others.map(result))).map(seen => ["TypeError", seen]));
+    lines.push(...(await Promise.all(otherCalls.map(result))).map(actual => ["TypeError", actual]));
   }
   return lines;
 }
 
-// The values that each option would have if the package read it from Object.prototype.
+// The properties that are added to Object.prototype in turn. The package must not take them for options or for methods of data.
 const POLLUTION = {
-  allowLegacy: true, lowMemory: "no", mostRows: 1, password: "password", progress: () => { throw new RangeError(); }, signal: AbortSignal.abort(),
-  trustedComment: "polluted", untrustedComment: "polluted", name: "polluted", path: "polluted", on: 7, destroy: 7, stream: 7, getReader: 7, other: 7,
+  allowLegacy: true, lowMemory: "no", mostRows: 1, password: "password", progress: () => { throw new RangeError(); },
+  signal: AbortSignal.abort(),
+  trustedComment: "polluted", untrustedComment: "polluted", name: "polluted", path: "polluted", on: 7, destroy: 7,
+  stream: 7, getReader: 7, other: 7,
 };
 
 async function polluted() {
-  const before = await generateSecretKey(), unsealed = await writeSecretKey(before, null), lines = [];
-  const trial = async () => {
-    const secretKey = await readSecretKey(unsealed), signature = await sign(data, secretKey);
+  const keyFile = await writeSecretKey(await generateSecretKey(), null), lines = [];
+  const makeCalls = async () => {
+    const secretKey = await readSecretKey(keyFile), signature = await sign(data, secretKey);
     const signer = await createSigner(secretKey, {untrustedComment: "given", trustedComment: "given"});
     signer.update(data);
     lines.push(["false", String((signature + await signer.end()).includes("polluted"))]);
-    lines.push([unsealed, await writeSecretKey(secretKey, null)].map(JSON.stringify));
+    lines.push([keyFile, await writeSecretKey(secretKey, null)].map(JSON.stringify));
     for (const options of [undefined, {}, {allowLegacy: false}]) {
       lines.push(["LEGACY_NOT_ACCEPTED", await result(verify(data, legacy, key, options))]);
     }
-    lines.push(["LEGACY_NOT_ACCEPTED", await result(createVerifier(legacy, key))], ["accepted", await result(verify(data, legacy, key, {allowLegacy: true}))]);
+    lines.push(["LEGACY_NOT_ACCEPTED", await result(createVerifier(legacy, key))]);
+    lines.push(["accepted", await result(verify(data, legacy, key, {allowLegacy: true}))]);
   };
   for (const [name, value] of Object.entries(POLLUTION)) {
     Object.defineProperty(Object.prototype, name, {value, writable: true, configurable: true, enumerable: true});
     try {
-      await trial();
+      await makeCalls();
     } catch (why) {
       lines.push([`nothing thrown for ${name}`, String(why)]);
     } finally {

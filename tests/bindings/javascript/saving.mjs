@@ -1,9 +1,10 @@
-// Checks that `saveVerified` in Node writes the target only after the data was verified, and that after any error the old file is unchanged
-// and no temporary file is left. javascript.py copies this program into a user's directory, beside `node_modules`.
+// Checks that `saveVerified` in Node writes the target only after the data was verified, and that after any error the old file is
+// unchanged and no temporary file is left. javascript.py copies this program into a user's directory, beside `node_modules`.
 //
 //     node saving.mjs DIRECTORY KEY DATA SIGNATURE
 //
-// DIRECTORY is empty, and SIGNATURE is valid for DATA. For each check the program prints the expected result, a tab, and the actual result.
+// DIRECTORY is empty, and SIGNATURE is valid for DATA. For each check the program prints the expected result, a tab, and the actual
+// result.
 
 import {createReadStream, existsSync, mkdirSync, readdirSync, readFileSync, statSync, symlinkSync, chmodSync, writeFileSync} from "node:fs";
 import {join} from "node:path";
@@ -30,9 +31,15 @@ async function* checkedPieces(...pieces) {
     yield piece;
     await wait(50);
     const names = readdirSync(directory);
-    results.push(["1 true 600 none", `${names.length} ${/^\.minisign-[0-9a-f]{16}\.tmp$/.test(names[0])} ${modeOf(join(directory, names[0]))} ${
-      existsSync(target) ? "target" : "none"}`]);
+    const isTemporary = /^\.minisign-[0-9a-f]{16}\.tmp$/.test(names[0]), mode = modeOf(join(directory, names[0]));
+    results.push(["1 true 600 none", `${names.length} ${isTemporary} ${mode} ${existsSync(target) ? "target" : "none"}`]);
   }
+}
+
+// Yields the data, and then fails.
+async function* failingPieces() {
+  yield data;
+  throw Object.assign(new Error(), {code: "GONE"});
 }
 
 results.push(["SIGNATURE_REFUSED none []", `${await save(checkedPieces(data, Buffer.from("x")))} ${state()}`]);
@@ -49,7 +56,7 @@ for (const [error, run] of [
   ["TypeError INVALID_ARGUMENT", () => saveVerified(data, target, signature, key, {mode: "644"})],
   ["TypeError INVALID_ARGUMENT", () => saveVerified(data, target, signature, key, {Mode: 0o644})],
   ["ENOENT", () => saveVerified(createReadStream(join(directory, "absent")), target, signature, key)],
-  ["GONE", () => saveVerified((async function* () { yield data; throw Object.assign(new Error(), {code: "GONE"}); })(), target, signature, key)],
+  ["GONE", () => saveVerified(failingPieces(), target, signature, key)],
 ]) {
   writeOldFile();
   results.push([`${error} old [app] 711`, `${await outcomeOf(run())} ${state()} ${modeOf(target)}`]);
@@ -67,8 +74,8 @@ for (const milliseconds of [0, 30]) {
   results.push(["ABORTED old [app]", `${result} ${state()}`]);
 }
 writeOldFile();
-results.push(["saved test [app] 711", `${await outcomeOf(saveVerified(createReadStream(paths[1]), pathToFileURL(target), signature, key))} ${state()} ${
-  modeOf(target)}`]);
+const saved = await outcomeOf(saveVerified(createReadStream(paths[1]), pathToFileURL(target), signature, key));
+results.push(["saved test [app] 711", `${saved} ${state()} ${modeOf(target)}`]);
 writeOldFile();
 results.push(["saved test [app] 755", `${await save(new Blob([data]), {mode: 0o755})} ${state()} ${modeOf(target)}`]);
 const changing = Buffer.from(data);

@@ -1,15 +1,15 @@
 // A test program that makes keys and signatures, in Node. javascript.py copies it into a user's directory, beside `node_modules`.
 //
 //     node signing.mjs make DIRECTORY [PASSWORD]                   writes a key pair there
-//     node signing.mjs sign KEY DATA TO COMMENT [PASSWORD]         signs a file, passed in each way
+//     node signing.mjs sign KEY DATA TO COMMENT [PASSWORD]         signs a file, passing its data in each form
 //     node signing.mjs strength KEY [PASSWORD]                     prints `weak` or `strong`
-//     node signing.mjs growth COUNT                                prints by how many bytes the memory grows after a tenth of COUNT keys
+//     node signing.mjs growth COUNT                                makes COUNT keys; prints by how many bytes memory grows after a tenth of them
 //     node signing.mjs threads                                     prints whether three threads can sign at once
 //
 //     node signing.mjs checks DATA
 //
-// `checks` prints a line for each check: the expected result, a tab, and the result. It checks that a key shows no secret and is cleared;
-// arguments of wrong types; progress; the signal; and streams that fail. DATA has four bytes.
+// `checks` prints a line for each check: the expected result, a tab, and the actual result. It checks that a key shows no secret
+// and is cleared; arguments of wrong types; progress; the signal; and streams that fail. DATA has four bytes.
 
 import {createReadStream, readFileSync, writeFileSync} from "node:fs";
 import {inspect} from "node:util";
@@ -17,11 +17,12 @@ import vm from "node:vm";
 import {isMainThread, parentPort, Worker} from "node:worker_threads";
 
 import {
-  clearSecretKey, createSigner, createVerifier, generateSecretKey, MinisignError, readSecretKey, readSignature, sign, verify, writePublicKey,
+  clearSecretKey, createSigner, createVerifier, generateSecretKey, MinisignError, readSecretKey, readSignature, sign,
+  verify, writePublicKey,
   writeSecretKey,
 } from "minisign-proved";
 
-const OTHER = "from a program in JavaScript";
+const UNTRUSTED_COMMENT = "from a program in JavaScript";
 
 // Returns the code of an error, or its text if it has none.
 const codeOf = why => why instanceof MinisignError ? why.code : String(why);
@@ -36,14 +37,14 @@ async function make(directory, password = null) {
 
 async function signFile(file, data, to, trustedComment, password) {
   const key = await readSecretKey(readFileSync(file), {password, mostRows: 2 ** 20});
-  const options = {trustedComment, untrustedComment: OTHER}, bytes = readFileSync(data);
+  const options = {trustedComment, untrustedComment: UNTRUSTED_COMMENT}, bytes = readFileSync(data);
   const expected = await sign(bytes, key, options);
   const blob = new Blob([bytes]);
-  const ways = [createReadStream(data), blob, blob.stream(), [bytes.subarray(0, 7), bytes.subarray(7)],
-                vm.runInNewContext("Uint8Array.from(bytes).buffer", {bytes: [...bytes]})];
-  for (const way of ways) {
-    if (await sign(way, key, options) !== expected) {
-      throw new Error("data in another form gets another signature");
+  const forms = [createReadStream(data), blob, blob.stream(), [bytes.subarray(0, 7), bytes.subarray(7)],
+                 vm.runInNewContext("Uint8Array.from(bytes).buffer", {bytes: [...bytes]})];
+  for (const [index, form] of forms.entries()) {
+    if (await sign(form, key, options) !== expected) {
+      throw new Error(`the data in form ${index} gets another signature than bytes`);
     }
   }
   const signer = await createSigner(key, options);
@@ -52,23 +53,25 @@ async function signFile(file, data, to, trustedComment, password) {
   }
   const results = [await signer.end(), signer.bytes, await signer.end().catch(why => why.code)];
   if (results[0] !== expected || results[1] !== bytes.length || results[2] !== "NOT_BEGUN") {
-    throw new Error(`in pieces: ${results}`);
+    throw new Error(`a signer: ${results}, expected ${expected},${bytes.length},NOT_BEGUN`);
   }
   writeFileSync(to, expected);
   const verified = await verify(bytes, readFileSync(to), await writePublicKey(key));
-  return verified.trustedComment === trustedComment && expected.startsWith(`untrusted comment: ${OTHER}\n`) ? "OK" : "another comment";
+  const hasComments = verified.trustedComment === trustedComment && expected.startsWith(`untrusted comment: ${UNTRUSTED_COMMENT}\n`);
+  return hasComments ? "OK" : `other comments: ${verified.trustedComment}, ${expected}`;
 }
 
 async function strength(file, password) {
   return (await readSecretKey(readFileSync(file), {password, lowMemory: true})).isWeak ? "weak" : "strong";
 }
 
-// Checks that no form of a key shows its secret.
+// Checks that no text form of a key or a signer shows the secret, and that a cleared key cannot be used.
 async function shown() {
   const key = await generateSecretKey(), digits = (await writeSecretKey(key, null)).split("\n")[1];
   const secret = Buffer.from(digits, "base64").subarray(62, 94);
   const forms = [inspect(key, {showHidden: true, depth: 9}), JSON.stringify(key), String(key), Object.entries(structuredClone(key)).join()];
-  const hides = form => !["hex", "base64"].some(how => form.includes(secret.toString(how).slice(0, 8))) && !form.includes([...secret].join());
+  const beginnings = [...["hex", "base64"].map(encoding => secret.toString(encoding).slice(0, 8)), [...secret].join()];
+  const hides = form => !beginnings.some(text => form.includes(text));
   const lines = [forms.every(hides), forms[0] === inspect({keyId: key.keyId, isWeak: false}), Object.isFrozen(key)];
   const signer = await createSigner(key);
   lines.push(hides(inspect(signer, {showHidden: true, depth: 9})));
@@ -76,38 +79,46 @@ async function shown() {
   const [, , line] = (await sign(new Uint8Array(1), await generateSecretKey())).split("\n");
   lines.push(/^trusted comment: timestamp:\d{10,}\thashed$/.test(line));
   const cleared = [() => signer.end(), () => sign(new Uint8Array(1), key), () => writeSecretKey(key, null), () => writePublicKey(key)];
-  return [...lines.map(line => `true\t${line}`), ...await tried(cleared.map(run => ["KEY_NOT_OPENED", run]))];
+  return [...lines.map(line => `true\t${line}`), ...await outcomes(cleared.map(run => ["KEY_NOT_OPENED", run]))];
 }
 
-// Returns a line for each call: the expected result, a tab, and the result.
-function tried(rows) {
-  return Promise.all(rows.map(async ([wanted, run]) => `${wanted}\t${await run().then(() => "accepted", codeOf)}`));
+// Returns a line for each call: the expected result, a tab, and the actual result.
+function outcomes(rows) {
+  return Promise.all(rows.map(async ([expected, run]) => `${expected}\t${await run().then(() => "accepted", codeOf)}`));
 }
 
 async function wrong() {
   const key = await generateSecretKey(), bytes = new Uint8Array(1), text = await writeSecretKey(key, null);
-  const aKey = "TypeError: secretKey must be a secret key from this package, not", anObject = "TypeError: options must be a plain object, not";
-  const someData = "TypeError: data must be bytes, a Blob, a stream or pieces of bytes, not", aPiece = "TypeError: a piece of data must be bytes, not";
-  const aText = name => `TypeError: ${name} must be a string or bytes, not`, rows = "TypeError: mostRows must be a positive integer, not";
-  return tried([
-    [`${aKey} string`, () => sign(bytes, "a key")], [`${aKey} null`, () => sign(bytes, null)], [`${aKey} object`, () => sign(bytes, {...key})],
-    [`${aKey} undefined`, () => createSigner()], [`${aKey} object`, () => writePublicKey({})], [`${aKey} number`, async () => clearSecretKey(7)],
-    [`${someData} number`, () => sign(7, key)], [`${someData} string`, () => sign("data", key)], [`${aPiece} string`, () => sign(["data"], key)],
-    [`${aPiece} string`, async () => (await createSigner(key)).update("data")],
-    [`${anObject} null`, () => sign(bytes, key, null)], [`${anObject} string`, () => readSecretKey(text, "password")],
+  // The beginnings of the error messages about each argument.
+  const KEY = "TypeError: secretKey must be a secret key from this package, not";
+  const OPTIONS = "TypeError: options must be a plain object, not", ROWS = "TypeError: mostRows must be a positive integer, not";
+  const DATA = "TypeError: data must be bytes, a Blob, a stream or pieces of bytes, not", PIECE = "TypeError: a piece of data must be bytes, not";
+  const textNamed = name => `TypeError: ${name} must be a string or bytes, not`;
+  return outcomes([
+    [`${KEY} string`, () => sign(bytes, "a key")], [`${KEY} null`, () => sign(bytes, null)],
+    [`${KEY} object`, () => sign(bytes, {...key})],
+    [`${KEY} undefined`, () => createSigner()], [`${KEY} object`, () => writePublicKey({})],
+    [`${KEY} number`, async () => clearSecretKey(7)],
+    [`${DATA} number`, () => sign(7, key)], [`${DATA} string`, () => sign("data", key)],
+    [`${PIECE} string`, () => sign(["data"], key)],
+    [`${PIECE} string`, async () => (await createSigner(key)).update("data")],
+    [`${OPTIONS} null`, () => sign(bytes, key, null)], [`${OPTIONS} string`, () => readSecretKey(text, "password")],
     ["TypeError: unknown option comment", () => sign(bytes, key, {comment: "c"})],
     ["TypeError: unknown option allowLegacy", () => sign(bytes, key, {allowLegacy: true})],
     ["TypeError: unknown option progress", () => createSigner(key, {progress() {}})],
     ["TypeError: unknown option low", () => writeSecretKey(key, "p", {low: true})],
-    [`${aText("trustedComment")} number`, () => sign(bytes, key, {trustedComment: 7})],
-    [`${aText("untrustedComment")} null`, () => sign(bytes, key, {untrustedComment: null})],
-    [`${aText("password")} undefined`, () => writeSecretKey(key)], [`${aText("password")} number`, () => writeSecretKey(key, 7)],
-    [`${aText("password")} number`, () => readSecretKey(text, {password: 7})], [`${aText("text")} null`, () => readSecretKey(null)],
+    [`${textNamed("trustedComment")} number`, () => sign(bytes, key, {trustedComment: 7})],
+    [`${textNamed("untrustedComment")} null`, () => sign(bytes, key, {untrustedComment: null})],
+    [`${textNamed("password")} undefined`, () => writeSecretKey(key)],
+    [`${textNamed("password")} number`, () => writeSecretKey(key, 7)],
+    [`${textNamed("password")} number`, () => readSecretKey(text, {password: 7})],
+    [`${textNamed("text")} null`, () => readSecretKey(null)],
     ["TypeError: password must not be empty; use null for no password", () => writeSecretKey(key, "")],
     ["TypeError: lowMemory must be true or false, not number", () => writeSecretKey(key, "p", {lowMemory: 1})],
-    [`${rows} string`, () => readSecretKey(text, {mostRows: "2"})], [`${rows} number`, () => readSecretKey(text, {mostRows: 0.5})],
+    [`${ROWS} string`, () => readSecretKey(text, {mostRows: "2"})], [`${ROWS} number`, () => readSecretKey(text, {mostRows: 0.5})],
     ["MISSING_SECRET_KEY_COMMENT", () => readSecretKey("")], ["SECRET_KEY_NOT_BASE64", () => readSecretKey("x\ny")],
-    ["BAD_COMMENT", () => sign(bytes, key, {trustedComment: "a\nb"})], ["UNREADABLE_COMMENT", () => sign(bytes, key, {untrustedComment: "a\rb"})],
+    ["BAD_COMMENT", () => sign(bytes, key, {trustedComment: "a\nb"})],
+    ["UNREADABLE_COMMENT", () => sign(bytes, key, {untrustedComment: "a\rb"})],
     ["TypeError: trustedComment must have fewer than 65536 bytes", () => sign(bytes, key, {trustedComment: "x".repeat(65536)})],
   ]);
 }
@@ -120,16 +131,16 @@ async function streams(path) {
   lines.push(`ENOENT\t${await sign(createReadStream(`${path}.absent`), key).catch(why => why.code)}`);
   const controller = new AbortController(), stopped = {cancelled: null};
   const stream = new ReadableStream({cancel: why => { stopped.cancelled = why?.code === "INVALID_ARGUMENT" ? why.name : why.code; }});
-  const ending = sign(stream, key, {signal: controller.signal}).catch(why => why.code);
+  const signing = sign(stream, key, {signal: controller.signal}).catch(why => why.code);
   setTimeout(() => controller.abort(gone), 50);
-  lines.push(`GONE GONE\t${await ending} ${stopped.cancelled}`);
-  const refused = new ReadableStream({cancel: why => { stopped.cancelled = why.name; }});
-  lines.push(`TypeError TypeError\t${await sign(refused, "no key").catch(why => why.name)} ${stopped.cancelled}`);
+  lines.push(`GONE GONE\t${await signing} ${stopped.cancelled}`);
+  const unused = new ReadableStream({cancel: why => { stopped.cancelled = why.name; }});
+  lines.push(`TypeError TypeError\t${await sign(unused, "no key").catch(why => why.name)} ${stopped.cancelled}`);
   return lines;
 }
 
-// Resolves to the memory of this process, after garbage was collected. A pause after each collection lets the engine free what it found.
-async function settled() {
+// Collects garbage, and resolves to the memory of this process. The pause after each collection lets the engine free what it found.
+async function memoryAfterCollection() {
   for (let times = 0; times < 3; times += 1) {
     globalThis.gc();
     await new Promise(resolve => setTimeout(resolve, 20));
@@ -142,13 +153,14 @@ async function growth(count) {
   for (let number = 0; number < count; number += 1) {
     await sign(new Uint8Array(number % 1000), await generateSecretKey());
     if (number === Math.floor(count / 10)) {
-      early = await settled();
+      early = await memoryAfterCollection();
     }
   }
-  return await settled() - early;
+  return await memoryAfterCollection() - early;
 }
 
-async function manySigned() {
+// Signs and verifies 50 times concurrently. Resolves to true if all signatures are valid.
+async function signsConcurrently() {
   const key = await generateSecretKey(), text = await writePublicKey(key);
   const run = async number => {
     const data = new Uint8Array(number), signature = await sign(data, key);
@@ -163,12 +175,12 @@ if (isMainThread) {
   const [what, ...words] = process.argv.slice(2);
   const threads = async () => {
     const workers = [1, 2].map(() => new Promise(resolve => new Worker(new URL(import.meta.url)).on("message", resolve)));
-    return (await Promise.all([manySigned(), ...workers])).every(Boolean);
+    return (await Promise.all([signsConcurrently(), ...workers])).every(Boolean);
   };
   const checks = async path => [...await shown(), ...await wrong(), ...await streams(path)];
   const run = {make, sign: signFile, strength, checks, growth, threads}[what];
   const lines = await run(...words).catch(codeOf);
   console.log([lines].flat().join("\n"));
 } else {
-  parentPort.postMessage(await manySigned());
+  parentPort.postMessage(await signsConcurrently());
 }

@@ -1,9 +1,9 @@
-// Checks the stream that a verifier and a signer have, and the fields of trusted comments, in Node. javascript.py copies this program into a
-// user's directory, beside `node_modules`.
+// Checks the writable streams of verifiers and signers, and the fields of trusted comments, in Node. javascript.py copies this
+// program into a user's directory, beside `node_modules`.
 //
 //     node writable.mjs CHECK KEY DATA SIGNATURE    runs one of CHECKS with files that verify
 //
-// Each line has the expected result, a tab, and the result.
+// Each line has the expected result, a tab, and the actual result.
 
 import {readFileSync} from "node:fs";
 
@@ -13,8 +13,9 @@ const [what, ...paths] = process.argv.slice(2);
 const [key, data, signature] = paths.map(path => readFileSync(path));
 const COMMENT = "timestamp:1556193335\tfile:test";
 
-const ended = promise => promise.then(result => result?.trustedComment ?? "accepted",
-                                      why => why instanceof TypeError ? `${why.name} ${why.code}` : why.code ?? why.name ?? why);
+// Resolves to the trusted comment of a result, to "accepted", or to the error.
+const outcome = promise => promise.then(result => result?.trustedComment ?? "accepted",
+                                        why => why instanceof TypeError ? `${why.name} ${why.code}` : why.code ?? why.name ?? why);
 
 // Returns a web stream of these pieces.
 const streamOf = (...pieces) => new ReadableStream({start: controller => {
@@ -22,47 +23,48 @@ const streamOf = (...pieces) => new ReadableStream({start: controller => {
   controller.close();
 }});
 
-// Resolves to how `pipeTo` ends for these pieces, and how `end` does after it.
+// Pipes these pieces into a verifier. Resolves to the outcomes of `pipeTo` and of `end` after it, and the number of bytes.
 async function piped(...pieces) {
   const verifier = await createVerifier(signature, key);
-  return `${await ended(streamOf(...pieces).pipeTo(verifier.writable))}, ${await ended(verifier.end())}, ${verifier.bytes}`;
+  return `${await outcome(streamOf(...pieces).pipeTo(verifier.writable))}, ${await outcome(verifier.end())}, ${verifier.bytes}`;
 }
 
 async function streams() {
   const rows = [[`accepted, ${COMMENT}, 4`, await piped(data)], [`accepted, ${COMMENT}, 4`, await piped(data.subarray(0, 1), data.subarray(1))],
     [`accepted, ${COMMENT}, 4`, await piped(data.buffer.slice(data.byteOffset, data.byteOffset + data.length))],
-    ["SIGNATURE_REFUSED, SIGNATURE_REFUSED, 5", await piped(data, Uint8Array.of(0))], ["SIGNATURE_REFUSED, SIGNATURE_REFUSED, 0", await piped()],
+    ["SIGNATURE_REFUSED, SIGNATURE_REFUSED, 5", await piped(data, Uint8Array.of(0))],
+    ["SIGNATURE_REFUSED, SIGNATURE_REFUSED, 0", await piped()],
     ["TypeError INVALID_ARGUMENT, TypeError INVALID_ARGUMENT, 4", await piped(data, "text")]];
-  // The data is verified and kept at once.
+  // A stream is split with `tee`, to verify the data and to store it.
   const verifier = await createVerifier(signature, key), [first, second] = streamOf(data).tee();
-  const [, kept] = await Promise.all([first.pipeTo(verifier.writable), new Response(second).text()]);
-  rows.push([`${COMMENT} test`, `${(await verifier.end()).trustedComment} ${kept}`], [COMMENT, await ended(verifier.end())]);
-  rows.push(["NOT_BEGUN", await ended((async () => verifier.update(data))())]);
+  const [, stored] = await Promise.all([first.pipeTo(verifier.writable), new Response(second).text()]);
+  rows.push([`${COMMENT} test`, `${(await verifier.end()).trustedComment} ${stored}`], [COMMENT, await outcome(verifier.end())]);
+  rows.push(["NOT_BEGUN", await outcome((async () => verifier.update(data))())]);
   rows.push([true, verifier.writable === verifier.writable]);
   const aborted = await createVerifier(signature, key), gone = Object.assign(new Error(), {code: "GONE"});
   aborted.update(data);
   await aborted.writable.abort(gone);
-  rows.push(["GONE", await ended(aborted.end())]);
-  // A source that fails aborts the stream.
+  rows.push(["GONE", await outcome(aborted.end())]);
+  // If the source fails, the verifier's stream is aborted.
   const failing = await createVerifier(signature, key);
   const source = new ReadableStream({pull: controller => controller.error(gone)});
-  rows.push(["GONE, GONE", `${await ended(source.pipeTo(failing.writable))}, ${await ended(failing.end())}`]);
+  rows.push(["GONE, GONE", `${await outcome(source.pipeTo(failing.writable))}, ${await outcome(failing.end())}`]);
   const open = await createVerifier(signature, key);
   await streamOf(data).pipeTo(open.writable, {preventClose: true});
-  rows.push([`${COMMENT}, NOT_BEGUN`, `${await ended(open.end())}, ${await ended(open.end())}`]);
-  // A long piece lets other tasks run.
+  rows.push([`${COMMENT}, NOT_BEGUN`, `${await outcome(open.end())}, ${await outcome(open.end())}`]);
+  // While a long piece is verified, other tasks run.
   const long = await createVerifier(signature, key), times = [];
   const timer = setInterval(() => times.push(0), 1);
-  await ended(streamOf(new Uint8Array(64 * 1048576)).pipeTo(long.writable));
+  await outcome(streamOf(new Uint8Array(64 * 1048576)).pipeTo(long.writable));
   clearInterval(timer);
   rows.push([true, times.length > 3]);
   const secretKey = await generateSecretKey(), signer = await createSigner(secretKey, {trustedComment: "t"});
   await streamOf(data).pipeTo(signer.writable);
-  rows.push(["t", await ended(verify(data, await signer.end(), await writePublicKey(secretKey)))]);
+  rows.push(["t", await outcome(verify(data, await signer.end(), await writePublicKey(secretKey)))]);
   const { WritableStream } = globalThis;
   delete globalThis.WritableStream;
   const late = await createVerifier(signature, key);
-  rows.push(["UNSUPPORTED_PLATFORM", await ended((async () => late.writable)())]);
+  rows.push(["UNSUPPORTED_PLATFORM", await outcome((async () => late.writable)())]);
   globalThis.WritableStream = WritableStream;
   return rows;
 }
@@ -75,22 +77,24 @@ async function fields() {
       "timestamp:1700000000\tversion:1.2.3\texpires:1800000000\tsize:0\tfile:a b.zip\thashed"],
     [{hashed: false, file: "a:b"}, "file:a:b"], [{hashed: false, file: ""}, "file:"], [{hashed: false}, "a file:x"],
     [{hashed: false}, "file:x\tfile:x"], [{hashed: false}, "file:x\tfile:y"], [{hashed: false, file: "x"}, "file:x\tFILE:y"],
-    [{hashed: false}, "timestamp:-1"], [{hashed: false}, "timestamp:"], [{hashed: false}, "timestamp:1e3"], [{hashed: false}, "timestamp: 1"],
+    [{hashed: false}, "timestamp:-1"], [{hashed: false}, "timestamp:"], [{hashed: false}, "timestamp:1e3"],
+    [{hashed: false}, "timestamp: 1"],
     [{hashed: false, timestamp: 9007199254740991}, "timestamp:9007199254740991"], [{hashed: false}, "timestamp:9007199254740992"],
     [{hashed: false, file: "x"}, "__proto__:y\tfile:x"], [{hashed: false}, "nothashed"],
-  ].map(([wanted, comment]) => [JSON.stringify(wanted), parse(comment)]);
+  ].map(([expected, comment]) => [JSON.stringify(expected), parse(comment)]);
   const verified = await verify(data, signature, key);
   rows.push([JSON.stringify({hashed: false, file: "test", timestamp: 1556193335}), JSON.stringify(verified.fields)]);
   rows.push([true, Object.isFrozen(verified.fields)]);
-  rows.push(["TypeError INVALID_ARGUMENT", await ended((async () => parseTrustedComment(7))())]);
+  rows.push(["TypeError INVALID_ARGUMENT", await outcome((async () => parseTrustedComment(7))())]);
   return rows;
 }
 
-// Each error has a code, whatever is wrong.
+// Each error has a code, even one about an argument.
 async function codes() {
-  const {subtle} = globalThis.crypto, coded = promise => promise.then(() => "accepted", why => `${why.name} ${why.code}`);
+  const coded = promise => promise.then(() => "accepted", why => `${why.name} ${why.code}`);
   const verifier = await createVerifier(signature, key), rows = [
-    ["TypeError INVALID_ARGUMENT", await coded(verify(7, signature, key))], ["TypeError INVALID_ARGUMENT", await coded(verify(data, 7, key))],
+    ["TypeError INVALID_ARGUMENT", await coded(verify(7, signature, key))],
+    ["TypeError INVALID_ARGUMENT", await coded(verify(data, 7, key))],
     ["TypeError INVALID_ARGUMENT", await coded(verify(data, signature, key, null))],
     ["TypeError INVALID_ARGUMENT", await coded(verify(data, signature, key, new Map()))],
     ["TypeError INVALID_ARGUMENT", await coded(verify(data, signature, key, {legacy: true}))],
@@ -104,7 +108,8 @@ async function codes() {
   return rows;
 }
 
-// Many signatures at once share one instance of the signing module. The addresses that the process reserves grow by less than 32 GiB.
+// Concurrent calls of `sign` share one instance of the signing module, so the address space of the process grows by less than 32
+// GiB.
 async function instances() {
   const COUNT = 1000, {Instance} = WebAssembly, instantiate = WebAssembly.instantiate;
   let count = 0;
@@ -122,4 +127,6 @@ async function instances() {
 }
 
 const CHECKS = {streams, fields, codes, instances};
-console.log((await CHECKS[what]()).map(([wanted, got]) => `${wanted}\t${got}`).join("\n").replaceAll(COMMENT, COMMENT.replace("\t", " ")));
+// The tab in COMMENT is replaced, because a tab separates the expected result from the actual one.
+const lines = (await CHECKS[what]()).map(([expected, actual]) => `${expected}\t${actual}`);
+console.log(lines.join("\n").replaceAll(COMMENT, COMMENT.replace("\t", " ")));

@@ -1,7 +1,10 @@
-//! A test program that uses the crate under the name `minisign-verify`. It runs the check that its first argument names, most of
-//! them on the cases on standard input, and prints the results, which `tests/bindings/rust.py` compares.
+//! A test program that uses the crate under the name `minisign-verify`. It runs the check that its first argument
+//! names, most of them on the cases on standard input, and prints the results, which `tests/bindings/rust.py` compares.
 
-use minisign_verify::{write_new, Error, Kind, PublicKey, Random, Reason, SchemeError, SecretKey, Sign, Signature, Sodium, UnopenedKey, Verify, Work};
+use minisign_verify::{
+    write_new, Error, Kind, PublicKey, Random, Reason, SchemeError, SecretKey, Sign, Signature, Sodium, UnopenedKey,
+    Verify, Work,
+};
 use std::error::Error as _;
 use std::io::Write as _;
 use std::{collections::HashSet, env, fs, io, path::Path, process, thread};
@@ -13,15 +16,23 @@ fn bytes(digits: &str) -> Vec<u8> {
 
 fn hex(bytes: &[u8]) -> String {
     let digits: String = bytes.iter().map(|byte| format!("{byte:02x}")).collect();
-    if digits.is_empty() { "-".into() } else { digits }
+    if digits.is_empty() {
+        "-".into()
+    } else {
+        digits
+    }
 }
 
 fn lines() -> Vec<Vec<Vec<u8>>> {
     io::stdin().lines().map(|line| line.unwrap().split(' ').map(bytes).collect()).collect()
 }
 
-/// Parses a text with `decode`, or with `from_file` if it is not UTF-8.
-fn parse<T>(bytes: &[u8], decode: fn(&str) -> Result<T, Error>, from_file: fn(&Path) -> Result<T, Error>) -> Result<T, Error> {
+/// Parses a text with `decode`, or if it is not UTF-8, writes it to a file and parses that with `from_file`.
+fn parse<T>(
+    bytes: &[u8],
+    decode: fn(&str) -> Result<T, Error>,
+    from_file: fn(&Path) -> Result<T, Error>,
+) -> Result<T, Error> {
     std::str::from_utf8(bytes).map(decode).unwrap_or_else(|_| {
         let path = env::temp_dir().join(format!("text-of-{}", process::id()));
         fs::write(&path, bytes).unwrap();
@@ -59,7 +70,11 @@ impl io::Read for Slow<'_> {
     fn read(&mut self, to: &mut [u8]) -> io::Result<usize> {
         self.1 = !self.1;
         let len = to.len().min(1000);
-        if self.1 { Err(io::ErrorKind::Interrupted.into()) } else { self.0.read(&mut to[..len]) }
+        if self.1 {
+            Err(io::ErrorKind::Interrupted.into())
+        } else {
+            self.0.read(&mut to[..len])
+        }
     }
 }
 
@@ -91,7 +106,7 @@ fn verify_in_pieces(case: &[Vec<u8>], len: usize) -> Result<String, Error> {
     let (mut rest, mut next) = (&case[1][..], len.max(1));
     while !rest.is_empty() {
         let (piece, later) = rest.split_at(next.min(rest.len()));
-        // Continue with a copy, which data that is added to the original does not affect.
+        // Continue with a copy. Data that is added to the original must not affect it.
         let copy = verifier.clone();
         verifier.update(b"other data");
         verifier = copy;
@@ -105,7 +120,7 @@ fn verify_in_pieces(case: &[Vec<u8>], len: usize) -> Result<String, Error> {
     verdict.map(|()| signature.trusted_comment().into())
 }
 
-/// The key IDs of a key and of a signature, and whether the signature is legacy, before anything is verified.
+/// Returns the key IDs of a key and of a signature, and true if the signature is legacy. Nothing is verified.
 fn fields(case: &[Vec<u8>]) -> Result<String, Error> {
     let (key, signature) = parse_case(case)?;
     let ids = format!("{} {}", hex(key.key_id()), hex(signature.key_id()));
@@ -117,9 +132,11 @@ fn answer(verdict: Result<String, Error>) -> String {
         Ok(comment) => format!("accepted {}", hex(comment.as_bytes())),
         Err(error) => {
             let source = error.source().and_then(|source| source.downcast_ref::<Reason>());
-            let is_of_file = matches!(&error, Error::IoError(_)) && error.source().map_or(false, |source| source.is::<io::Error>());
+            let is_of_file =
+                matches!(&error, Error::IoError(_)) && error.source().map_or(false, |source| source.is::<io::Error>());
             assert!(is_of_file || error.reason() == source, "the source is {source:?}, not the reason");
-            format!("rejected {error:?} {}: {error}", error.reason().map_or(0, |reason| reason.code())).replace('\n', " ")
+            format!("rejected {error:?} {}: {error}", error.reason().map_or(0, |reason| reason.code()))
+                .replace('\n', " ")
         }
     }
 }
@@ -129,8 +146,8 @@ fn pages() -> i64 {
     fs::read_to_string("/proc/self/statm").unwrap().split(' ').nth(1).unwrap().parse().unwrap()
 }
 
-/// Verifies valid and invalid cases, at once and in pieces, and signs, `count` times in all. Returns by how many pages the memory has
-/// grown after a tenth of them.
+/// Verifies valid and invalid cases, at once and in pieces, and signs, `count` times in all. Returns by how many pages
+/// the memory grows after the first tenth of these calls.
 fn growth(cases: &[Vec<Vec<u8>>], count: usize) -> i64 {
     let key = SecretKey::generate(&Sodium).unwrap();
     let mut early = 0;
@@ -148,10 +165,13 @@ fn growth(cases: &[Vec<Vec<u8>>], count: usize) -> i64 {
     pages() - early
 }
 
-/// Verifies all cases in concurrent threads with the same keys and signatures. Returns true if each thread gets the results of a single
-/// thread.
+/// Verifies all cases in concurrent threads with the same keys and signatures. Returns true if each thread gets the
+/// same results as a single thread.
 fn is_same_in_threads(cases: &[Vec<Vec<u8>>]) -> bool {
-    let shared: Vec<_> = cases.iter().filter_map(|case| parse_case(case).ok().map(|(key, signature)| (key, signature, &case[1]))).collect();
+    let shared: Vec<_> = cases
+        .iter()
+        .filter_map(|case| parse_case(case).ok().map(|(key, signature)| (key, signature, &case[1])))
+        .collect();
     let answers = || -> Vec<String> {
         let verdict = |(key, signature, data): &(PublicKey, Signature, &Vec<u8>)| {
             key.verify(data, signature, true).map(|()| signature.trusted_comment().into())
@@ -166,7 +186,8 @@ fn is_same_in_threads(cases: &[Vec<Vec<u8>>]) -> bool {
                 let (secret, answers, expected) = (&secret, &answers, &expected);
                 scope.spawn(move || {
                     let signature = secret.sign(&Sodium, &[number], "c", "u").unwrap();
-                    secret.public_key().unwrap().verify(&[number], &signature, false).is_ok() && (0..20).all(|_| answers() == *expected)
+                    secret.public_key().unwrap().verify(&[number], &signature, false).is_ok()
+                        && (0..20).all(|_| answers() == *expected)
                 })
             })
             .collect();
@@ -179,7 +200,11 @@ fn make(directory: &str, password: Option<&str>) -> Result<(), Error> {
     let key = SecretKey::generate(&Sodium)?;
     let work = Work::new(524288, 1 << 24);
     let text = key.encode(&Sodium, password, &work)?;
-    assert_eq!(password.is_some(), text != key.encode(&Sodium, password, &work)?, "two encrypted key files have the same salt");
+    assert_eq!(
+        password.is_some(),
+        text != key.encode(&Sodium, password, &work)?,
+        "two encrypted key files have the same salt"
+    );
     fs::write(format!("{directory}/secret"), text.as_bytes()).unwrap();
     fs::write(format!("{directory}/public"), key.public_key_text()?).unwrap();
     Ok(())
@@ -198,7 +223,10 @@ fn sign(key: &str, data: &str, to: &str, comment: &str, password: Option<&str>) 
     assert_eq!(from_file, at_once, "signing a file gives another signature");
     fs::write(to, in_pieces.to_string())?;
     let signature = Signature::from_file(to)?;
-    assert_eq!((signature.trusted_comment(), signature.untrusted_comment()), (comment, "untrusted comment: from a program in Rust"));
+    assert_eq!(
+        (signature.trusted_comment(), signature.untrusted_comment()),
+        (comment, "untrusted comment: from a program in Rust")
+    );
     key.public_key()?.verify(&data, &signature, false)
 }
 
@@ -223,7 +251,12 @@ fn shown() {
     assert_eq!(format!("{key:?}"), format!("SecretKey({})", public_key.key_id_text()));
     let signer = key.sign_stream(&Sodium);
     let verifier = public_key.verify_stream(&signature).unwrap();
-    let shown = [format!("{signer:?}"), format!("{verifier:?}"), format!("{:?}", signer.clone()), format!("{:?}", Sodium.clone())];
+    let shown = [
+        format!("{signer:?}"),
+        format!("{verifier:?}"),
+        format!("{:?}", signer.clone()),
+        format!("{:?}", Sodium.clone()),
+    ];
     for (expected, shown) in ["Signer", "StreamVerifier", "Signer", "Sodium"].iter().zip(shown) {
         println!("{expected}\t{}", shown.split(&[' ', '('][..]).next().unwrap());
     }
@@ -231,7 +264,7 @@ fn shown() {
     println!("WRONG_PASSWORD\t{}", Reason::WRONG_PASSWORD.name());
 }
 
-/// An Ed25519 whose functions fail, except those that the flags allow.
+/// An Ed25519 implementation whose functions fail, except those that the flags enable.
 struct Broken {
     fills: bool,
     expands: bool,
@@ -252,17 +285,26 @@ impl Sign for Broken {
         failing("no hardware key")
     }
     fn expand(&self, seed: &[u8; 32], secret: &mut [u8; 64]) -> Result<(), SchemeError> {
-        if self.expands { Sodium.expand(seed, secret) } else { failing("no curve") }
+        if self.expands {
+            Sodium.expand(seed, secret)
+        } else {
+            failing("no curve")
+        }
     }
 }
 
 impl Random for Broken {
     fn fill(&self, bytes: &mut [u8]) -> Result<(), SchemeError> {
-        if self.fills { Sodium.fill(bytes) } else { failing("no randomness") }
+        if self.fills {
+            Sodium.fill(bytes)
+        } else {
+            failing("no randomness")
+        }
     }
 }
 
-fn pair(expected: impl std::fmt::Display, actual: impl std::fmt::Debug) {
+/// Prints the expected value, a tab, and the actual value.
+fn print_pair(expected: impl std::fmt::Display, actual: impl std::fmt::Debug) {
     println!("{expected}\t{actual:?}");
 }
 
@@ -271,84 +313,134 @@ fn types() {
     let key = SecretKey::generate(&Sodium).unwrap();
     let public = key.public_key().unwrap();
     let from_file = PublicKey::decode(&key.public_key_text().unwrap()).unwrap();
-    pair(true, from_file == public && from_file.untrusted_comment() != public.untrusted_comment());
-    pair(1, HashSet::from([from_file.clone(), public.clone()]).len());
-    pair("Equal", from_file.cmp(&public));
-    pair(false, public == SecretKey::generate(&Sodium).unwrap().public_key().unwrap());
-    // An error of Ed25519 is not an error of the signature.
-    pair("Some(Scheme(SchemeError(\"no curve\")))", SecretKey::generate(&Broken { fills: true, expands: false }).err());
-    pair("Some(Rejected(RANDOM_SOURCE_FAILED))", SecretKey::generate(&Broken { fills: false, expands: true }).err());
+    print_pair(true, from_file == public && from_file.untrusted_comment() != public.untrusted_comment());
+    print_pair(1, HashSet::from([from_file.clone(), public.clone()]).len());
+    print_pair("Equal", from_file.cmp(&public));
+    print_pair(false, public == SecretKey::generate(&Sodium).unwrap().public_key().unwrap());
+    // If an Ed25519 function fails, this is reported as such, and not as an invalid signature.
+    print_pair(
+        "Some(Scheme(SchemeError(\"no curve\")))",
+        SecretKey::generate(&Broken { fills: true, expands: false }).err(),
+    );
+    print_pair(
+        "Some(Rejected(RANDOM_SOURCE_FAILED))",
+        SecretKey::generate(&Broken { fills: false, expands: true }).err(),
+    );
     let broken = Broken { fills: true, expands: true };
     let error = key.sign(&broken, b"data", "c", "u").unwrap_err();
-    pair("Scheme(SchemeError(\"no hardware key\")) no hardware key None true".replace(' ', "_"), Shown(format!(
-        "{error:?} {error} {:?} {}", error.reason(), error.source().map_or(false, |source| source.is::<SchemeError>())).replace(' ', "_")));
+    print_pair(
+        "Scheme(SchemeError(\"no hardware key\")) no hardware key None true".replace(' ', "_"),
+        Unquoted(
+            format!(
+                "{error:?} {error} {:?} {}",
+                error.reason(),
+                error.source().map_or(false, |source| source.is::<SchemeError>())
+            )
+            .replace(' ', "_"),
+        ),
+    );
     // Streams are writers.
     let mut signer = key.sign_stream(&Sodium);
     signer.write_all(b"some ").unwrap();
     signer.write_all(b"data").unwrap();
     let signature = signer.finalize("c", "u").unwrap();
-    pair(true, signature == key.sign(&Sodium, b"some data", "c", "u").unwrap());
+    print_pair(true, signature == key.sign(&Sodium, b"some data", "c", "u").unwrap());
     for (data, expected) in [("some data", "Ok(())"), ("Some data", "Err(InvalidSignature(SIGNATURE_REFUSED))")] {
         let mut verifier = public.verify_stream(&signature).unwrap();
         assert_eq!(io::copy(&mut data.as_bytes(), &mut verifier).unwrap(), 9);
-        pair(expected, verifier.finalize());
-        pair("Other", verifier.write(b"more").map_err(|error| error.kind()).unwrap_err());
+        print_pair(expected, verifier.finalize());
+        print_pair("Other", verifier.write(b"more").map_err(|error| error.kind()).unwrap_err());
     }
     // A signature without comments.
     let bare = signature.to_bare();
-    pair(true, bare.to_record()[..] == signature.to_record()[..] && minisign_verify::BareSignature::from_record(&bare.to_record()).unwrap() == bare);
-    pair("Ok(())", public.verify_bare_with(&Sodium, b"some data", &bare, false));
-    pair("Err(InvalidSignature(SIGNATURE_REFUSED))", public.verify_bare_with(&Sodium, b"Some data", &bare, false));
+    print_pair(
+        true,
+        bare.to_record()[..] == signature.to_record()[..]
+            && minisign_verify::BareSignature::from_record(&bare.to_record()).unwrap() == bare,
+    );
+    print_pair("Ok(())", public.verify_bare_with(&Sodium, b"some data", &bare, false));
+    print_pair(
+        "Err(InvalidSignature(SIGNATURE_REFUSED))",
+        public.verify_bare_with(&Sodium, b"Some data", &bare, false),
+    );
     let mut verifier = public.verify_bare_stream_with(&Sodium, &bare).unwrap();
     verifier.update(b"some data");
-    pair(true, verifier.trusted_comment().is_err());
-    pair("Ok(())", verifier.finalize());
-    pair("Some(InvalidEncoding(RECORD_TOO_SHORT))", minisign_verify::BareSignature::from_record(&[0; 73]).err());
-    pair("Some(UnsupportedAlgorithm)", minisign_verify::BareSignature::from_record(&[0; 74]).err());
+    print_pair(true, verifier.trusted_comment().is_err());
+    print_pair("Ok(())", verifier.finalize());
+    print_pair("Some(InvalidEncoding(RECORD_TOO_SHORT))", minisign_verify::BareSignature::from_record(&[0; 73]).err());
+    print_pair("Some(UnsupportedAlgorithm)", minisign_verify::BareSignature::from_record(&[0; 74]).err());
     let secret = key.to_record().unwrap()[62..126].try_into().unwrap();
     let legacy = [b"Ed", &key.key_id()[..], &Sodium.sign(b"some data", &secret).unwrap()].concat();
     let legacy = minisign_verify::BareSignature::from_record(&legacy).unwrap();
-    pair(true, legacy.is_legacy() && !bare.is_legacy());
-    pair("Ok(())", public.verify_bare_with(&Sodium, b"some data", &legacy, true));
-    pair("Err(InvalidSignature(SIGNATURE_REFUSED))", public.verify_bare_with(&Sodium, b"Some data", &legacy, true));
-    pair("Err(UnexpectedAlgorithm)", public.verify_bare_with(&Sodium, b"some data", &legacy, false));
-    pair("Some(UnsupportedLegacyMode)", public.verify_bare_stream_with(&Sodium, &legacy).err());
+    print_pair(true, legacy.is_legacy() && !bare.is_legacy());
+    print_pair("Ok(())", public.verify_bare_with(&Sodium, b"some data", &legacy, true));
+    print_pair(
+        "Err(InvalidSignature(SIGNATURE_REFUSED))",
+        public.verify_bare_with(&Sodium, b"Some data", &legacy, true),
+    );
+    print_pair("Err(UnexpectedAlgorithm)", public.verify_bare_with(&Sodium, b"some data", &legacy, false));
+    print_pair("Some(UnsupportedLegacyMode)", public.verify_bare_stream_with(&Sodium, &legacy).err());
     let mut password = String::from("pass word").into_bytes();
     minisign_verify::clear(&mut password);
-    pair("[0, 0, 0, 0, 0, 0, 0, 0, 0]", password);
+    print_pair("[0, 0, 0, 0, 0, 0, 0, 0, 0]", password);
     // Records and comments.
-    pair(true, PublicKey::from_record(&public.to_record()).unwrap() == public && PublicKey::from_base64(&public.to_base64()).unwrap() == public);
-    pair("Some(InvalidEncoding(RECORD_TOO_SHORT))", PublicKey::from_record(&[0; 41]).err());
+    print_pair(
+        true,
+        PublicKey::from_record(&public.to_record()).unwrap() == public
+            && PublicKey::from_base64(&public.to_base64()).unwrap() == public,
+    );
+    print_pair("Some(InvalidEncoding(RECORD_TOO_SHORT))", PublicKey::from_record(&[0; 41]).err());
     let text = public.encode("my key").unwrap();
-    pair(true, text.starts_with("untrusted comment: my key\n") && PublicKey::decode(&text).unwrap() == public);
-    pair("Err(Rejected(BAD_COMMENT))", public.encode("my\nkey"));
+    print_pair(true, text.starts_with("untrusted comment: my key\n") && PublicKey::decode(&text).unwrap() == public);
+    print_pair("Err(Rejected(BAD_COMMENT))", public.encode("my\nkey"));
     let record = key.to_record().unwrap();
     let unopened = UnopenedKey::from_record(&*record).unwrap();
-    pair(true, unopened.to_record() == record && unopened.open(None, &Work::USUAL).unwrap().public_key().unwrap() == public);
-    pair("false Err(Rejected(KEY_NOT_SEALED))".replace(' ', "_"), Shown(format!("{} {:?}", unopened.is_encrypted(), unopened.check(&Work::USUAL)).replace(' ', "_")));
+    print_pair(
+        true,
+        unopened.to_record() == record && unopened.open(None, &Work::USUAL).unwrap().public_key().unwrap() == public,
+    );
+    print_pair(
+        "false Err(Rejected(KEY_NOT_SEALED))".replace(' ', "_"),
+        Unquoted(format!("{} {:?}", unopened.is_encrypted(), unopened.check(&Work::USUAL)).replace(' ', "_")),
+    );
     let text = unopened.encode("my secret").unwrap();
-    pair(true, text.starts_with("untrusted comment: my secret\n") && UnopenedKey::decode(&text).unwrap().to_record() == record);
-    pair("Some(Rejected(BAD_COMMENT))", unopened.encode("my\nsecret").err());
+    print_pair(
+        true,
+        text.starts_with("untrusted comment: my secret\n") && UnopenedKey::decode(&text).unwrap().to_record() == record,
+    );
+    print_pair("Some(Rejected(BAD_COMMENT))", unopened.encode("my\nsecret").err());
     let limits = Work::new(524288, 1 << 24);
     let sealed = key.encode_with_comment(&Sodium, Some("pass word"), &limits, "sealed").unwrap();
     let unopened = UnopenedKey::decode(&sealed).unwrap();
-    pair(true, sealed.starts_with("untrusted comment: sealed\n") && unopened.is_encrypted() && unopened.check(&Work::USUAL).is_ok());
-    pair("Err(Rejected(WORK_TOO_HIGH))", unopened.check(&Work::USUAL.most_rows((1 << 14) - 1)));
-    pair("Ok(())", unopened.check(&Work::USUAL.most_rows(1 << 14)));
-    pair("Some(Rejected(EMPTY_PASSWORD))", key.encode(&Sodium, Some(""), &limits).err());
+    print_pair(
+        true,
+        sealed.starts_with("untrusted comment: sealed\n")
+            && unopened.is_encrypted()
+            && unopened.check(&Work::USUAL).is_ok(),
+    );
+    print_pair("Err(Rejected(WORK_TOO_HIGH))", unopened.check(&Work::USUAL.most_rows((1 << 14) - 1)));
+    print_pair("Ok(())", unopened.check(&Work::USUAL.most_rows(1 << 14)));
+    print_pair("Some(Rejected(EMPTY_PASSWORD))", key.encode(&Sodium, Some(""), &limits).err());
     let empty = key.encode(&Sodium, Some(""), &limits.allow_empty_password(true)).unwrap();
-    pair(true, SecretKey::decode(&empty, Some(""), &Work::USUAL).unwrap().key_id() == public.key_id());
-    let reasons = [Reason::SIGNATURE_REFUSED, Reason::MISSING_SIGNATURE, Reason::WORK_TOO_HIGH, Reason::BAD_COMMENT, Reason::OK];
-    pair("[Verify, Io, Kdf, Misuse, None]", reasons.map(Reason::kind));
-    let reasons = [Reason::NOT_UTF8, Reason::SECRET_KEY_NOT_BASE64, Reason::RANDOM_SOURCE_FAILED, Reason::OUT_OF_MEMORY, Reason::from_code(99)];
-    pair("[Io, Encoding, Rng, OutOfMemory, None]", reasons.map(Reason::kind));
+    print_pair(true, SecretKey::decode(&empty, Some(""), &Work::USUAL).unwrap().key_id() == public.key_id());
+    let reasons =
+        [Reason::SIGNATURE_REFUSED, Reason::MISSING_SIGNATURE, Reason::WORK_TOO_HIGH, Reason::BAD_COMMENT, Reason::OK];
+    print_pair("[Verify, Io, Kdf, Misuse, None]", reasons.map(Reason::kind));
+    let reasons = [
+        Reason::NOT_UTF8,
+        Reason::SECRET_KEY_NOT_BASE64,
+        Reason::RANDOM_SOURCE_FAILED,
+        Reason::OUT_OF_MEMORY,
+        Reason::from_code(99),
+    ];
+    print_pair("[Io, Encoding, Rng, OutOfMemory, None]", reasons.map(Reason::kind));
     let _: Kind = Reason::OK.kind();
 }
 
-/// Prints a text without quotes.
-struct Shown(String);
+/// A text whose `Debug` output has no quotes.
+struct Unquoted(String);
 
-impl std::fmt::Debug for Shown {
+impl std::fmt::Debug for Unquoted {
     fn fmt(&self, f: &mut std::fmt::Formatter) -> std::fmt::Result {
         f.write_str(&self.0)
     }
@@ -368,7 +460,9 @@ fn main() {
         ["reader"] => lines().iter().for_each(|case| println!("{}", answer(verify_reader(case)))),
         ["shown"] => shown(),
         ["types"] => types(),
-        ["read"] => lines().iter().for_each(|case| println!("{}", fields(case).unwrap_or_else(|error| error.to_string()))),
+        ["read"] => {
+            lines().iter().for_each(|case| println!("{}", fields(case).unwrap_or_else(|error| error.to_string())))
+        }
         ["accepts"] => {
             for vector in lines() {
                 let (key, signature) = (vector[0][..].try_into().unwrap(), vector[2][..].try_into().unwrap());
@@ -384,7 +478,12 @@ fn main() {
         ["strength", key] => println!("{}", strength(key, None).unwrap()),
         ["strength", key, password] => println!("{}", strength(key, Some(password)).unwrap()),
         ["encrypt", operations, memory] => match encrypt(operations, memory) {
-            Err(weak @ Error::WeakLimits) => println!("WEAK_LIMITS{}", if weak.to_string().contains("limits") { "" } else { ", unsaid" }),
+            Err(weak @ Error::WeakLimits) => {
+                println!(
+                    "WEAK_LIMITS{}",
+                    if weak.to_string().contains("limits") { "" } else { ", but the message does not name the limits" }
+                )
+            }
             other => println!("{other:?}"),
         },
         ["write", path, text] => println!("{:?}", write_new(path, text)),

@@ -1,5 +1,5 @@
-// Checks the structs of minisign-proved-sys. tests/bindings/rust.py appends this file to its declarations, with the sizes and offsets that
-// a C compiler gives the structs of the header.
+// Checks the structs of minisign-proved-sys. tests/bindings/rust.py appends this file to the crate's declarations, and
+// replaces STRUCTS by checks of the sizes and offsets that a C compiler gives to the structs of the header.
 #[cfg(test)]
 mod inside {
     use super::*;

@@ -1,6 +1,7 @@
-//! A test program that verifies files with signed lists, with the crate under the name `minisign-verify`. `verify_listed` verifies the file
-//! of each case on standard input with each function of the crate, and `entries` prints the entries of each list. `files DIRECTORY` reads
-//! lists and files from this directory. `tests/bindings/rust.py` compares the output.
+//! A test program that verifies files with signed lists, with the crate under the name `minisign-verify`.
+//! `verify_listed` verifies the file of each case on standard input with each function of the crate, and `entries`
+//! prints the entries of each list. `files DIRECTORY` reads lists and files from this directory.
+//! `tests/bindings/rust.py` compares the output.
 
 use minisign_verify::{Error, ListEntry, ListError, ListHash, LongDigest, PublicKey, Reason, Signature, SignedList};
 use std::io::{self, Read, Write};
@@ -86,7 +87,7 @@ fn verify_listed() {
                 continue;
             }
         };
-        // A `str` cannot hold other names.
+        // Names that are not UTF-8 cannot be passed, because a name is a `str`.
         let name = match std::str::from_utf8(&case[5]) {
             Ok(name) => name,
             Err(_) => {
@@ -119,15 +120,23 @@ fn show(expected: &str, actual: impl std::fmt::Debug) {
     println!("{expected}\t{actual:?}");
 }
 
-/// The directory has a list `SUMS` of `app`, a copy `OTHER` of it with its signature, and the public key `a.pub`.
+/// Checks the functions that read files. The directory has a signed list `SUMS` that contains `app`, a copy `OTHER` of
+/// the list and its signature, and the public key `a.pub`.
 fn files(directory: &Path) {
     let key = PublicKey::from_file(directory.join("a.pub")).unwrap();
     let list = key.verify_list_file(directory.join("SUMS"), LongDigest::Sha512).unwrap();
-    show("Ok(1)", list.verify_listed_reader(fs::File::open(directory.join("app")).unwrap(), "./app").map(|entry| entry.line).map_err(drop));
+    show(
+        "Ok(1)",
+        list.verify_listed_reader(fs::File::open(directory.join("app")).unwrap(), "./app")
+            .map(|entry| entry.line)
+            .map_err(drop),
+    );
     show("Rejected(OTHER_LIST)", key.verify_list_file(directory.join("OTHER"), LongDigest::Sha512).unwrap_err());
     show("true", matches!(key.verify_list_file(directory.join("app"), LongDigest::Sha512), Err(Error::IoError(_))));
     let digest = list.find("app").unwrap().digest;
-    let reason = |hash, digest: &[u8]| *list.verify_listed_trusting_your_hash("app", hash, digest).unwrap_err().error().reason().unwrap();
+    let reason = |hash, digest: &[u8]| {
+        *list.verify_listed_trusting_your_hash("app", hash, digest).unwrap_err().error().reason().unwrap()
+    };
     show("BAD_HASH", reason(ListHash::Sha512, &[0; 64]));
     show("BAD_HASH", reason(ListHash::Sha256, &digest[1..]));
     show("DIGEST_MISMATCH", reason(ListHash::Sha256, &[0; 32]));

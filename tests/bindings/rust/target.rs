@@ -1,4 +1,5 @@
-//! A test program for each target of rust.py. Its Ed25519 prints the messages that it has to verify, and accepts all signatures.
+//! A test program for each target of rust.py. Its Ed25519 prints the messages that it has to verify, and accepts all
+//! signatures.
 
 use minisign_proved::{PublicKey, SchemeError, Signature, Verify};
 
