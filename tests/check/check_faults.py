@@ -38,16 +38,19 @@ def fails_in_turn(checking, arguments, calls, number, output, minimum):
         checking.sign(directory)
         return arguments
 
-    def judge(ran, _):
+    def check_run(ran, _):
         if ran.status == OK:
             expect(ran.stdout == output, ran, f"expected {output}")
             complete.add(ran.reached)
         else:
-            expect(ran.reached and ran.status in (UNUSABLE, MISSING) and b"error: " in ran.stderr, ran)
-            expect(all(line in output or line.endswith(b": FAILED\n") for line in ran.stdout.splitlines(True)), ran)
+            expect(ran.reached and ran.status in (UNUSABLE, MISSING) and b"error: " in ran.stderr, ran,
+                   f"expected status {UNUSABLE} or {MISSING}, an error, and a failed call")
+            expect(all(line in output or line.endswith(b": FAILED\n") for line in ran.stdout.splitlines(True)), ran,
+                   f"expected only lines of {output} or lines that end with FAILED")
 
-    made = checking.break_each(prepare, judge, CALLS=calls, ERRNO=number)
-    expect(made >= minimum and False in complete, f"the program made {made} calls, expected at least {minimum}")
+    count = checking.break_each(prepare, check_run, CALLS=calls, ERRNO=number)
+    expect(count >= minimum and False in complete, f"the program made {count} calls of {calls}, expected at least {minimum}; "
+                                                   f"a run without a failing call succeeded: {False in complete}, expected True")
 
 
 def reads_in_small_pieces(checking):
@@ -110,14 +113,16 @@ def reports_full_output(checking, arguments):
     directory = checking.signed(BOTH, FILES)
     with open("/dev/full", "wb") as full:
         ran = checking.run(directory, arguments, stdout=full)
-    expect(ran.status == UNUSABLE and ran.stderr.endswith(errors(("standard output", "No space left on device"))), ran)
+    error_output = errors(("standard output", "No space left on device"))
+    expect(ran.status == UNUSABLE and ran.stderr.endswith(error_output), ran, f"expected status {UNUSABLE} and {error_output}")
 
 
 def keeps_status_of_full_output(checking):
     """An output that cannot be written does not hide that content differs."""
     directory = checking.signed(BOTH, {"a": B, "b": B})
     with open("/dev/full", "wb") as full:
-        expect(checking.run(directory, ALL, stdout=full).status == DIFFERS, "expected the status of other content")
+        ran = checking.run(directory, ALL, stdout=full)
+    expect(ran.status == DIFFERS, ran, f"expected status {DIFFERS}")
 
 
 def works_with_closed_streams(checking):
@@ -126,7 +131,7 @@ def works_with_closed_streams(checking):
     for closed in (0, 1, 2):
         ran = checking.run(directory, ALL, preexec_fn=lambda closed=closed: os.close(closed))
         status, output = (UNUSABLE, b"") if closed == 1 else (OK, b"a: OK\nb: OK\n")
-        expect((ran.status, ran.stdout) == (status, output), f"without stream {closed}", ran)
+        expect((ran.status, ran.stdout) == (status, output), f"without stream {closed}", ran, f"expected status {status} and {output}")
 
 
 # ---- Other users ----
@@ -199,7 +204,7 @@ def notices_pipe_between_calls(checking):
 
     for number in range(1, 20):
         ran = checking.run_stopped(directory, ALL, swap, AT=number, CALLS="open openat")
-        expect(ran.status in (OK, UNUSABLE), f"at call {number}", ran)
+        expect(ran.status in (OK, UNUSABLE), f"at call {number}", ran, f"expected status {OK} or {UNUSABLE}")
         os.remove(f"{directory}/a")
         write(directory, "a", A)
         if not ran.reached:
@@ -259,16 +264,18 @@ def writes_nothing_before_verdict(checking):
 
 
 def takes_little_memory(checking):
-    """The memory does not depend on the size of a file."""
+    """The memory that a run needs does not depend on the size of a file."""
     directory = checking.signed(BOTH, FILES)
     with open(f"{directory}/a", "wb") as file:
         file.truncate(1 << 26)
     ran = checking.run(directory, ALL, preexec_fn=lambda: resource.setrlimit(resource.RLIMIT_DATA, (48 << 20,) * 2))
-    expect((ran.status, ran.stdout) == (DIFFERS, b"a: FAILED\nb: OK\n"), ran)
+    expected = DIFFERS, b"a: FAILED\nb: OK\n"
+    expect((ran.status, ran.stdout) == expected, ran, f"expected status and output {expected}")
 
 
 def shows_progress(checking):
-    """At a terminal the run shows how much was checked, and erases this. The file is slow, because the program is stopped meanwhile."""
+    """At a terminal the run shows how much was checked, and erases this line before it prints a result. The file is so large that the run
+    takes some seconds."""
     directory = checking.signed(entries(a=A), {})
     with open(f"{directory}/a", "wb") as file:
         file.truncate(3 << 30)
@@ -277,8 +284,9 @@ def shows_progress(checking):
     with open(f"{directory}/a", "wb") as file:
         file.truncate(0)
     status = terminal.finish()
-    expect(found and status == DIFFERS and terminal.shown.count(b"\r\x1b[K") >= 1, f"it exited with status {status} and showed {terminal.shown!r}")
-    expect(terminal.shown.split(b"\x1b[K")[-1].startswith(b"a: FAILED\r\n"), f"it showed {terminal.shown!r}")
+    expect(found and status == DIFFERS and terminal.shown.count(b"\r\x1b[K") >= 1,
+           f"it exited with status {status} and showed {terminal.shown!r}, expected status {DIFFERS}, the progress, and an erased line")
+    expect(terminal.shown.split(b"\x1b[K")[-1].startswith(b"a: FAILED\r\n"), f"it showed {terminal.shown!r}, expected `a: FAILED` at the end")
 
 
 def shows_no_control_sequence(checking):
@@ -286,7 +294,9 @@ def shows_no_control_sequence(checking):
     directory = checking.signed(entry("a\u202e", A), {"a\u202e": A})
     terminal = AtTerminal([NAME, *ALL], checking.program, directory, {})
     status = terminal.finish()
-    expect(status == OK and b"\x1b" not in terminal.shown and b"a\\u{202e}: OK\r\n" in terminal.shown, f"it showed {terminal.shown!r}")
+    line = b"a\\u{202e}: OK\r\n"
+    expect(status == OK and b"\x1b" not in terminal.shown and line in terminal.shown,
+           f"it exited with status {status} and showed {terminal.shown!r}, expected status {OK}, the line {line!r}, and no escape character")
 
 
 def shows_results_as_they_come(checking):
@@ -295,14 +305,16 @@ def shows_results_as_they_come(checking):
     with open(f"{directory}/b", "wb") as file:
         file.truncate(3 << 30)
     terminal = AtTerminal([NAME, *ALL], checking.program, directory, {})
-    begun = time.monotonic()
+    start = time.monotonic()
     found = terminal.expect(rb"a: OK\r\n")
-    came = time.monotonic() - begun
+    seconds = time.monotonic() - start
     with open(f"{directory}/b", "wb") as file:
         file.truncate(0)
     status = terminal.finish()
-    expect(found and status == DIFFERS and came < 60, f"it exited with status {status}, after {came} s, and showed {terminal.shown!r}")
-    expect(b"checked" not in terminal.shown.split(b"a: OK")[0], f"it showed {terminal.shown!r}")
+    expect(found and status == DIFFERS and seconds < 60,
+           f"it exited with status {status} and showed {terminal.shown!r}, the first result after {seconds:.0f} s; "
+           f"expected status {DIFFERS}, and `a: OK` in less than 60 s")
+    expect(b"checked" not in terminal.shown.split(b"a: OK")[0], f"it showed {terminal.shown!r}, expected no progress before `a: OK`")
 
 
 def runs_at_once(checking):

@@ -81,13 +81,17 @@ LINKS = {
 OWN_LINKS = {"own/mine": "../shared/link/made", "own/next": "sub/"}
 
 
-class Command(namedtuple("Command", "name arguments check is_secret older", defaults=(None, False, OLDER_DATA))):
-    """A run that writes a file, which is named `it` in the arguments; a function that checks the file; true if it is secret; and the
-    content of an existing file, which may be a key that the run changes."""
+# Stands in the arguments of a `Command` for the path of the file that it writes.
+OUTPUT = "OUTPUT"
 
-    def at(self, path):
-        """Returns the arguments with this path of the file."""
-        return [path if word == "it" else word for word in self.arguments]
+
+class Command(namedtuple("Command", "name arguments check is_secret older", defaults=(None, False, OLDER_DATA))):
+    """A run that writes a file; a function that checks the file; true if it is secret; and the content of an existing file, which may be a
+    key that the run changes."""
+
+    def writing_to(self, path):
+        """Returns the arguments with this path in place of OUTPUT."""
+        return [path if word == OUTPUT else word for word in self.arguments]
 
 
 class Existing(namedtuple("Existing", "kind owner parent", defaults=(LIKE_TMP,))):
@@ -112,11 +116,11 @@ class OtherUsers(Programs):
         super().__init__(programs, scratch, keys)
         own = ("-s", "own/k.key")
         self.commands = [
-            Command("a new secret key", ("-GWf", "-p", "own/a.pub", "-s", "it"), is_secret, True),
-            Command("a new public key", ("-GWf", "-p", "it", "-s", "own/a.key"), is_public),
-            Command("a signature", ("-Sm", "own/data", "-x", "it", *own), is_signature),
-            Command("a recreated public key", ("-Rf", "-p", "it", *own), is_public),
-            Command("a changed key", ("-CW", "-s", "it"), is_secret, True, keys[PLAIN_KEY]),
+            Command("a new secret key", ("-GWf", "-p", "own/a.pub", "-s", OUTPUT), is_secret, True),
+            Command("a new public key", ("-GWf", "-p", OUTPUT, "-s", "own/a.key"), is_public),
+            Command("a signature", ("-Sm", "own/data", "-x", OUTPUT, *own), is_signature),
+            Command("a recreated public key", ("-Rf", "-p", OUTPUT, *own), is_public),
+            Command("a changed key", ("-CW", "-s", OUTPUT), is_secret, True, keys[PLAIN_KEY]),
         ]
         self.secret, _, self.signature, *_ = self.commands
 
@@ -140,7 +144,7 @@ class OtherUsers(Programs):
             os.chown(f"{path}/{name}", user, user)
         os.chown(f"{path}/shared", parent.owner, parent.owner)
         os.chmod(f"{path}/shared", parent.mode)
-        return path, f"{path}/shared/it"
+        return path, f"{path}/shared/output"
 
     def run_as(self, user, directory, arguments, **options):
         """Runs the program as a user in a directory, without input."""
@@ -158,9 +162,9 @@ class OtherUsers(Programs):
         or replace the file, which then belongs to the user `end`."""
         directory, path = self.make_directories(user, existing.parent)
         reader, before = existing.make(path, command.older), snapshot(directory)
-        ran, received = self.run_as(user, directory, command.at("shared/it")), read_pending(reader)
+        ran, received = self.run_as(user, directory, command.writing_to("shared/output")), read_pending(reader)
         if isinstance(end, str):
-            expect_rejected(ran, received, "shared/it", end, directory, before)
+            expect_rejected(ran, received, "shared/output", end, directory, before)
             return
         expect(ran.status == 0, ran)
         command.check(received if existing.kind == PIPE else read(path))
@@ -196,12 +200,12 @@ class OtherUsers(Programs):
         """In a directory without sticky bit, another user replaces root's key while its password is typed. The key must not be given to
         that user, so it is not written to any file. A call of write would kill the program here."""
         directory, path = self.make_directories(parent=NOT_STICKY)
-        put_files(directory, {"shared/it": self.keys[ENCRYPTED_KEY]})
+        put_files(directory, {"shared/output": self.keys[ENCRYPTED_KEY]})
         os.chmod(path, 0o600)
-        terminal = self.start_at_prompt(directory, flags, "-s", "shared/it", **self.fault_environment(AT=1, CALLS="write"))
+        terminal = self.start_at_prompt(directory, flags, "-s", "shared/output", **self.fault_environment(AT=1, CALLS="write"))
         os.rename(path, path + ".older")
         Existing(FILE, OTHER_USER).make(path, b"swapped in")
-        expect_answered(terminal, typed, 2, "error: shared/it: another user replaced this file after the key was read\n"
+        expect_answered(terminal, typed, 2, "error: shared/output: another user replaced this file after the key was read\n"
                                       "hint: check who can write to its directory, then try again\n")
         expect(read(path) == b"swapped in", "the other user's file was changed")
 
@@ -217,7 +221,7 @@ class OtherUsers(Programs):
                 os.rename(path, path + ".own")
                 readers.append(Existing(swapped, OTHER_USER).make(path, OLDER_DATA))
 
-            ran = self.run_stopped(directory, self.secret.at("shared/it"), swap_in, AT=number, CALLS="open openat")
+            ran = self.run_stopped(directory, self.secret.writing_to("shared/output"), swap_in, AT=number, CALLS="open openat")
             written, *got = map(read_pending, readers)
             if own == FILE:
                 # If the pipe appeared after the key was renamed to its path, the key now has the name with `.own`.
@@ -226,7 +230,7 @@ class OtherUsers(Programs):
             if ran.status == 0 and written:
                 is_secret(written)
             else:
-                expect_rejected(ran, written, "shared/it", SECRET_TO_OTHER_USER)
+                expect_rejected(ran, written, "shared/output", SECRET_TO_OTHER_USER)
             if not ran.reached:
                 expect(number >= 3 and ran.status == 0, f"it opened {number - 1} files, expected at least 2", ran)
                 return
@@ -246,7 +250,7 @@ class OtherUsers(Programs):
             os.symlink(leads_to, os.path.join(directory, path))
             os.lchown(os.path.join(directory, path), owner, owner)
         before = snapshot(directory)
-        ran = self.run_as(user, directory, command.at(name))
+        ran = self.run_as(user, directory, command.writing_to(name))
         if why:
             expect_rejected(ran, b"", name, why, directory, before)
             return
@@ -300,7 +304,7 @@ class OtherUsers(Programs):
             os.rename(path, path + ".first")
             os.link(path + ".first", path + ".second")
             os.remove(path + ".first")
-            ran = self.run_as(ROOT, directory, self.signature.at("/dev/stdout"), stdout=writer)
+            ran = self.run_as(ROOT, directory, self.signature.writing_to("/dev/stdout"), stdout=writer)
         expect(ran.status == 0, ran)
         is_signature(read_pending(reader))
 
@@ -312,9 +316,9 @@ class OtherUsers(Programs):
         with mounted_in_memory(os.path.join(directory, "shared"), "mode=755", lazily=True):
             opened = os.open(os.path.join(directory, "shared"), os.O_RDONLY)
         os.mkdir("made", 0o755, dir_fd=opened)
-        ran = self.run_as(ROOT, directory, self.signature.at(f"/dev/fd/{opened}/made/it"), pass_fds=[opened])
+        ran = self.run_as(ROOT, directory, self.signature.writing_to(f"/dev/fd/{opened}/made/output"), pass_fds=[opened])
         expect(ran.status == 0, ran)
-        is_signature(read(f"/proc/self/fd/{opened}/made/it"))
+        is_signature(read(f"/proc/self/fd/{opened}/made/output"))
         os.close(opened)
 
     @case("copies verified data into another user's file as standard output")
@@ -378,24 +382,24 @@ class OtherUsers(Programs):
                 yield (f"{'rejects' if isinstance(end, str) else 'writes'} {command.name} by {USER_NAMES[user]} over "
                        f"{POSSESSIVES[whose]} {kind}{parent.name}",
                        self.write_over, user, command, Existing(kind, whose, parent), end)
-        for name, *arguments in (("a new secret key", "-Gf", "-p", "own/a.pub", "-s", "it"),
-                                 ("a new public key", "-Gf", "-p", "it", "-s", "own/a.key"),
-                                 ("a recreated public key", "-Rf", "-p", "it", "-s", "own/closed.key")):
+        for name, *arguments in (("a new secret key", "-Gf", "-p", "own/a.pub", "-s", OUTPUT),
+                                 ("a new public key", "-Gf", "-p", OUTPUT, "-s", "own/a.key"),
+                                 ("a recreated public key", "-Rf", "-p", OUTPUT, "-s", "own/closed.key")):
             yield (f"rejects {name} before it asks for a password",
                    self.write_over, ROOT, Command(name, arguments), Existing(FILE, OTHER_USER), IN_SHARED_DIRECTORY)
 
     def appearing_files(self):
         """Yields cases in which a file or pipe appears while a password is typed or a key is generated. There are few cases with a new
         encrypted key, which takes seconds."""
-        pair = ("-p", "own/a.pub", "-s", "shared/it")
+        pair = ("-p", "own/a.pub", "-s", "shared/output")
         for name, kinds, arguments, *typed in (
             ("new secret key", (FILE, PIPE), ("-GW", *pair)),
             ("new secret key with a password", [FILE], ("-G", *pair), b"p\n", b"p\n"),
-            ("recreated public key", (FILE, PIPE), ("-R", "-p", "shared/it", "-s", "own/closed.key"), PASSWORD + b"\n"),
+            ("recreated public key", (FILE, PIPE), ("-R", "-p", "shared/output", "-s", "own/closed.key"), PASSWORD + b"\n"),
         ):
             for what in kinds:
-                for whose, owner, *ends in (("another user's", OTHER_USER, 2, f"error: shared/it: {IN_SHARED_DIRECTORY}"),
-                                            ("an own", ROOT, 1, "shared/it already exists.")):
+                for whose, owner, *ends in (("another user's", OTHER_USER, 2, f"error: shared/output: {IN_SHARED_DIRECTORY}"),
+                                            ("an own", ROOT, 1, "shared/output already exists.")):
                     yield (f"writes no {name} to {whose} {what} that appears",
                            self.keeps_new_file, arguments, typed, Existing(what, owner), *ends)
 

@@ -19,8 +19,8 @@ OTHER_KEY = ("--key", "RWQf6LRCGA9i53mlYecO4IzT51TGPpvWucNSCh1CBM0QTaLn73Y7GFO3"
 MISSING_FILE = "No such file or directory (os error 2)"
 
 
-def reports(directory, arguments, status, error_output, output=b""):
-    """A run with these arguments exits with this status. Its error output contains `error_output`, and is empty if that is empty. Its
+def run_reports(directory, arguments, status, error_output, output=b""):
+    """A run with these arguments exits with this status. Its error output contains `error_output`, and is empty if `error_output` is. Its
     standard output begins with `output`. The run creates no file except the lock."""
     directory.put("bytes", b"\xff\n")
     before = os.listdir(directory.path)
@@ -29,13 +29,14 @@ def reports(directory, arguments, status, error_output, output=b""):
     expect(ran.status == status and has_error and ran.stdout.startswith(output), ran,
            f"expected status {status}, the error {error_output} and the output {output}")
     after = os.listdir(directory.path)
-    expect({*after} - {LOCK} == {*before} and directory.content() == OLD_DATA, f"the directory has {after}")
+    expect({*after} - {LOCK} == {*before}, f"the directory has {sorted(after)}, expected {sorted(before)}")
+    expect(directory.content() == OLD_DATA, f"the target holds {str(directory.content())[:40]}, expected {str(OLD_DATA)[:40]}")
 
 
-def misuse(name, arguments, at, why):
-    """Returns a row for `reports`: an invalid command line. The program prints the error `why`, about the argument `at` unless that is
+def misuse(name, arguments, argument, why):
+    """Returns a row for `run_reports`: an invalid command line. The program prints the error `why`, about `argument` unless that is
     None, then the usage and a hint."""
-    error_output = (error_text(at, why) if at else f"{why}\n".encode()) + USAGE + b"hint: use --help to list the options\n"
+    error_output = (error_text(argument, why) if argument else f"{why}\n".encode()) + USAGE + b"hint: use --help to list the options\n"
     return f"rejects {name}", arguments, MISUSED, error_output
 
 
@@ -51,7 +52,7 @@ FIELD = "timestamp or version"
 OCTAL = "three octal digits such as 644"
 SIZE = "a number of bytes such as 5000, 100K or 20M"
 DURATION = "a number of seconds from 0 to 86400"
-# Rows of a name and the arguments of `reports`.
+# Rows of a name and the arguments of `run_reports`.
 REPORTS = (
     *(misuse(f"{option} {value!r}", [option, value, *PATHS], option, f'invalid value "{value}", expected {expected}')
       for option, expected, values in (
@@ -110,7 +111,7 @@ REPORTS = (
     *((f"{word} prints the usage", [word], 0, b"", USAGE) for word in ("--help", "-h")),
     ("--version prints the version", ["--version"], 0, b"", b"minisign-install 0.3.0\n"),
 )
-command_line_cases.table(*REPORTS)(reports)
+command_line_cases.table(*REPORTS)(run_reports)
 
 
 @command_line_cases.table(
@@ -141,7 +142,7 @@ def reports_failing_libsodium(directory):
     ran = directory.install_broken(AT=1, CALLS="sodium_init", ERRNO=errno.EIO)
     error_output = b"error: libsodium could not be initialized\n"
     expect((ran.status, ran.stderr) == (FAILED, error_output), ran, f"expected status {FAILED} and {error_output}")
-    expect(directory.content() == OLD_DATA, "the update was installed")
+    expect(directory.content() == OLD_DATA, f"the target holds {str(directory.content())[:40]}, expected {str(OLD_DATA)[:40]}")
 
 
 @command_line_cases.table("shows progress at a terminal")
@@ -152,5 +153,5 @@ def shows_progress(directory):
     terminal = AtTerminal([NAME, *PATHS], directory.runner.program, directory.path, {})
     status = terminal.finish()
     expect(not status and b"copied 4 of 4 MiB\r" in terminal.shown and b"verified 4 MiB\r" in terminal.shown,
-           f"it exited with status {status} and showed {terminal.shown}")
+           f"it exited with status {status} and showed {terminal.shown}, expected status 0 and both lines of progress")
     directory.expect_installed(data, b"6")

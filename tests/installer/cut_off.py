@@ -155,7 +155,7 @@ def reports_unsynced_file(directory):
 @cut_off_cases.table(*((f"stays consistent if {call} fails", call) for call in (*BROKEN_CALLS, "close")),
                      ("stays consistent if the disk is full", "write", errno.ENOSPC))
 def stays_consistent(directory, calls, error=errno.EIO):
-    """Each of these calls fails in turn. The exit status tells correctly if the update is installed."""
+    """Each of these calls fails in turn. The exit status says correctly whether the update is installed."""
     call_numbers = itertools.count(1)
 
     def check(fresh, ran):

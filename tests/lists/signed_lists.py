@@ -251,7 +251,7 @@ def has_unknown_escape(line):
     return line.startswith(b"\\") and b"\\" in re.sub(rb"\\[\\nr]", b"", line[1:])
 
 
-def beside_coreutils(checks, rng, count):
+def compare_with_sha256sum(checks, rng, count):
     """Compares the results for random lists with those of sha256sum. Returns how often each pair of results occurs."""
     kinds, differences, requests, theirs = Counter(), Counter(), [], []
     with tempfile.TemporaryDirectory(prefix="minisign-lists-") as directory:
@@ -288,7 +288,7 @@ def beside_coreutils(checks, rng, count):
     return kinds
 
 
-def beside_signify(checks, rng, count):
+def compare_with_signify(checks, rng, count):
     """Compares the results for random BSD lists with those of `signify -C`. Returns how often each pair of results occurs."""
     kinds = Counter()
     with tempfile.TemporaryDirectory(prefix="minisign-lists-") as directory:
@@ -333,8 +333,8 @@ def main():
         for name, package in (("openssl", "openssl"), ("shasum", "perl"), ("signify-openbsd", "signify-openbsd")):
             program(name, package)
         check_tools(checks)
-        print("our response, and whether sha256sum accepts:", dict(beside_coreutils(checks, random.Random(given.seed), given.lists)))
-        print("our response, and whether signify accepts:", dict(beside_signify(checks, random.Random(given.seed), given.lists // 10)))
+        print("our response, and whether sha256sum accepts:", dict(compare_with_sha256sum(checks, random.Random(given.seed), given.lists)))
+        print("our response, and whether signify accepts:", dict(compare_with_signify(checks, random.Random(given.seed), given.lists // 10)))
     except Missing as missing:
         checks.check(False, missing)
     return checks.end()

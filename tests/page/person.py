@@ -92,7 +92,8 @@ def next_step(verdict, rows, is_own=False):
 
 
 def key_sentences(rows, said):
-    """Returns what the page must say above the list about the key, of which it says `console_messages`, and true if that is a warning."""
+    """Returns the sentence about the key that the page must show above the list, and true if it is a warning. `said` is the message about
+    the key, which names its source."""
     source = next((each for each in KEY_SENTENCES if each in said), None)
     fits, fails = KEY_SENTENCES.get(source, ("", ""))
     words = fits if any(row.number == 0 for row in rows) else fails if any(row.verdict == "bad" for row in rows) else ""

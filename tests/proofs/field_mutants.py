@@ -71,7 +71,7 @@ from wrong_bodies import assume, functions_in, loops, replaced
 # The outcomes of a trial besides those of wrong_bodies.py.
 PROVED, SAME, UNFIT = "PROVED", "the same function", "does not compile"
 AROUND = "rejected as a change around a call"
-# The contract allows only one value of what the mutant changes.
+# The contract determines the value that the mutant changes, so every other value violates it.
 ONE_VALUE = "rejected by a contract that allows one value"
 GOOD = (ONE_VALUE, REJECTED, AROUND, SAME)
 OUTCOMES = (*GOOD, GAVE_UP, APART, UNFIT, PROVED, FAILED)
@@ -79,19 +79,19 @@ LIST = "tests/proofs/field_mutants.txt"
 HEAD = """# The outcomes of the mutants that tests/proofs/field_mutants.py generates, for each function of which all are rejected or change
 # nothing: a digest of everything that decides this, and their numbers. Below it are the mutants that change nothing.
 """
-# The files of the written proof of a function, in a directory of their own.
+# The names of the files in the directory of a function's written proof.
 OF_FUNCTION = ("Answers.antt", "Invariants.antt", "Proof.antt")
-# The largest number of mutants that share a check.
+# The maximum number of mutants that are tried in one run of the prover.
 GROUP = 40
 # Stands for the suffix of a name until it is known.
 SUFFIX = "_@"
-# The names that the clause of a probe may need.
+# The names that the clause of a probe may use.
 PROBED = ("◌≡◌", "◌<◌", "OnOk", "OnErr", "replicate", "None", "false")
 INTEGER = re.compile(r"[iu](?:8|16|32|64|128|size)")
 FIELD = re.compile(r"(?m)^[ \t]*(?P<public>pub(?:\([^)]*\))?\s+)?(?P<name>\w+): (?P<type>[^\n]+?),?$")
-# A type of parameters that can be passed twice.
+# Matches the types of parameters that can be passed twice.
 COPIED = re.compile(r"&(?!(?:'\w+ )?mut )|Option<&(?!mut )|(?:[iu]\d+|[iu]size|bool|Global|\[\w+; .*\])$")
-# A type that has no name for its lifetime, or none outside of its impl.
+# Matches types whose lifetime has no name, and `Self`, which has no meaning outside of its impl.
 UNNAMED = re.compile(r"&(?!')|'_|\bSelf\b")
 # The values that reset a field of a type.
 VALUES = {"()": "()", "bool": "false", "&str": '""', "&[u8]": "&[]"}
@@ -109,9 +109,9 @@ class Mutant(WrongBody):
         self.crate, self.path, self.item, self.function, self.places = crate, path, item, function, places
         self.copied = None if item.trait else item
         self.does, self.label, self.suffix = does, f"{crate}/{function}: {does}", ""
-        # A clause of a contract: where the mutant resets the field, it has the reset value.
+        # A condition: at the place where the mutant resets the field, the field has the reset value.
         self.field = field
-        # A body that calls the unchanged function and then changes what it did in the same way.
+        # A body that calls the unchanged function, and then makes the same change as the mutant.
         self.around = around
         self.call = call
         self.clause = self.named = self.by = self.why_not = ""
@@ -120,7 +120,8 @@ class Mutant(WrongBody):
         self.changes, self.outputs = changes, outputs
 
     def probe(self, is_call):
-        """Returns the unchanged function, or a call of it, with one clause: the field has the value that the mutant gives it."""
+        """Returns the unchanged function, or a function that calls it, with one clause: the field has the value to which the mutant
+        resets it. If the prover accepts it, the mutant changes nothing."""
         body = self.item.body
         clause = f"ensures probe {{ {self.field} }}\n"
         probe = self.with_body(f"{clause}{{ {self.call} }}") if is_call else self.with_places([(body, body, clause)])
@@ -141,7 +142,8 @@ class Mutant(WrongBody):
             super().copy_proof(directory)
 
     def is_settled(self, determined):
-        """Returns true if what this mutant changes is among the outputs that the contract determines, which Twice describes."""
+        """Returns true if the contract determines what this mutant changes. `determined` has the outputs that it determines (see
+        `Twice`)."""
         return self.changes in determined or self.changes.partition(".")[0] in determined or determined >= self.outputs > set()
 
     def text(self):
@@ -436,9 +438,9 @@ class Generator:
             yield self.mutant([(begin, stop, early)], f"{does} before early return {number}", f"{name}{field}", is_clause("new"))
 
     def endings(self, sets):
-        """Yields the ways to reset a field at the end of a function that returns a value: when, the text after the value has the name
-        `returned`, and a clause that a condition holds then. After a success and after an error there are different promises, so
-        these are separate mutants."""
+        """Yields the ways to reset a field at the end of a function that returns a value. Each is a description of when, the text that
+        follows the returned value (which has the name `returned`), and a clause with a place for a condition. A contract promises
+        different things after a success and after an error, so these are separate mutants."""
         last = self.bare[self.item.body + 1:self.item.end - 1]
         last = last[self.last_statement(last):].strip()
         if success_of(self.result):
@@ -601,7 +603,8 @@ class FieldTrial(Trial):
         return settled
 
     def try_twices(self, group):
-        """Checks a group of `Twice`, which take what is proved. Those that do not compile are taken out. Returns the group."""
+        """Checks a group of `Twice`s. Each reads from the output which of its clauses are proved. Those that do not compile are left out.
+        Returns the group."""
         left = list(group)
         while left:
             known, (text, lines) = len(self.proved), self.run(left)
@@ -663,10 +666,10 @@ def copies_in(file):
 
 
 def supply(crate):
-    """Has the crates below a crate built."""
+    """Builds the crates on which a crate depends. Ends the script if they are not proved."""
     why = proved.build_libraries(proved.crates()[crate].dependencies)
     if why:
-        raise SystemExit(f"the crates below {crate} are not proved: {why}")
+        raise SystemExit(f"the crates on which {crate} depends are not proved: {why}")
 
 
 def names_of(crate, known):
@@ -720,8 +723,8 @@ def determined(trial, generators, mutants, pool):
 
 
 def begun(crate, mutants, places):
-    """Returns a trial for a crate, and the verdicts that are known before any mutant is tried: on all if the unchanged functions are
-    not proved, and otherwise on those of functions for which the prover uses other names, which are generic."""
+    """Returns a trial for a crate, and the verdicts that are known before any mutant is tried: on all mutants if the unchanged functions
+    are not proved, otherwise on those of generic functions, for which the prover uses other names."""
     trial, unnamed = FieldTrial(crate, places), []
     why = trial.lacks_proof(mutants)
     while unknown := re.search(r"has no function `([^`]+)`", why):
@@ -742,7 +745,9 @@ def try_functions(trial, generators, mutants, pool, is_unchanged):
 
 
 def looked_at_again(trial, verdicts, pool):
-    """Tries in another way the mutants that are proved, and those whose rejection says nothing yet. Returns the verdicts."""
+    """Tries again, in another way, the mutants that are proved or whose rejection says nothing about the contract. Returns the verdicts.
+    After an unclear rejection, a function is tried that calls the unchanged one and then makes the change. For a proved mutant, a
+    probe shows if it changes anything at all."""
     unclear = [verdict.body for verdict in verdicts if verdict.outcome in (APART, GAVE_UP) and verdict.body.around]
     calls = {body.function: body.with_body(f"{{ {body.call} }}") for body in unclear}
     called = {verdict.body.function for verdict in in_groups(trial, [*calls.values()], pool) if verdict.outcome == PROVED}
@@ -847,7 +852,7 @@ def counted(outcomes):
 
 
 def parts_of(tried, most):
-    """Splits functions into lists with at most so many mutants, or of one function with more."""
+    """Splits functions into lists with at most `most` mutants. A function with more mutants gets a list of its own."""
     parts, number = [[]], 0
     for generator, bodies in tried.items():
         if parts[-1] and number + len(bodies) > most:
