@@ -19,9 +19,8 @@ use Rattle.minisign_install.proofs.StepSafety.{Passed}
 abbrev NoRecord : Snapshot → Type 0
 NoRecord m = m.record_file ≡ None
 
--- The temporary files that cannot exist when this operation is due. For some operations neither the one of the
--- data nor the one of the record exists. For others only the one of the record is known not to exist. ⊤ says
--- nothing: both may exist.
+-- The temporary files that cannot exist when this operation is due: for some operations neither that of the
+-- data nor that of the record, for others only that of the record. ⊤ says nothing: both may exist.
 abbrev Lacks : Operation → Snapshot → Type 0
 Lacks due.CopyData m = NoRecord m
 Lacks due.ReadBack m = NoRecord m

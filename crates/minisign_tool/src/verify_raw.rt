@@ -22,8 +22,8 @@ use std::alloc::Global;
 /// Verifies all the unread data of `data_reader` with the public key of 42 bytes in `pk_file` and
 /// the signature of 74 bytes in `sig_file`; later bytes of both are ignored. Both files are read
 /// whole, the key first, before the data is read. Writes to `errors` the warning that the toy scheme is
-/// not secure, and after it the status line or the line of an error. Returns the exit status: 0 if the signature is valid,
-/// otherwise 1.
+/// not secure, and after it the status line or the line of an error. Returns the exit status: 0 if the
+/// signature is valid, otherwise 1.
 pub fn run_verify_raw<S: Scheme, P: Source, Q: Source, R: Rereader, W: Sink>(
     alloc: Global,
     scheme: &S,

@@ -1,7 +1,7 @@
 //! Tests of the library that `tests/rows/` cannot contain, because the requests to
 //! `minisign_compare` cannot express them: calls for which there is no request, devices that fail at a
-//! chosen call, failed allocations, and example callers. The calls for a scheme outside the library are tested
-//! from C in `tests/c`, and installing is tested on real files by `tests/installer`.
+//! chosen call, failed allocations, and example callers. The calls for a scheme outside the library
+//! are tested from C in `tests/c`, and installing is tested on real files by `tests/installer`.
 //!
 //! Each expected value comes from outside: from a standard, from Python's hashlib, from the
 //! upstream tool, or worked out by hand from a definition. None is the output of a crate of this
