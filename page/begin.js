@@ -13,7 +13,7 @@ async function missingFeatures() {
   const features = hasWebAssembly ? [] : ["WebAssembly"];
   if (!await hasEd25519()) {
     features.push(isSecureContext ? "Ed25519 in WebCrypto"
-      : "Ed25519 for pages that were opened by http");
+      : "Ed25519 for pages that were opened over http");
   }
   return features;
 }
@@ -29,8 +29,8 @@ async function begin(script) {
   keepSource(script);
   const features = await missingFeatures();
   if (features.length > 0) {
-    showUnusable(`This browser lacks ${features.join(", and ")}, so this page cannot verify anything in it. ` +
-      (isSecureContext ? "Use a newer browser, or the program minisign." : `${FROM_DISK}, or open it by https.`));
+    showUnusable(`This browser lacks ${features.join(", and ")}, so this page cannot verify anything here. ` +
+      (isSecureContext ? "Use a newer browser, or the program minisign." : `${FROM_DISK}, or open it over https.`));
     return;
   }
   let module;

@@ -209,7 +209,7 @@ async function saveProjectPage() {
     const url = URL.createObjectURL(new Blob([await projectPage()], {type: "text/html"}));
     Object.assign(document.createElement("a"), {href: url, download: "verify.html"}).click();
     setTimeout(() => URL.revokeObjectURL(url), TIMEOUT_MS);
-    byId("project-message").textContent = "The page is saved as verify.html. Open it to try it, and serve it by https.";
+    byId("project-message").textContent = "The page is saved as verify.html. Open it to try it, and serve it over https.";
   } catch (why) {
     byId("project-message").textContent = `No page was saved. ${why instanceof InvalidInput ? why.message : WENT_WRONG}`;
   }

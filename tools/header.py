@@ -300,7 +300,7 @@ def generated_files():
     rows = [*fault_rows(), weak, *install_rows(install_comments), *list_rows(list_comments)]
     comments = comments | install_comments | list_comments | {weak[0]: weak_comment}
     numbers = all_numbers(rows, comments)
-    # Each header is parsed by itself for its attributes, because these do not depend on structs of the other one.
+    # Each header is parsed by itself for its attributes, because these do not depend on structs of the other headers.
     header = header_text(HEADER, {"Numbers": enum_text("error", numbers, first=["    MINISIGN_OK = 0"]), "Kinds": kinds_text(),
                                   "Answers": answers_text(numbers), "Attributes": attributes_text(parsed(read(HEADER)))})
     installing = header_text(INSTALLING, {**dict(choices_texts()), "Attributes": attributes_text(parsed(read(INSTALLING)))})

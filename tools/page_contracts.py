@@ -22,11 +22,13 @@ PAGE, LIBRARY = "crates/minisign_page/src/lib.rt", "crates/minisign_c/src/lib.rt
 EXPORT = r'(?m)^(?:///.*\n)*#\[unsafe\(no_mangle\)\]\npub extern "C" fn {prefix}_(\w+)\((?:.*\n)*?\{{$'
 CALL = re.compile(r"\bminisign_(\w+)(?=[(`])")
 RENAMED = (("IsCallMeaning", "IsListMeaning"), ("of the error of an installation or a list,", "of the error of a list,"))
-# Exports that the library for C does not have: it compares a digest with one entry, and the page compares it with all entries.
+# Exports of minisign_page that the library for C does not have. A C program compares a file with the one entry that has its
+# name. The verification page does not know the name, so it needs the digests to compare them with all entries.
 PAGE_ONLY = ("sha256_begin", "sha256_update", "sha256_digest", "sha512_begin", "sha512_update", "sha512_digest")
 
 
-# The definitions for lists: those of the library, and of them the part that is copied, from the first text to the second one.
+# The definitions for lists of minisign_page (PAGE_SPECS) are copied from those of minisign_c (SPECS): the part from the text
+# BEGIN to the text END. MEANING is put before this part, in place of the definition IsCallMeaning of minisign_c.
 PAGE_SPECS, SPECS = "crates/minisign_page/specs/ListCalls.antt", "crates/minisign_c/specs/ListCalls.antt"
 BEGIN, END = "-- The error number of a failed call.\n", "-- == Writing ==\n"
 MEANING = """-- The text is that of the list error with this number, or else of any other error with this number. The page

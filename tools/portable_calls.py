@@ -1,6 +1,7 @@
-"""Generates `dist/calls.c`: the proved calls as C99, for processors and systems without an archive in dist/.
+"""Generates `dist/calls.c`: the proved calls as C99, for processors and systems without an archive in dist/. `dist.py` imports this
+module.
 
-While the kit builds an archive for x86-64, this script saves the LLVM bitcode that the kit passes to its clang. That
+While the kit builds an archive for x86-64, this module saves the LLVM bitcode that the kit passes to its clang. That
 archive must be the one of dist/, byte for byte, which ties the bitcode to the proof. The same clang then compiles the
 bitcode to 64-bit WebAssembly, where addresses and `usize` have the same size and numbers in memory the same byte order
 as on x86-64. `wasm_to_c.py` translates the WebAssembly to C. The steps after the bitcode are tested and not proved.
@@ -16,8 +17,9 @@ from wasm_object import Unread
 
 HEAD = """/* SPDX-License-Identifier: MIT */
 /*
- * The calls of the crate minisign_c: made by tools/dist.py of the LLVM bitcode that they were compiled from once they were
- * proved (dist/PROVED has its sum), and not to be edited. tools/wasm_to_c.py says how; that is tested, and not proved.
+ * The calls of the crate minisign_c in C. tools/dist.py generates this file from the LLVM bitcode to which the proved
+ * calls were compiled (dist/PROVED has its sum). Do not edit it. tools/wasm_to_c.py says how it is translated. The
+ * translation is tested, and not proved.
  */
 """
 # A wrapper around clang, which saves the module that clang compiles.

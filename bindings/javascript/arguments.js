@@ -72,7 +72,10 @@ const isMode = (value) => Number.isInteger(value) && (value & ~0o777) === 0;
 const OPTIONS = {
   __proto__: null,
   allowLegacy: BOOLEAN,
-  longDigest: ["sha512, blake2b or none", (value) => LONG_DIGESTS.has(value)],
+  longDigest: [
+    `"sha512", "blake2b" or "none"`,
+    (value) => LONG_DIGESTS.has(value),
+  ],
   lowMemory: BOOLEAN,
   mode: ["an integer from 0 to 0o777", isMode],
   mostRows: ["a positive integer", isRowCount],

@@ -12,7 +12,7 @@ const SLICE_BYTES = 1048576;
 
 // Makes the object that createVerifier and createSigner return. It passes each
 // piece of data to `feed`, and its method `end` resolves to the result of the
-// parameter `end`. After that, all calls fail with NOT_BEGUN. `more` returns
+// parameter `end`. After that, its methods fail with NOT_BEGUN. `more` returns
 // further properties of the object. It gets a function that throws NOT_BEGUN
 // after the end.
 export function pieceConsumer(library, feed, end, more = () => ({})) {
@@ -177,7 +177,7 @@ function piecesOfData(source, signal) {
   }
   const isList = typeof source === "object" && source?.[Symbol.iterator];
   const isIterable = source?.[Symbol.asyncIterator] || isList;
-  const expected = "bytes, a Blob, a stream or pieces of bytes";
+  const expected = "bytes, a Blob, a stream or an iterable of bytes";
   mustBe(isIterable, "data", expected, source);
   return source;
 }

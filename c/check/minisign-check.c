@@ -58,7 +58,7 @@ int main(int argc, char *argv[])
         return UNUSABLE_FILE;
     }
     if (!arguments_to_utf8(&argc, &argv)) {
-        exit_with_error(WRONG_USAGE, NULL, "an argument is not valid Unicode", "rename the file");
+        exit_with_error(WRONG_USAGE, NULL, "an argument is not valid Unicode", "if it is a file name, rename the file");
     }
     options = parse_arguments(argc, argv);
     if (sodium_init() < 0) {

@@ -636,7 +636,7 @@ static const char *find_misuse(const minisign_installing_options *options)
     return options->target == NULL                              ? "the options have no target"
            : options->signature == NULL                         ? "the options have no signature file"
            : options->key == NULL                               ? "the options have no public key"
-           : options->verify == NULL && options->answer == NULL ? "the options have neither verify nor answer"
+           : options->verify == NULL && options->answer == NULL ? "neither of the fields verify and answer is set"
            : options->has_mode != 0 && options->mode > 0777     ? "the mode in the options is above 0777"
            : options->wait > MAX_WAIT_SECONDS                   ? "the wait in the options is longer than a day"
            : options->name != NULL && *options->name == 0       ? "the name in the options is empty"

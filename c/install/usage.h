@@ -17,13 +17,13 @@
     "recorded beside TARGET.\n" \
     "\n" \
     "  --first            Install even if the version record of TARGET is missing or\n" \
-    "                     damaged, contains a number from the other field (see\n" \
+    "                     damaged, contains a number of the other numbering (see\n" \
     "                     `--numbering`), or was made under another key.\n" \
-    "  --again            Install an update of the recorded version even if a\n" \
-    "                     different file is installed.\n" \
-    "  --new-key          Ignore a version record that was made under a key that you\n" \
-    "                     do not pass. A missing or damaged record is still an\n" \
-    "                     error.\n" \
+    "  --again            Install an update that has the recorded version number,\n" \
+    "                     even if a different file is installed.\n" \
+    "  --new-key          Ignore a version record that was made under a key other\n" \
+    "                     than those that you give. A missing or damaged record is\n" \
+    "                     still an error.\n" \
     "  --roll-back        Install an update even if it is older than the recorded\n" \
     "                     version.\n" \
     "  --check            Check for an update, but do not install it. Print its\n" \
@@ -79,7 +79,7 @@
     "  6   The update is installed but could not be synced, so a crash may bring\n" \
     "      back the previous file. Run the command again.\n" \
     "  7   `--first` is not given, and the version record of TARGET is missing or\n" \
-    "      damaged, or its number is from the other field (see `--numbering`).\n" \
+    "      damaged, or its number is of the other numbering (see `--numbering`).\n" \
     "  8   The update has the recorded version number, but the installed file is\n" \
     "      different, and `--again` is not given. (If the record contains the digest\n" \
     "      of this update, the program finishes the installation instead.) Possible\n" \

@@ -42,7 +42,7 @@ int main(int argc, char *argv[])
         return STATUS_ERROR;
     }
     if (!arguments_to_utf8(&argc, &argv)) {
-        fail_with_hint(NULL, "an argument is not valid Unicode", "rename the file");
+        fail_with_hint(NULL, "an argument is not valid Unicode", "if it is a file name, rename the file");
     }
     options = parse_options(argc, argv);
     if (options.quiet != PRINT_ALL) {

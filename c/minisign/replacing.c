@@ -147,7 +147,7 @@ static void register_cleanup(void)
         clean_at_end(remove_stages);
         signal(SIGXFSZ, SIG_IGN);
         if (atexit(finish_queued_stages) != 0) {
-            fail_with_hint(NULL, "atexit() failed", NULL);
+            fail_with_hint(NULL, "the clean-up at exit could not be registered", NULL);
         }
     }
 }
@@ -160,7 +160,7 @@ static struct replacement *find_free_stage(void)
             return stage;
         }
     }
-    fail_with_hint(NULL, "too many files at once", NULL);
+    fail_with_hint(NULL, "too many files are written at the same time", NULL);
 }
 
 /* Closes the descriptors of a stage and removes its temporary name, so that the entry is free again. If the name cannot

@@ -9,7 +9,7 @@ static const struct {
     const char *words;
 } descriptions[] = {
     { MINISIGN_NOT_UTF8, "this is not UTF-8 text" },
-    { MINISIGN_DIFFERENT_KEY_IDS, "the signature was made with a key that has another key ID" },
+    { MINISIGN_DIFFERENT_KEY_IDS, "the signature was made with a different key: the key IDs differ" },
     { MINISIGN_PARAMETERS_TOO_HIGH, "the scrypt limits of this key are too high" },
     { MINISIGN_INVALID_PARAMETERS, "the scrypt limits of this key are invalid" },
     { MINISIGN_WORK_TOO_HIGH, "decrypting this key takes more work than allowed" },

@@ -1,5 +1,6 @@
 /* SPDX-License-Identifier: MIT */
-/* Inspects files without opening them: with O_PATH and /proc on Linux, with lstat elsewhere. */
+/* Inspects files without opening them (with O_PATH and /proc on Linux, with fstatat elsewhere), and opens only those that
+ * are safe to open. */
 #define _GNU_SOURCE
 
 #include "handles.h"
@@ -29,7 +30,7 @@ void close_if_open(int *fd)
     errno = saved_errno;
 }
 
-/* ---- Calls that only Linux has ---- */
+/* ---- Calls that only Linux has, and what replaces them elsewhere ---- */
 
 #if defined __linux__ && !defined POSIX_ONLY
 

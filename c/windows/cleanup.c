@@ -71,7 +71,7 @@ void clean_at_end(void (*cleaner)(void))
         InitializeCriticalSection(&termination);
     }
     if (count == MAX_CLEANERS || (count == 0 && atexit(clean_at_exit) != 0)) {
-        fail_with_hint(NULL, "atexit() failed", NULL);
+        fail_with_hint(NULL, "the clean-up at exit could not be registered", NULL);
     }
     cleaners[count++] = cleaner;
     if (count == 1) {

@@ -431,7 +431,7 @@ static struct replacement *prepare_stage(const char *file, bool may_replace)
         stage++;
     }
     if (stage == stages + MAX_STAGES) {
-        fail_with_hint(NULL, "too many files at once", NULL);
+        fail_with_hint(NULL, "too many files are written at the same time", NULL);
     }
     stage->file = file;
     stage->may_replace = may_replace;

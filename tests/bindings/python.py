@@ -87,8 +87,8 @@ def check_loaded(checks, what, compiler, library, before=(), **variables):
 
 
 def check_builds(checks, archive, scratch):
-    """Builds the archive of sources in a path with spaces: as C by Debian's compiler and with musl, for AArch64 with the archive of proved
-    functions, and for Windows. Checks that a compiler without GNU options is rejected with an error that says so."""
+    """Builds the source distribution of the package in a path with spaces: from C sources by Debian's compiler and with musl, for AArch64
+    with dist/calls-aarch64.a, and for Windows. Checks that a compiler without GNU options is rejected with an error that says so."""
     programs, arm, windows = shared.make_path_directory(scratch, *NEEDED), emulated.AARCH64, portable.Windows(scratch)
 
     def unpacked(name):
@@ -184,8 +184,8 @@ print(json.dumps([[[number, kind.__name__, str(_calls.error_of(number))] for num
 
 
 def check_headers(checks, scratch, python_path, package):
-    """Checks that the library is linked with the archives, and that the exceptions, the constants and the structs are those of the headers,
-    and those of minisign_installing.h that the package declares."""
+    """Checks that the library is linked with the archives of dist/, and that the exceptions, constants and structs of the package are those
+    of the headers. Of minisign_installing.h, the package declares only a part."""
     checks.check("v3_minisign_update" in shared.symbols_of(f"{package}/libminisign.so"), "the library is not linked with the archives")
     errors, places, installer = json.loads(run_or_fail([python_path, "-c", DECLARED]))
     expected = [[number, "".join(map(str.capitalize, name.split("_"))), shared.error_texts()[name]]

@@ -57,7 +57,7 @@ NO_NUMBER = {"version": 'omit --numbering version if the comment has a field "ti
              "timestamp": 'use --numbering version if the comment has a field "version:"'}
 # The errors that `minisign-install` describes in other words than the library.
 WORDS = {
-    minisign.DifferentKeyIds: "the signature was made with a key that has another key ID",
+    minisign.DifferentKeyIds: "the signature was made with a different key: the key IDs differ",
     minisign.NoNumber: 'the trusted comment has no valid field "{numbering}:"',
     minisign.BadExpiry: 'the trusted comment has an invalid or repeated expires: field',
     minisign.BadSize: 'the trusted comment has an invalid or repeated size: field',

@@ -23,8 +23,9 @@
 #define HINTS(len) ((len) >= LARGE_BYTES ? 2 : 0)
 #endif
 
-/* The size of the rows of a key in a large block, and the factor between tested alignments. With -DIS_EMULATED, this is
- * the smallest large block, and fewer alignments are tested. */
+/* LARGE_ROWS: the number of bytes of scrypt's rows for the key that is decrypted in a large block. NEXT_ALIGNMENT: each
+ * tested alignment is this many times the one before. With -DIS_EMULATED, the rows have the size of the smallest large
+ * block, and fewer alignments are tested, because emulators are slow. */
 #define LARGE_ROWS (IS_EMULATED ? LARGE_BYTES : (size_t) 16 << 20)
 #define NEXT_ALIGNMENT (IS_EMULATED ? 64 : 4)
 
@@ -165,8 +166,8 @@ static void wait_for_pages(void *block)
     }
 }
 
-/* Allocates a block that is mapped in several parts. All of it must be mapped, from the beginning to the end. If mapping
- * a part with huge pages was slow, the next part must use small pages. */
+/* Allocates a block that is mapped in several parts. All of it must be mapped, from the beginning to the end. The first
+ * part must use small pages. If mapping a part with huge pages was slow, the next part must use small pages too. */
 static void check_parts(void)
 {
     size_t len = 3 * PART_BYTES + 12345, at = 0;

@@ -40,7 +40,8 @@ static const char SECRET[] =
     "b2eff9108a88977e738b0f53a6c938bd";
 static const char SECRET_KEY_ID[] = "bbcd807aefe53eab";
 
-/* The same secret key in a file with another key derivation, other limits, another key ID, and another checksum. */
+/* A key file with the same secret key, and with this key derivation, these limits, this key ID and this checksum, each in
+ * base64. */
 #define KEY_TEXT(derivation, limits, key_id, checksum) \
     "untrusted comment: x\nRW" derivation "IyAAAAAAAAAAAAAAAAAAAAAAAAAAAAAAAAAAAAAAAAAA" limits key_id \
     "5tw414tB2l3S0AV4BthpWrWHyA+ItsehisjsR8AROg+V8Ng82TAEWPpchqblhFFay7/kQioiXfnOLD1OmyTi9A" checksum \
@@ -93,8 +94,8 @@ static void parses_signatures(void)
     CHECK(short_one.whole == 0 && short_one.comment_len == 4 && cut + short_one.comment_offset == strstr(cut, "\xc3\xa9 t"));
 }
 
-/* The questions for Ed25519 contain the fields of the key and of the signature. The verdict is OK only if both signatures are
- * valid. */
+/* The questions for Ed25519 contain the fields of the key and of the signature. If both are answered with yes, the verdict is
+ * OK. */
 static void asks_and_verifies(void)
 {
     const minisign_public_key key = key_of(HELLO_KEY);
@@ -136,7 +137,8 @@ static void rejects_signature_texts(void)
         { HELLO_KEY, "x\nRUS4\ntrusted comment: y\nRUS4\n", MINISIGN_UNTRUSTED_COMMENT_PREFIX },
         { HELLO_KEY, "untrusted comment: x\nRUS!\ntrusted comment: y\nRUS4\n", MINISIGN_SIGNATURE_NOT_BASE64 },
         { HELLO_KEY, "untrusted comment: x\nRUS4\ntrusted comment: y\nRUS4\n", MINISIGN_RECORD_TOO_SHORT },
-        /* Padding is allowed only at the end (RFC 4648, section 4), and not after the 74 bytes that are decoded. */
+        /* The text is longer than 74 bytes in base64. Padding is allowed only at its end (RFC 4648, section 4), and so not after
+         * the first 74 bytes. */
         { HELLO_KEY,
           "untrusted comment: x\n" OTHER_RECORD "AAAA\ntrusted comment: a trusted comment\n"
           "VFXOnLXSP360tFPUt7eqzsSHMo0p1bPS9fRkoO0MOvNy8kHZu0k9okhkkORQyQv79DEl+OdNXurVl1Qt+AMEAQ==\n",

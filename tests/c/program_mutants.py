@@ -76,8 +76,8 @@ def failure_of(scratch, built, name, cases_of, mutant):
 
 
 def try_mutants(tried, scratch, name, cases_of):
-    """Tries mutants of a program and returns the failures. Each mutant is tried in a separate process, because
-    cases may change the user of the process."""
+    """Tries mutants of a program in several processes, and returns the failures. Threads would not do, because
+    cases may change the user of the process for a while."""
     os.chmod(scratch, 0o711)
     built = mutants.copy_sources(scratch, "include", "c")
     os.mkdir(os.path.join(built, "c", "out"))

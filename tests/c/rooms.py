@@ -54,10 +54,10 @@ TEST_DIRECTORIES = ("command_line", "installer", "check", "c", "verdicts", "shar
 # Messages that no test can cause, and why.
 NOT_CAUSED = {
     "the data could not be hashed": "the state was initialized, and its digest is finalized later",
-    "too many files at once": "pending files are renamed before there are that many",
+    "too many files are written at the same time": "pending files are renamed before there are that many",
     "other processes keep replacing this file": "others would have to do so during each of a hundred attempts to open it",
     "the target of this link does not exist": "wine shows a link to a missing file as a missing file",
-    "atexit() failed": "the C library allows at least 32 functions",
+    "the clean-up at exit could not be registered": "the C library allows at least 32 functions",
 }
 MAX_GLIBC = (2, 31)
 # Functions that the headers of an older glibc replace.

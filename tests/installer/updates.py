@@ -338,7 +338,7 @@ UPDATE_TABLE = (
     ("keys twin and twin", REJECTED, COMMENT_ERROR, dict(keys=["twin", "twin"])),
     *((f"older update with keys {' and '.join(keys)}", OLDER_VERSION, OLDER_ERROR, dict(keys=keys, number=4))
       for keys in (["own", "twin"], ["twin", "own"])),
-    ("keys other", REJECTED, error_text("new.sig", "the signature was made with a key that has another key ID", "use the public key of the signer"),
+    ("keys other", REJECTED, error_text("new.sig", "the signature was made with a different key: the key IDs differ", "use the public key of the signer"),
      dict(keys=["other"])),
     # The record holds the greatest version number. Only an update under another key than the recorded one, with --first or
     # --new-key, is installed over it.

@@ -40,8 +40,8 @@ MEMORY_LIMITS = [
     ("opens_key_of_minisign_in_less_memory", 80, 64),
     ("rejects_limits_only_after_password_was_typed", 8, 0),
 ]
-# A test that must make exactly two allocations: one for all rows of scrypt, and one for the buffer in which they
-# are mixed.
+# A test that must make exactly two allocations: a single one for all rows of scrypt, as its name says, and one for
+# the buffer in which the rows are mixed.
 TWO_ALLOCATIONS = "reserves_all_rows_in_a_single_request"
 
 

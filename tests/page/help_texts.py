@@ -166,7 +166,7 @@ def check_page_that_cannot_start(person):
     for policy, at, is_secure, has, lacks in (
             ("script-src 'unsafe-inline'", 0, True,
              ["The server of this page forbids WebAssembly", "Save the page and open it from disk."], ["https"]),
-            ("", 1, False, ["lacks Ed25519 for pages that were opened by http", "Save the page and open it from disk, or open it by https."], [])):
+            ("", 1, False, ["lacks Ed25519 for pages that were opened over http", "Save the page and open it from disk, or open it over https."], [])):
         what = f"the policy {policy!r}, and by https or from this machine: {is_secure}"
         with served(person.page, Content_Security_Policy=policy) as addresses:
             person.open(addresses[at])

@@ -25,7 +25,7 @@ TESTS_PASSED = re.compile(r"(?m)^(2[5-9]|[3-9]\d) passed, 0 failed$")
 
 
 def path_without_kit():
-    """Returns PATH without the directories that contain `rt`. On Debian, /usr/bin comes first."""
+    """Returns PATH without the directories that contain `rt`."""
     without_rt = (directory for directory in needs.path_directories() if not os.path.exists(os.path.join(directory, "rt")))
     return os.pathsep.join(without_rt) or "/usr/bin:/bin"
 

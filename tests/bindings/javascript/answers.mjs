@@ -164,7 +164,7 @@ async function growth(count, [[key, data, signature], [, other]]) {
 }
 
 // The beginnings of messages about arguments of wrong types.
-const DATA = "data must be bytes, a Blob, a stream or pieces of bytes, not";
+const DATA = "data must be bytes, a Blob, a stream or an iterable of bytes, not";
 const SIGNATURE = "signature must be a string or bytes, not", KEY = "key must be a string or bytes, not";
 
 // Makes calls that must reject with a TypeError that names the argument.

@@ -127,7 +127,7 @@ async function checkArguments() {
   await check("OTHER_LIST", () => verifyWith({listName: ""}));
   for (const value of ["SHA512", "", 1, null]) {
     const kind = value === null ? "null" : typeof value;
-    await check(`INVALID_ARGUMENT: longDigest must be sha512, blake2b or none, not ${kind}`, () =>
+    await check(`INVALID_ARGUMENT: longDigest must be "sha512", "blake2b" or "none", not ${kind}`, () =>
       verifyList(text, signature, key, listName, {longDigest: value}));
   }
   await check("INVALID_ARGUMENT: unknown option allowLegacy", () => verifyList(text, signature, key, listName, {allowLegacy: true}));
@@ -136,7 +136,7 @@ async function checkArguments() {
   }
   for (const value of [1, "data", null]) {
     const kind = value === null ? "null" : typeof value;
-    await check(`INVALID_ARGUMENT: data must be bytes, a Blob, a stream or pieces of bytes, not ${kind}`, () => list.verifyListed(value, name));
+    await check(`INVALID_ARGUMENT: data must be bytes, a Blob, a stream or an iterable of bytes, not ${kind}`, () => list.verifyListed(value, name));
     await check(`INVALID_ARGUMENT: data must be bytes or a Blob, not ${kind}`, () => list.verifyListedTrustingWebCrypto(value, name));
   }
   await check("INVALID_ARGUMENT: unknown option name", () => list.verifyListed(data, name, {name: "x"}));

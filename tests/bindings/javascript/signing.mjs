@@ -92,7 +92,7 @@ async function wrong() {
   // The beginnings of the error messages about each argument.
   const KEY = "TypeError: secretKey must be a secret key from this package, not";
   const OPTIONS = "TypeError: options must be a plain object, not", ROWS = "TypeError: mostRows must be a positive integer, not";
-  const DATA = "TypeError: data must be bytes, a Blob, a stream or pieces of bytes, not", PIECE = "TypeError: a piece of data must be bytes, not";
+  const DATA = "TypeError: data must be bytes, a Blob, a stream or an iterable of bytes, not", PIECE = "TypeError: a piece of data must be bytes, not";
   const textNamed = name => `TypeError: ${name} must be a string or bytes, not`;
   return outcomes([
     [`${KEY} string`, () => sign(bytes, "a key")], [`${KEY} null`, () => sign(bytes, null)],

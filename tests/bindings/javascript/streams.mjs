@@ -106,7 +106,7 @@ const CHECKS = {
     }
     return seen;
   },
-  // Files that are not open yet are closed too.
+  // Verifying fails before the file of the stream is open. The file must be closed as soon as it was opened.
   async opening() {
     const before = countDescriptors(), seen = new Set();
     for (let time = 0; time < TIMES; time += 1) {

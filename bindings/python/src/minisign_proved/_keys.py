@@ -69,7 +69,8 @@ def pieces(data: Data) -> Iterator[bytes]:
         name = "the result of data.read"
         return iter(lambda: octets(name, file.read(PIECE_BYTES)), b"")
     try:
-        return iter([octets("data", data, "bytes, a binary file or pieces of bytes")])
+        kinds = "bytes, a binary file or an iterable of bytes"
+        return iter([octets("data", data, kinds)])
     except TypeError:
         # A str is iterable, but yields str.
         if isinstance(data, str) or not isinstance(data, Iterable):
