@@ -47,7 +47,7 @@ PREREQUISITES = {"README.md": {*BUILD_PACKAGES, "libsodium-dev"}, "c/release.md"
 NAMING_GNU_MAKE = ("README.md", "c/release.md", "c/Makefile", "bindings/rust/README.md", "bindings/go/README.md")
 DEBIAN_SCRIPT = "packaging/debian.sh"
 # The licence terms of the kit's crates in LICENSE and the sentence after them, and a copyright line in these terms.
-KIT_TERMS = re.compile(r"Of the kit's crates, its files say this:(.*?)\nSo (nothing .*?)\.", re.S)
+KIT_TERMS = re.compile(r"The files of the kit's crates say this about their licences:(.*?)\n(We know of no licence .*?)\.", re.S)
 COPYRIGHT_LINE = re.compile(r"Copyright \(c\) ([\d-]+ .*?)\.?$", re.M)
 CHECK = os.path.join(static_library.DIRECTORY, "check.sh")
 # Flags of a packager, and those that must be in each command that compiles or links.
