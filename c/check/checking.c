@@ -91,7 +91,7 @@ static struct files files_from_list(const struct listing *listing, const struct 
         *checked = (struct checked_file) { .name = listed->name, .line = listed->entry.line, .entry = listed->entry };
         if (count == 0) {
             checked->outcome = MISSING_FILE;
-            checked->why = "names with escapes (a backslash at the start of the line) are not supported";
+            checked->why = "names with a backslash or with escapes are not supported";
         } else if (count > 1) {
             checked->outcome = NOT_ONE_ENTRY;
             checked->error = MINISIGN_LISTED_TWICE;

@@ -359,7 +359,7 @@ class Cases:
 
     def rejects_arguments_that_are_not_unicode(self):
         ran = run_program([self.wine.program, self.helper, "lone", self.exe], self.scratch, None, SECONDS, env=self.wine.variables)
-        self.checks.same((ran.status, ran.stderr), (2, b"error: an argument is not valid Unicode\nhint: rename the file\n"),
+        self.checks.same((ran.status, ran.stderr), (2, b"error: an argument is not valid Unicode\nhint: if it is a file name, rename the file\n"),
                          "an argument that is not Unicode")
 
     def knows_two_names_of_one_file(self):
@@ -595,7 +595,7 @@ class Cases:
         for name, why in (("C:/windows/system.ini", COLON), ("Z:/etc/passwd", COLON), ("f0:stream", COLON), ("NUL", "not a regular file"),
                           ("aux.txt", RESERVED), ("f0.", DROPPED), ("f0 ", DROPPED), ("sub", "not a regular file")):
             check(f"the name {name!r}", [line(name, b"")], 1, why)
-        check("a backslash", [line("sub\\deep\\x", b"below")], 6, "no file matches it")
+        check("a backslash", [line("sub\\deep\\x", b"below")], 6, "names with a backslash or with escapes are not supported")
         check("a parent directory", [line("../data", b"")], 3, "malformed")
         for link, target, status in (("link", "f1", 0), ("dangling", "absent", 6)):
             os.symlink(target, f"{self.scratch}/files/{link}")

@@ -27,7 +27,7 @@ TWICE = "this file is in the list twice"
 BAD_NAME = 'a list can only contain relative paths without .. or special characters'
 NO_SUCH_FILE = "No such file or directory"
 # Errors and hints of the program.
-NOT_REGULAR, ESCAPED = "this is not a regular file", "names with escapes (a backslash at the start of the line) are not supported"
+NOT_REGULAR, ESCAPED = "this is not a regular file", "names with a backslash or with escapes are not supported"
 DOWNLOAD = "download the file again; if it is newer than the list, download the list too"
 GIVE_NAMES = "use the file names of the list, and --in DIR if the files are in another directory"
 LIST_ONCE = "have the signer list each file once"
