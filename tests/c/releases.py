@@ -149,7 +149,7 @@ def check_licence(checks):
     """Checks that LICENSE names each crate of the kit whose functions are in the archives, or that the crates in
     the archives use."""
     crates = proved.crates()
-    terms = re.search(r"Of the kit's crates, its files say this:(.*?)\nSo nothing", read(TOP, "LICENSE").decode(), re.S)[1]
+    terms = re.search(r"The files of the kit's crates say this about their licences:(.*?)\nWe know of no licence", read(TOP, "LICENSE").decode(), re.S)[1]
     named = {name for archive in glob.glob(f"{static_library.DIST}/*.a")
              for name in re.findall(r" (\w+)::", run([needs.program("nm", "binutils"), archive])[1])} - {*crates}
     called = {name for crate in (*crates["minisign_c"].dependencies, "minisign_c") for name in crates[crate].kit_dependencies} - {"std"}
