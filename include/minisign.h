@@ -121,7 +121,7 @@ extern "C" {
  * - No secret stays behind. A call that gets a secret key, a secret key file or a password clears three things before
  *   it returns: the memory that it got from malloc, the caller-saved registers, and the 16 KiB of the stack below its
  *   own frame. The calls use less than these 16 KiB: the archives less than 8 KiB, and the C code that replaces them
- *   less than 13 KiB. Provide 20 KiB of stack for these calls: 16 KiB that they clear, and 4 KiB for the frames above.
+ *   less than 14 KiB. Provide 20 KiB of stack for these calls: 16 KiB that they clear, and 4 KiB for the frames above.
  *   They do not clear what you hold: passwords, key files, and each minisign_unopened_key and minisign_secret_key. If
  *   a signal handler runs on another stack (sigaltstack), the system saves registers there, which the library cannot
  *   clear. Registers are cleared on x86-64 and AArch64 with ELF, and under Linux on s390x, 32-bit ARM and 64-bit
