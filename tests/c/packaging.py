@@ -81,8 +81,8 @@ def check_flags(checks, scratch):
         lines = [line.split() for line in output.splitlines() if line.startswith("gcc ")]
         compiling = [line for line in lines if any(word.endswith(".c") for word in line)]
         linking = [line for line in lines if "-c" not in line]
-        checks.check(len(compiling) == 16 and len(linking) == 4,
-                     f"{len(compiling)} commands compile, expected 16, and {len(linking)} link, expected 4")
+        checks.check(len(compiling) == 17 and len(linking) == 4,
+                     f"{len(compiling)} commands compile, expected 17, and {len(linking)} link, expected 4")
         for line, flags in [(line, COMPILE_FLAGS) for line in compiling] + [(line, LINK_FLAGS) for line in linking]:
             checks.check(flags <= {*line}, f"{' '.join(line)} does not have the flags {flags}")
 
