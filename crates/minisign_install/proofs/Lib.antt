@@ -3,12 +3,9 @@ mod Applying
 mod Checking
 mod Decisions
 mod Fields
-mod Judged
-mod HeldListings
+mod CommentFaults
 mod HeldStates
 mod Leftovers
-mod ListLaws
-mod Listings
 mod NewKeys
 mod FullTraces
 mod RecordTexts

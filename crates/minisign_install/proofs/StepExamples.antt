@@ -28,7 +28,6 @@ options = record {
   must_expire = false;
   new_key = false;
   roll_back = false;
-  list = None;
 }
 
 abbrev signature_file : SignatureTextRecord
@@ -52,9 +51,7 @@ world = record {
   found_record = Some recorded_2;
   text = Ok signature_file;
   update = 7 ∷ [];
-  list = [];
-  name = [];
-  most = 0;
+  max_size = 0;
 }
 
 -- The signature file passes the checks that need no Ed25519.
@@ -81,7 +78,6 @@ good = record {
   key = replicate 32 0;
   signed_comment = refl;
   signed_data = refl;
-  listed = refl;
   version = 3;
   numbered = refl;
   newer = newer_than_2;

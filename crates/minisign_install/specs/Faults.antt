@@ -3,7 +3,7 @@
 use Rattle.std.specs.Prelude.{◌≡◌, ◌≢◌, Bool, ℕ, List, codes, false, true}
 use Rattle.minisign_base.specs.Fault.{kind_of, text_of}
 use Rattle.minisign_base.specs.Faults.{FaultRow, row}
-use Rattle.minisign_base.specs.declared.errors.ErrorKind.TheVariants.{Io, Misc, Verify}
+use Rattle.minisign_base.specs.declared.errors.ErrorKind.TheVariants.{Io, Verify}
 pub use Rattle.minisign_base.specs.Fault.{Fault, Named}
 pub use Rattle.minisign_base.specs.Devices.{ErrorCountRises}
 pub use Rattle.minisign_base.specs.declared.faults.NamedFault.TheVariants.{NotUtf8, OutOfMemory}
@@ -19,9 +19,6 @@ pub use Rattle.minisign_install.specs.declared.faults.InstallFault.TheVariants.{
 pub use Rattle.minisign_install.specs.declared.faults.InstallFault.TheVariants.{DirectoryNotSynced, Expired}
 pub use Rattle.minisign_install.specs.declared.faults.InstallFault.TheVariants.{BadExpiry, SameNumber}
 pub use Rattle.minisign_install.specs.declared.faults.InstallFault.TheVariants.{NoExpiry, BadSize, OtherSize}
-pub use Rattle.minisign_install.specs.declared.faults.InstallFault.TheVariants.{BadName, MalformedLine}
-pub use Rattle.minisign_install.specs.declared.faults.InstallFault.TheVariants.{NotListed, ListedTwice}
-pub use Rattle.minisign_install.specs.declared.faults.InstallFault.TheVariants.{DigestMismatch}
 
 -- The number, the kind and the text of each error.
 abbrev pub install_row : InstallFault → FaultRow
@@ -47,25 +44,21 @@ install_row NoExpiry = row 58 Verify (codes "the trusted comment does not say wh
 install_row BadSize =
     row 59 Verify (codes "the trusted comment has an invalid or repeated size: field")
 install_row OtherSize = row 60 Verify (codes "the size of the data is not the one in the trusted comment")
-install_row BadName = row 90 Misc (codes "a list can only contain relative paths without .. or special characters")
-install_row MalformedLine = row 91 Misc (codes "a line of the list is malformed")
-install_row NotListed = row 92 Verify (codes "the list does not contain this name")
-install_row ListedTwice = row 93 Verify (codes "the list contains this name twice")
-install_row DigestMismatch = row 94 Verify (codes "the digest of the data is not the one in the list")
 
 -- The number of an error. An error of the library keeps its number.
 abbrev pub install_number : InstallFault → ℕ
 install_number e = (install_row e).number
 
 -- The error is an installation error, not one of the library.
-abbrev pub is_own : InstallFault → Bool
-is_own (Library fault) = false
-is_own e = true
+abbrev pub is_installer_fault : InstallFault → Bool
+is_installer_fault (Library fault) = false
+is_installer_fault e = true
 
 -- The text for this error number: the text of the installation error or of the library's error (without key
 -- IDs) with this number, or the text for an unknown number.
 pub record IsErrorText (n : ℕ) (text : List ℕ) : Type 0 where
   pub library : IsListedMeaning n text
-  pub own : (e : InstallFault) → is_own e ≡ true → n ≡ install_number e → text ≡ (install_row e).summary
-  pub unknown : IsUnlisted n → ((e : InstallFault) → is_own e ≡ true → n ≢ install_number e)
+  pub installer : (e : InstallFault) → is_installer_fault e ≡ true → n ≡ install_number e
+      → text ≡ (install_row e).summary
+  pub unknown : IsUnlisted n → ((e : InstallFault) → is_installer_fault e ≡ true → n ≢ install_number e)
       → text ≡ unknown_text

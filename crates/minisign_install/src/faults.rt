@@ -4,10 +4,10 @@
 ghost use Rattle.std.specs.Prelude.{◌≡◌, ◌<◌, List, ℕ, Some, true, IfSome, MatchResult, length};
 ghost use Rattle.minisign_external.specs.Numbers.{WritesCut};
 ghost use Rattle.minisign_base.specs.Faults.{row};
-ghost use Rattle.minisign_install.specs.Faults.{IsErrorText, Named, is_own, install_number};
+ghost use Rattle.minisign_install.specs.Faults.{IsErrorText, Named, is_installer_fault, install_number};
 ghost use Rattle.minisign_install.specs.Faults.{install_row, Library};
 
-use minisign_base::ErrorKind::{self, Io, Misc, Verify};
+use minisign_base::ErrorKind::{self, Io, Verify};
 use minisign_base::{NamedFault, PError};
 use minisign_external::numbers::{self, Numbered};
 use std::fmt;
@@ -54,16 +54,6 @@ pub enum InstallFault {
     BadSize,
     /// The data is longer or shorter than the field `size:` of the trusted comment says.
     OtherSize,
-    /// No list can contain the name that is looked up.
-    BadName,
-    /// A line of the list is malformed.
-    MalformedLine,
-    /// No line of the list has the name.
-    NotListed,
-    /// Two lines of the list have the name.
-    ListedTwice,
-    /// The data does not have the listed digest.
-    DigestMismatch,
 }
 
 impl InstallFault {
@@ -81,8 +71,10 @@ impl InstallFault {
 
     /// Returns the installation error with this number.
     pub(crate) fn of_number(number: u32) -> Option<InstallFault>
-        ensures found { (e : InstallFault) → is_own e ≡ true → number ≡ install_number e → result ≡ Some e }
-        ensures own { IfSome result (λ e. (is_own e ≡ true) × (number ≡ install_number e)) }
+        ensures found { (e : InstallFault) → is_installer_fault e ≡ true → number ≡ install_number e
+            → result ≡ Some e }
+        ensures installer_fault { IfSome result (λ e. (is_installer_fault e ≡ true)
+            × (number ≡ install_number e)) }
     {
         use InstallFault::*;
         Some(match number {
@@ -101,11 +93,6 @@ impl InstallFault {
             58 => NoExpiry,
             59 => BadSize,
             60 => OtherSize,
-            90 => BadName,
-            91 => MalformedLine,
-            92 => NotListed,
-            93 => ListedTwice,
-            94 => DigestMismatch,
             _ => return None,
         })
     }
@@ -114,7 +101,8 @@ impl InstallFault {
     // library.
     pub(crate) fn row(&self) -> Result<&'static (u32, ErrorKind, &'static str), &PError>
         ensures { MatchResult result
-            (λ r. (is_own self.now ≡ true) × (row r.now.0 r.now.1 r.now.2.now ≡ install_row self.now))
+            (λ r. (is_installer_fault self.now ≡ true)
+            × (row r.now.0 r.now.1 r.now.2.now ≡ install_row self.now))
             (λ fault. self.now ≡ Library fault.now) }
     {
         use InstallFault::*;
@@ -175,19 +163,6 @@ impl InstallFault {
                 Verify,
                 "the size of the data is not the one in the trusted comment",
             ),
-            BadName => &(
-                90,
-                Misc,
-                "a list can only contain relative paths without .. or special characters",
-            ),
-            MalformedLine => &(91, Misc, "a line of the list is malformed"),
-            NotListed => &(92, Verify, "the list does not contain this name"),
-            ListedTwice => &(93, Verify, "the list contains this name twice"),
-            DigestMismatch => &(
-                94,
-                Verify,
-                "the digest of the data is not the one in the list",
-            ),
         })
     }
 }
@@ -240,7 +215,7 @@ pub fn error_text(number: u32) -> &'static str
     // this number, without key IDs. For 0 it is "no error", and for a number without a meaning "unknown
     // error". It has fewer than 128 bytes.
     ensures meaning { IsErrorText number result.now }
-    ensures room { length result.now < 128 }
+    ensures below_128_bytes { length result.now < 128 }
 {
     if let Some(fault) = InstallFault::of_number(number) {
         if let Ok((_, _, text)) = fault.row() {
@@ -258,7 +233,7 @@ pub fn write_error_text(number: u32, to: &mut [u8]) -> usize
     // after the 0 are unchanged. The result is the length of the whole text.
     ensures written { (text : List ℕ) × IsErrorText number text × (result ≡ length text)
         × WritesCut text to.old to.new }
-    ensures room { result < 128 }
+    ensures below_128_bytes { result < 128 }
 {
     numbers::write_cut(error_text(number), to)
 }

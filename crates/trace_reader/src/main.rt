@@ -11,8 +11,7 @@
 //!     OPTIONS KEY KEY NAME SIGNATURE DATA MAX-SIZE RECORD-READ TARGET-INODE TARGET RECORD-INODE RECORD
 //!
 //! - OPTIONS are the letters of the options, or `-`: F `--first`, A `--again`, C `--check`, X
-//!   `--must-expire`, K `--new-key`, B `--roll-back`, and T if the version is the field `timestamp:`. The
-//!   signature is always that of the data, and not that of a list.
+//!   `--must-expire`, K `--new-key`, B `--roll-back`, and T if the version is the field `timestamp:`.
 //! - KEY is a key ID and a public key. NAME is the file name that the trusted comment has to contain.
 //! - SIGNATURE is the content of the signature file, and DATA is the update.
 //! - MAX-SIZE is the maximum size that the installed file ever has.
@@ -151,8 +150,6 @@ impl<'a> Words<'a> {
             must_expire: self.has_option('X') as u32,
             new_key: self.has_option('K') as u32,
             roll_back: self.has_option('B') as u32,
-            is_list: 0,
-            long_digest: 0,
         }
     }
 
@@ -312,7 +309,7 @@ fn decide(alloc: Global, line: &str) -> Result<Option<usize>, Failure> {
         recorded: words.optional(7),
         sig_text: words.bytes(4),
         update: words.bytes(5),
-        most: words.number(6) as usize,
+        max_size: words.number(6) as usize,
     };
     let mut message = vec![in alloc; 0u8; words.bytes(4).len()]?;
     Ok(first_unlawful_line(

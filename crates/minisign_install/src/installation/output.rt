@@ -2,12 +2,13 @@
 //! here allocates.
 
 ghost use Rattle.std.specs.Prelude.{◌≡◌, ◌<◌, ◌==◌, Some, drop, length, take, true};
+ghost use Rattle.minisign_hash.specs.Blake2b.{blake2b_digest};
 ghost use Rattle.std.specs.Option.{unwrap_or};
 ghost use Rattle.minisign_install.specs.Installations.{HoldsState, IsWritten, first_key, record_due};
 ghost use Rattle.minisign_install.specs.Installations.{written_if};
 ghost use Rattle.minisign_install.specs.Installations.{IsNewRecord, about, question_due, question_of};
 ghost use Rattle.minisign_install.specs.Step.{CheckComment, CheckRecord};
-ghost use Rattle.minisign_install.specs.Step.{State, key_of, new_key, new_record, new_version, signed_digest};
+ghost use Rattle.minisign_install.specs.Step.{State, key_of, new_key, new_record, new_version};
 
 use crate::installation::progress::Progress;
 use crate::installation::{Operation, Question};
@@ -42,7 +43,6 @@ impl Progress {
     {
         match self.due() {
             Operation::CheckComment => Some(self.comment_question(key)),
-            Operation::CheckList => Some(self.data_question(key)),
             Operation::CheckRecord => self.record_question(key),
             Operation::CheckTarget => Some(self.data_question(key)),
             Operation::CheckData => Some(self.data_question(key)),
@@ -82,11 +82,11 @@ impl Progress {
         self.recorded.has_digest == 1
     }
 
-    // Returns the question about the digest of the list, or else of what was read.
+    // Returns the question about the digest of what was read.
     fn data_question(&self, key: [u8; 32]) -> Question
         requires { (self.now.judged.is_judged == 1) ≡ true }
         ensures { (s : State) → HoldsState self.now s
-            → result ≡ about key s.signature (signed_digest s) }
+            → result ≡ about key s.signature (blake2b_digest 64 s.read) }
     {
         self.question_about(key, self.digest())
     }
@@ -109,7 +109,7 @@ impl Progress {
             → written_if (record_due s) result to.old to.new }
         ensures reads_back { (s : State) → HoldsState self.now s → 0 < result
             → IsNewRecord s (take result to.new) }
-        ensures rest { drop result to.new ≡ drop result to.old }
+        ensures rest_unchanged { drop result to.new ≡ drop result to.old }
     {
         if !self.due().is_writing_record() {
             return 0;
@@ -126,7 +126,7 @@ impl Progress {
             → IsWritten (new_record s) result to.old to.new }
         ensures reads_back { (s : State) → HoldsState self.now s → key_of s.signers ≡ signer
             → 0 < result → IsNewRecord s (take result to.new) }
-        ensures rest { drop result to.new ≡ drop result to.old }
+        ensures rest_unchanged { drop result to.new ≡ drop result to.old }
     {
         let version = self.new_version();
         let values = KeyAndDigest {
@@ -174,9 +174,9 @@ impl Progress {
     fn signer(&self) -> Option<[u8; 32]>
         ensures { (s : State) → HoldsState self.now s → result ≡ first_key s.signers }
     {
-        if self.by_key == 1 {
+        if self.key_matches == 1 {
             Some(self.chosen.key.key)
-        } else if self.by_other_key == 1 {
+        } else if self.other_key_matches == 1 {
             Some(self.chosen.other.key)
         } else {
             None

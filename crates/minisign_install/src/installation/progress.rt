@@ -2,6 +2,8 @@
 
 ghost use Rattle.std.specs.Prelude.{◌≡◌, ◌≢◌, ◌++◌, ℕ, List, Err, IfErr, None, true, false, if◌then◌else◌};
 ghost use Rattle.std.specs.Prelude.{◌==◌};
+ghost use Rattle.minisign_hash.specs.Blake2b.{blake2b_digest};
+ghost use Rattle.minisign_hash.specs.Stored.{WasFed};
 ghost use Rattle.minisign_external.specs.declared.state.Misuse.TheVariants.{NotDue};
 ghost use Rattle.minisign_external.specs.declared.state.Refusal.TheVariants.{Refused, WrongUse};
 ghost use Rattle.minisign_install.specs.Installations.{HoldsState, RunLeadsTo, Steps, operation_of};
@@ -10,20 +12,20 @@ ghost use Rattle.minisign_install.specs.Step.{Answered, CheckComment, CheckData,
 ghost use Rattle.minisign_install.specs.Step.{InUse, Lock, ReadRecord};
 ghost use Rattle.minisign_install.specs.Step.{PieceCopied, PieceRead};
 ghost use Rattle.minisign_install.specs.Step.{State, TargetMissing, after_comment, after_copy};
-ghost use Rattle.minisign_install.specs.Step.{after_data, after_digest, after_piece, after_target, begin};
-ghost use Rattle.minisign_install.specs.Step.{compare, go, install, is_listed, signed_digest};
+ghost use Rattle.minisign_install.specs.Step.{after_digest, after_piece, after_target, begin, compare, go};
+ghost use Rattle.minisign_install.specs.Step.{install};
 ghost use Rattle.minisign_install.specs.Step.{is_failure, is_newer, is_rolling_back, next_key, reject};
 
 use crate::faults::InstallFault;
-use crate::installation::listing::ListingValue;
-use crate::installation::reading::Reading;
 use crate::installation::{Choices, Operation};
 use minisign_base::NamedFault;
 use minisign_external::numbers::Numbered;
 use minisign_external::public_keys::PublicKeyValue;
 use minisign_external::state::{Misuse, Refusal};
+use minisign_hash::blake2b::Blake2b;
+use minisign_hash::blake2b::stored::StoredBlake2b;
 
-/// The options that the application chose at the beginning, 136 bytes. An option is 1 or 0.
+/// The options that the application chose at the beginning, 128 bytes. An option is 1 or 0.
 #[repr(C)]
 #[derive(Clone, Copy)]
 pub struct Chosen {
@@ -36,8 +38,6 @@ pub struct Chosen {
     pub(crate) must_expire: u32,
     pub(crate) new_key: u32,
     pub(crate) roll_back: u32,
-    pub(crate) is_list: u32,
-    pub(crate) long_digest: u32,
     pub(crate) reserved: u32,
 }
 
@@ -58,7 +58,7 @@ pub struct RecordedValue {
 /// comment is rejected, or 0.
 #[repr(C)]
 #[derive(Clone, Copy)]
-pub struct Judged {
+pub struct Judgment {
     pub(crate) version: u64,
     pub(crate) size: u64,
     pub(crate) signature: [u8; 64],
@@ -69,7 +69,7 @@ pub struct Judged {
     pub(crate) reserved: u32,
 }
 
-/// The state of an installation, 976 bytes with the layout of C.
+/// The state of an installation, 792 bytes with the layout of C.
 #[repr(C)]
 #[derive(Clone, Copy)]
 pub struct Progress {
@@ -79,10 +79,10 @@ pub struct Progress {
     pub(crate) error: u32,
     pub(crate) chosen: Chosen,
     pub(crate) recorded: RecordedValue,
-    pub(crate) judged: Judged,
+    pub(crate) judged: Judgment,
     // 1 if the first key may have signed, and 1 if the other key may have.
-    pub(crate) by_key: u32,
-    pub(crate) by_other_key: u32,
+    pub(crate) key_matches: u32,
+    pub(crate) other_key_matches: u32,
     // 1 if the first of these keys has signed the comment.
     pub(crate) is_signed: u32,
     // 1 if the digest in the record is that of the update.
@@ -90,12 +90,9 @@ pub struct Progress {
     // The number of bytes of the signed size that were not copied yet, if `has_left` is 1.
     pub(crate) left: u64,
     pub(crate) has_left: u32,
-    // 1 if the first of the keys that may have signed has signed the list.
-    pub(crate) is_list_signed: u32,
+    pub(crate) unused: u32,
     // The hash of the file that is being read.
-    pub(crate) reading: Reading,
-    // The contents of the signed list.
-    pub(crate) listing: ListingValue,
+    pub(crate) hash: StoredBlake2b,
 }
 
 impl Progress {
@@ -116,8 +113,9 @@ impl Progress {
     // Rejects the run. If it has temporary files, removing them is due first. Only the first error of a run
     // is returned.
     pub(crate) fn reject(&mut self, fault: InstallFault) -> Result<(), Refusal<InstallFault>>
-        ensures leads { (s : State) → HoldsState self.old s → RunLeadsTo s (reject fault s) result self.new }
-        ensures proper { IfErr result (λ r. r ≢ WrongUse NotDue) }
+        ensures next_state { (s : State) → HoldsState self.old s
+            → RunLeadsTo s (reject fault s) result self.new }
+        ensures never_not_due { IfErr result (λ r. r ≢ WrongUse NotDue) }
         ensures refused { IfErr result (λ r. r ≡ Refused fault) }
     {
         let is_first = self.error == 0;
@@ -201,9 +199,9 @@ impl Progress {
 
     // Reports that all data was copied.
     fn end_copy(&mut self) -> Result<(), Refusal<InstallFault>>
-        ensures leads { (s : State) → HoldsState self.old s
+        ensures next_state { (s : State) → HoldsState self.old s
             → RunLeadsTo s (after_copy s.left s) result self.new }
-        ensures proper { IfErr result (λ r. r ≢ WrongUse NotDue) }
+        ensures never_not_due { IfErr result (λ r. r ≢ WrongUse NotDue) }
     {
         if self.has_left == 1 && self.left != 0 {
             return self.reject(InstallFault::OtherSize);
@@ -225,9 +223,9 @@ impl Progress {
 
     // Subtracts a copied piece from the signed size, and rejects the run if the data is longer.
     fn count(&mut self, len: u64) -> Result<(), Refusal<InstallFault>>
-        ensures leads { (s : State) → HoldsState self.old s
+        ensures next_state { (s : State) → HoldsState self.old s
             → RunLeadsTo s (after_piece len s.left s) result self.new }
-        ensures proper { IfErr result (λ r. r ≢ WrongUse NotDue) }
+        ensures never_not_due { IfErr result (λ r. r ≢ WrongUse NotDue) }
     {
         if self.has_left != 1 {
             return Ok(());
@@ -243,7 +241,7 @@ impl Progress {
     fn install(&mut self)
         ensures { (s : State) → HoldsState self.old s → HoldsState self.new (install s) }
     {
-        self.reading = Reading::begin(self.reading_for());
+        self.hash = StoredBlake2b::store(&Blake2b::new(64));
         let due = if self.chosen.is_check == 1 {
             Operation::WouldInstall
         } else {
@@ -272,7 +270,7 @@ impl Progress {
         if !self.due().is_reading() {
             return Err(Refusal::WrongUse(Misuse::NotDue));
         }
-        self.reading = self.reading.updated(self.reading_for(), bytes);
+        self.hash = fed(&self.hash, bytes);
         Ok(())
     }
 
@@ -289,9 +287,9 @@ impl Progress {
         }
     }
 
-    // Continues after a key was found to have signed the comment, and the list, if there is one, and both
-    // were accepted: compares the update with the record and the installed file, or installs it.
-    pub(crate) fn compare(&mut self)
+    // Continues after a key was found to have signed the comment and the comment was accepted: compares the
+    // update with the record and the installed file, or installs it.
+    fn compare(&mut self)
         ensures { (s : State) → HoldsState self.old s → HoldsState self.new (compare s) }
     {
         if self.is_newer() {
@@ -326,7 +324,6 @@ impl Progress {
     {
         match self.due() {
             Operation::CheckComment => self.answer_comment(accepted),
-            Operation::CheckList => self.answer_list(accepted),
             Operation::CheckRecord => {
                 self.answer_record(accepted);
                 Ok(())
@@ -341,7 +338,7 @@ impl Progress {
     fn answer_comment(&mut self, accepted: bool) -> Result<(), Refusal<InstallFault>>
         requires { operation_of self.old.due ≡ CheckComment }
         ensures steps { (s : State) → HoldsState self.old s → Steps (Answered accepted) s result self.new }
-        ensures proper { IfErr result (λ r. r ≢ WrongUse NotDue) }
+        ensures never_not_due { IfErr result (λ r. r ≢ WrongUse NotDue) }
     {
         if accepted {
             self.accept_comment()
@@ -354,9 +351,9 @@ impl Progress {
     fn answer_target(&mut self, accepted: bool) -> Result<(), Refusal<InstallFault>>
         requires { operation_of self.old.due ≡ CheckTarget }
         ensures steps { (s : State) → HoldsState self.old s → Steps (Answered accepted) s result self.new }
-        ensures proper { IfErr result (λ r. r ≢ WrongUse NotDue) }
+        ensures never_not_due { IfErr result (λ r. r ≢ WrongUse NotDue) }
     {
-        if accepted && self.is_listed() {
+        if accepted {
             self.accept_target();
             Ok(())
         } else {
@@ -368,54 +365,29 @@ impl Progress {
     fn answer_data(&mut self, accepted: bool) -> Result<(), Refusal<InstallFault>>
         requires { operation_of self.old.due ≡ CheckData }
         ensures steps { (s : State) → HoldsState self.old s → Steps (Answered accepted) s result self.new }
-        ensures proper { IfErr result (λ r. r ≢ WrongUse NotDue) }
+        ensures never_not_due { IfErr result (λ r. r ≢ WrongUse NotDue) }
     {
         if accepted {
-            self.accept_data()
+            self.go(Operation::SetPermissions);
+            Ok(())
         } else {
             self.reject(NamedFault::SignatureRefused.into())
         }
     }
 
-    // Continues after the signature was found to be valid for the digest of the temporary file, or for that
-    // of the list.
-    fn accept_data(&mut self) -> Result<(), Refusal<InstallFault>>
-        ensures leads { (s : State) → HoldsState self.old s
-            → RunLeadsTo s (after_data (is_listed s) s) result self.new }
-        ensures proper { IfErr result (λ r. r ≢ WrongUse NotDue) }
-    {
-        if self.is_listed() {
-            self.go(Operation::SetPermissions);
-            Ok(())
-        } else {
-            self.reject(InstallFault::DigestMismatch)
-        }
-    }
-
     // Continues after a key was found to have signed the comment.
     fn accept_comment(&mut self) -> Result<(), Refusal<InstallFault>>
-        ensures leads { (s : State) → HoldsState self.old s
+        ensures next_state { (s : State) → HoldsState self.old s
             → RunLeadsTo s (after_comment s.fault (record s { is_signed = true })) result self.new }
-        ensures proper { IfErr result (λ r. r ≢ WrongUse NotDue) }
+        ensures never_not_due { IfErr result (λ r. r ≢ WrongUse NotDue) }
     {
         self.is_signed = 1;
         match self.fault() {
             Some(fault) => self.reject(fault),
             None => {
-                self.accept_signed();
+                self.compare();
                 Ok(())
             }
-        }
-    }
-
-    // Continues after the signed comment was accepted: with the list, if there is one.
-    fn accept_signed(&mut self)
-        ensures { (s : State) → HoldsState self.old s → HoldsState self.new (after_comment None s) }
-    {
-        if self.chosen.is_list == 1 {
-            self.go(Operation::ReadList);
-        } else {
-            self.compare();
         }
     }
 
@@ -428,12 +400,12 @@ impl Progress {
 
     // Continues after the key was found not to have signed the comment: with the next key, if there is one.
     fn next_key(&mut self) -> Result<(), Refusal<InstallFault>>
-        ensures leads { (s : State) → HoldsState self.old s
+        ensures next_state { (s : State) → HoldsState self.old s
             → RunLeadsTo s (next_key s.signers s) result self.new }
-        ensures proper { IfErr result (λ r. r ≢ WrongUse NotDue) }
+        ensures never_not_due { IfErr result (λ r. r ≢ WrongUse NotDue) }
     {
-        if self.by_key == 1 && self.by_other_key == 1 {
-            self.by_key = 0;
+        if self.key_matches == 1 && self.other_key_matches == 1 {
+            self.key_matches = 0;
             return Ok(());
         }
         self.reject(NamedFault::CommentSignatureRefused.into())
@@ -468,9 +440,9 @@ impl Progress {
     // Continues after the installed file was found not to be the update: replaces it if the record is that of
     // the update or `again` is set, else rejects the run.
     fn replace_target(&mut self) -> Result<(), Refusal<InstallFault>>
-        ensures leads { (s : State) → HoldsState self.old s
+        ensures next_state { (s : State) → HoldsState self.old s
             → RunLeadsTo s (after_target false s) result self.new }
-        ensures proper { IfErr result (λ r. r ≢ WrongUse NotDue) }
+        ensures never_not_due { IfErr result (λ r. r ≢ WrongUse NotDue) }
     {
         if self.is_recorded == 1 || self.chosen.again == 1 {
             self.install();
@@ -501,15 +473,15 @@ impl Progress {
         }
     }
 
-    // Returns the digest that has to be signed: that of the list, or else of what was read.
+    // Returns the digest of what was read.
     pub(crate) fn digest(&self) -> [u8; 64]
-        ensures { (s : State) → HoldsState self.now s → result ≡ signed_digest s }
+        ensures { (m : List ℕ) → WasFed self.now.hash m → result ≡ blake2b_digest 64 m }
     {
-        if self.chosen.is_list == 1 {
-            self.listing.list_digest
-        } else {
-            self.reading.blake2b_digest()
+        let mut digest = [0u8; 64];
+        if let Some(mut hash) = self.hash.restore() {
+            hash.finalize(&mut digest);
         }
+        digest
     }
 
     // Begins an installation.
@@ -518,6 +490,7 @@ impl Progress {
             → HoldsState result (begin (options_by key.now other.now choices.now file)) }
     {
         let due = first_operation(choices).number();
+        let hash = StoredBlake2b::store(&Blake2b::new(64));
         Progress {
             due,
             error: 0,
@@ -531,8 +504,6 @@ impl Progress {
                 must_expire: choices.must_expire,
                 new_key: choices.new_key,
                 roll_back: choices.roll_back,
-                is_list: choices.is_list,
-                long_digest: choices.long_digest,
                 reserved: 0,
             },
             recorded: RecordedValue {
@@ -544,7 +515,7 @@ impl Progress {
                 has_digest: 0,
                 reserved: 0,
             },
-            judged: Judged {
+            judged: Judgment {
                 version: 0,
                 size: 0,
                 signature: [0; 64],
@@ -554,15 +525,14 @@ impl Progress {
                 fault: 0,
                 reserved: 0,
             },
-            by_key: 0,
-            by_other_key: 0,
+            key_matches: 0,
+            other_key_matches: 0,
             is_signed: 0,
             is_recorded: 0,
             left: 0,
             has_left: 0,
-            is_list_signed: 0,
-            reading: Reading::begin(None),
-            listing: ListingValue::none(),
+            unused: 0,
+            hash,
         }
     }
 }
@@ -588,5 +558,18 @@ fn first_operation(choices: &Choices) -> Operation
         Operation::ReadRecord
     } else {
         Operation::Lock
+    }
+}
+
+// Feeds these bytes to a hash and returns the new hash.
+fn fed(hash: &StoredBlake2b, bytes: &[u8]) -> StoredBlake2b
+    ensures { (m : List ℕ) → WasFed hash.now m → WasFed result (m ++ bytes.now) }
+{
+    match hash.restore() {
+        Some(mut restored) => {
+            restored.update(bytes);
+            StoredBlake2b::store(&restored)
+        }
+        None => *hash,
     }
 }
