@@ -2,7 +2,7 @@
 mod Digits
 mod Filled
 mod Folding
-mod ReadParts
+mod GivenParts
 mod HandedOn
 pub mod LeastCost
 pub mod Facts

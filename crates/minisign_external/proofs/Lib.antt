@@ -1,10 +1,10 @@
 mod Words
-pub mod BoxesOfSignatures
+pub mod AnsweredBoxes
 pub mod Facts
-pub mod ResultsOfQuestions
+pub mod GivenAnswers
 pub mod Laws
 pub mod OpenedKeys
-pub mod SignedFiles
+pub mod OwnTexts
 pub mod PublicHalves
 pub mod ReadValues
 pub mod Strictness

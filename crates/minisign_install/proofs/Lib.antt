@@ -3,7 +3,7 @@ mod Applying
 mod Checking
 mod Decisions
 mod Fields
-mod CommentFaults
+mod Judged
 mod HeldStates
 mod Leftovers
 mod NewKeys

@@ -13,7 +13,7 @@ use Rattle.minisign_install.specs.Histories.{AcceptsWholeKeys, AllEvents, IsAcce
 use Rattle.minisign_install.specs.Histories.{IsOtherUpdate}
 use Rattle.minisign_install.specs.Histories.{OthersLeaveTarget}
 use Rattle.minisign_install.specs.Step.{Event, Operation, State, after, answer, begin, has_ended, step}
-use Rattle.minisign_install.specs.Step as fsm
+use Rattle.minisign_install.specs.Step as due
 use Rattle.minisign_install.specs.StepRuns.{IsSigned, IsUpdate, World, count, first_signer}
 use Rattle.minisign_install.proofs.RollBacks.{has_digest, not_newer, not_older, not_signed, same_ok}
 use Rattle.minisign_install.proofs.RollBacks.{version_reads_back}
@@ -35,31 +35,31 @@ module _ (v : World) (p : Options) (k : ℕ) (digest : List ℕ) (r : Recorded)
 
   -- Invariant of a run that ends with this error or finds the update installed.
   abbrev OnTrack : Operation → State → Snapshot → Type 0
-  OnTrack fsm.Lock s m = IsInstalled m
-  OnTrack fsm.ReadRecord s m = IsInstalled m
-  OnTrack fsm.ReadSignature s m = IsInstalled m
-  OnTrack fsm.CheckComment s m = IsInstalled m × IsAcceptable s
-  OnTrack fsm.CheckRecord s m = IsInstalled m
-  OnTrack fsm.ReadTarget s m = IsInstalled m × (s.is_recorded ≡ false)
-  OnTrack fsm.CheckTarget s m = s.is_recorded ≡ false
-  OnTrack fsm.SyncTarget s m = ⊤
-  OnTrack fsm.SyncTargetName s m = ⊤
-  OnTrack fsm.AlreadyInstalled s m = ⊤
-  OnTrack fsm.Rejected s m = s.error ≡ Some SameNumber
+  OnTrack due.Lock s m = IsInstalled m
+  OnTrack due.ReadRecord s m = IsInstalled m
+  OnTrack due.ReadSignature s m = IsInstalled m
+  OnTrack due.CheckComment s m = IsInstalled m × IsAcceptable s
+  OnTrack due.CheckRecord s m = IsInstalled m
+  OnTrack due.ReadTarget s m = IsInstalled m × (s.is_recorded ≡ false)
+  OnTrack due.CheckTarget s m = s.is_recorded ≡ false
+  OnTrack due.SyncTarget s m = ⊤
+  OnTrack due.SyncTargetName s m = ⊤
+  OnTrack due.AlreadyInstalled s m = ⊤
+  OnTrack due.Rejected s m = s.error ≡ Some SameNumber
   OnTrack op s m = ⊥
 
   abbrev Holds : Snapshot → State → Type 0
   Holds m s = OnTrack s.due s m
 
   ended : (op : Operation) (s : State) (m : Snapshot) → OnTrack op s m → has_ended op ≡ true
-      → (op ≡ fsm.AlreadyInstalled) ⊎ ((op ≡ fsm.Rejected) × (s.error ≡ Some SameNumber))
-  ended fsm.AlreadyInstalled s m on is = inl refl
-  ended fsm.Rejected s m on is = inr (refl, on)
-  ended fsm.Installed s m on is = absurd on
-  ended fsm.WouldInstall s m on is = absurd on
+      → (op ≡ due.AlreadyInstalled) ⊎ ((op ≡ due.Rejected) × (s.error ≡ Some SameNumber))
+  ended due.AlreadyInstalled s m on is = inl refl
+  ended due.Rejected s m on is = inr (refl, on)
+  ended due.Installed s m on is = absurd on
+  ended due.WouldInstall s m on is = absurd on
   ended op s m on is = absurd (true≢false (sym is))
 
-  compare : (s : State) (m : Snapshot) → IsJudged v p s → IsInstalled m → Holds m (fsm.compare s)
+  compare : (s : State) (m : Snapshot) → IsJudged v p s → IsInstalled m → Holds m (due.compare s)
   compare s m judged present = rw (
     not_newer v p k digest r record_applies version written whole update once s judged,
     has_digest v p k digest r record_applies version written whole update once s judged,
@@ -68,7 +68,7 @@ module _ (v : World) (p : Options) (k : ℕ) (digest : List ℕ) (r : Recorded)
   after_signature : (time : Option ℕ) (s : State) (m : Snapshot) → s.options ≡ p
       → judge_record p v.found_record ≡ Ok s.recorded
       → comment_fault p (Some k) time g.text.comments.trusted ≡ None → IsInstalled m
-      → Holds m (fsm.after_signature (Ok (g.text, g.keys)) time s)
+      → Holds m (due.after_signature (Ok (g.text, g.keys)) time s)
   after_signature time s m same judged fine present =
       let one = same_ok s.recorded r (sym judged ∙ record_applies) in
       (present, (rw (same, one, version) fine, g.signer, refl, refl))
@@ -76,19 +76,19 @@ module _ (v : World) (p : Options) (k : ℕ) (digest : List ℕ) (r : Recorded)
   after_text : (found : Passed) (time : Option ℕ) (s : State) (m : Snapshot) → found ≡ Ok (g.text, g.keys)
       → s.options ≡ p → judge_record p v.found_record ≡ Ok s.recorded
       → comment_fault p (Some k) time g.text.comments.trusted ≡ None → IsInstalled m
-      → Holds m (fsm.after_signature found time s)
+      → Holds m (due.after_signature found time s)
   after_text found time s m is same judged fine present =
       rw is (after_signature time s m same judged fine present)
 
   after_comment : (fault : Option InstallFault) (s : State) (m : Snapshot) → fault ≡ None → IsJudged v p s
-      → IsInstalled m → Holds m (fsm.after_comment fault (record s { is_signed = true }))
+      → IsInstalled m → Holds m (due.after_comment fault (record s { is_signed = true }))
   after_comment None s m none judged present = compare (record s { is_signed = true }) m judged present
   after_comment (Some fault) s m none judged present = absurd (none-some fault (sym none))
 
-  next_key : (signers : List PublicKeyValue) (s : State) (m : Snapshot) → s.due ≡ fsm.CheckComment
+  next_key : (signers : List PublicKeyValue) (s : State) (m : Snapshot) → s.due ≡ due.CheckComment
       → s.signers ≡ signers → IsAcceptable s
-      → false ≡ v.accepts (s.signature ++ g.text.comments.trusted) (fsm.key_of signers) s.comment_signature
-      → IsInstalled m → Holds m (fsm.next_key signers s)
+      → false ≡ v.accepts (s.signature ++ g.text.comments.trusted) (due.key_of signers) s.comment_signature
+      → IsInstalled m → Holds m (due.next_key signers s)
   next_key [] s m at is (fine, signer, one, two) wrong present = absurd (none-some g.key (rw is at signer))
   next_key (x ∷ []) s m at is (fine, signer, one, two) wrong present =
       let not = rw (one, two) at wrong in
@@ -99,24 +99,24 @@ module _ (v : World) (p : Options) (k : ℕ) (digest : List ℕ) (r : Recorded)
 
   after_digest : (accepted : Bool) (s : State) (m : Snapshot) → accepted ≡ false → IsJudged v p s
       → IsInstalled m
-      → Holds m (fsm.after_digest accepted s)
+      → Holds m (due.after_digest accepted s)
   after_digest true s m is judged present = absurd (true≢false is)
   after_digest false s m is judged present =
       rw (not_older v p k digest r record_applies version written whole update once s judged) (present, refl)
 
   target_is_update : (check : Bool) (s : State) (m : Snapshot)
-      → Holds m (fsm.go (if check then fsm.AlreadyInstalled else fsm.SyncTarget) s)
+      → Holds m (due.go (if check then due.AlreadyInstalled else due.SyncTarget) s)
   target_is_update true s m = tt
   target_is_update false s m = tt
 
-  otherwise : (recorded again : Bool) (s : State) (m : Snapshot) → s.due ≡ fsm.CheckTarget → recorded ≡ false
-      → again ≡ false → Holds m (if recorded || again then fsm.install s else fsm.reject SameNumber s)
+  otherwise : (recorded again : Bool) (s : State) (m : Snapshot) → s.due ≡ due.CheckTarget → recorded ≡ false
+      → again ≡ false → Holds m (if recorded || again then due.install s else due.reject SameNumber s)
   otherwise true again s m at none not = absurd (true≢false none)
   otherwise false true s m at none not = absurd (true≢false not)
   otherwise false false s m at none not = rw at refl
 
-  after_target : (accepted : Bool) (s : State) (m : Snapshot) → s.due ≡ fsm.CheckTarget
-      → s.is_recorded ≡ false → s.options ≡ p → Holds m (fsm.after_target accepted s)
+  after_target : (accepted : Bool) (s : State) (m : Snapshot) → s.due ≡ due.CheckTarget
+      → s.is_recorded ≡ false → s.options ≡ p → Holds m (due.after_target accepted s)
   after_target true s m at is same = target_is_update s.options.check s m
   after_target false s m at is same =
       otherwise s.is_recorded s.options.again s m at is (ap (λ (x : Options). x.again) same ∙ once)
@@ -124,48 +124,48 @@ module _ (v : World) (p : Options) (k : ℕ) (digest : List ℕ) (r : Recorded)
   same_target : (old new : Snapshot) → new ≡ old → IsInstalled old → IsInstalled new
   same_target old new is present = rw is present
 
-  op_keeps : (op : Operation) (e : Event) (s : State) (old new : Snapshot) → s.due ≡ op → Known v p op s
+  keeps : (op : Operation) (e : Event) (s : State) (old new : Snapshot) → s.due ≡ op → Known v p op s
       → OnTrack op s old → Performs v s op e old new → IsAcceptableAt p k g.text e
       → IfSome (after op e s) (Holds new)
-  op_keeps op (fsm.Failed f) s old new at known on is fine = absurd fine
-  op_keeps fsm.Lock fsm.InUse s old new at known on is fine = absurd fine
-  op_keeps fsm.Lock fsm.Done s old new at known on is fine = rw is.1 on
-  op_keeps fsm.ReadRecord (fsm.RecordRead found) s old new at known on is fine =
+  keeps op (due.Failed f) s old new at known on is fine = absurd fine
+  keeps due.Lock due.InUse s old new at known on is fine = absurd fine
+  keeps due.Lock due.Done s old new at known on is fine = rw is.1 on
+  keeps due.ReadRecord (due.RecordRead found) s old new at known on is fine =
       rw (known, is.0, record_applies) (same_target old new is.2 on)
-  op_keeps fsm.ReadSignature (fsm.SignatureRead text time) s old new at known on is fine =
+  keeps due.ReadSignature (due.SignatureRead text time) s old new at known on is fine =
       after_text (judge_text s.options text) time s new (rw (known.0, is.0) g.passed) known.0 known.1 fine
       (same_target old new is.1 on)
-  op_keeps fsm.CheckComment (fsm.Answered true) s old new at known on is fine =
+  keeps due.CheckComment (due.Answered true) s old new at known on is fine =
       after_comment s.fault s new on.1.0 known (same_target old new is.1 on.0)
-  op_keeps fsm.CheckComment (fsm.Answered false) s old new at known on is fine =
+  keeps due.CheckComment (due.Answered false) s old new at known on is fine =
       next_key s.signers s new at refl on.1 (is.0 g.text (text_parsed v p v.text g.text g.keys g.passed))
       (same_target old new is.1 on.0)
-  op_keeps fsm.CheckRecord (fsm.Answered accepted) s old new at known on is fine =
+  keeps due.CheckRecord (due.Answered accepted) s old new at known on is fine =
       let none =
       is.0 ∙ rw (has_digest v p k digest r record_applies version written whole update once s known.0)
       (not_signed v p k digest r record_applies version written whole update once s s.signers refl known) in
       after_digest accepted s new none known.0 (same_target old new is.1 on)
-  op_keeps fsm.ReadTarget (fsm.PieceRead bytes) s old new at known on is fine =
+  keeps due.ReadTarget (due.PieceRead bytes) s old new at known on is fine =
       rw at (same_target old new is.2 on.0, on.1)
-  op_keeps fsm.ReadTarget fsm.Done s old new at known on is fine = on.1
-  op_keeps fsm.ReadTarget fsm.TargetMissing s old new at known on is fine =
+  keeps due.ReadTarget due.Done s old new at known on is fine = on.1
+  keeps due.ReadTarget due.TargetMissing s old new at known on is fine =
       absurd (true≢false (sym on.0 ∙ ap is_some is.0))
-  op_keeps fsm.CheckTarget (fsm.Answered accepted) s old new at known on is fine =
+  keeps due.CheckTarget (due.Answered accepted) s old new at known on is fine =
       after_target accepted s new at on known.0.4
-  op_keeps fsm.SyncTarget fsm.Done s old new at known on is fine = tt
-  op_keeps fsm.SyncTargetName fsm.Done s old new at known on is fine = tt
-  op_keeps fsm.Lock e s old new at known on is fine = tt
-  op_keeps fsm.ReadRecord e s old new at known on is fine = tt
-  op_keeps fsm.ReadSignature e s old new at known on is fine = tt
-  op_keeps fsm.CheckComment e s old new at known on is fine = tt
-  op_keeps fsm.CheckRecord e s old new at known on is fine = tt
-  op_keeps fsm.ReadTarget e s old new at known on is fine = tt
-  op_keeps fsm.CheckTarget e s old new at known on is fine = tt
-  op_keeps fsm.SyncTarget e s old new at known on is fine = tt
-  op_keeps fsm.SyncTargetName e s old new at known on is fine = tt
-  op_keeps fsm.AlreadyInstalled e s old new at known on is fine = tt
-  op_keeps fsm.Rejected e s old new at known on is fine = tt
-  op_keeps op e s old new at known on is fine = absurd on
+  keeps due.SyncTarget due.Done s old new at known on is fine = tt
+  keeps due.SyncTargetName due.Done s old new at known on is fine = tt
+  keeps due.Lock e s old new at known on is fine = tt
+  keeps due.ReadRecord e s old new at known on is fine = tt
+  keeps due.ReadSignature e s old new at known on is fine = tt
+  keeps due.CheckComment e s old new at known on is fine = tt
+  keeps due.CheckRecord e s old new at known on is fine = tt
+  keeps due.ReadTarget e s old new at known on is fine = tt
+  keeps due.CheckTarget e s old new at known on is fine = tt
+  keeps due.SyncTarget e s old new at known on is fine = tt
+  keeps due.SyncTargetName e s old new at known on is fine = tt
+  keeps due.AlreadyInstalled e s old new at known on is fine = tt
+  keeps due.Rejected e s old new at known on is fine = tt
+  keeps op e s old new at known on is fine = absurd on
 
   moved : (s : State) (next : Option State) (m : Snapshot) → is_some next ≡ true → IfSome next (Holds m)
       → Holds m (answer s next).1
@@ -174,17 +174,17 @@ module _ (v : World) (p : Options) (k : ℕ) (digest : List ℕ) (r : Recorded)
 
   stays : (op : Operation) (s : State) (m new : Snapshot) → new.target ≡ m.target → OnTrack op s m
       → OnTrack op s new
-  stays fsm.Lock s m new is on = rw is on
-  stays fsm.ReadRecord s m new is on = rw is on
-  stays fsm.ReadSignature s m new is on = rw is on
-  stays fsm.CheckComment s m new is on = (rw is on.0, on.1)
-  stays fsm.CheckRecord s m new is on = rw is on
-  stays fsm.ReadTarget s m new is on = (rw is on.0, on.1)
-  stays fsm.CheckTarget s m new is on = on
-  stays fsm.SyncTarget s m new is on = tt
-  stays fsm.SyncTargetName s m new is on = tt
-  stays fsm.AlreadyInstalled s m new is on = tt
-  stays fsm.Rejected s m new is on = on
+  stays due.Lock s m new is on = rw is on
+  stays due.ReadRecord s m new is on = rw is on
+  stays due.ReadSignature s m new is on = rw is on
+  stays due.CheckComment s m new is on = (rw is on.0, on.1)
+  stays due.CheckRecord s m new is on = rw is on
+  stays due.ReadTarget s m new is on = (rw is on.0, on.1)
+  stays due.CheckTarget s m new is on = on
+  stays due.SyncTarget s m new is on = tt
+  stays due.SyncTargetName s m new is on = tt
+  stays due.AlreadyInstalled s m new is on = tt
+  stays due.Rejected s m new is on = on
   stays op s m new is on = absurd on
 
   on_from : (n : ℕ) (s : State) (m : Snapshot) (calls : List Call) (t : State) (end : Snapshot)
@@ -196,18 +196,17 @@ module _ (v : World) (p : Options) (k : ℕ) (digest : List ℕ) (r : Recorded)
       on_from (count n c.event) (step s c.event).1 c.after more t end
       (next v p ⊤ ⊥ n s m c known others (λ q. absurd q) fits is (λ found. tt))
       (moved s (after s.due c.event s) c.after fits
-      (op_keeps s.due c.event s c.before c.after refl
-      (knows v p ⊤ ⊥ n s m known) before is fine)) run rest later
+      (keeps s.due c.event s c.before c.after refl (knows v p ⊤ ⊥ n s m known) before is fine)) run rest later
 
   starts : (check : Bool) (m : Snapshot) → IsInstalled m
-      → OnTrack (if check then fsm.ReadRecord else fsm.Lock) (begin p) m
+      → OnTrack (if check then due.ReadRecord else due.Lock) (begin p) m
   starts true m present = present
   starts false m present = present
 
   ends : (m : Snapshot) (calls : List Call) (t : State) (end : Snapshot) → Applies v (begin p) m calls t end
       → OthersLeaveTarget m calls → IsInstalled m → AllEvents (IsAcceptableAt p k g.text) calls
       → has_ended t.due ≡ true
-      → (t.due ≡ fsm.AlreadyInstalled) ⊎ ((t.due ≡ fsm.Rejected) × (t.error ≡ Some SameNumber))
+      → (t.due ≡ due.AlreadyInstalled) ⊎ ((t.due ≡ due.Rejected) × (t.error ≡ Some SameNumber))
   ends m calls t end run leaves present fine over =
       ended t.due t end
       (on_from 0 (begin p) m calls t end (begins v p ⊤ ⊥ m) (starts p.check m present) run leaves fine) over
@@ -219,8 +218,8 @@ pub roll_back_is_named : (w : World) (o : Options) → AcceptsWholeKeys w.accept
     → IsOtherUpdate v p k (blake2b_digest 64 s.read) → (g : IsSigned v p) (m : Snapshot) (calls : List Call)
     (t : State) (end : Snapshot) → Applies v (begin p) m calls t end → OthersLeaveTarget m calls
     → is_some m.target ≡ true → AllEvents (IsAcceptableAt p k g.text) calls → has_ended t.due ≡ true
-    → (t.due ≡ fsm.AlreadyInstalled) ⊎ ((t.due ≡ fsm.Rejected) × (t.error ≡ Some SameNumber))
+    → (t.due ≡ due.AlreadyInstalled) ⊎ ((t.due ≡ due.Rejected) × (t.error ≡ Some SameNumber))
 roll_back_is_named w o whole s update k is less v p whole_later later other g m calls t end run leaves present
     fine over =
     ends v p k (blake2b_digest 64 s.read) _ (version_reads_back w o whole s update k is less v p later) refl
-    refl whole_later other later.not_again g m calls t end run leaves present fine over
+    refl whole_later other later.once g m calls t end run leaves present fine over

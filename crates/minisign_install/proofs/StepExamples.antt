@@ -51,7 +51,7 @@ world = record {
   found_record = Some recorded_2;
   text = Ok signature_file;
   update = 7 ∷ [];
-  max_size = 0;
+  most = 0;
 }
 
 -- The signature file passes the checks that need no Ed25519.

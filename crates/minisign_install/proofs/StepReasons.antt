@@ -16,8 +16,8 @@ use Rattle.minisign_install.specs.Faults.{Fault, InstallFault, Library, OtherSiz
 use Rattle.minisign_install.specs.Step.{Event, Done, InUse, Failed, RecordRead, SignatureRead, Answered}
 use Rattle.minisign_install.specs.Step.{PieceRead, TargetMissing, PieceCopied, State, begin, step}
 use Rattle.minisign_install.specs.Step.{Operation, after, answer, has_files, key_of}
-use Rattle.minisign_install.specs.Step as fsm
-use Rattle.minisign_install.specs.StepRuns.{IsAtTimeIn, TimeIn}
+use Rattle.minisign_install.specs.Step as due
+use Rattle.minisign_install.specs.StepRuns.{IsAtOneOf, TimeOf}
 use Rattle.minisign_install.specs.StepRuns.{IsEnd, IsSameVersion, IsReason, IsRun, IsSigned, IsLawfulEvent}
 use Rattle.minisign_install.specs.StepRuns.{IsTrueEvent, World, accepts_digest, count, first_signer, total}
 use Rattle.minisign_install.proofs.StepSafety.{Passed, no_pass, pass, required, text_parsed}
@@ -62,7 +62,7 @@ module _ (w : World) (o : Options) (times : Option ℕ → Bool) where
   -- the comment.
   abbrev IsJudged : ℕ → State → Type 0
   IsJudged n s =
-      (text : SignatureTextRecord) × (keys : List PublicKeyValue) × (time : TimeIn times) × (s.options ≡ o)
+      (text : SignatureTextRecord) × (keys : List PublicKeyValue) × (time : TimeOf times) × (s.options ≡ o)
       × (judge_record o w.found_record ≡ Ok s.recorded) × (w.text ≡ Ok text)
       × (judge_text o w.text ≡ Ok (text, keys))
       × (first_signer w text keys ≡ first_signer w text s.signers)
@@ -76,7 +76,7 @@ module _ (w : World) (o : Options) (times : Option ℕ → Bool) where
   -- The comment is signed, and not rejected.
   abbrev IsAccepted : State → Type 0
   IsAccepted s =
-      (g : IsSigned w o) × (time : TimeIn times) × (s.options ≡ o) × (s.recorded ≡ g.recorded)
+      (g : IsSigned w o) × (time : TimeOf times) × (s.options ≡ o) × (s.recorded ≡ g.recorded)
       × (comment_fault o g.recorded.version time.0 g.text.comments.trusted ≡ None)
       × (s.version ≡ unwrap_or (version_in o.numbering g.text.comments.trusted) 0)
       × (s.signature ≡ g.text.signature.signature) × (key_of s.signers ≡ g.key)
@@ -88,44 +88,44 @@ module _ (w : World) (o : Options) (times : Option ℕ → Bool) where
   -- If `is_recorded` is false, the update is not older, and the key has not signed the digest in the record.
   abbrev IsCompared : (s : State) → IsAccepted s → Type 0
   IsCompared s known =
-      s.is_recorded ≡ false → (fsm.is_rolling_back s ≡ false)
+      s.is_recorded ≡ false → (due.is_rolling_back s ≡ false)
       × ((digest : List ℕ) → s.recorded.digest ≡ Some digest → accepts_digest known.0 digest ≡ false)
 
   -- The invariant at each operation.
   abbrev Known : ℕ → Operation → State → Type 0
-  Known n fsm.Lock s = (s.options ≡ o) × (n ≡ 0)
-  Known n fsm.ReadRecord s = (s.options ≡ o) × (n ≡ 0)
-  Known n fsm.ReadSignature s = (s.options ≡ o) × (n ≡ 0) × (judge_record o w.found_record ≡ Ok s.recorded)
-  Known n fsm.CheckComment s = IsJudged n s
-  Known n fsm.CheckRecord s =
+  Known n due.Lock s = (s.options ≡ o) × (n ≡ 0)
+  Known n due.ReadRecord s = (s.options ≡ o) × (n ≡ 0)
+  Known n due.ReadSignature s = (s.options ≡ o) × (n ≡ 0) × (judge_record o w.found_record ≡ Ok s.recorded)
+  Known n due.CheckComment s = IsJudged n s
+  Known n due.CheckRecord s =
       (known : IsAccepted s) × Left n (size_in known.0.text.comments.trusted) s.left × IsNotNewer s
-  Known n fsm.ReadTarget s =
-      (known : IsAccepted s) × Left n (size_in known.0.text.comments.trusted) s.left × IsNotNewer s
-      × IsCompared s known
-  Known n fsm.CheckTarget s =
+  Known n due.ReadTarget s =
       (known : IsAccepted s) × Left n (size_in known.0.text.comments.trusted) s.left × IsNotNewer s
       × IsCompared s known
-  Known n fsm.SyncTarget s =
+  Known n due.CheckTarget s =
+      (known : IsAccepted s) × Left n (size_in known.0.text.comments.trusted) s.left × IsNotNewer s
+      × IsCompared s known
+  Known n due.SyncTarget s =
       (known : IsAccepted s)
       × ((installed : List ℕ) × (accepts_digest known.0 (blake2b_digest 64 installed) ≡ true))
-  Known n fsm.SyncTargetName s =
+  Known n due.SyncTargetName s =
       (known : IsAccepted s)
       × ((installed : List ℕ) × (accepts_digest known.0 (blake2b_digest 64 installed) ≡ true))
-  Known n fsm.AlreadyInstalled s =
+  Known n due.AlreadyInstalled s =
       (known : IsAccepted s)
       × ((installed : List ℕ) × (accepts_digest known.0 (blake2b_digest 64 installed) ≡ true))
-  Known n fsm.WouldInstall s = IsAccepted s × (o.check ≡ true)
-  Known n fsm.RemoveLeftovers s =
+  Known n due.WouldInstall s = IsAccepted s × (o.check ≡ true)
+  Known n due.RemoveLeftovers s =
       (known : IsAccepted s) × Left n (size_in known.0.text.comments.trusted) s.left
-  Known n fsm.CreateFile s =
+  Known n due.CreateFile s =
       (known : IsAccepted s) × Left n (size_in known.0.text.comments.trusted) s.left
-  Known n fsm.CopyData s =
+  Known n due.CopyData s =
       (known : IsAccepted s) × Left n (size_in known.0.text.comments.trusted) s.left
-  Known n fsm.ReadBack s = IsAccepted s
-  Known n fsm.CheckData s = IsAccepted s × (s.read ≡ w.update)
-  Known n fsm.RemoveFiles s = ⊤
-  Known n fsm.Rejected s = ⊤
-  Known n fsm.Nothing s = ⊤
+  Known n due.ReadBack s = IsAccepted s
+  Known n due.CheckData s = IsAccepted s × (s.read ≡ w.update)
+  Known n due.RemoveFiles s = ⊤
+  Known n due.Rejected s = ⊤
+  Known n due.Nothing s = ⊤
   Known n op s =
       (known : IsAccepted s) × (accepts_digest known.0 (blake2b_digest 64 w.update) ≡ true)
 
@@ -141,14 +141,14 @@ module _ (w : World) (o : Options) (times : Option ℕ → Bool) where
   calm : (s : State) (e : Event) → Explains s e s.error
   calm s e fault none some = absurd (none-some fault (sym none ∙ some))
 
-  rejected : (n : ℕ) (is : Bool) (t : State) → Known n (if is then fsm.RemoveFiles else fsm.Rejected) t
+  rejected : (n : ℕ) (is : Bool) (t : State) → Known n (if is then due.RemoveFiles else due.Rejected) t
   rejected n true t = tt
   rejected n false t = tt
 
   reject : (n : ℕ) (fault : InstallFault) (s t : State) (e : Event) → IsReason w o times s e fault
-      → Holds n s e (fsm.reject fault t)
+      → Holds n s e (due.reject fault t)
   reject n fault s t e why = (
-    rejected n (has_files t.due) (fsm.reject fault t),
+    rejected n (has_files t.due) (due.reject fault t),
     λ other none some. subst (IsReason w o times s e) (same_Some fault other some) why,
   )
 
@@ -159,13 +159,13 @@ module _ (w : World) (o : Options) (times : Option ℕ → Bool) where
 
   to_install : (n : ℕ) (check : Bool) (s : State) (known : IsAccepted s) → check ≡ o.check
       → Left n (size_in known.0.text.comments.trusted) s.left
-      → Known n (if check then fsm.WouldInstall else fsm.RemoveLeftovers) (fsm.install s)
+      → Known n (if check then due.WouldInstall else due.RemoveLeftovers) (due.install s)
   to_install n true s known is sized = (known, sym is)
   to_install n false s known is sized = (known, sized)
 
   install : (n : ℕ) (s t : State) (e : Event) (known : IsAccepted t)
       → Left n (size_in known.0.text.comments.trusted) t.left → t.error ≡ s.error
-      → Holds n s e (fsm.install t)
+      → Holds n s e (due.install t)
   install n s t e known sized same = (
     to_install n t.options.check t known (ap (λ (x : Options). x.check) known.2) sized,
     λ fault none some. calm s e fault none (sym same ∙ some),
@@ -178,14 +178,14 @@ module _ (w : World) (o : Options) (times : Option ℕ → Bool) where
 
   compare : (n : ℕ) (s t : State) (e : Event) (known : IsAccepted t)
       → Left n (size_in known.0.text.comments.trusted) t.left → t.error ≡ s.error
-      → Holds n s e (fsm.compare t)
+      → Holds n s e (due.compare t)
   compare n s t e known sized same =
       let quiet : Explains s e t.error = λ fault none some. calm s e fault none (sym same ∙ some) in
       let in_place = install n s t e known sized same in
-      either n (fsm.is_newer t) s _ _ e (λ is. in_place) (λ old.
+      either n (due.is_newer t) s _ _ e (λ is. in_place) (λ old.
       either n (is_some t.recorded.digest) s _ _ e
       (λ is. ((known, sized, not_newer t.recorded.version t.version old), quiet)) (λ none.
-      either n (fsm.is_rolling_back t) s _ _ e (λ is. in_place)
+      either n (due.is_rolling_back t) s _ _ e (λ is. in_place)
       (λ is. (
         (
           known,
@@ -197,16 +197,16 @@ module _ (w : World) (o : Options) (times : Option ℕ → Bool) where
       ))))
 
   after_record : (n : ℕ) (s : State) (found : Option (List ℕ)) (r : Result Recorded InstallFault)
-      → Known n fsm.ReadRecord s → judge_record o w.found_record ≡ r
-      → Holds n s (RecordRead found) (fsm.after_record r s)
+      → Known n due.ReadRecord s → judge_record o w.found_record ≡ r
+      → Holds n s (RecordRead found) (due.after_record r s)
   after_record n s found (Ok recorded) (same, none) record_applies =
       ((same, none, record_applies), calm s (RecordRead found))
   after_record n s found (Err fault) known record_applies = reject n fault s s (RecordRead found)
       (inl record_applies)
 
   after_signature : (n : ℕ) (s : State) (text : Result SignatureTextRecord Fault) (r : Passed)
-      (time : Option ℕ) → times time ≡ true → Known n fsm.ReadSignature s → judge_text o w.text ≡ r
-      → Holds n s (SignatureRead text time) (fsm.after_signature r time s)
+      (time : Option ℕ) → times time ≡ true → Known n due.ReadSignature s → judge_text o w.text ≡ r
+      → Holds n s (SignatureRead text time) (due.after_signature r time s)
   after_signature n s text (Ok (t, keys)) time timed (same, none, record_applies) passed = (
     (
       t,
@@ -240,13 +240,13 @@ module _ (w : World) (o : Options) (times : Option ℕ → Bool) where
   left_at n size None is none = tt
   left_at n size (Some left) is none = sym is ∙ ap (λ (x : ℕ). Some x) (omega (arith, none))
 
-  by_fault : (n : ℕ) (s : State) (time : TimeIn times) (g : IsSigned w o) (fault : Option InstallFault)
+  by_fault : (n : ℕ) (s : State) (time : TimeOf times) (g : IsSigned w o) (fault : Option InstallFault)
       → s.options ≡ o → s.recorded ≡ g.recorded
       → comment_fault o g.recorded.version time.0 g.text.comments.trusted ≡ fault
       → s.version ≡ unwrap_or (version_in o.numbering g.text.comments.trusted) 0
       → s.signature ≡ g.text.signature.signature → key_of s.signers ≡ g.key
       → Left n (size_in g.text.comments.trusted) s.left
-      → Holds n s (Answered true) (fsm.after_comment fault (record s { is_signed = true }))
+      → Holds n s (Answered true) (due.after_comment fault (record s { is_signed = true }))
   by_fault n s time g None same recorded none version signature key left =
       compare n s (record s { is_signed = true }) (Answered true)
       (g, time, same, recorded, none, version, signature, key) left refl
@@ -257,7 +257,7 @@ module _ (w : World) (o : Options) (times : Option ℕ → Bool) where
   after_comment : (n : ℕ) (s : State) (fault : Option InstallFault) (judged : IsJudged n s)
       → s.fault ≡ fault → true ≡ w.accepts (s.signature ++ judged.0.comments.trusted) (key_of s.signers)
       s.comment_signature
-      → Holds n s (Answered true) (fsm.after_comment fault (record s { is_signed = true }))
+      → Holds n s (Answered true) (due.after_comment fault (record s { is_signed = true }))
   after_comment n s fault (
     text,
     keys,
@@ -288,11 +288,11 @@ module _ (w : World) (o : Options) (times : Option ℕ → Bool) where
       by_fault n s time g fault same refl (sym is_fault ∙ is) version signature refl
       (left_at n (size_in text.comments.trusted) s.left left none)
 
-  next_key : (n : ℕ) (s : State) (signers : List PublicKeyValue) → s.due ≡ fsm.CheckComment
+  next_key : (n : ℕ) (s : State) (signers : List PublicKeyValue) → s.due ≡ due.CheckComment
       → (judged : IsJudged n (record s { signers = signers }))
       → false ≡ w.accepts (s.signature ++ judged.0.comments.trusted) (key_of signers)
       s.comment_signature
-      → Holds n s (Answered false) (fsm.next_key signers s)
+      → Holds n s (Answered false) (due.next_key signers s)
   next_key n s [] at (
     text,
     keys,
@@ -374,10 +374,10 @@ module _ (w : World) (o : Options) (times : Option ℕ → Bool) where
   of_update s (g, time, same, recorded, none, version, signature, key) digest accepted is =
       sym (rw (key, signature) at is)
 
-  recorded_differs : (s : State) (digest : List ℕ) (known : IsAccepted s)
+  other_digest : (s : State) (digest : List ℕ) (known : IsAccepted s)
       → false ≡ w.accepts (unwrap_or s.recorded.digest []) (key_of s.signers) s.signature
       → s.recorded.digest ≡ Some digest → accepts_digest known.0 digest ≡ false
-  recorded_differs s digest known is some = of_update s known digest false (rw some at is)
+  other_digest s digest known is some = of_update s known digest false (rw some at is)
 
   same_number : (r : Option ℕ) (v k : ℕ) → r ≡ Some k → v ≤ k → is_below (Some v) r ≡ false → v ≡ k
   same_number None v k is older not = absurd (none-some k is)
@@ -398,8 +398,8 @@ module _ (w : World) (o : Options) (times : Option ℕ → Bool) where
         recorded = sym (ap (λ (r : Recorded). r.version) recorded) ∙ is_k;
         offered = sym version ∙ same_number s.recorded.version s.version k is_k older others.0;
         installed = s.read;
-        installed_differs = of_update s known (blake2b_digest 64 s.read) false is;
-        recorded_differs =
+        other = of_update s known (blake2b_digest 64 s.read) false is;
+        other_digest =
             λ digest some. others.1 digest (ap (λ (r : Recorded). r.digest) recorded ∙ some);
       }
 
@@ -413,30 +413,30 @@ module _ (w : World) (o : Options) (times : Option ℕ → Bool) where
   too_short n left some all same =
       true≢false (sym (eq-eqb left 0 (omega (arith, all, same))) ∙ some)
 
-  after_digest : (n : ℕ) (s : State) (accepted : Bool) → Known n fsm.CheckRecord s
+  after_digest : (n : ℕ) (s : State) (accepted : Bool) → Known n due.CheckRecord s
       → accepted ≡ w.accepts (unwrap_or s.recorded.digest []) (key_of s.signers) s.signature
-      → Holds n s (Answered accepted) (fsm.after_digest accepted s)
+      → Holds n s (Answered accepted) (due.after_digest accepted s)
   after_digest n s true (known, sized, older) is =
       ((known, sized, older, λ not. absurd (true≢false not)), calm s (Answered true))
   after_digest n s false (known, sized, older) is =
-      either n (fsm.is_rolling_back s) s _ _ (Answered false)
+      either n (due.is_rolling_back s) s _ _ (Answered false)
       (λ back. install n s s (Answered false) known sized refl)
       (λ not. (
-        (known, sized, older, λ no_digest. (not, λ digest some. recorded_differs s digest known is some)),
+        (known, sized, older, λ no_digest. (not, λ digest some. other_digest s digest known is some)),
         calm s (Answered false),
       ))
 
   target_is_update : (n : ℕ) (check : Bool) (t : State) (known : IsAccepted t)
       → ((installed : List ℕ) × (accepts_digest known.0 (blake2b_digest 64 installed) ≡ true))
-      → Known n (if check then fsm.AlreadyInstalled else fsm.SyncTarget) t
+      → Known n (if check then due.AlreadyInstalled else due.SyncTarget) t
   target_is_update n true t known is = (known, is)
   target_is_update n false t known is = (known, is)
 
-  after_target : (n : ℕ) (s : State) (accepted : Bool) → Known n fsm.CheckTarget s
+  after_target : (n : ℕ) (s : State) (accepted : Bool) → Known n due.CheckTarget s
       → accepted ≡ w.accepts (blake2b_digest 64 s.read) (key_of s.signers) s.signature
-      → Holds n s (Answered accepted) (fsm.after_target accepted s)
+      → Holds n s (Answered accepted) (due.after_target accepted s)
   after_target n s true (known, sized, older, compared) is = (
-    target_is_update n s.options.check (fsm.after_target true s) known (s.read, of_update s known _ true is),
+    target_is_update n s.options.check (due.after_target true s) known (s.read, of_update s known _ true is),
     calm s (Answered true),
   )
   after_target n s false (known, sized, older, compared) is =
@@ -445,9 +445,9 @@ module _ (w : World) (o : Options) (times : Option ℕ → Bool) where
       (λ may_not. reject n SameNumber s s (Answered false)
       (inr (inr (inr (inr (inl (known.0, refl, same_version s known older compared may_not is)))))))
 
-  after_piece : (n k : ℕ) (s : State) (left : Option ℕ) → s.due ≡ fsm.CopyData → s.left ≡ left
+  after_piece : (n k : ℕ) (s : State) (left : Option ℕ) → s.due ≡ due.CopyData → s.left ≡ left
       → (known : IsAccepted s) → Left n (size_in known.0.text.comments.trusted) left
-      → n + k ≤ length w.update → Holds (n + k) s (PieceCopied k) (fsm.after_piece k left s)
+      → n + k ≤ length w.update → Holds (n + k) s (PieceCopied k) (due.after_piece k left s)
   after_piece n k s None at is_left known sized fits =
       (rw (at, is_left) (known, tt), calm s (PieceCopied k))
   after_piece n k s (Some left) at is_left known sized fits =
@@ -461,50 +461,50 @@ module _ (w : World) (o : Options) (times : Option ℕ → Bool) where
 
   after_copy : (n : ℕ) (s : State) (left : Option ℕ) → (known : IsAccepted s)
       → Left n (size_in known.0.text.comments.trusted) left → n ≡ length w.update
-      → Holds n s Done (fsm.after_copy left s)
+      → Holds n s Done (due.after_copy left s)
   after_copy n s None known sized all = (known, calm s Done)
   after_copy n s (Some left) known sized all =
       either n (left == 0) s _ _ Done (λ nothing. (known, calm s Done))
       (λ some. reject n OtherSize s s Done
       (inr (inr (inr (inr (inr (inl (known.0, refl, (left + n, sized, too_short n left some all)))))))))
 
-  holds_if_some : (n : ℕ) (is : Bool) (s t : State) (e : Event) → Holds n s e t
+  maybe : (n : ℕ) (is : Bool) (s t : State) (e : Event) → Holds n s e t
       → IfSome (if is then Some t else None) (Holds n s e)
-  holds_if_some n true s t e holds = holds
-  holds_if_some n false s t e holds = tt
+  maybe n true s t e holds = holds
+  maybe n false s t e holds = tt
 
-  op_keeps : (n : ℕ) (op : Operation) (e : Event) (s : State) → s.due ≡ op → Known n op s
-      → IsTrueEvent w n s op e → IsAtTimeIn times e → IfSome (after op e s) (Holds (count n e) s e)
-  op_keeps n fsm.Nothing (Failed f) s at known is timed = tt
-  op_keeps n fsm.Installed (Failed f) s at known is timed = tt
-  op_keeps n fsm.AlreadyInstalled (Failed f) s at known is timed = tt
-  op_keeps n fsm.WouldInstall (Failed f) s at known is timed = tt
-  op_keeps n fsm.Rejected (Failed f) s at known is timed = tt
-  op_keeps n fsm.RemoveFiles (Failed f) s at known is timed =
-      holds_if_some n (fsm.is_failure f) s (fsm.go fsm.Rejected s) (Failed f) (tt, calm s (Failed f))
-  op_keeps n op (Failed f) s at known is timed =
-      holds_if_some n (fsm.is_failure f) s (fsm.reject (fsm.failure s.due f) s) (Failed f)
-      (reject n (fsm.failure s.due f) s s (Failed f) refl)
-  op_keeps n fsm.Lock InUse s at known is timed = reject n _ s s InUse refl
-  op_keeps n fsm.ReadRecord (RecordRead found) s at known is timed =
+  keeps : (n : ℕ) (op : Operation) (e : Event) (s : State) → s.due ≡ op → Known n op s
+      → IsTrueEvent w n s op e → IsAtOneOf times e → IfSome (after op e s) (Holds (count n e) s e)
+  keeps n due.Nothing (Failed f) s at known is timed = tt
+  keeps n due.Installed (Failed f) s at known is timed = tt
+  keeps n due.AlreadyInstalled (Failed f) s at known is timed = tt
+  keeps n due.WouldInstall (Failed f) s at known is timed = tt
+  keeps n due.Rejected (Failed f) s at known is timed = tt
+  keeps n due.RemoveFiles (Failed f) s at known is timed =
+      maybe n (due.is_failure f) s (due.go due.Rejected s) (Failed f) (tt, calm s (Failed f))
+  keeps n op (Failed f) s at known is timed =
+      maybe n (due.is_failure f) s (due.reject (due.failure s.due f) s) (Failed f)
+      (reject n (due.failure s.due f) s s (Failed f) refl)
+  keeps n due.Lock InUse s at known is timed = reject n _ s s InUse refl
+  keeps n due.ReadRecord (RecordRead found) s at known is timed =
       after_record n s found (judge_record s.options found) known (rw (known.0, is) refl)
-  op_keeps n fsm.ReadSignature (SignatureRead text time) s at known is timed =
+  keeps n due.ReadSignature (SignatureRead text time) s at known is timed =
       after_signature n s text (judge_text s.options text) time timed known (rw (known.0, is) refl)
-  op_keeps n fsm.CheckComment (Answered true) s at known is timed = after_comment n s s.fault known refl
+  keeps n due.CheckComment (Answered true) s at known is timed = after_comment n s s.fault known refl
       (is known.0 known.5)
-  op_keeps n fsm.CheckComment (Answered false) s at known is timed = next_key n s s.signers at known
+  keeps n due.CheckComment (Answered false) s at known is timed = next_key n s s.signers at known
       (is known.0 known.5)
-  op_keeps n fsm.CheckRecord (Answered accepted) s at known is timed = after_digest n s accepted known is
-  op_keeps n fsm.ReadTarget (PieceRead bytes) s at known is timed = (rw at known, calm s (PieceRead bytes))
-  op_keeps n fsm.ReadTarget TargetMissing s at (known, sized, older, compared) is timed =
+  keeps n due.CheckRecord (Answered accepted) s at known is timed = after_digest n s accepted known is
+  keeps n due.ReadTarget (PieceRead bytes) s at known is timed = (rw at known, calm s (PieceRead bytes))
+  keeps n due.ReadTarget TargetMissing s at (known, sized, older, compared) is timed =
       install n s s TargetMissing known sized refl
-  op_keeps n fsm.CheckTarget (Answered accepted) s at known is timed = after_target n s accepted known is
-  op_keeps n fsm.CopyData (PieceCopied k) s at (known, sized) is timed =
+  keeps n due.CheckTarget (Answered accepted) s at known is timed = after_target n s accepted known is
+  keeps n due.CopyData (PieceCopied k) s at (known, sized) is timed =
       after_piece n k s s.left at refl known sized is.1
-  op_keeps n fsm.CopyData Done s at (known, sized) is timed = after_copy n s s.left known sized is
-  op_keeps n fsm.ReadBack (PieceRead bytes) s at known is timed = (rw at known, calm s (PieceRead bytes))
-  op_keeps n fsm.ReadBack Done s at known is timed = ((known, is), calm s Done)
-  op_keeps n fsm.CheckData (Answered true) s at (known, whole) is timed = (
+  keeps n due.CopyData Done s at (known, sized) is timed = after_copy n s s.left known sized is
+  keeps n due.ReadBack (PieceRead bytes) s at known is timed = (rw at known, calm s (PieceRead bytes))
+  keeps n due.ReadBack Done s at known is timed = ((known, is), calm s Done)
+  keeps n due.CheckData (Answered true) s at (known, whole) is timed = (
     (
       known,
       ap (λ m. accepts_digest known.0 (blake2b_digest 64 m)) (sym whole)
@@ -512,7 +512,7 @@ module _ (w : World) (o : Options) (times : Option ℕ → Bool) where
     ),
     calm s (Answered true),
   )
-  op_keeps n fsm.CheckData (Answered false) s at (known, whole) is timed =
+  keeps n due.CheckData (Answered false) s at (known, whole) is timed =
       reject n _ s s (Answered false)
       (inr (inr (inr (inr (inr (inr (
         known.0,
@@ -520,49 +520,49 @@ module _ (w : World) (o : Options) (times : Option ℕ → Bool) where
         ap (λ m. accepts_digest known.0 (blake2b_digest 64 m)) (sym whole)
             ∙ of_update s known _ false is,
       )))))))
-  op_keeps n fsm.RemoveFiles Done s at known is timed = (tt, calm s Done)
-  op_keeps n fsm.Nothing Done s at known is timed = tt
-  op_keeps n fsm.Installed Done s at known is timed = tt
-  op_keeps n fsm.AlreadyInstalled Done s at known is timed = tt
-  op_keeps n fsm.WouldInstall Done s at known is timed = tt
-  op_keeps n fsm.Rejected Done s at known is timed = tt
-  op_keeps n fsm.ReadRecord Done s at known is timed = tt
-  op_keeps n fsm.ReadSignature Done s at known is timed = tt
-  op_keeps n fsm.CheckComment Done s at known is timed = tt
-  op_keeps n fsm.CheckRecord Done s at known is timed = tt
-  op_keeps n fsm.CheckTarget Done s at known is timed = tt
-  op_keeps n fsm.CheckData Done s at known is timed = tt
-  op_keeps n op Done s at known is timed = (known, calm s Done)
-  op_keeps n op e s at known is timed = tt
+  keeps n due.RemoveFiles Done s at known is timed = (tt, calm s Done)
+  keeps n due.Nothing Done s at known is timed = tt
+  keeps n due.Installed Done s at known is timed = tt
+  keeps n due.AlreadyInstalled Done s at known is timed = tt
+  keeps n due.WouldInstall Done s at known is timed = tt
+  keeps n due.Rejected Done s at known is timed = tt
+  keeps n due.ReadRecord Done s at known is timed = tt
+  keeps n due.ReadSignature Done s at known is timed = tt
+  keeps n due.CheckComment Done s at known is timed = tt
+  keeps n due.CheckRecord Done s at known is timed = tt
+  keeps n due.CheckTarget Done s at known is timed = tt
+  keeps n due.CheckData Done s at known is timed = tt
+  keeps n op Done s at known is timed = (known, calm s Done)
+  keeps n op e s at known is timed = tt
 
-  answer_keeps : (n : ℕ) (e : Event) (s : State) (next : Option State) → is_some next ≡ true
+  moves : (n : ℕ) (e : Event) (s : State) (next : Option State) → is_some next ≡ true
       → IfSome next (Holds (count n e) s e) → Known (count n e) (answer s next).1.due (answer s next).1
-  answer_keeps n e s (Some t) fits holds = holds.0
-  answer_keeps n e s None fits holds = absurd (true≢false (sym fits))
+  moves n e s (Some t) fits holds = holds.0
+  moves n e s None fits holds = absurd (true≢false (sym fits))
 
   known_at : (n : ℕ) (s : State) (events : List Event) (t : State) → Known n s.due s
-      → IsRun (λ n s e. IsLawfulEvent w n s e × IsAtTimeIn times e) n s events t
+      → IsRun (λ n s e. IsLawfulEvent w n s e × IsAtOneOf times e) n s events t
       → Known (total n events) t.due t
   known_at n s [] t known is = rw is known
   known_at n s (e ∷ more) t known (((fits, is), timed), run) =
       known_at (count n e) (step s e).1 more t
-      (answer_keeps n e s (after s.due e s) fits (op_keeps n s.due e s refl known is timed)) run
+      (moves n e s (after s.due e s) fits (keeps n s.due e s refl known is timed)) run
 
-  begins : (check : Bool) → Known 0 (if check then fsm.ReadRecord else fsm.Lock) (begin o)
+  begins : (check : Bool) → Known 0 (if check then due.ReadRecord else due.Lock) (begin o)
   begins true = (refl, refl)
   begins false = (refl, refl)
 
   ends : (n : ℕ) (op : Operation) (s : State) → Known n op s → IsEnd w o times op
-  ends n fsm.Installed s ((g, time, same, recorded, none, version, signature, key), whole) =
+  ends n due.Installed s ((g, time, same, recorded, none, version, signature, key), whole) =
       (g, time, none, whole)
-  ends n fsm.AlreadyInstalled s ((g, time, same, recorded, none, version, signature, key), present) =
+  ends n due.AlreadyInstalled s ((g, time, same, recorded, none, version, signature, key), present) =
       (g, time, none, present)
-  ends n fsm.WouldInstall s ((g, time, same, recorded, none, version, signature, key), check) =
+  ends n due.WouldInstall s ((g, time, same, recorded, none, version, signature, key), check) =
       (check, (g, time, none))
   ends n op s known = tt
 
   refused : (before now : Option InstallFault) (fault : InstallFault)
-      → fsm.result_of before now ≡ Err (Refused fault) → (before ≡ None) × (now ≡ Some fault)
+      → due.result_of before now ≡ Err (Refused fault) → (before ≡ None) × (now ≡ Some fault)
   refused None (Some f) fault is = (refl, ap fault_of is)
   refused None None fault is = absurd (none-some fault (ap fault_of is))
   refused (Some f) now fault is = absurd (none-some fault (ap fault_of is))
@@ -574,7 +574,7 @@ module _ (w : World) (o : Options) (times : Option ℕ → Bool) where
   explains n s e None fault holds is = absurd (none-some fault (ap fault_of is))
 
   run_knows : (events : List Event) (t : State)
-      → IsRun (λ n s e. IsLawfulEvent w n s e × IsAtTimeIn times e) 0 (begin o) events t
+      → IsRun (λ n s e. IsLawfulEvent w n s e × IsAtOneOf times e) 0 (begin o) events t
       → Known (total 0 events) t.due t
   run_knows events t run = known_at 0 (begin o) events t (begins o.check) run
 
@@ -582,15 +582,15 @@ module _ (w : World) (o : Options) (times : Option ℕ → Bool) where
 -- lock is in use.
 pub errors_are_true : (w : World) (o : Options) (times : Option ℕ → Bool) (events : List Event) (s : State)
     (e : Event) (fault : InstallFault)
-    → IsRun (λ n s e. IsLawfulEvent w n s e × IsAtTimeIn times e) 0 (begin o) events s
-    → IsLawfulEvent w (total 0 events) s e → IsAtTimeIn times e → (step s e).0 ≡ Err (Refused fault)
+    → IsRun (λ n s e. IsLawfulEvent w n s e × IsAtOneOf times e) 0 (begin o) events s
+    → IsLawfulEvent w (total 0 events) s e → IsAtOneOf times e → (step s e).0 ≡ Err (Refused fault)
     → IsReason w o times s e fault
 errors_are_true w o times events s e fault run (fits, is) timed refuses =
     explains w o times (count (total 0 events) e) s e (after s.due e s) fault
-    (op_keeps w o times (total 0 events) s.due e s refl (run_knows w o times events s run) is timed) refuses
+    (keeps w o times (total 0 events) s.due e s refl (run_knows w o times events s run) is timed) refuses
 
 -- If a run has ended without an error, IsEnd holds.
 pub ends_are_true : (w : World) (o : Options) (times : Option ℕ → Bool) (events : List Event) (t : State)
-    → IsRun (λ n s e. IsLawfulEvent w n s e × IsAtTimeIn times e) 0 (begin o) events t → IsEnd w o times t.due
+    → IsRun (λ n s e. IsLawfulEvent w n s e × IsAtOneOf times e) 0 (begin o) events t → IsEnd w o times t.due
 ends_are_true w o times events t run =
     ends w o times (total 0 events) t.due t (run_knows w o times events t run)

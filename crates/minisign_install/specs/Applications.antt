@@ -103,7 +103,7 @@ Performs w s ReadRecord (RecordRead found) old new =
     (found ≡ w.found_record) × (found ≡ content old.recorded) × (new ≡ old)
 Performs w s ReadSignature (SignatureRead text time) old new = (text ≡ w.text) × (new ≡ old)
 Performs w s ReadTarget (PieceRead bytes) old new =
-    (0 < length bytes) × (length (s.read ++ bytes) ≤ w.max_size) × (new ≡ old)
+    (0 < length bytes) × (length (s.read ++ bytes) ≤ w.most) × (new ≡ old)
 Performs w s ReadTarget Done old new =
     (file : File) × (old.target ≡ Some file) × (file.bytes ≡ s.read)
     × (new ≡ record old { opened = Some file.number })

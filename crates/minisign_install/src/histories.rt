@@ -28,7 +28,7 @@ ghost use Rattle.minisign_install.specs.Step.{new_record};
 ghost use Rattle.minisign_install.specs.Step.{new_key, new_version, step};
 ghost use Rattle.minisign_install.specs.Faults.{InstallFault, NoRecord, SameNumber};
 ghost use Rattle.minisign_install.specs.Installations.{numbered};
-ghost use Rattle.minisign_install.specs.StepRuns.{IsAtTimeIn, IsEnd, IsAcceptable, IsGoodUpdate, IsReason};
+ghost use Rattle.minisign_install.specs.StepRuns.{IsAtOneOf, IsEnd, IsAcceptable, IsGoodUpdate, IsReason};
 ghost use Rattle.minisign_install.specs.StepRuns.{IsUpdate, Succeeds};
 ghost use Rattle.minisign_install.specs.StepRuns.{IsSigned, World};
 
@@ -71,11 +71,11 @@ pub fn any_application_is_safe()
         → AllCalls LeavesContent calls }
 
     // If a call returns an error, then an operation has failed, the lock is in use, or the run has found the
-    // cause of this error at a time that the application passed in. `IsInputFault` lists these causes, and
+    // cause of this error at a time that the application passed in. `IsFoundFault` lists these causes, and
     // `times` is any set that contains the times that were passed in.
     ensures errors { (w : World) (o : Options) (times : Option ℕ → Bool) (m : Snapshot) (calls : List Call)
         (s : State) (end : Snapshot) (c : Call) (fault : InstallFault) → Applies w (begin o) m calls s end
-        → AllEvents (IsAtTimeIn times) calls → IsAtTimeIn times c.event → Others end c.before
+        → AllEvents (IsAtOneOf times) calls → IsAtOneOf times c.event → Others end c.before
         → is_some (after s.due c.event s) ≡ true → Performs w s s.due c.event c.before c.after
         → (step s c.event).0 ≡ Err (Refused fault) → IsReason w o times s c.event fault }
 
@@ -84,7 +84,7 @@ pub fn any_application_is_safe()
     // passed in. If the update is installed, this key has also signed the data. If it was already installed,
     // this key has signed the digest of some data.
     ensures ends { (w : World) (o : Options) (times : Option ℕ → Bool) (m : Snapshot) (calls : List Call)
-        (t : State) (end : Snapshot) → Applies w (begin o) m calls t end → AllEvents (IsAtTimeIn times) calls
+        (t : State) (end : Snapshot) → Applies w (begin o) m calls t end → AllEvents (IsAtOneOf times) calls
         → IsEnd w o times t.due }
 
     // Suppose that other processes leave the target alone. If a run ends as installed, the update is at the
@@ -127,8 +127,7 @@ pub fn any_good_update_arrives()
     // A later run with the same options reads from the new record the version number and the key that this
     // run recorded, and the digest of the data that it installed. The options must not include --first or
     // --new-key.
-    ensures record_of_update { (w : World) (o : Options) → AcceptsWholeKeys w.accepts → (s : State)
-        → IsUpdate w o s
+    ensures own { (w : World) (o : Options) → AcceptsWholeKeys w.accepts → (s : State) → IsUpdate w o s
         → o.first ≡ false → o.new_key ≡ false
         → judge_record o (Some (new_record s)) ≡ Ok (record {
           version = Some (new_version s);

@@ -13,11 +13,9 @@
 #![tactic(auto)]
 
 #[cfg(test)]
+mod base;
+#[cfg(test)]
 mod callers;
-#[cfg(test)]
-mod devices_and_errors;
-#[cfg(test)]
-mod display;
 #[cfg(test)]
 mod downloads;
 #[cfg(test)]
@@ -34,8 +32,10 @@ pub mod passwords;
 #[cfg(test)]
 mod releases;
 #[cfg(test)]
+mod shown;
+#[cfg(test)]
 mod signatures;
 #[cfg(test)]
-mod silent_calls;
-#[cfg(test)]
 mod tables;
+#[cfg(test)]
+mod unasked;
