@@ -65,7 +65,7 @@ WORDS = {
     minisign.RandomSourceFailed: "the system supplied no random bytes",
     minisign.MissingTrustedComment: "this signature is truncated: it has only 2 of 4 lines",
 }
-# What it prints for malformed keys.
+# The messages that it prints for malformed keys.
 MALFORMED = {
     minisign.BarePublicKeyLength: "a public key has 56 characters, but this has {length}\nhint: copy the second line of the public key file",
     minisign.BarePublicKeyNotBase64: "this is not a public key: it is not base64\nhint: copy the second line of the public key file",

@@ -131,7 +131,7 @@ def check_readme(checks, package):
 
 # A public key file, data and a signature file, which are verified together.
 Case = namedtuple("Case", "name key data signature")
-# What a package can read from a case before it verifies: the key IDs of the key and of the signature, and true if the signature is legacy.
+# The fields of a case that a package can read before it verifies: the key IDs of the key and of the signature, and true for a legacy one.
 Fields = namedtuple("Fields", "case key_id signature_key_id is_legacy")
 # The key, data and signature that the documentation of the Rust crate minisign publishes: the paths, the case, and the base64 line of the
 # key.

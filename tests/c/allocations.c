@@ -59,7 +59,7 @@ static volatile unsigned uncleared, freed;
  * counted_memory.h.) */
 static volatile struct { char *from; size_t len; int hint; } madvise_calls[64];
 static volatile unsigned hints;
-/* What madvise does: it works, it fails, it does nothing but returns 0, or it is slow for huge pages. */
+/* The behaviour of madvise: it works, it fails, it does nothing but returns 0, or it is slow for huge pages. */
 static volatile enum { WORKS, FAILS, DOES_NOTHING, IS_SLOW } madvise_mode;
 
 static void check_block_of(int holds, const char *what, size_t len, size_t alignment)

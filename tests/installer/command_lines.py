@@ -47,7 +47,7 @@ NOT_WITH_FIRST = "this option cannot be combined with --first"
 NEEDS_VALUE = "this option needs a value"
 MISSING = "error: missing arguments, expected "
 UNEXPECTED = "unexpected argument, expected "
-# What the program expects as the value of an option.
+# Descriptions of valid option values, as the program's error messages give them.
 FIELD = "timestamp or version"
 OCTAL = "three octal digits such as 644"
 SIZE = "a number of bytes such as 5000, 100K or 20M"

@@ -179,7 +179,7 @@ for row_number, (row, row_status, *row_given) in enumerate(updates.UPDATE_TABLE)
 
 # == Faults ==
 
-# What is installed and what is offered: arguments of `prepare_command`.
+# Installed files, records, updates and options for a run, as arguments of `prepare_command`.
 SITUATIONS = {
     "a newer update": {},
     "a newer update from a pipe": dict(source=STANDARD_INPUT),
