@@ -20,9 +20,10 @@
  *   MINISIGN_TARGET_IN_USE if another process holds it and you do not wait any longer.
  * - MINISIGN_DUE_READ_RECORD: minisign_install_record, or minisign_install_no_record if there is no record.
  * - MINISIGN_DUE_READ_SIGNATURE: minisign_install_signature.
- * - MINISIGN_DUE_CHECK_COMMENT, MINISIGN_DUE_CHECK_RECORD, MINISIGN_DUE_CHECK_TARGET and MINISIGN_DUE_CHECK_DATA:
- *   minisign_install_question returns a key and a signature. Check the signature with Ed25519, and pass the result to
- *   minisign_install_answer.
+ * - MINISIGN_DUE_READ_LIST: minisign_install_list. It is due only with the option is_list.
+ * - MINISIGN_DUE_CHECK_COMMENT, MINISIGN_DUE_CHECK_LIST, MINISIGN_DUE_CHECK_RECORD, MINISIGN_DUE_CHECK_TARGET and
+ *   MINISIGN_DUE_CHECK_DATA: minisign_install_question returns a key and a signature. Check the signature with Ed25519,
+ *   and pass the result to minisign_install_answer.
  * - MINISIGN_DUE_READ_TARGET and MINISIGN_DUE_READ_BACK: minisign_install_piece for each piece, and with 0 bytes at the
  *   end of the file; minisign_install_no_target if there is no file at the target.
  * - MINISIGN_DUE_COPY_DATA: minisign_install_copied for each piece, and minisign_install_done at the end of the data.
@@ -37,12 +38,12 @@
  * Data that may arrive slowly, such as that of a pipe, must not be read while the target is locked, and not before the
  * trusted comment is verified, because otherwise anybody could make you read without end. So first make a run with the
  * same options and is_check set. If it ends with MINISIGN_DUE_WOULD_INSTALL, read the data into an unnamed file, at
- * most as many bytes as minisign_install_size returns, or up to a limit of your own if there is no signed size. Then
+ * most as many bytes as minisign_install_size returns, or up to a limit of your own if it returns 0. Then
  * install from this file. If the check ends with MINISIGN_DUE_ALREADY_INSTALLED, read nothing, and make a run with an
  * empty file, which syncs the installed file.
  *
  * The record contains the version number, the field of the trusted comment from which it was read, the public key
- * under which the update was verified, and the digest of the data. New data and a new record are first written to
+ * under which the update was verified, and the digest of the data or, with is_list, of the list. New data and a new record are first written to
  * temporary files in the directory of the target, with random names. They are synced before they are renamed, so what
  * is renamed is always complete.
  *
@@ -52,6 +53,12 @@
  * is set; otherwise the update is rejected. So if a run was interrupted after it had renamed its record and before it
  * renamed its data, the next run completes the installation. An older update is rejected, unless the option roll_back
  * is set.
+ *
+ * With the option is_list, the signature is that of a signed list of files, such as SHA256SUMS (see minisign_list.h), and
+ * not that of the data. You pass the list, and the name under which the data must be listed. An update is installed only
+ * if the signature of the list is valid, and the data has the digest that the list has for this name. The version
+ * number and the time at which the update expires are those in the trusted comment of the list. The record contains the
+ * digest of the list instead of that of the data.
  *
  * You have to meet the "Requirements" of minisign.h, and those in the following list. If you break one, nothing is
  * guaranteed about the target.
@@ -86,54 +93,58 @@ enum minisign_due {
     MINISIGN_DUE_READ_SIGNATURE = 3,
     /* Ask Ed25519 about the trusted comment, and report the answer. */
     MINISIGN_DUE_CHECK_COMMENT = 4,
+    /* Read the signed list, once. */
+    MINISIGN_DUE_READ_LIST = 5,
+    /* Ask Ed25519 about the digest of the list, and report the answer. */
+    MINISIGN_DUE_CHECK_LIST = 6,
     /* Ask Ed25519 about the digest in the record, and report the answer. */
-    MINISIGN_DUE_CHECK_RECORD = 5,
+    MINISIGN_DUE_CHECK_RECORD = 7,
     /* Read the installed file and report its bytes piece by piece, or that there is no such file. */
-    MINISIGN_DUE_READ_TARGET = 6,
-    /* Ask Ed25519 about the digest of the installed file, and report the answer. */
-    MINISIGN_DUE_CHECK_TARGET = 7,
+    MINISIGN_DUE_READ_TARGET = 8,
+    /* Ask Ed25519 about the digest of the installed file, or that of the list, and report the answer. */
+    MINISIGN_DUE_CHECK_TARGET = 9,
     /* Sync the installed file, which is already the update. */
-    MINISIGN_DUE_SYNC_TARGET = 8,
+    MINISIGN_DUE_SYNC_TARGET = 10,
     /* Sync the directory, so that the name of the installed file survives a crash. */
-    MINISIGN_DUE_SYNC_TARGET_NAME = 9,
+    MINISIGN_DUE_SYNC_TARGET_NAME = 11,
     /* Remove the temporary files that killed runs have left behind. */
-    MINISIGN_DUE_REMOVE_LEFTOVERS = 10,
+    MINISIGN_DUE_REMOVE_LEFTOVERS = 12,
     /* Create the temporary file of the data under a random name. */
-    MINISIGN_DUE_CREATE_FILE = 11,
+    MINISIGN_DUE_CREATE_FILE = 13,
     /* Copy the data to its temporary file, and report the length of each piece. */
-    MINISIGN_DUE_COPY_DATA = 12,
+    MINISIGN_DUE_COPY_DATA = 14,
     /* Read back the temporary file of the data through the same descriptor, and report its bytes piece by piece. */
-    MINISIGN_DUE_READ_BACK = 13,
-    /* Ask Ed25519 about the digest of what was read back, and report the answer. */
-    MINISIGN_DUE_CHECK_DATA = 14,
+    MINISIGN_DUE_READ_BACK = 15,
+    /* Ask Ed25519 about the digest of what was read back, or that of the list, and report the answer. */
+    MINISIGN_DUE_CHECK_DATA = 16,
     /* Give the temporary file of the data the permissions of the installed file. */
-    MINISIGN_DUE_SET_PERMISSIONS = 15,
+    MINISIGN_DUE_SET_PERMISSIONS = 17,
     /* Sync the temporary file of the data. */
-    MINISIGN_DUE_SYNC_FILE = 16,
+    MINISIGN_DUE_SYNC_FILE = 18,
     /* Create the temporary file of the record under a random name. */
-    MINISIGN_DUE_CREATE_RECORD = 17,
+    MINISIGN_DUE_CREATE_RECORD = 19,
     /* Write the new record to its temporary file. */
-    MINISIGN_DUE_WRITE_RECORD = 18,
+    MINISIGN_DUE_WRITE_RECORD = 20,
     /* Sync the temporary file of the record. */
-    MINISIGN_DUE_SYNC_RECORD = 19,
+    MINISIGN_DUE_SYNC_RECORD = 21,
     /* Rename the temporary file of the record to the record. */
-    MINISIGN_DUE_RENAME_RECORD = 20,
+    MINISIGN_DUE_RENAME_RECORD = 22,
     /* Sync the directory, so that a crash does not undo this rename. */
-    MINISIGN_DUE_SYNC_RECORD_NAME = 21,
+    MINISIGN_DUE_SYNC_RECORD_NAME = 23,
     /* Rename the temporary file of the data to the target. */
-    MINISIGN_DUE_RENAME_FILE = 22,
+    MINISIGN_DUE_RENAME_FILE = 24,
     /* Sync the directory, so that a crash does not undo this rename. */
-    MINISIGN_DUE_SYNC_FILE_NAME = 23,
+    MINISIGN_DUE_SYNC_FILE_NAME = 25,
     /* Remove the temporary files that this run made and did not rename. */
-    MINISIGN_DUE_REMOVE_FILES = 24,
+    MINISIGN_DUE_REMOVE_FILES = 26,
     /* The run has ended: the update is installed. */
-    MINISIGN_DUE_INSTALLED = 25,
+    MINISIGN_DUE_INSTALLED = 27,
     /* The run has ended: the update was installed already. */
-    MINISIGN_DUE_ALREADY_INSTALLED = 26,
+    MINISIGN_DUE_ALREADY_INSTALLED = 28,
     /* The check has ended: a run with the same options would install the update. */
-    MINISIGN_DUE_WOULD_INSTALL = 27,
+    MINISIGN_DUE_WOULD_INSTALL = 29,
     /* The run has ended: the update is rejected. */
-    MINISIGN_DUE_REJECTED = 28
+    MINISIGN_DUE_REJECTED = 30
 };
 /* The end of the operations. */
 
@@ -147,8 +158,8 @@ enum minisign_numbering {
 };
 /* The end of the numberings. */
 
-/* The options of an installation. Each field except the first is 1 for yes and 0 for no. Fields that you omit in an
- * initializer are 0. */
+/* The options of an installation. Each field except the first and the last is 1 for yes and 0 for no. Fields that you
+ * omit in an initializer are 0. */
 typedef struct minisign_install_options {
     uint32_t numbering;   /* MINISIGN_NUMBERING_TIMESTAMP or MINISIGN_NUMBERING_VERSION; always use the same one for a
                            * target */
@@ -165,7 +176,11 @@ typedef struct minisign_install_options {
                            * record or it is damaged. Use this only if your keys come from a file that is itself
                            * installed with a record of its own, because it lets the recorded version decrease */
     uint32_t roll_back;   /* install an update even if its version is below the recorded one. The record keeps its
-                           * version and key, and gets the digest of the data that is installed */
+                           * version and key, and gets the digest of the data that is installed, or of its list */
+    uint32_t is_list;     /* the signature is that of a signed list of files, in which the data must be listed */
+    uint32_t long_digest; /* the hash function of 128 digits on a line of the list that does not name one:
+                           * MINISIGN_HASH_SHA512 or MINISIGN_HASH_BLAKE2B of minisign_list.h, or MINISIGN_HASH_NONE to
+                           * treat such a line as malformed. Without is_list it has no effect */
 } minisign_install_options;
 
 /* An installation. You allocate it. Only the library writes its bytes. No call on it allocates. */
@@ -179,8 +194,8 @@ typedef struct minisign_installation {
  * them. If you have only one key, pass it twice.
  *
  * After an error the installation is unchanged. The errors, in this order: MINISIGN_BAD_OPTION, if an option other than
- * numbering is neither 0 nor 1, or is_first is set together with new_key or roll_back; MINISIGN_BAD_NUMBERING;
- * MINISIGN_PUBLIC_KEY_NOT_READ. Since 0.3.
+ * numbering and long_digest is neither 0 nor 1, or is_first is set together with new_key or roll_back;
+ * MINISIGN_BAD_NUMBERING; MINISIGN_BAD_HASH, for long_digest; MINISIGN_PUBLIC_KEY_NOT_READ. Since 0.3.
  */
 MINISIGN_MUST_USE enum minisign_error minisign_install_init(
     minisign_installation *installation, const minisign_public_key *key, const minisign_public_key *other,
@@ -196,7 +211,7 @@ enum minisign_due minisign_install_due(const minisign_installation *installation
  *
  * The errors, in this order: MINISIGN_NOT_DUE, if another call reports this operation, or the run has ended (nothing is
  * changed); MINISIGN_OTHER_SIZE, for MINISIGN_DUE_COPY_DATA, if the data is shorter than the field "size:" of the
- * trusted comment says. Then the run is rejected for this error, and you continue with the operation that is due. Since
+ * trusted comment says, and is_list is not set. Then the run is rejected for this error, and you continue with the operation that is due. Since
  * 0.3.
  */
 MINISIGN_MUST_USE enum minisign_error minisign_install_done(minisign_installation *installation);
@@ -206,7 +221,7 @@ MINISIGN_MUST_USE enum minisign_error minisign_install_done(minisign_installatio
  * Report every piece, and report the end of the data with minisign_install_done.
  *
  * The errors, in this order: MINISIGN_NOT_DUE, after which nothing is changed; MINISIGN_OTHER_SIZE, if the data is
- * longer than the field "size:" of the trusted comment says. Then the run is rejected for this error, and you continue
+ * longer than the field "size:" of the trusted comment says, and is_list is not set. Then the run is rejected for this error, and you continue
  * with the operation that is due. Since 0.3.
  */
 MINISIGN_MUST_USE enum minisign_error minisign_install_copied(
@@ -273,13 +288,14 @@ MINISIGN_MUST_USE enum minisign_error minisign_install_no_target(minisign_instal
  * The call also checks what the trusted comment says. You get the result from minisign_install_answer, because until
  * then the comment may be forged. The comment consists of fields that are separated by tabs. It must have
  *
- * - a field "file:" whose value is exactly the parameter `file`;
+ * - a field "file:" whose value is exactly the parameter `file`, which with is_list is the name of the list;
  * - a field of the chosen numbering, with a number that is not below the recorded version number, unless roll_back is
  *   set;
  * - no field "expires:", or exactly one, with a number that is greater than the parameter `now`. With must_expire
  *   there must be one, and no other field that differs from it only in case or in white space, such as "Expires:5" or
  *   "expires :5";
- * - no field "size:", or exactly one, with a number: the length of the data in bytes.
+ * - no field "size:", or exactly one, with a number: the length of the data in bytes. With is_list it says nothing about
+ *   the data.
  *
  * A number consists of decimal digits only, and is below 2^64. If the comment has several fields "file:", the first of
  * them counts, and likewise for the fields of the chosen numbering.
@@ -300,10 +316,24 @@ MINISIGN_MUST_USE enum minisign_error minisign_install_signature(
     size_t *message_len);
 
 /*
+ * Passes the signed list, and the name to look up in it, if MINISIGN_DUE_READ_LIST is due. Pass the whole list. Then
+ * MINISIGN_DUE_CHECK_LIST is due, and you can free the list. What is wrong with the list or the name, you get from
+ * minisign_install_answer, because until then the list may be forged.
+ *
+ * The name is that under which the list has the data, such as "app-2.tar.gz". Choose it yourself: do not take it from the
+ * signature file. minisign_list.h says which lines a list may have, and how names are compared.
+ *
+ * The only error is MINISIGN_NOT_DUE, if another operation is due. Then nothing is changed. Since 0.3.
+ */
+MINISIGN_MUST_USE enum minisign_error minisign_install_list(
+    minisign_installation *installation, const uint8_t *list, size_t list_len, const uint8_t *name, size_t name_len);
+
+/*
  * Writes the signature to check and the public key under which to check it. For MINISIGN_DUE_CHECK_COMMENT, check the
- * signature over the message that minisign_install_signature wrote; the digest is zeros. For MINISIGN_DUE_CHECK_RECORD,
- * MINISIGN_DUE_CHECK_TARGET and MINISIGN_DUE_CHECK_DATA, check the signature over the 64 bytes of the digest.
- * MINISIGN_DUE_CHECK_RECORD shows if the record was written for the data of this update, so its result may well be no.
+ * signature over the message that minisign_install_signature wrote; the digest is zeros. For MINISIGN_DUE_CHECK_LIST,
+ * MINISIGN_DUE_CHECK_RECORD, MINISIGN_DUE_CHECK_TARGET and MINISIGN_DUE_CHECK_DATA, check the signature over the 64 bytes
+ * of the digest. With is_list, it is the digest of the list, except for MINISIGN_DUE_CHECK_RECORD.
+ * MINISIGN_DUE_CHECK_RECORD shows if the record was written for this update, so its result may well be no.
  * Unlike minisign_ask, this call does not reject weak public keys and signatures, so your Ed25519 implementation must
  * reject them: see "Ed25519" under "Requirements" in minisign.h.
  *
@@ -320,10 +350,14 @@ MINISIGN_MUST_USE enum minisign_error minisign_install_question(
  *   key has the same key ID and was not asked yet, MINISIGN_DUE_CHECK_COMMENT remains due, for that key. If the signature
  *   is valid, the first reason of these: MINISIGN_OTHER_FILE; MINISIGN_NO_NUMBER; MINISIGN_NO_EXPIRY,
  *   MINISIGN_BAD_EXPIRY or MINISIGN_EXPIRED; MINISIGN_BAD_SIZE; MINISIGN_OLDER_UPDATE;
+ * - for MINISIGN_DUE_CHECK_LIST, MINISIGN_SIGNATURE_REFUSED if the signature is not valid for the list. If it is valid,
+ *   the first reason of these: MINISIGN_NOT_UTF8, for the list or the name; MINISIGN_BAD_NAME, if no list can contain
+ *   the name; MINISIGN_MALFORMED_LINE; MINISIGN_NOT_LISTED; MINISIGN_LISTED_TWICE;
  * - for MINISIGN_DUE_CHECK_TARGET, MINISIGN_SAME_NUMBER if the installed file is not the update, the record was not
- *   written for the data of this update, and `again` is not set;
+ *   written for this update, and `again` is not set;
  * - for MINISIGN_DUE_CHECK_DATA, MINISIGN_SIGNATURE_REFUSED if the signature is not valid for the bytes that were read
- *   back. MINISIGN_DUE_REMOVE_FILES is due next.
+ *   back, or, with is_list, for the list; MINISIGN_DIGEST_MISMATCH if these bytes do not have the listed digest.
+ *   MINISIGN_DUE_REMOVE_FILES is due next.
  *
  * API misuse, which is checked first and changes nothing, returns MINISIGN_BAD_ANSWER or MINISIGN_NOT_DUE. Since 0.3.
  */
@@ -342,7 +376,7 @@ uint32_t minisign_install_is_signed(const minisign_installation *installation);
 uint64_t minisign_install_version(const minisign_installation *installation);
 
 /* Writes the field "size:" of the trusted comment to *size and returns 1. Returns 0 and writes nothing if the comment has
- * no such field, or minisign_install_is_signed returns 0. Since 0.3. */
+ * no such field, is_list is set, or minisign_install_is_signed returns 0. Since 0.3. */
 uint32_t minisign_install_size(const minisign_installation *installation, uint64_t *size);
 
 /* The maximum size of a record. */
@@ -355,8 +389,8 @@ uint32_t minisign_install_size(const minisign_installation *installation, uint64
  * too short.
  *
  * The content is three lines, without a line feed after the last: the field and the version number, such as
- * "version:2"; the public key that verified the update, as 64 hexadecimal digits; the Blake2b-512 digest of the data,
- * as 128 hexadecimal digits. No 0 byte follows. Since 0.3.
+ * "version:2"; the public key that verified the update, as 64 hexadecimal digits; the Blake2b-512 digest of the data, or
+ * with is_list that of the list, as 128 hexadecimal digits. No 0 byte follows. Since 0.3.
  */
 size_t minisign_install_record_text(
     const minisign_installation *installation, uint8_t *text MINISIGN_ROLE(room RECORD_TEXT_BYTES), size_t room);
@@ -364,6 +398,11 @@ size_t minisign_install_record_text(
 /* Returns the error for which the run was rejected, if MINISIGN_DUE_REMOVE_FILES or MINISIGN_DUE_REJECTED is due.
  * Otherwise returns MINISIGN_OK. Since 0.3. */
 enum minisign_error minisign_install_error(const minisign_installation *installation);
+
+/* Returns the number of the line of the list for which the run was rejected: the first malformed line if
+ * minisign_install_error returns MINISIGN_MALFORMED_LINE, or the second line with the name if it returns
+ * MINISIGN_LISTED_TWICE. The first line is 1. Otherwise returns 0. Since 0.3. */
+uint64_t minisign_install_line(const minisign_installation *installation);
 
 /*
  * Checks only what a trusted comment says, for programs that install in another way. First verify the comment, for
@@ -402,6 +441,8 @@ MINISIGN_WITH(minisign_install_no_target, __nonnull__(1));
 MINISIGN_WITH(minisign_install_signature, MINISIGN_ACCESS(__read_only__, 2, 3),
                                           MINISIGN_ACCESS(__read_only__, 4, 5),
                                           MINISIGN_ACCESS(__write_only__, 7, 8), __nonnull__(1, 9));
+MINISIGN_WITH(minisign_install_list, MINISIGN_ACCESS(__read_only__, 2, 3), MINISIGN_ACCESS(__read_only__, 4, 5),
+                                     __nonnull__(1));
 MINISIGN_WITH(minisign_install_question, __nonnull__(1, 2, 3, 4));
 MINISIGN_WITH(minisign_install_answer, __nonnull__(1));
 MINISIGN_WITH(minisign_install_is_signed, __nonnull__(1));
@@ -409,6 +450,7 @@ MINISIGN_WITH(minisign_install_version, __nonnull__(1));
 MINISIGN_WITH(minisign_install_size, __nonnull__(1, 2));
 MINISIGN_WITH(minisign_install_record_text, MINISIGN_ACCESS(__write_only__, 2, 3), __nonnull__(1));
 MINISIGN_WITH(minisign_install_error, __nonnull__(1));
+MINISIGN_WITH(minisign_install_line, __nonnull__(1));
 MINISIGN_WITH(minisign_judge_comment, MINISIGN_ACCESS(__read_only__, 1, 2), MINISIGN_ACCESS(__read_only__, 3, 4),
                                       __nonnull__(8));
 #undef MINISIGN_ACCESS

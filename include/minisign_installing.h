@@ -57,7 +57,8 @@ enum minisign_install_status {
     MINISIGN_STATUS_FAILED = 1,
     /* The options are not valid, or the path of the target does not end with a file name. */
     MINISIGN_STATUS_MISUSE = 2,
-    /* The update is rejected because of its signature, its trusted comment or the size of its data. */
+    /* The update is rejected because of its signature, its trusted comment, the size of its data or, with a list,
+     * because of the list or the digest of the data. */
     MINISIGN_STATUS_REJECTED = 3,
     /* The update is older than the recorded version. */
     MINISIGN_STATUS_OLDER = 4,
@@ -113,6 +114,7 @@ typedef struct minisign_installing_message {
     const char *text; /* in English, such as "the update has expired" or "Permission denied"; a hint may name an option
                        * of minisign-install */
     int system_error; /* errno, if a system call failed, otherwise 0 */
+    uint64_t line;    /* the number of the line of a list that the message is about, otherwise 0 */
 } minisign_installing_message;
 
 /* The progress of a run. The run goes on only if the function that gets it sets goes_on to 1. */
@@ -139,6 +141,15 @@ typedef struct minisign_installing_options {
     size_t signature_len;
     const char *signature_name;
 
+    /* The content and the length of a signed list of files, such as SHA256SUMS, if the signature is that of the list.
+     * Then the data must have the digest that the list has for `name`. The trusted comment must contain the last part
+     * of list_name, the path of the list, and its version number and expiry time are those of the list. minisign_list.h
+     * says which lines a list may have, and choices.long_digest what 128 digits mean on a line that names no hash
+     * function. The call sets choices.is_list itself. If `list` is NULL, the signature is that of the data. */
+    const uint8_t *list;
+    size_t list_len;
+    const char *list_name;
+
     /* The public key, and a second one that is also accepted, for example while you change keys. The second one may be
      * NULL. The signature must have the key ID of one of them. If both have this key ID, either may have signed. */
     const minisign_public_key *key;
@@ -153,7 +164,8 @@ typedef struct minisign_installing_options {
      * reads no data. If the data is not in a regular file, for example in a pipe, the call first makes a check. If the
      * check finds that the update is to be installed, the call reads the data into an unnamed file in the directory of
      * the target, and installs from this file. It reads at most one byte more than the size in the trusted comment or
-     * max_size, whichever is smaller. */
+     * max_size, whichever is smaller. With a list, the size in the trusted comment is not that of the data, so max_size
+     * is required for such data. */
     const char *data;
     int data_fd;
     /* Reads up to size bytes, and writes to *len how many it has read, or 0 at the end of the data. *len is SIZE_MAX
@@ -161,8 +173,8 @@ typedef struct minisign_installing_options {
     void (*read)(void *context, uint8_t *bytes, size_t size, size_t *len);
     const char *data_name; /* the name of the data in messages; NULL: its path, if it has one */
 
-    /* The maximum size of the data, if has_max_size is 1. If has_max_size is 0, and the trusted comment has no field
-     * "size:", there is no limit. */
+    /* The maximum size of the data, if has_max_size is 1. If has_max_size is 0, and there is a list or the trusted
+     * comment has no field "size:", there is no limit. */
     uint64_t max_size;
     uint32_t has_max_size;
 
@@ -174,7 +186,8 @@ typedef struct minisign_installing_options {
     /* The number of seconds to wait for the lock if another run holds it, at most 86400. */
     uint32_t wait;
 
-    /* The file name that the trusted comment must contain. NULL: the last part of `target`. */
+    /* The file name that the trusted comment must contain or, with a list, the name that the list must contain exactly
+     * once. NULL: the last part of `target`. */
     const char *name;
 
     /* Verifies an Ed25519 signature: returns 0 if it is valid. crypto_sign_verify_detached has this type. Weak keys and

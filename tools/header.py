@@ -151,11 +151,18 @@ def install_rows(comments):
 
 
 def list_rows(comments):
-    """Returns the errors that only lists have, in the form of `fault_rows`."""
+    """Returns the errors of lists, in the form of `fault_rows`."""
     rows = re.findall(r'^list_row \(?(\w+)(?: \w+\))? = row (\d+) (\w+) \(codes "([^"]*)"\)$', read(f"{OF_LISTS}/specs/Faults.antt"), re.M)
     if {name for name, *_ in rows} != {*comments} - {"Library"}:
         raise Unfit("list_row must have one row for each error of lists")
     return rows
+
+
+def rows_once(installs, lists):
+    """Returns both tables. Errors of lists that installing returns too are in both, with the same number, kind and text."""
+    if len({row[0] for row in [*installs, *lists]}) != len({*installs, *lists}):
+        raise Unfit("an error of lists has another row among the errors of installing")
+    return [*(row for row in installs if row not in lists), *lists]
 
 
 def all_numbers(rows, comments):
@@ -297,7 +304,7 @@ def generated_files():
     comments, install_comments = comments_of(FAULTS, "NamedFault"), comments_of(f"{INSTALL}/src/faults.rt", "InstallFault")
     list_comments = comments_of(f"{OF_LISTS}/src/faults.rt", "ListFault")
     weak, weak_comment = weak_row()
-    rows = [*fault_rows(), weak, *install_rows(install_comments), *list_rows(list_comments)]
+    rows = [*fault_rows(), weak, *rows_once(install_rows(install_comments), list_rows(list_comments))]
     comments = comments | install_comments | list_comments | {weak[0]: weak_comment}
     numbers = all_numbers(rows, comments)
     # Each header is parsed by itself for its attributes, because these do not depend on structs of the other headers.

@@ -43,7 +43,7 @@ FROM_C = Part((("minisign_c", "verify_in_a_row", "number"), ("minisign_c", "veri
               files=r"/crates/minisign_base/specs/Faults\.antt")
 # Of minisign_install, only the definitions in these files are printed in full; they are the laws, the relation that describes an
 # application, and the installer as one function. The others are listed by name.
-OF_APPLICATIONS = r"/crates/minisign_install/(?!specs/(?:Applications|Histories|StepRuns|Step|Decisions|Traces)\.)"
+OF_APPLICATIONS = r"/crates/minisign_install/(?!specs/(?:Applications|Histories|StepRuns|Step|Decisions|Listings|Traces)\.)"
 INSTALLING = Part((("minisign_install", "any_application_is_safe", "safe"), ("minisign_install", "any_application_is_safe", "durable"),
                    ("minisign_install", "any_good_update_arrives", "installed")), files=OF_APPLICATIONS)
 RUNS = Part((("minisign_install", "any_history_keeps_the_version", "versions"),), files=OF_APPLICATIONS)

@@ -119,7 +119,21 @@ static void report_result(struct install_run *run, enum minisign_error error)
                                          : minisign_install_failed(&run->machine, error));
 }
 
-/* ---- The signature ---- */
+/* ---- The signature and the list ---- */
+
+/* Returns the last part of a path. */
+static const char *last_part(const char *path)
+{
+    const char *slash = strrchr(path, '/');
+
+    return slash == NULL ? path : slash + 1;
+}
+
+/* Returns the name of the file to install, in the trusted comment or in the list. */
+static const char *expected_name(const struct install_run *run)
+{
+    return run->options->name == NULL ? run->directory.target.name : run->options->name;
+}
 
 /* Returns the current time in seconds since 1970, or a negative number if it is unknown. */
 static int64_t current_time(const struct install_run *run)
@@ -138,11 +152,21 @@ static int64_t current_time(const struct install_run *run)
 static void pass_signature(struct install_run *run)
 {
     const minisign_installing_options *options = run->options;
-    const char *name = options->name == NULL ? run->directory.target.name : options->name;
+    const char *name = options->list == NULL ? expected_name(run) : last_part(options->list_name);
 
     abort_on_misuse(minisign_install_signature(&run->machine, options->signature, options->signature_len,
                                                (const uint8_t *) name, strlen(name), current_time(run), run->message,
                                                SIGNATURE_BYTES + options->signature_len, &run->message_len));
+}
+
+/* Passes the list, and the name to look up in it, to the machine. */
+static void pass_list(struct install_run *run)
+{
+    const minisign_installing_options *options = run->options;
+    const char *name = expected_name(run);
+
+    abort_on_misuse(minisign_install_list(&run->machine, options->list, options->list_len, (const uint8_t *) name,
+                                          strlen(name)));
 }
 
 /* Returns false if the public key or the signature is weak. libsodium rejects such inputs, but other implementations of
@@ -232,6 +256,7 @@ static enum minisign_error begin_machine(struct install_run *run, bool is_check)
         choices.is_check = is_check ? 1 : 0;
     }
     run->is_check = is_check;
+    choices.is_list = options->list != NULL ? 1 : 0;
     run->operation = MINISIGN_DUE_NOTHING;
     return minisign_install_init(&run->machine, options->key, other_key, &choices);
 }
@@ -494,7 +519,9 @@ static bool perform_operation(struct install_run *run)
     case MINISIGN_DUE_LOCK: try_lock(run); break;
     case MINISIGN_DUE_READ_RECORD: pass_record(run); break;
     case MINISIGN_DUE_READ_SIGNATURE: pass_signature(run); break;
+    case MINISIGN_DUE_READ_LIST: pass_list(run); break;
     case MINISIGN_DUE_CHECK_COMMENT:
+    case MINISIGN_DUE_CHECK_LIST:
     case MINISIGN_DUE_CHECK_RECORD:
     case MINISIGN_DUE_CHECK_TARGET:
     case MINISIGN_DUE_CHECK_DATA: answer_question(run); break;
@@ -551,6 +578,10 @@ static void rename_both(struct install_run *run)
 static void take_result(struct install_run *run)
 {
     run->error = minisign_install_error(&run->machine);
+    /* With a list, the machine compares the file name in the trusted comment with that of the list. */
+    if (run->error == MINISIGN_OTHER_FILE && run->options->list != NULL) {
+        run->error = MINISIGN_OTHER_LIST;
+    }
     /* A check rejects a target that cannot be replaced, as an installation does. */
     if (run->operation == MINISIGN_DUE_WOULD_INSTALL && require_replaceable_target(&run->directory) != MINISIGN_OK) {
         reject_run(run, MINISIGN_WRITING_FAILED);
@@ -630,6 +661,16 @@ static bool advance(struct install_run *run)
 
 /* ---- The result ---- */
 
+/* Returns what is wrong with the list in the options, or NULL if nothing is. */
+static const char *find_list_misuse(const minisign_installing_options *options)
+{
+    if (options->list == NULL) {
+        return options->choices.is_list != 0 ? "the options have no list" : NULL;
+    }
+    return options->list_name == NULL || *last_part(options->list_name) == 0 ? "the options have no name of the list"
+                                                                             : NULL;
+}
+
 /* Returns what is wrong with the options, or NULL if they are valid. */
 static const char *find_misuse(const minisign_installing_options *options)
 {
@@ -640,7 +681,16 @@ static const char *find_misuse(const minisign_installing_options *options)
            : options->has_mode != 0 && options->mode > 0777     ? "the mode in the options is above 0777"
            : options->wait > MAX_WAIT_SECONDS                   ? "the wait in the options is longer than a day"
            : options->name != NULL && *options->name == 0       ? "the name in the options is empty"
-                                                                : NULL;
+                                                                : find_list_misuse(options);
+}
+
+/* Returns true if nothing limits how much data would be received. With a list, the trusted comment does not say how
+ * long the data is. */
+static bool lacks_size_limit(const struct install_run *run)
+{
+    const minisign_installing_options *options = run->options;
+
+    return run->must_receive && options->list != NULL && options->has_max_size == 0;
 }
 
 /* Warns if the options ask for permissions that differ from those of a file that was already installed. */
@@ -670,7 +720,10 @@ static enum minisign_install_status status_of(const struct install_run *run)
     case MINISIGN_DUE_ALREADY_INSTALLED: warn_about_mode(run); return MINISIGN_STATUS_ALREADY_INSTALLED;
     default: break;
     }
-    return report_rejection(run->options, &run->directory, run->error, run->is_too_large);
+    return report_rejection(run->options, &run->directory,
+                            &(struct rejection) { .error = run->error, .is_too_large = run->is_too_large,
+                                                  .is_signed = minisign_install_is_signed(&run->machine) != 0,
+                                                  .line = minisign_install_line(&run->machine) });
 }
 
 /* Reports API misuse. */
@@ -692,6 +745,13 @@ static enum minisign_install_status run_to_end(struct install_run *run, enum min
 
         minisign_error_text(*error, text, sizeof text);
         return report_misuse(run->options, NULL, text);
+    }
+    if (lacks_size_limit(run)) {
+        *error = MINISIGN_BAD_OPTION;
+        status = report_misuse(run->options, name_of_data(run->options),
+                               "with a list, data that is not in a regular file needs a maximum size");
+        send_message(run->options, MINISIGN_MESSAGE_HINT, NULL, "use --max-size BYTES to limit the data");
+        return status;
     }
     while (advance(run)) {
     }

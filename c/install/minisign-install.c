@@ -1,9 +1,10 @@
 /* SPDX-License-Identifier: MIT */
 /*
- * The program minisign-install, which installs an update that has a valid signature. With --check it reads only the
- * signature, and says whether there is a newer update.
+ * The program minisign-install, which installs an update that has a valid signature, or that a signed list contains.
+ * With --check it does not read the update, and says whether it is newer.
  *
- * minisign_install_file installs the update. This file reads the keys and the signature, and prints the messages.
+ * minisign_install_file installs the update. This file reads the keys, the signature and the list, and prints the
+ * messages.
  */
 #include "options.h"
 
@@ -16,7 +17,8 @@
 #include "shared/streams.h"
 #include "shared/text.h"
 
-/* A key file or signature file. The buffer has one byte more than is allowed, so that a longer file is noticed. */
+/* A key file, a signature file or a list. The buffer has one byte more than is allowed, so that a longer file is
+ * noticed. */
 struct text_file {
     uint8_t bytes[MAX_FILE_BYTES + 1];
     size_t len;
@@ -24,17 +26,27 @@ struct text_file {
 
 #define ARGUMENT_ORDER_HINT "give PK DATA SIG TARGET in this order"
 #define DOWNLOAD_HINT "download the file and its signature again"
+#define DOWNLOAD_LIST_HINT "download the list and its signature again"
 
 static minisign_public_key keys[MAX_PUBLIC_KEYS];
-static struct text_file signature_text;
+static struct text_file signature_text, list_text;
 
 /* ---- Files that are read ---- */
 
-static void read_text_file(struct text_file *text, const char *file)
+/* Ends the program because the content of a file is not acceptable. `hint` may be NULL. */
+static _Noreturn void reject_file(const char *file, const char *why, const char *hint)
+{
+    print_error(file, why);
+    print_hint(hint);
+    exit(MINISIGN_STATUS_REJECTED);
+}
+
+/* Reads a whole file. Ends the program if the file cannot be read or is too large. `hint` is printed for a file that is
+ * too large, and may be NULL. */
+static void read_input_file(struct text_file *text, const char *file, const char *hint)
 {
     int fd = AGAIN(open(file, O_RDONLY | O_CLOEXEC));
     ssize_t count = fd < 0 ? -1 : read_whole(fd, text->bytes, sizeof text->bytes);
-    const char *why;
 
     if (count < 0) {
         print_system_error(file, errno);
@@ -42,13 +54,17 @@ static void read_text_file(struct text_file *text, const char *file)
     }
     text->len = (size_t) count;
     close(fd);
-    why = text->len == sizeof text->bytes    ? "this file is larger than 1 MiB"
-          : !is_utf8(text->bytes, text->len) ? "this file is not UTF-8"
-                                             : NULL;
-    if (why != NULL) {
-        print_error(file, why);
-        print_hint(ARGUMENT_ORDER_HINT);
-        exit(MINISIGN_STATUS_REJECTED);
+    if (text->len == sizeof text->bytes) {
+        reject_file(file, "this file is larger than 1 MiB", hint);
+    }
+}
+
+/* Reads a key file or a signature file. */
+static void read_text_file(struct text_file *text, const char *file)
+{
+    read_input_file(text, file, ARGUMENT_ORDER_HINT);
+    if (!is_utf8(text->bytes, text->len)) {
+        reject_file(file, "this file is not UTF-8", ARGUMENT_ORDER_HINT);
     }
 }
 
@@ -63,8 +79,8 @@ static void require_public_key(const char *source, const uint8_t *text, size_t l
     }
 }
 
-/* Reads the public key file, or parses the keys that --key gave; and reads the signature file. */
-static void read_keys_and_signature(struct request *request)
+/* Reads the public key file, or parses the keys that --key gave; and reads the signature file and the list. */
+static void read_input(struct request *request)
 {
     static struct text_file text;
     minisign_installing_options *options = &request->options;
@@ -86,6 +102,11 @@ static void read_keys_and_signature(struct request *request)
     read_text_file(&signature_text, options->signature_name);
     options->signature = signature_text.bytes;
     options->signature_len = signature_text.len;
+    if (options->list_name != NULL) {
+        read_input_file(&list_text, options->list_name, NULL);
+        options->list = list_text.bytes;
+        options->list_len = list_text.len;
+    }
 }
 
 /* ---- The run ---- */
@@ -193,10 +214,17 @@ static const struct {
     { MINISIGN_OTHER_SIZE, DOWNLOAD_HINT },
     { MINISIGN_EXPIRED, "download the latest update" },
     { MINISIGN_NO_NUMBER, "use --numbering version if the comment has a field \"version:\"" },
+    { MINISIGN_OTHER_LIST, "rename the list if it was signed under another name" },
+    { MINISIGN_MALFORMED_LINE, "see minisign-check(1) for the lines that a list may have" },
+    { MINISIGN_LISTED_TWICE, "have the signer list each file once" },
+    { MINISIGN_DIGEST_MISMATCH, "download the file again, or the list if it is older than the file" },
 };
 
-static const char *hint_for_error(enum minisign_error error)
+static const char *hint_for_error(enum minisign_error error, bool has_list)
 {
+    if (has_list && (error == MINISIGN_SIGNATURE_REFUSED || error == MINISIGN_COMMENT_SIGNATURE_REFUSED)) {
+        return DOWNLOAD_LIST_HINT;
+    }
     for (size_t i = 0; i < sizeof hints / sizeof hints[0]; i++) {
         if (hints[i].error == error) {
             return hints[i].hint;
@@ -205,7 +233,7 @@ static const char *hint_for_error(enum minisign_error error)
     return NULL;
 }
 
-/* Returns the file name that the trusted comment must contain. */
+/* Returns the file name that the trusted comment or the list must contain. */
 static const char *signed_name(const minisign_installing_options *options)
 {
     const char *slash = strrchr(options->target, '/');
@@ -217,14 +245,18 @@ static const char *signed_name(const minisign_installing_options *options)
 static void print_hint_for(const struct request *request, enum minisign_error error)
 {
     const minisign_installing_options *options = &request->options;
+    const char *hint = hint_for_error(error, options->list != NULL);
 
     if (error == MINISIGN_NO_NUMBER && options->choices.numbering == MINISIGN_NUMBERING_VERSION) {
         print_hint("omit --numbering version if the comment has a field \"timestamp:\"");
     } else if (error == MINISIGN_OTHER_FILE) {
         fprintf(stderr, "hint: use --name NAME if the update was signed under a name other than %s\n",
                 escape_name(signed_name(options)).text);
+    } else if (error == MINISIGN_NOT_LISTED || error == MINISIGN_BAD_NAME) {
+        fprintf(stderr, "hint: use --name NAME if the list has the file under a name other than %s\n",
+                escape_name(signed_name(options)).text);
     } else {
-        print_hint(hint_for_error(error));
+        print_hint(hint);
     }
 }
 
@@ -238,9 +270,12 @@ static int print_final_hint(const struct request *request, const struct display 
         print_hint("use --max-size BYTES to accept larger data");
         return MINISIGN_STATUS_REJECTED;
     }
+    if (display->has_hint) {
+        return status;
+    }
     if (status == MINISIGN_STATUS_MISUSE) {
         print_hint("give the path of the file to install, not of its directory");
-    } else if (error != MINISIGN_OK && status != MINISIGN_STATUS_FAILED && !is_silent && !display->has_hint) {
+    } else if (error != MINISIGN_OK && status != MINISIGN_STATUS_FAILED && !is_silent) {
         print_hint_for(request, error);
     }
     return status;
@@ -266,7 +301,7 @@ int main(int argc, char *argv[])
         print_error(NULL, "libsodium could not be initialized");
         return MINISIGN_STATUS_FAILED;
     }
-    read_keys_and_signature(&request);
+    read_input(&request);
     display.is_check = request.options.choices.is_check != 0;
     display.signature_file = request.options.signature_name;
     request.options.verify = crypto_sign_verify_detached;

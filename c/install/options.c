@@ -3,6 +3,7 @@
 #include "options.h"
 
 #include "messages.h"
+#include "minisign_list.h"
 #include "shared/reports.h"
 #include "shared/text.h"
 #include "usage.h"
@@ -16,6 +17,7 @@ enum option {
     IS_FIRST,
     MUST_EXPIRE,
     IS_AGAIN,
+    USES_BLAKE2B,
     NEW_KEY,
     ROLL_BACK,
     MODE,
@@ -23,6 +25,7 @@ enum option {
     WAIT,
     NUMBERING,
     NAME,
+    LIST,
     KEY,
     INSTALL_OPTION_COUNT
 };
@@ -32,11 +35,11 @@ static const struct {
     const char *word;
     enum option option;
 } option_table[] = {
-    { "--check", IS_CHECK }, { "--first", IS_FIRST },      { "--must-expire", MUST_EXPIRE },
-    { "--again", IS_AGAIN }, { "--new-key", NEW_KEY },     { "--roll-back", ROLL_BACK },
-    { "--mode", MODE },      { "--most", MAX_SIZE },       { "--max-size", MAX_SIZE },
-    { "--wait", WAIT },      { "--numbering", NUMBERING }, { "--name", NAME },
-    { "--key", KEY },
+    { "--check", IS_CHECK }, { "--first", IS_FIRST },       { "--must-expire", MUST_EXPIRE },
+    { "--again", IS_AGAIN }, { "--new-key", NEW_KEY },      { "--roll-back", ROLL_BACK },
+    { "--mode", MODE },      { "--most", MAX_SIZE },        { "--max-size", MAX_SIZE },
+    { "--wait", WAIT },      { "--numbering", NUMBERING },  { "--name", NAME },
+    { "--list", LIST },      { "--blake2b", USES_BLAKE2B }, { "--key", KEY },
 };
 
 /* The arguments, before they are checked. */
@@ -112,6 +115,9 @@ static void check_command_line(const struct command_line *line)
         if (line->words[option] != NULL) {
             reject_argument(line->words[option], "this option cannot be combined with --first");
         }
+    }
+    if (line->words[USES_BLAKE2B] != NULL && line->words[LIST] == NULL) {
+        reject_argument(line->words[USES_BLAKE2B], "this option needs --list");
     }
     if (line->path_count < expected_count) {
         fprintf(stderr, "error: missing arguments, expected %s\n", expected_paths[is_check][has_key]);
@@ -246,8 +252,10 @@ struct request parse_request(int argc, char *argv[])
         .choices = { .numbering = numbering_of(line.values[NUMBERING]), .is_first = line.words[IS_FIRST] != NULL,
                      .again = line.words[IS_AGAIN] != NULL, .is_check = line.words[IS_CHECK] != NULL,
                      .must_expire = line.words[MUST_EXPIRE] != NULL, .new_key = line.words[NEW_KEY] != NULL,
-                     .roll_back = line.words[ROLL_BACK] != NULL },
-        .has_max_size = line.words[MAX_SIZE] != NULL, .has_mode = line.words[MODE] != NULL, .name = line.values[NAME]
+                     .roll_back = line.words[ROLL_BACK] != NULL,
+                     .long_digest = line.words[USES_BLAKE2B] != NULL ? MINISIGN_HASH_BLAKE2B : MINISIGN_HASH_SHA512 },
+        .has_max_size = line.words[MAX_SIZE] != NULL, .has_mode = line.words[MODE] != NULL, .name = line.values[NAME],
+        .list_name = line.values[LIST]
     };
     if (options->name != NULL && *options->name == 0) {
         reject_value("--name", "a file name", options->name);

@@ -9,12 +9,12 @@
 /* The maximum number of public keys. A run takes two during a change of keys. */
 #define MAX_PUBLIC_KEYS 2
 
-/* The maximum size of a key file or signature file. */
+/* The maximum size of a key file, a signature file or a list. */
 #define MAX_FILE_BYTES (1 << 20)
 
 /* The parsed command line. */
 struct request {
-    /* The options of the run. The keys and the signature are filled in later. */
+    /* The options of the run. The keys, the signature and the list are filled in later. */
     minisign_installing_options options;
     /* The path of the public key file (PK), or NULL if --key was given. */
     const char *key_file;

@@ -10,11 +10,14 @@
 /* The size of a buffer for the text of an errno. */
 #define SYSTEM_ERROR_BYTES 256
 
+/* The file that a message names. */
+enum subject { THE_SIGNATURE, THE_DATA, THE_TARGET, THE_RECORD, THE_LIST };
+
 /* The status that a run with this error returns, and the file that the message names. */
 struct error_result {
     enum minisign_error error;
     enum minisign_install_status status;
-    enum { THE_SIGNATURE, THE_DATA, THE_TARGET, THE_RECORD } subject;
+    enum subject subject;
 };
 
 static const struct error_result results[] = {
@@ -33,6 +36,11 @@ static const struct error_result results[] = {
     { MINISIGN_SIGNATURE_REFUSED, MINISIGN_STATUS_REJECTED, THE_DATA },
     { MINISIGN_OTHER_SIZE, MINISIGN_STATUS_REJECTED, THE_DATA },
     { MINISIGN_EXPIRED, MINISIGN_STATUS_EXPIRED, THE_SIGNATURE },
+    { MINISIGN_BAD_NAME, MINISIGN_STATUS_REJECTED, THE_LIST },
+    { MINISIGN_MALFORMED_LINE, MINISIGN_STATUS_REJECTED, THE_LIST },
+    { MINISIGN_NOT_LISTED, MINISIGN_STATUS_REJECTED, THE_LIST },
+    { MINISIGN_LISTED_TWICE, MINISIGN_STATUS_REJECTED, THE_LIST },
+    { MINISIGN_DIGEST_MISMATCH, MINISIGN_STATUS_REJECTED, THE_DATA },
     /* The last row ends the table. It is for all other errors, which are about the signature file. */
     { .error = MINISIGN_OK, .status = MINISIGN_STATUS_REJECTED, .subject = THE_SIGNATURE },
 };
@@ -52,21 +60,18 @@ const char *name_of_data(const minisign_installing_options *options)
     return options->data_name == NULL ? options->data : options->data_name;
 }
 
-/* Sends a message to the caller. `error_number` is an errno, or 0 if no system call failed. */
-static void send_with_errno(const minisign_installing_options *options, enum minisign_message_kind kind,
-                            const char *file, const char *text, int error_number)
+/* Passes a message to the caller. */
+static void pass_message(const minisign_installing_options *options, const minisign_installing_message *message)
 {
-    minisign_installing_message message = { kind, file, text, error_number };
-
     if (options->message != NULL) {
-        options->message(options->context, &message);
+        options->message(options->context, message);
     }
 }
 
 void send_message(const minisign_installing_options *options, enum minisign_message_kind kind, const char *file,
                   const char *text)
 {
-    send_with_errno(options, kind, file, text, 0);
+    pass_message(options, &(minisign_installing_message) { .kind = kind, .file = file, .text = text });
 }
 
 /* Sends a message about the file that could not be used, and the hint if there is one. */
@@ -79,33 +84,52 @@ static void send_failure(const minisign_installing_options *options, const struc
     } else {
         /* The result can be ignored: for an unknown errno, the text is empty or says so. */
         (void) strerror_r(failure->error_number, text, sizeof text);
-        send_with_errno(options, MINISIGN_MESSAGE_CAUSE, failure->path, text, failure->error_number);
+        pass_message(options, &(minisign_installing_message) {
+                                  .kind = MINISIGN_MESSAGE_CAUSE, .file = failure->path, .text = text,
+                                  .system_error = failure->error_number });
     }
     if (failure->hint != NULL) {
         send_message(options, MINISIGN_MESSAGE_HINT, NULL, failure->hint);
     }
 }
 
-/* Describes the error for which the update is rejected. */
-static void describe_rejection(const minisign_installing_options *options, enum minisign_error error,
+/* Returns the file that the message about a rejection names. If there is a list, the signature is that of the list. */
+static enum subject subject_of(const minisign_installing_options *options, const struct rejection *rejection)
+{
+    bool is_of_list = rejection->error == MINISIGN_SIGNATURE_REFUSED
+                      || (rejection->error == MINISIGN_NOT_UTF8 && rejection->is_signed);
+
+    return options->list != NULL && is_of_list ? THE_LIST : result_for(rejection->error)->subject;
+}
+
+/* Describes the error for which the update is rejected. If a line of the list is at fault, the text contains its
+ * number. */
+static void describe_rejection(const minisign_installing_options *options, const struct rejection *rejection,
                                char text[MINISIGN_ERROR_TEXT_BYTES])
 {
-    if (error == MINISIGN_NO_NUMBER) {
+    if (rejection->error == MINISIGN_NO_NUMBER) {
         snprintf(text, MINISIGN_ERROR_TEXT_BYTES, "the trusted comment has no valid field \"%s:\"",
                  options->choices.numbering == MINISIGN_NUMBERING_VERSION ? "version" : "timestamp");
+    } else if (rejection->error == MINISIGN_NOT_LISTED) {
+        /* The message is about the list. The program's own words are about the file. */
+        minisign_error_text(rejection->error, text, MINISIGN_ERROR_TEXT_BYTES);
+    } else if (rejection->line == 0) {
+        describe_error(rejection->error, text);
+    } else if (rejection->error == MINISIGN_MALFORMED_LINE) {
+        snprintf(text, MINISIGN_ERROR_TEXT_BYTES, "line %" PRIu64 " is malformed", rejection->line);
     } else {
-        describe_error(error, text);
+        snprintf(text, MINISIGN_ERROR_TEXT_BYTES, "line %" PRIu64 " is the second line with this name",
+                 rejection->line);
     }
 }
 
 enum minisign_install_status report_rejection(const minisign_installing_options *options,
-                                              const struct directory *directory, enum minisign_error error,
-                                              bool is_too_large)
+                                              const struct directory *directory, const struct rejection *rejection)
 {
-    const struct error_result *result = result_for(error);
+    const struct error_result *result = result_for(rejection->error);
     const struct failure *failure = &directory->failure;
     const char *const subjects[] = { options->signature_name, name_of_data(options), options->target,
-                                     directory->record.path };
+                                     directory->record.path, options->list_name };
     char text[MINISIGN_ERROR_TEXT_BYTES];
 
     /* If a check finds no newer update, that is not an error. */
@@ -114,10 +138,12 @@ enum minisign_install_status report_rejection(const minisign_installing_options 
     }
     if (result->status == MINISIGN_STATUS_FAILED && failure->is_set) {
         send_failure(options, failure);
-        return is_too_large ? MINISIGN_STATUS_TOO_LARGE : result->status;
+        return rejection->is_too_large ? MINISIGN_STATUS_TOO_LARGE : result->status;
     }
-    describe_rejection(options, error, text);
-    send_message(options, MINISIGN_MESSAGE_ERROR, subjects[result->subject], text);
+    describe_rejection(options, rejection, text);
+    pass_message(options, &(minisign_installing_message) {
+                              .kind = MINISIGN_MESSAGE_ERROR, .file = subjects[subject_of(options, rejection)],
+                              .text = text, .line = rejection->line });
     if (result->status == MINISIGN_STATUS_NOT_SYNCED && failure->is_set) {
         send_failure(options, failure);
     }

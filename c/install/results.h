@@ -13,10 +13,20 @@ const char *name_of_data(const minisign_installing_options *options);
 void send_message(const minisign_installing_options *options, enum minisign_message_kind kind, const char *file,
                   const char *text);
 
-/* Returns the result of a run that was rejected for `error`, and sends messages that say why. They include the failure
- * that `directory` has recorded, if there is one. `is_too_large` is true if the data exceeds the maximum size. */
+/* Why a run was rejected. */
+struct rejection {
+    enum minisign_error error;
+    /* True if the data exceeds the maximum size. */
+    bool is_too_large;
+    /* True if a key has signed the trusted comment, so that the signature file is not malformed. */
+    bool is_signed;
+    /* The number of the line at fault in the list, or 0. */
+    uint64_t line;
+};
+
+/* Returns the result of a run that was rejected, and sends messages that say why. They include the failure that
+ * `directory` has recorded, if there is one. */
 enum minisign_install_status report_rejection(const minisign_installing_options *options,
-                                              const struct directory *directory, enum minisign_error error,
-                                              bool is_too_large);
+                                              const struct directory *directory, const struct rejection *rejection);
 
 #endif

@@ -8,6 +8,7 @@
 #define OPTIONS_HELP \
     "       minisign-install --key KEY [OPTION ..] DATA SIG TARGET\n" \
     "       minisign-install --check [OPTION ..] PK SIG TARGET\n" \
+    "       minisign-install --list FILE [OPTION ..] PK DATA SIG TARGET\n" \
     "       minisign-install --help | -h | --version\n" \
     "\n" \
     "Install an update that has a valid Minisign signature. The file TARGET is\n" \
@@ -39,7 +40,16 @@
     "  --name NAME        Require the file name NAME in the trusted comment. The\n" \
     "                     default is the last part of TARGET. For example, with\n" \
     "                     TARGET `app`, `--name app-1.2` installs an update that was\n" \
-    "                     signed as `app-1.2`.\n" \
+    "                     signed as `app-1.2`. With `--list`, look up NAME in the\n" \
+    "                     list instead.\n" \
+    "  --list FILE        Verify DATA with a signed list: SIG is the signature of\n" \
+    "                     FILE, a list such as `SHA256SUMS`. The trusted comment\n" \
+    "                     must name FILE, and DATA must have the digest that FILE\n" \
+    "                     lists for the last part of TARGET.\n" \
+    "  --blake2b          Treat 128 digits on a line of the list that names no hash\n" \
+    "                     function as a BLAKE2b digest, as `b2sum` writes it without\n" \
+    "                     `--tag`. The default is SHA-512. This option needs\n" \
+    "                     `--list`.\n" \
     "  --mode MODE        Set the permissions of the installed file to MODE, three\n" \
     "                     octal digits such as 755. A leading 0 is allowed. If the\n" \
     "                     update is already installed, its permissions are\n" \
@@ -73,7 +83,9 @@
     "      is too large, or the size of the data is not the signed one. This is also\n" \
     "      the status if the trusted comment names another file, has no version\n" \
     "      number, has an `expires:` or `size:` that is repeated or not a number, or\n" \
-    "      lacks the `expires:` that `--must-expire` requires.\n" \
+    "      lacks the `expires:` that `--must-expire` requires. With `--list`, it is\n" \
+    "      also the status if the list is malformed, does not contain the name\n" \
+    "      exactly once, or has another digest for it than that of the data.\n" \
     "  4   The update is older than the recorded version.\n" \
     "  5   Another installation of TARGET is running.\n" \
     "  6   The update is installed but could not be synced, so a crash may bring\n" \
@@ -92,7 +104,8 @@
     "Files:\n" \
     "  .TARGET.number     The version record of the installed update: its version\n" \
     "                     number, such as `version:12`, the public key that verified\n" \
-    "                     it, and the digest of the data.\n" \
+    "                     it, and the digest of the data or, with `--list`, of the\n" \
+    "                     list.\n" \
     "  .TARGET.lock       The lock file. It is locked during an installation, and\n" \
     "                     never removed.\n" \
     "  .TARGET.stage-*    A temporary file, which becomes the record or the\n" \

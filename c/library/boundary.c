@@ -538,6 +538,16 @@ enum minisign_error minisign_install_signature(minisign_installation *installati
                                                                   now, WRITTEN(message, room), room, message_len);
 }
 
+PROVED(uint32_t, minisign_install_list, (minisign_installation *, const uint8_t *, size_t, const uint8_t *,
+                                         size_t));
+
+enum minisign_error minisign_install_list(minisign_installation *installation, const uint8_t *list,
+                                          size_t list_len, const uint8_t *name, size_t name_len)
+{
+    return (enum minisign_error) CALL(minisign_install_list)(installation, READ(list, list_len), list_len,
+                                                             READ(name, name_len), name_len);
+}
+
 PROVED(uint32_t, minisign_install_question, (const minisign_installation *, uint8_t *, uint8_t *, uint8_t *));
 
 enum minisign_error minisign_install_question(const minisign_installation *installation, uint8_t public_key[32],
@@ -586,6 +596,13 @@ PROVED(uint32_t, minisign_install_error, (const minisign_installation *));
 enum minisign_error minisign_install_error(const minisign_installation *installation)
 {
     return (enum minisign_error) CALL(minisign_install_error)(installation);
+}
+
+PROVED(uint64_t, minisign_install_line, (const minisign_installation *));
+
+uint64_t minisign_install_line(const minisign_installation *installation)
+{
+    return CALL(minisign_install_line)(installation);
 }
 
 PROVED(uint32_t, minisign_judge_comment, (const uint8_t *, size_t, const uint8_t *, size_t, uint32_t, uint64_t,

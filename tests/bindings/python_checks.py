@@ -641,6 +641,10 @@ def installing(scratch: str) -> None:
         "install with new_key does not return True for an older update",
     )
     is_installed(b"two", 1, "an older update under a new key")
+    check_installing_from_list(key, scratch, place)
+    is_installed(b"two", 5, "updates with a list")
+    os.remove(os.path.join(directory, ".app.number"))
+    install(first=True)
     opened = len(os.listdir("/proc/self/fd"))
     for _ in range(20):
         install()
@@ -662,6 +666,60 @@ def check_early_exceptions(fails_unchanged: Callable[..., None]) -> None:
         raising = getattr(installer, name)(mock.Mock(side_effect=KeyboardInterrupt))
         with mock.patch.object(installer, name, lambda _: raising), mock.patch.object(sys, "unraisablehook"):
             fails_unchanged(error, f"an early exception in {name}")
+
+
+def check_installing_from_list(key: SecretKey, scratch: str, place: str) -> None:
+    """`install` and `check` with a signed list: what Python code does with the list, the meaning of 128 digits, and the size limit."""
+    public, list_path, path = key.public_key, os.path.join(scratch, "SHA512SUMS"), os.path.join(scratch, "update")
+
+    def offer(text: str, number: int, name: str = "SHA512SUMS") -> Signature:
+        pathlib.Path(list_path).write_text(text)
+        return key.sign(list_path, trusted_comment=f"version:{number}\tfile:{name}")
+
+    def install(update: Signature, data: Any = path, **how: Any) -> bool:
+        return minisign.install(public, data, update, place, numbering="version", list_path=list_path, **how)
+
+    def result(update: Signature, **how: Any) -> minisign.Offer:
+        return minisign.check(public, update, place, numbering="version", list_path=list_path, **how).status
+
+    line, blake_line = (f"{hashlib.new(name, b'two').hexdigest()}  app\n" for name in ("sha512", "blake2b"))
+    update = offer(line, 3)
+    check(result(update, first=True) is minisign.Offer.NEWER, "a check with a list")
+    check(install(update, first=True) is True and install(update) is False, "a file of a list")
+    check(result(update) is minisign.Offer.THERE, "a check with the installed list")
+    update = offer(blake_line, 4)
+    rejects(minisign.DigestMismatch, lambda: install(update), "a list of b2sum without long_digest")
+    check(install(update, long_digest="blake2b") is True, "a list of b2sum")
+    check(result(offer(line, 2)) is minisign.Offer.OLDER, "a check with an older list")
+
+    # The data needs a size limit unless it is a regular file that is passed as a path.
+    update = offer(line, 5)
+    reading_end, writing_end = os.pipe()
+    for data in (io.BytesIO(b"two"), f"/dev/fd/{reading_end}"):
+        rejects(ValueError, lambda: install(update, data), f"a list and {data!r} without most", "^most must be passed with list_path")
+    os.write(writing_end, b"two")
+    os.close(writing_end)
+    check(install(update, f"/dev/fd/{reading_end}", most=3) is True, "a file of a list from a pipe")
+    os.close(reading_end)
+    check(install(update, io.BytesIO(b"two"), most=3) is False, "an open file of a list")
+
+    for error, text, at in ((minisign.MalformedLine, f"{line}#\ntext\n", 3), (minisign.ListedTwice, line + line, 2),
+                            (minisign.NotListed, line.replace("app", "other"), 0)):
+        update = offer(text, 6)
+        calls: Sequence[Callable[[Signature], object]] = (install, result)
+        for call in calls:
+            try:
+                call(update)
+                check(False, f"{error.__name__} is not raised")
+            except error as why:
+                check(why.line == at and str(why).startswith(f"line {at}: ") == bool(at), f"{error.__name__}: {why}, line {why.line}")
+    pathlib.Path(list_path).write_text("text\n")
+    rejects(minisign.SignatureRefused, lambda: install(update), "a list that is not signed", "^Signature verification failed$")
+    rejects(minisign.OtherList, lambda: install(offer(line, 6, "app")), "a list of another name")
+    rejects(minisign.BadName, lambda: install(offer(line, 6), name="../app"), "a name that no list can contain")
+    rejects(minisign.TooLong, lambda: install(offer(line + "#" * (1 << 20), 6)), "a list of more than 1 MiB")
+    os.remove(list_path)
+    rejects(FileNotFoundError, lambda: install(update), "a missing list")
 
 
 def check_pipes(key: SecretKey, place: str) -> None:
@@ -1015,7 +1073,7 @@ def table(scratch: str) -> List[Call]:
     list_path = os.path.join(scratch, "SHA256SUMS")
     list_text = f"{hashlib.sha256(b'data').hexdigest()}  data\n"
     pathlib.Path(list_path).write_text(list_text)
-    list_signature = minisign.sign(list_path, secret, trusted_comment="file:SHA256SUMS")
+    list_signature = minisign.sign(list_path, secret, trusted_comment="version:1\tfile:SHA256SUMS")
     signed = minisign.SignedList(list_text, public, list_signature, "SHA256SUMS")
     kind = "libsodium" if isinstance(_calls.ed25519(), _calls.Sodium) else "cryptography"
 
@@ -1050,7 +1108,9 @@ def table(scratch: str) -> List[Call]:
         "new_key": ("truth", False),
         "roll_back": ("truth", False),
         "numbering": ("numbering", "version"),
-        "name": ("name or none", "app"),
+        "name": ("name or none", "data"),
+        "list_path": ("path or none", list_path),
+        "long_digest": ("long digest", "sha512"),
     }
     return [
         Call("Signature", minisign, text=("text", signature.text.decode())),
@@ -1147,7 +1207,7 @@ def table(scratch: str) -> List[Call]:
             "check",
             minisign,
             key=("public keys", public),
-            signature=("signature", signature),
+            signature=("signature", list_signature),
             target=("target", empty_target),
             first=("truth", True),
             again=("truth", False),
@@ -1158,7 +1218,7 @@ def table(scratch: str) -> List[Call]:
             minisign,
             key=("public keys", public),
             data=("path or file", path),
-            signature=("signature", signature),
+            signature=("signature", list_signature),
             target=("target", empty_target),
             first=("truth", True),
             again=("truth", False),

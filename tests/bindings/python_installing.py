@@ -25,13 +25,16 @@ from command_lines import command_line_cases
 from cut_off import INITIAL_STATES, CUTS
 from downloads import download_cases
 from installers import DOWNLOAD_AGAIN, ARGUMENT_ORDER, Signer
+from list_updates import DOWNLOAD_LIST_AGAIN, LINE_HINT, NO_LIMIT_ERROR, TWICE_HINT
 from real_installing import cases_of
 from running import expect, run_cases
 from runs import InstallerRunner
 
 FAILED, MISUSED, REJECTED, OLDER, IN_USE, NOT_ON_DISK, UNRECORDED, SAME, EXPIRED, THERE = range(1, 11)
 OFFERS = {minisign.Offer.NEWER: 0, minisign.Offer.THERE: THERE, minisign.Offer.OLDER: OLDER}
-OPTIONS = ["first", "again", "check", "must-expire", "new-key", "roll-back", "key=", "name=", "numbering=", "mode=", "max-size=", "most=", "wait="]
+OPTIONS = ["first", "again", "check", "must-expire", "new-key", "roll-back", "key=", "name=", "list=", "blake2b", "numbering=", "mode=",
+           "max-size=", "most=", "wait="]
+UNITS = {"K": 10, "M": 20}
 
 # The exit statuses of `minisign-install` for errors. For all other errors the status is that of a rejected update.
 STATUSES = {
@@ -52,6 +55,9 @@ HINTS = {
     minisign.MissingTrustedComment: "download or copy the file again",
     **dict.fromkeys((minisign.OlderUpdate, minisign.Expired), "download the latest update"),
     **dict.fromkeys((minisign.SignatureRefused, minisign.CommentSignatureRefused, minisign.OtherSize), DOWNLOAD_AGAIN),
+    minisign.OtherList: "rename the list if it was signed under another name", minisign.MalformedLine: LINE_HINT,
+    minisign.ListedTwice: TWICE_HINT, minisign.DigestMismatch: "download the file again, or the list if it is older than the file",
+    **dict.fromkeys((minisign.NotListed, minisign.BadName), "use --name NAME if the list has the file under a name other than {name}"),
 }
 NO_NUMBER = {"version": 'omit --numbering version if the comment has a field "timestamp:"',
              "timestamp": 'use --numbering version if the comment has a field "version:"'}
@@ -62,6 +68,7 @@ WORDS = {
     minisign.BadExpiry: 'the trusted comment has an invalid or repeated expires: field',
     minisign.BadSize: 'the trusted comment has an invalid or repeated size: field',
     minisign.OtherSize: "the size of the data is not the one in the trusted comment",
+    minisign.DigestMismatch: "the digest of this file is not the one in the list",
     minisign.RandomSourceFailed: "the system supplied no random bytes",
     minisign.MissingTrustedComment: "this signature is truncated: it has only 2 of 4 lines",
 }
@@ -70,6 +77,9 @@ MALFORMED = {
     minisign.BarePublicKeyLength: "a public key has 56 characters, but this has {length}\nhint: copy the second line of the public key file",
     minisign.BarePublicKeyNotBase64: "this is not a public key: it is not base64\nhint: copy the second line of the public key file",
 }
+# With a list, the errors that are about the list, and the texts that name a line of it.
+ABOUT_LIST = (minisign.SignatureRefused, minisign.NotUtf8, minisign.BadName, minisign.MalformedLine, minisign.NotListed, minisign.ListedTwice)
+LINES = {minisign.MalformedLine: "line {} is malformed", minisign.ListedTwice: "line {} is the second line with this name"}
 HINTS_OF_CAUSES = {
     "this directory does not exist": "create it first",
     "only the owner of this file can open it": "use chown to change its owner to that of the installed file",
@@ -93,18 +103,23 @@ def failure(why, place):
     return f"error: {why.filename}: {cause}" + ("" if is_own_text else f" (os error {why.errno})"), hint
 
 
-def rejection(data, signature, place, name, numbering, error):
+def rejection(data, signature, place, name, list_path, numbering, error):
     """Returns the error line and the hint, or None, that `minisign-install` prints for a rejected update."""
-    file = signature
-    if isinstance(error, (minisign.SignatureRefused, minisign.OlderUpdate, minisign.OtherSize, minisign.TooLong)):
+    file, text = signature, WORDS.get(type(error), str(error)).format(numbering=numbering)
+    if isinstance(error, minisign.TooLong) and "1 MiB" in text:
+        return f"error: {list_path}: this file is larger than 1 MiB", None
+    if list_path is not None and isinstance(error, ABOUT_LIST):
+        file, text = list_path, LINES.get(type(error), text).format(error.line)
+    elif isinstance(error, (minisign.SignatureRefused, minisign.OlderUpdate, minisign.OtherSize, minisign.TooLong, minisign.DigestMismatch)):
         file = data
     elif STATUSES.get(type(error)) == UNRECORDED:
         file = os.path.join(os.path.dirname(place) or ".", f".{os.path.basename(place)}.number")
     elif STATUSES.get(type(error)) in (FAILED, IN_USE, NOT_ON_DISK, SAME):
         file = place
     hint = NO_NUMBER[numbering] if isinstance(error, minisign.NoNumber) else HINTS.get(type(error))
-    words = WORDS.get(type(error), str(error)).format(numbering=numbering)
-    return f"error: {file}: {words}", hint and hint.format(name=name)
+    if list_path is not None and hint == DOWNLOAD_AGAIN:
+        hint = DOWNLOAD_LIST_AGAIN
+    return f"error: {file}: {text}", hint and hint.format(name=name.replace("\x1b", "\\u{1b}"))
 
 
 def report(*errors):
@@ -137,14 +152,16 @@ def install(words):
     data = None if "--check" in options else paths.pop(0)
     signature, place = paths
     most, mode, name = options.get("--max-size", options.get("--most")), options.get("--mode"), options.get("--name")
-    numbering = options.get("--numbering", "timestamp")
+    numbering, list_path = options.get("--numbering", "timestamp"), options.get("--list")
     if most is not None:
-        most = int(most.rstrip("K")) << 10 * most.endswith("K")
+        most = int(most.rstrip("KM")) << UNITS.get(most[-1], 0)
     try:
         public_keys = [read_text(minisign.PublicKey.from_base64, text) for text in keys] or read_text(minisign.PublicKey.from_file, key)
         text = read_text(minisign.Signature.from_file, signature)
         flags = {name.replace("-", "_"): f"--{name}" in options for name in ("first", "again", "must-expire", "new-key", "roll-back")}
-        parameters = {**flags, "numbering": numbering, "name": name}
+        parameters = {**flags, "numbering": numbering, "name": name, "list_path": list_path}
+        if "--blake2b" in options:
+            parameters["long_digest"] = "blake2b"
         if "--check" in options:
             return OFFERS[minisign.check(public_keys, text, place, **parameters)]
         is_new = minisign.install(public_keys, data, text, place, mode=None if mode is None else int(mode, 8),
@@ -152,13 +169,20 @@ def install(words):
     except minisign.MinisignError as error:
         status, cause = STATUSES.get(type(error), REJECTED), error.__cause__
         has_cause = status in (FAILED, NOT_ON_DISK) and isinstance(cause, OSError)
-        errors = [rejection(data, signature, place, name or os.path.basename(place), numbering, error)]
+        errors = [rejection(data, signature, place, name or os.path.basename(place), list_path, numbering, error)]
         if has_cause:
             errors = [*errors[status == FAILED:], failure(cause, place)]
         report(*errors)
         return status
+    except ValueError as why:
+        expect(str(why) == "most must be passed with list_path if the data is not a regular file", f"another ValueError: {why}")
+        sys.stderr.buffer.write(NO_LIMIT_ERROR)
+        return MISUSED
     except OSError as why:
-        report(failure(why, place))
+        if list_path is not None and why.filename == list_path:
+            print(f"error: {list_path}: {why.strerror} (os error {why.errno})", file=sys.stderr)
+        else:
+            report(failure(why, place))
         return FAILED
     return 0 if is_new else THERE
 
@@ -168,6 +192,7 @@ def install(words):
 # Cases that test the command line or the messages of a program, which functions do not have.
 LEFT_OUT = {"shows progress at a terminal", "works with a closed error stream", "installs nothing if an allocation fails",
             "exits normally if its error pipe has no reader", "--check shows only signed text, without control characters",
+            "--list --check shows the comment of the list",
             "docs/INSTALLING.md shows the updater's files", "systemd accepts the updater's service and timer", "warns that --mode does not change an installed file"}
 INCLUDED = {"takes a name that begins with a dash", "takes a file name other than the signed one"}
 

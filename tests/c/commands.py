@@ -43,8 +43,9 @@ EXPECTED_ENDS = {"../c/out/minisign-install --check ": (10, "2\r\nversion:2\tfil
 # other two have a key and a digest.
 EXPECTED_FILES = {"try-signing/copy": b"test", "try-signing/there/app": b"version 3\n", "try-signing/there/.app.number": b"version:3",
         "try-installing/there/app": b"version 2\n", "try-installing/there/.app.number": b"version:2",
-        "try-installing/there/.release.pub.number": b"version:1", "try-ci/app": b"version 1\n",
-        "try-lists/upload/app": b"version 1\n"}
+        "try-installing/there/.release.pub.number": b"version:1", "try-installing/there/app.1": b"manual 3\n",
+        "try-installing/there/.app.1.number": b"version:3", "try-ci/app": b"version 1\n",
+        "try-lists/upload/app": b"version 1\n", "try-lists/there/app": b"version 1\n"}
 SECRET_KEYS = {"try-signing/my.key", "try-installing/clock.key", "try-installing/my.key", "try-installing/root.key", "try-lists/release.key"}
 # The mark that the shell prints with the exit status after each command, and a pattern for this mark or for a
 # password prompt.

@@ -64,7 +64,9 @@ NEVER_RETURNED = {
     "minisign_read_secret_key": [("KEY_SEALED KEY_CORRUPTED KEY_NOT_SEALED UNSUPPORTED_KEY_DERIVATION PARAMETERS_TOO_HIGH INVALID_PARAMETERS "
                                   "WORK_TOO_HIGH WRONG_PASSWORD", "it returns what opening would need, and opens nothing")],
     "minisign_opening_memory": [("PARAMETERS_TOO_HIGH INVALID_PARAMETERS", "it writes zeros in these cases")],
-    "minisign_install_answer": [("DIFFERENT_KEY_IDS LEGACY_NOT_ACCEPTED NOT_UTF8", "minisign_install_signature returns these")],
+    "minisign_install_answer": [("DIFFERENT_KEY_IDS LEGACY_NOT_ACCEPTED", "minisign_install_signature returns these")],
+    "minisign_install_init": [("NOT_LISTED", "it is the result of looking up a name before a list was read")],
+    "minisign_install_list": [("NOT_UTF8 BAD_NAME MALFORMED_LINE NOT_LISTED LISTED_TWICE", "minisign_install_answer returns these")],
     "minisign_install_signature": [("OTHER_FILE NO_NUMBER NO_EXPIRY BAD_EXPIRY EXPIRED BAD_SIZE OLDER_UPDATE",
                                     "minisign_install_answer returns these")],
     "minisign_judge_comment": [("NO_EXPIRY", JUDGED_APART)],
@@ -85,12 +87,13 @@ NAMED_APART = {
     "minisign_secret_key_text_with_any_limits": [("WEAK_SEALING", "the comment says that it is never returned")],
     "minisign_install_record": [("READING_FAILED", PASSED_IN)],
     "minisign_install_no_record": [("READING_FAILED", PASSED_IN)],
+    "minisign_install_line": [("MALFORMED_LINE LISTED_TWICE", "the comment names them as results of minisign_install_error")],
 }
 
 # The calls whose contract is an equation with the step function of the installer. For each, the events that it
 # reports, or another call whose errors it returns too. The definition `after` has a line for each event that may
-# follow an operation. (minisign_install_answer also returns the errors of the comment, which were found when the
-# signature file was read.)
+# follow an operation. (minisign_install_answer also returns the errors of the comment and of the list, which were
+# found when the signature file and the list were read.)
 STEP = os.path.join(TOP, "crates", "minisign_install", "specs", "Step.antt")
 EVENTS = {
     "minisign_install_done": ("Done",),
@@ -101,7 +104,8 @@ EVENTS = {
     "minisign_install_piece": ("PieceRead",),
     "minisign_install_no_target": ("TargetMissing",),
     "minisign_install_signature": ("SignatureRead", "minisign_read_signature"),
-    "minisign_install_answer": ("Answered", "SignatureRead"),
+    "minisign_install_list": ("ListRead",),
+    "minisign_install_answer": ("Answered", "SignatureRead", "ListRead"),
 }
 
 # The documentation in packages that lists the errors of these calls. It does not list API misuse, because the

@@ -277,10 +277,15 @@ static enum minisign_error pass_signature(minisign_installation *i)
                                       MESSAGE_LEN, NEW(size_t));
 }
 
-/* Returns an installation at which this operation is due. */
+/* A list with the SHA-256 digest of no data under the name `app`. */
+static const char LIST[] = "e3b0c44298fc1c149afbf4c8996fb92427ae41e4649b934ca495991b7852b855  app\n# the end\n";
+/* Without the comment, the list still has its entry. */
+#define ENTRY_LEN (64 + sizeof "  app" - 1)
+
+/* Returns an installation at which this operation is due. It uses a list if the operation reads one. */
 static minisign_installation *installing(uint32_t due)
 {
-    static const minisign_install_options options = { .numbering = MINISIGN_NUMBERING_TIMESTAMP };
+    const minisign_install_options options = { .is_list = due == MINISIGN_DUE_READ_LIST };
     minisign_installation *i = NEW(minisign_installation);
     enum minisign_error error = minisign_install_init(i, PUBLIC_KEY(), PUBLIC_KEY(), ALONE(minisign_install_options, options));
 
@@ -305,6 +310,49 @@ static enum minisign_error pass_to_install(size_t len, size_t room)
     minisign_installation *i = installing(MINISIGN_DUE_READ_SIGNATURE);
     used = 2;
     return minisign_install_signature(i, copied(SIGNATURE, len), len, copied("test", 4), 4, 0, buffer(room), room, NEW(size_t));
+}
+
+/* Passes parts of a list and of a name to an installation, and returns its error. */
+static enum minisign_error pass_list(size_t list_len, const char *name, size_t name_len)
+{
+    used = 0;
+    minisign_installation *i = installing(MINISIGN_DUE_READ_LIST);
+    used = 2;
+    CHECK(minisign_install_list(i, copied(LIST, list_len), list_len, copied(name, name_len), name_len) == MINISIGN_OK);
+    CHECK(minisign_install_question(i, buffer(32), buffer(64), buffer(64)) == MINISIGN_OK);
+    return minisign_install_answer(i, YES);
+}
+
+/* Makes the calls of an installation with lists and names of each length, and with data in pieces of each length, which does not
+ * have the listed digest unless it is empty. */
+static void installs_from_list(void)
+{
+    static const char name[] = "./app";
+
+    for (size_t size = 0; size < sizeof LIST; size++) {
+        enum minisign_error error = pass_list(size, "app", 3);
+
+        /* The first 66 bytes are the digest and two spaces. */
+        CHECK(error == (size >= ENTRY_LEN            ? MINISIGN_OK
+                        : size == 0 || size > 64 + 2 ? MINISIGN_NOT_LISTED
+                                                     : MINISIGN_MALFORMED_LINE));
+    }
+    for (size_t size = 0; size < sizeof name; size++) {
+        CHECK(pass_list(sizeof LIST - 1, name, size)
+              == (size == sizeof name - 1 ? MINISIGN_OK : size < 3 ? MINISIGN_BAD_NAME : MINISIGN_NOT_LISTED));
+    }
+    for (size_t size = 0; size < 300; size++) {
+        used = 0;
+        minisign_installation *i = installing(MINISIGN_DUE_READ_LIST);
+        used = 2;
+        enum minisign_error error = minisign_install_list(i, copied(LIST, ENTRY_LEN), ENTRY_LEN, copied("app", 3), 3);
+        while (error == MINISIGN_OK && minisign_install_due(i) != MINISIGN_DUE_READ_BACK) {
+            error = minisign_install_due(i) == MINISIGN_DUE_CHECK_LIST ? minisign_install_answer(i, YES) : minisign_install_done(i);
+        }
+        CHECK(error == MINISIGN_OK && minisign_install_piece(i, filled(size, 'x'), size) == MINISIGN_OK);
+        CHECK(size == 0 || minisign_install_piece(i, buffer(0), 0) == MINISIGN_OK);
+        CHECK(minisign_install_answer(i, YES) == (size == 0 ? MINISIGN_OK : MINISIGN_DIGEST_MISMATCH));
+    }
 }
 
 /* Makes the calls of an installation with records, names and comments of each length, and with buffers of each size for the
@@ -380,6 +428,7 @@ int main(void)
             opens_in_place(p);
         }
         installs();
+        installs_from_list();
         writes_error_texts();
     }
     return ended();

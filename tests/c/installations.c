@@ -1,8 +1,8 @@
 /*
  * Checks installations with the calls of minisign_install.h. In each state of an installation, it makes each call of the
  * header, and compares the operation that is then due with a table. API misuse must not change the struct. Further checks
- * are about valid and invalid records and trusted comments, the questions for Ed25519, and the new record. No call may
- * allocate memory.
+ * are about valid and invalid records, trusted comments and lists, the questions for Ed25519, and the new record. No call
+ * may allocate memory.
  *
  * Linked with -Wl,--wrap=malloc -Wl,--wrap=realloc -Wl,--wrap=free.
  */
@@ -10,6 +10,7 @@
 
 #include "counted_memory.h"
 #include "minisign_install.h"
+#include "minisign_list.h"
 #include "texts_for_tests.h"
 
 #define CHECK_AT(due, condition) check((condition), "while %u is due: %s", (due), #condition)
@@ -19,6 +20,17 @@
 #define OWN_KEY "79a561e70ee08cd3e754c63e9bd6b9c3520a1d4204cd104da2e7ef763b1853b7"
 #define OWN_NUMBER "timestamp:1556193335"
 #define OWN_RECORD OWN_NUMBER "\n" OWN_KEY "\n" HEX_OF_ABC
+/* The SHA-256 digest of the data `abc` and its SHA-512 digest (FIPS 180-4), a list with this data under the name `app`, and the
+ * digest and the record of this list. */
+#define SHA256_OF_ABC "ba7816bf8f01cfea414140de5dae2223b00361a396177a9cb410ff61f20015ad"
+#define SHA512_OF_ABC                                                  \
+    "ddaf35a193617abacc417349ae20413112e6fa4e89a97ea20a9eeee64b55d39a" \
+    "2192992a274fc1a836ba3c23a3feebbd454d4423643ce80e2a9ac94fa54ca49f"
+#define OWN_LIST SHA256_OF_ABC "  app\n"
+#define HEX_OF_LIST                                                    \
+    "e005e441de6359db849c663aa5799aa4a8d5132ca4f5f9e9fb14aaa0acfa382c" \
+    "d913ad6a98dba6073310c0154c779b66a512bd2dca7f610a11aa9aedd8857296"
+#define LIST_RECORD OWN_NUMBER "\n" OWN_KEY "\n" HEX_OF_LIST
 /* A later timestamp, and a key that has not signed the update. */
 #define LATER_NUMBER "timestamp:1556193336"
 #define THIRD_KEY "5b5a5a5a5a5a5a5a5a5a5a5a5a5a5a5a5a5a5a5a5a5a5a5a5a5a5a5a5a5a5a5a"
@@ -32,6 +44,8 @@ static const struct row {
     { MINISIGN_DUE_READ_RECORD, 0, MINISIGN_DUE_REJECTED },
     { MINISIGN_DUE_READ_SIGNATURE, 0, MINISIGN_DUE_REJECTED },
     { MINISIGN_DUE_CHECK_COMMENT, 0, MINISIGN_DUE_REJECTED },
+    { MINISIGN_DUE_READ_LIST, 0, MINISIGN_DUE_REJECTED },
+    { MINISIGN_DUE_CHECK_LIST, 0, MINISIGN_DUE_REJECTED },
     { MINISIGN_DUE_CHECK_RECORD, 0, MINISIGN_DUE_REJECTED },
     { MINISIGN_DUE_READ_TARGET, MINISIGN_DUE_CHECK_TARGET, MINISIGN_DUE_REJECTED },
     { MINISIGN_DUE_CHECK_TARGET, 0, MINISIGN_DUE_REJECTED },
@@ -69,6 +83,9 @@ static size_t message_len;
 /* The signature file, the file name and the time that `pass_signature` passes. */
 static const char *passed_text = SIGNATURE, *passed_name = "test";
 static int64_t passed_time = NOW;
+/* The list and the name to look up that `pass_list` passes. If `uses_list` is 1, `at` returns installations with a list. */
+static const char *passed_list = OWN_LIST, *listed_name = "app";
+static uint32_t uses_list;
 
 /* Passes a signature file to the installation. */
 static enum minisign_error pass_text(minisign_installation *i, const char *sig_text, const char *file, size_t room)
@@ -80,6 +97,11 @@ static enum minisign_error pass_text(minisign_installation *i, const char *sig_t
 static enum minisign_error pass_signature(minisign_installation *i)
 {
     return pass_text(i, passed_text, passed_name, sizeof message);
+}
+
+static enum minisign_error pass_list(minisign_installation *i)
+{
+    return minisign_install_list(i, bytes_of(passed_list), strlen(passed_list), bytes_of(listed_name), strlen(listed_name));
 }
 
 static enum minisign_error ask(const minisign_installation *i)
@@ -131,7 +153,9 @@ static void step(minisign_installation *i, const char *record_text)
     switch (minisign_install_due(i)) {
     case MINISIGN_DUE_READ_RECORD: error = record(i, record_text); break;
     case MINISIGN_DUE_READ_SIGNATURE: error = pass_signature(i); break;
+    case MINISIGN_DUE_READ_LIST: error = pass_list(i); break;
     case MINISIGN_DUE_CHECK_COMMENT:
+    case MINISIGN_DUE_CHECK_LIST:
     case MINISIGN_DUE_CHECK_RECORD:
     case MINISIGN_DUE_CHECK_TARGET:
     case MINISIGN_DUE_CHECK_DATA: error = minisign_install_answer(i, YES); break;
@@ -157,6 +181,11 @@ static void go_to(minisign_installation *i, uint32_t due, const char *record_tex
     }
 }
 
+static int reads_list(uint32_t due)
+{
+    return due == MINISIGN_DUE_READ_LIST || due == MINISIGN_DUE_CHECK_LIST;
+}
+
 /* Returns an installation at which this operation is due. The recorded version is older, except if the installed file must
  * be read. */
 static minisign_installation at(uint32_t due)
@@ -168,8 +197,8 @@ static minisign_installation at(uint32_t due)
                                                    : due;
     minisign_installation i;
 
-    CHECK(BEGIN(&i, .is_check = due == MINISIGN_DUE_WOULD_INSTALL) == MINISIGN_OK);
-    go_to(&i, by, reads_target ? OWN_RECORD : "5");
+    CHECK(BEGIN(&i, .is_check = due == MINISIGN_DUE_WOULD_INSTALL, .is_list = uses_list || reads_list(due)) == MINISIGN_OK);
+    go_to(&i, by, !reads_target ? "5" : uses_list ? LIST_RECORD : OWN_RECORD);
     CHECK(by == due || minisign_install_failed(&i, MINISIGN_WRITING_FAILED) == MINISIGN_WRITING_FAILED);
     CHECK(minisign_install_due(&i) == due);
     return i;
@@ -197,8 +226,8 @@ static int same(const minisign_installation *one, const minisign_installation *o
 
 static int is_check_of(uint32_t due)
 {
-    return due == MINISIGN_DUE_CHECK_COMMENT || due == MINISIGN_DUE_CHECK_RECORD || due == MINISIGN_DUE_CHECK_TARGET
-           || due == MINISIGN_DUE_CHECK_DATA;
+    return due == MINISIGN_DUE_CHECK_COMMENT || due == MINISIGN_DUE_CHECK_LIST || due == MINISIGN_DUE_CHECK_RECORD
+           || due == MINISIGN_DUE_CHECK_TARGET || due == MINISIGN_DUE_CHECK_DATA;
 }
 
 static int syncs_installed(uint32_t due)
@@ -210,7 +239,8 @@ static int syncs_installed(uint32_t due)
 static uint32_t after_yes(uint32_t due)
 {
     switch (due) {
-    case MINISIGN_DUE_CHECK_COMMENT: return MINISIGN_DUE_REMOVE_LEFTOVERS;
+    case MINISIGN_DUE_CHECK_COMMENT: return uses_list ? MINISIGN_DUE_READ_LIST : MINISIGN_DUE_REMOVE_LEFTOVERS;
+    case MINISIGN_DUE_CHECK_LIST: return MINISIGN_DUE_REMOVE_LEFTOVERS;
     case MINISIGN_DUE_CHECK_RECORD: return MINISIGN_DUE_READ_TARGET;
     case MINISIGN_DUE_CHECK_TARGET: return MINISIGN_DUE_SYNC_TARGET;
     case MINISIGN_DUE_CHECK_DATA: return MINISIGN_DUE_SET_PERMISSIONS;
@@ -221,6 +251,8 @@ static uint32_t after_yes(uint32_t due)
 /* Makes each call at each operation. The text of the new record is available when it must be written. */
 static void makes_each_call_at_each_operation(void)
 {
+    const char *new_record = uses_list ? LIST_RECORD : OWN_RECORD;
+
     for (size_t row = 0; row < ROWS; row++) {
         const uint32_t due = table[row].due;
         const int reads = due == MINISIGN_DUE_READ_TARGET || due == MINISIGN_DUE_READ_BACK;
@@ -243,16 +275,17 @@ static void makes_each_call_at_each_operation(void)
         GOES(due, piece(&i, ""), reads ? due + 1 : 0);
         GOES(due, minisign_install_no_target(&i), due == MINISIGN_DUE_READ_TARGET ? MINISIGN_DUE_REMOVE_LEFTOVERS : 0);
         GOES(due, pass_signature(&i), due == MINISIGN_DUE_READ_SIGNATURE ? MINISIGN_DUE_CHECK_COMMENT : 0);
+        GOES(due, pass_list(&i), due == MINISIGN_DUE_READ_LIST ? MINISIGN_DUE_CHECK_LIST : 0);
         GOES(due, ask(&i), is_check_of(due) ? due : 0);
         GOES(due, minisign_install_answer(&i, YES), after_yes(due));
         CHECK_AT(due, minisign_install_error(&begun) == (is_rejected ? MINISIGN_WRITING_FAILED : MINISIGN_OK));
         CHECK_AT(due, minisign_install_version(&begun) == (is_signed ? NUMBER : 0));
         CHECK_AT(due, minisign_install_is_signed(&begun) == (uint32_t) is_signed);
-        CHECK_AT(due, minisign_install_size(&begun, &size) == 0 && size == 77);
+        CHECK_AT(due, minisign_install_size(&begun, &size) == 0 && size == 77 && minisign_install_line(&begun) == 0);
         memset(message, 0xaa, sizeof message);
         CHECK_AT(due, minisign_install_record_text(&begun, message, sizeof OWN_RECORD - 2) == 0 && message[0] == 0xaa);
         CHECK_AT(due, minisign_install_record_text(&begun, message, MINISIGN_RECORD_TEXT_BYTES) == len);
-        CHECK_AT(due, memcmp(message, OWN_RECORD, len) == 0 && message[len] == 0xaa);
+        CHECK_AT(due, memcmp(message, new_record, len) == 0 && message[len] == 0xaa);
     }
 }
 
@@ -305,6 +338,7 @@ static void rejects_bad_beginnings(void)
         CHECK(minisign_install_failed(&i, MINISIGN_WRITING_FAILED) == MINISIGN_NOT_DUE);
         CHECK(record(&i, "5") == MINISIGN_NOT_DUE && minisign_install_no_record(&i) == MINISIGN_NOT_DUE);
         CHECK(piece(&i, "abc") == MINISIGN_NOT_DUE && pass_signature(&i) == MINISIGN_NOT_DUE && ask(&i) == MINISIGN_NOT_DUE);
+        CHECK(pass_list(&i) == MINISIGN_NOT_DUE && minisign_install_line(&i) == 0);
         CHECK(minisign_install_answer(&i, YES) == MINISIGN_NOT_DUE);
         CHECK(minisign_install_no_target(&i) == MINISIGN_NOT_DUE && minisign_install_version(&i) == 0);
         CHECK(minisign_install_is_signed(&i) == 0 && minisign_install_size(&i, &size) == 0);
@@ -315,11 +349,19 @@ static void rejects_bad_beginnings(void)
         CHECK(BEGIN(&i, .is_first = 1, .new_key = 1) == MINISIGN_BAD_OPTION);
         CHECK(BEGIN(&i, .is_first = 1, .roll_back = 1) == MINISIGN_BAD_OPTION);
         CHECK(BEGIN(&i, .is_first = 2, .numbering = 2) == MINISIGN_BAD_OPTION);
+        CHECK(BEGIN(&i, .is_list = 2) == MINISIGN_BAD_OPTION && BEGIN(&i, .is_list = 2, .long_digest = 1) == MINISIGN_BAD_OPTION);
+        CHECK(BEGIN(&i, .is_list = 1, .long_digest = 1) == MINISIGN_BAD_HASH);
+        CHECK(BEGIN(&i, .is_list = 1, .long_digest = 4) == MINISIGN_BAD_HASH);
+        CHECK(BEGIN(&i, .is_list = 1, .long_digest = UINT32_MAX) == MINISIGN_BAD_HASH);
+        CHECK(BEGIN(&i, .numbering = 2, .is_list = 1, .long_digest = 1) == MINISIGN_BAD_NUMBERING);
         CHECK(BEGIN(&i, .numbering = 2) == MINISIGN_BAD_NUMBERING);
         CHECK(BEGIN(&i, .is_first = 1, .numbering = UINT32_MAX) == MINISIGN_BAD_NUMBERING);
         CHECK(same(&i, &before));
         CHECK(BEGIN(&i, .is_first = 1, .again = 1, .numbering = 1) == MINISIGN_OK && minisign_install_due(&i) == MINISIGN_DUE_LOCK);
         CHECK(BEGIN(&i, .new_key = 1, .roll_back = 1, .is_check = 1) == MINISIGN_OK
+              && minisign_install_due(&i) == MINISIGN_DUE_READ_RECORD);
+        CHECK(BEGIN(&i, .is_list = 1) == MINISIGN_OK && BEGIN(&i, .is_list = 1, .long_digest = MINISIGN_HASH_SHA512) == MINISIGN_OK);
+        CHECK(BEGIN(&i, .is_list = 1, .long_digest = MINISIGN_HASH_BLAKE2B, .is_check = 1) == MINISIGN_OK
               && minisign_install_due(&i) == MINISIGN_DUE_READ_RECORD);
     }
 }
@@ -762,6 +804,251 @@ static void rolls_back(void)
     }
 }
 
+/* == Lists == */
+
+/* Checks the error, and the number of the line at fault, for a list, a name and the meaning of 128 digits. `answer` is the result
+ * of Ed25519 for the list. */
+static void check_list(const char *list, const char *name, uint32_t long_digest, enum minisign_answer answer,
+                       enum minisign_error rejected, uint64_t line)
+{
+    minisign_installation i;
+
+    passed_list = list;
+    listed_name = name;
+    CHECK(BEGIN(&i, .is_list = 1, .long_digest = long_digest) == MINISIGN_OK);
+    go_to(&i, MINISIGN_DUE_READ_LIST, "5");
+    CHECK(pass_list(&i) == MINISIGN_OK && minisign_install_due(&i) == MINISIGN_DUE_CHECK_LIST);
+    CHECK(minisign_install_line(&i) == 0 && minisign_install_error(&i) == MINISIGN_OK);
+    check(minisign_install_answer(&i, answer) == rejected, "%s: error %u, expected %u", list, minisign_install_error(&i), rejected);
+    check(minisign_install_line(&i) == line, "%s: line %u", list, (unsigned) minisign_install_line(&i));
+    CHECK(minisign_install_error(&i) == rejected && minisign_install_version(&i) == NUMBER && minisign_install_is_signed(&i) == 1);
+    CHECK(minisign_install_due(&i) == (rejected == MINISIGN_OK ? MINISIGN_DUE_REMOVE_LEFTOVERS : MINISIGN_DUE_REJECTED));
+    passed_list = OWN_LIST;
+    listed_name = "app";
+}
+
+static void judges_lists(void)
+{
+    static const char *const good[] = { OWN_LIST, SHA256_OF_ABC " *app", "# text\n\n" OWN_LIST, SHA256_OF_ABC "  ./app\r\n",
+                                        "SHA256 (app) = " SHA256_OF_ABC "\n", "SHA512 (app) = " SHA512_OF_ABC "\n",
+                                        "BLAKE2b (app) = " HEX_OF_ABC "\n", OWN_LIST SHA512_OF_ABC "  other\n",
+                                        SHA256_OF_ABC "  other\n" OWN_LIST "\\" SHA256_OF_ABC "  a\\\\b\n",
+                                        OWN_LIST SHA256_OF_ABC "  a\n" SHA256_OF_ABC "  a\n" };
+    static const char *const without[] = { "", "\n", "# " OWN_LIST, SHA256_OF_ABC "  App\n", SHA256_OF_ABC "  bin/app\n",
+                                           "\\" SHA256_OF_ABC "  app\\n\n" };
+    static const char *const malformed[] = { "text", " " OWN_LIST, SHA256_OF_ABC " app", SHA256_OF_ABC "  /app", SHA256_OF_ABC "  ../app",
+                                             SHA256_OF_ABC "  a\tb", SHA256_OF_ABC "0  app", "MD5 (app) = 900150983cd24fb0d6963f7d28e17f72",
+                                             "SHA256 (app) = " SHA512_OF_ABC };
+    static const char *const bad_names[] = { "", "/app", "../app", "a/../b", "a//b", "app/", ".", "a\\b", "a\nb", "a\x7f" };
+    char text[512];
+
+    for (size_t n = 0; n < LENGTH(good); n++) {
+        check_list(good[n], "app", MINISIGN_HASH_SHA512, YES, MINISIGN_OK, 0);
+        check_list(good[n], "./app", MINISIGN_HASH_BLAKE2B, YES, MINISIGN_OK, 0);
+        check_list(good[n], "app", MINISIGN_HASH_SHA512, NO, MINISIGN_SIGNATURE_REFUSED, 0);
+        check_list(good[n], "none", MINISIGN_HASH_SHA512, YES, MINISIGN_NOT_LISTED, 0);
+    }
+    for (size_t n = 0; n < LENGTH(without); n++) {
+        check_list(without[n], "app", MINISIGN_HASH_SHA512, YES, MINISIGN_NOT_LISTED, 0);
+    }
+    for (size_t n = 0; n < LENGTH(malformed); n++) {
+        snprintf(text, sizeof text, "%s\n" OWN_LIST OWN_LIST, malformed[n]);
+        check_list(text, "app", MINISIGN_HASH_SHA512, YES, MINISIGN_MALFORMED_LINE, 1);
+        check_list(text, "app", MINISIGN_HASH_SHA512, NO, MINISIGN_SIGNATURE_REFUSED, 0);
+        snprintf(text, sizeof text, OWN_LIST "#\n%s", malformed[n]);
+        check_list(text, "app", MINISIGN_HASH_SHA512, YES, MINISIGN_MALFORMED_LINE, 3);
+        check_list(text, "none", MINISIGN_HASH_SHA512, YES, MINISIGN_MALFORMED_LINE, 3);
+    }
+    for (size_t n = 0; n < LENGTH(bad_names); n++) {
+        check_list(OWN_LIST, bad_names[n], MINISIGN_HASH_SHA512, YES, MINISIGN_BAD_NAME, 0);
+        check_list("text", bad_names[n], MINISIGN_HASH_SHA512, YES, MINISIGN_BAD_NAME, 0);
+        check_list(OWN_LIST, bad_names[n], MINISIGN_HASH_SHA512, NO, MINISIGN_SIGNATURE_REFUSED, 0);
+    }
+    check_list(OWN_LIST "#\n" OWN_LIST, "app", MINISIGN_HASH_SHA512, YES, MINISIGN_LISTED_TWICE, 3);
+    check_list(OWN_LIST OWN_LIST OWN_LIST, "app", MINISIGN_HASH_SHA512, YES, MINISIGN_LISTED_TWICE, 2);
+    check_list(OWN_LIST "SHA512 (app) = " SHA512_OF_ABC, "app", MINISIGN_HASH_SHA512, YES, MINISIGN_LISTED_TWICE, 2);
+    check_list(OWN_LIST OWN_LIST, "app", MINISIGN_HASH_SHA512, NO, MINISIGN_SIGNATURE_REFUSED, 0);
+    check_list(OWN_LIST OWN_LIST "text", "app", MINISIGN_HASH_SHA512, YES, MINISIGN_MALFORMED_LINE, 3);
+    /* 128 digits mean nothing, or the digest of the chosen function. */
+    check_list(OWN_LIST SHA512_OF_ABC "  b\n", "app", MINISIGN_HASH_NONE, YES, MINISIGN_MALFORMED_LINE, 2);
+    check_list(OWN_LIST "SHA512 (b) = " SHA512_OF_ABC, "app", MINISIGN_HASH_NONE, YES, MINISIGN_OK, 0);
+    check_list(OWN_LIST "\xff\n", "app", MINISIGN_HASH_SHA512, YES, MINISIGN_NOT_UTF8, 0);
+    check_list(OWN_LIST, "\xff", MINISIGN_HASH_SHA512, YES, MINISIGN_NOT_UTF8, 0);
+    check_list("text\n\xff\n", "/", MINISIGN_HASH_SHA512, YES, MINISIGN_NOT_UTF8, 0);
+}
+
+/* Passes these bytes in pieces of `size` bytes, and the end of the data. */
+static enum minisign_error pass_data(minisign_installation *i, const uint8_t *data, size_t len, size_t size)
+{
+    enum minisign_error error = MINISIGN_OK;
+
+    for (size_t done = 0; done < len && error == MINISIGN_OK; done += size) {
+        error = minisign_install_piece(i, data + done, size < len - done ? size : len - done);
+    }
+    return error == MINISIGN_OK ? minisign_install_piece(i, NULL, 0) : error;
+}
+
+/* Checks that data with the digest in the list is accepted, and that other data is rejected, when it is read back and when it is
+ * the installed file. A record without a digest does not match any list. */
+static void check_listed_data(const char *list, uint32_t long_digest, const uint8_t *data, size_t len, size_t size, int is_listed)
+{
+    minisign_installation i;
+
+    passed_list = list;
+    for (int n = 0; n < 2; n++) {
+        CHECK(BEGIN(&i, .is_list = 1, .long_digest = long_digest) == MINISIGN_OK);
+        go_to(&i, MINISIGN_DUE_READ_BACK, "5");
+        CHECK(pass_data(&i, data, len, size) == MINISIGN_OK);
+        CHECK(minisign_install_answer(&i, n ? NO : YES) == (n           ? MINISIGN_SIGNATURE_REFUSED
+                                                            : is_listed ? MINISIGN_OK
+                                                                        : MINISIGN_DIGEST_MISMATCH));
+        CHECK(minisign_install_due(&i) == (is_listed && !n ? MINISIGN_DUE_SET_PERMISSIONS : MINISIGN_DUE_REMOVE_FILES));
+        CHECK(minisign_install_line(&i) == 0);
+        CHECK(BEGIN(&i, .is_list = 1, .long_digest = long_digest) == MINISIGN_OK);
+        go_to(&i, MINISIGN_DUE_READ_TARGET, OWN_NUMBER);
+        CHECK(pass_data(&i, data, len, size) == MINISIGN_OK);
+        CHECK(minisign_install_answer(&i, n ? NO : YES) == (is_listed && !n ? MINISIGN_OK : MINISIGN_SAME_NUMBER));
+        CHECK(minisign_install_due(&i) == (is_listed && !n ? MINISIGN_DUE_SYNC_TARGET : MINISIGN_DUE_REJECTED));
+    }
+    passed_list = OWN_LIST;
+}
+
+/* The data must have the listed digest, however it is split. The digests are those of 300 bytes. */
+static void judges_listed_data(void)
+{
+    static const struct {
+        const char *list;
+        uint32_t long_digest;
+    } lists[] = {
+        { "43f9b5d59eb108817176c6f65c2c6203a22f2ae8bc28b7a1dde45947678c5042  app", MINISIGN_HASH_NONE },
+        { "f758e49e6fca32320310aa1b0b2e3abfeab7fc8414ba069022e8b39b7e53628b"
+          "e4777edbab93a6780a8318eed48c4665ff55d68dff2e6c84b6270b4eff6df873  app", MINISIGN_HASH_SHA512 },
+        { "3A482B7748B0BDC43C3D00C080890C10E57A9AA5618F78B86067EB7EAAE4942A"
+          "CD96D827ACCBC16958364AE5B0DF6105BBD3B15445092EBA1137B5F69C1070F1  app", MINISIGN_HASH_BLAKE2B },
+        { "BLAKE2b (app) = 3a482b7748b0bdc43c3d00c080890c10e57a9aa5618f78b86067eb7eaae4942a"
+          "cd96d827accbc16958364ae5b0df6105bbd3b15445092eba1137b5f69c1070f1", MINISIGN_HASH_SHA512 },
+    };
+    static const size_t sizes[] = { 1, 55, 56, 63, 64, 65, 111, 112, 127, 128, 129, 299, 300, 1000 };
+    uint8_t data[301];
+
+    for (size_t n = 0; n < sizeof data; n++) {
+        data[n] = (uint8_t) (n % 251);
+    }
+    for (size_t n = 0; n < LENGTH(lists); n++) {
+        for (size_t size = 0; size < LENGTH(sizes); size++) {
+            check_listed_data(lists[n].list, lists[n].long_digest, data, 300, sizes[size], 1);
+        }
+        check_listed_data(lists[n].list, lists[n].long_digest, data, 299, 64, 0);
+        check_listed_data(lists[n].list, lists[n].long_digest, data, 301, 64, 0);
+        check_listed_data(lists[n].list, lists[n].long_digest, data, 0, 64, 0);
+        for (size_t at_byte = 0; at_byte < 300; at_byte += 43) {
+            data[at_byte] ^= 1;
+            check_listed_data(lists[n].list, lists[n].long_digest, data, 300, 128, 0);
+            data[at_byte] ^= 1;
+        }
+    }
+    /* Digests of the wrong function. */
+    check_listed_data(lists[1].list, MINISIGN_HASH_BLAKE2B, data, 300, 300, 0);
+    check_listed_data(lists[2].list, MINISIGN_HASH_SHA512, data, 300, 300, 0);
+}
+
+/* The installed file is read before the new one: what was read of it does not count for the new file. */
+static void forgets_installed_file(void)
+{
+    for (uint32_t answer = 0; answer < 2; answer++) {
+        minisign_installation i;
+
+        CHECK(BEGIN(&i, .is_list = 1, .again = 1) == MINISIGN_OK);
+        go_to(&i, MINISIGN_DUE_READ_TARGET, OWN_NUMBER);
+        CHECK(piece(&i, answer ? "abc" : "abcd") == MINISIGN_OK && piece(&i, "") == MINISIGN_OK);
+        CHECK(minisign_install_answer(&i, answer ? NO : YES) == MINISIGN_OK && minisign_install_due(&i) == MINISIGN_DUE_REMOVE_LEFTOVERS);
+        go_to(&i, MINISIGN_DUE_INSTALLED, OWN_NUMBER);
+        CHECK(minisign_install_error(&i) == MINISIGN_OK);
+    }
+}
+
+/* The questions about a list are about its digest, except that about the record, and are for the key that has signed the
+ * comment. */
+static void asks_about_list(void)
+{
+    static const uint32_t checks[] = { MINISIGN_DUE_CHECK_LIST, MINISIGN_DUE_CHECK_RECORD, MINISIGN_DUE_CHECK_TARGET,
+                                       MINISIGN_DUE_CHECK_DATA };
+    static const minisign_install_options options = { .is_list = 1 };
+    const minisign_signature signature = signature_of(SIGNATURE);
+    const minisign_public_key key = key_of(KEY);
+    minisign_public_key twin = key;
+    minisign_installation i;
+
+    twin.key[0] ^= 1;
+    for (size_t n = 0; n < LENGTH(checks); n++) {
+        CHECK(minisign_install_init(&i, &twin, &key, &options) == MINISIGN_OK);
+        go_to(&i, MINISIGN_DUE_CHECK_COMMENT, OWN_RECORD);
+        CHECK(minisign_install_answer(&i, NO) == MINISIGN_OK && minisign_install_answer(&i, YES) == MINISIGN_OK);
+        CHECK(minisign_install_due(&i) == MINISIGN_DUE_READ_LIST && pass_list(&i) == MINISIGN_OK);
+        if (checks[n] == MINISIGN_DUE_CHECK_DATA) {
+            go_to(&i, MINISIGN_DUE_READ_TARGET, "");
+            CHECK(minisign_install_no_target(&i) == MINISIGN_OK);
+        }
+        go_to(&i, checks[n], "");
+        CHECK_AT(checks[n], ask(&i) == MINISIGN_OK && memcmp(key_asked, key.key, sizeof key.key) == 0);
+        CHECK_AT(checks[n], memcmp(signature_asked, signature.signature, 64) == 0);
+        CHECK_AT(checks[n], equals_hex(digest_asked, checks[n] == MINISIGN_DUE_CHECK_RECORD ? HEX_OF_ABC : HEX_OF_LIST));
+    }
+}
+
+/* The size in the trusted comment is not that of the data, but it must be a number. */
+static void ignores_size_of_list(void)
+{
+    static const char *const fields[] = { "size:0", "size:1", "size:18446744073709551615" };
+    minisign_installation i;
+    uint64_t size = 77;
+
+    passed_name = "a";
+    for (size_t n = 0; n < LENGTH(fields); n++) {
+        char comment[64];
+
+        snprintf(comment, sizeof comment, "file:a\tversion:3\t%s", fields[n]);
+        passed_text = with_comment(comment);
+        CHECK(BEGIN(&i, .is_list = 1, .numbering = MINISIGN_NUMBERING_VERSION) == MINISIGN_OK);
+        go_to(&i, MINISIGN_DUE_COPY_DATA, "2");
+        CHECK(minisign_install_size(&i, &size) == 0 && size == 77);
+        CHECK(minisign_install_copied(&i, 3) == MINISIGN_OK && minisign_install_copied(&i, SIZE_MAX) == MINISIGN_OK);
+        go_to(&i, MINISIGN_DUE_INSTALLED, "");
+    }
+    passed_text = with_comment("file:a\tversion:3\tsize:x");
+    CHECK(BEGIN(&i, .is_list = 1, .numbering = MINISIGN_NUMBERING_VERSION) == MINISIGN_OK);
+    go_to(&i, MINISIGN_DUE_CHECK_COMMENT, "2");
+    CHECK(answer_comment(&i, YES) == MINISIGN_BAD_SIZE && minisign_install_due(&i) == MINISIGN_DUE_REJECTED);
+    passed_text = SIGNATURE;
+    passed_name = "test";
+}
+
+/* A record that was written for the list, or for other data, decides if a changed file is replaced. */
+static void judges_recorded_list(void)
+{
+    for (uint32_t is_check = 0; is_check < 2; is_check++) {
+        minisign_installation i;
+
+        for (int n = 0; n < 2; n++) {
+            CHECK(BEGIN(&i, .is_list = 1, .is_check = is_check) == MINISIGN_OK);
+            go_to(&i, MINISIGN_DUE_CHECK_RECORD, LIST_RECORD);
+            CHECK(minisign_install_answer(&i, n ? NO : YES) == MINISIGN_OK && piece(&i, "changed") == MINISIGN_OK);
+            CHECK(piece(&i, "") == MINISIGN_OK && minisign_install_answer(&i, YES) == (n ? MINISIGN_SAME_NUMBER : MINISIGN_OK));
+            CHECK(minisign_install_due(&i) == (n          ? MINISIGN_DUE_REJECTED
+                                               : is_check ? MINISIGN_DUE_WOULD_INSTALL
+                                                          : MINISIGN_DUE_REMOVE_LEFTOVERS));
+        }
+        CHECK(BEGIN(&i, .is_list = 1, .is_check = is_check, .roll_back = 1) == MINISIGN_OK);
+        go_to(&i, MINISIGN_DUE_CHECK_RECORD, LATER_NUMBER "\n" OWN_KEY "\n" HEX_OF_ABC);
+        CHECK(minisign_install_answer(&i, NO) == MINISIGN_OK);
+        if (!is_check) {
+            go_to(&i, MINISIGN_DUE_WRITE_RECORD, "");
+            CHECK(minisign_install_record_text(&i, message, sizeof message) == sizeof LIST_RECORD - 1);
+            CHECK(memcmp(message, LATER_NUMBER "\n" OWN_KEY "\n" HEX_OF_LIST, sizeof LIST_RECORD - 1) == 0);
+        }
+    }
+}
+
 /* Checks the result of minisign_judge_comment. */
 static void check_judged_comment(const char *comment, const char *file, uint32_t numbering, uint64_t recorded,
                           enum minisign_error error, uint64_t expected)
@@ -834,6 +1121,10 @@ static void takes_null_for_no_bytes(void)
     i = at(MINISIGN_DUE_READ_SIGNATURE);
     CHECK(minisign_install_signature(&i, bytes_of(SIGNATURE), sizeof SIGNATURE - 1, NULL, 0, NOW, NULL, 0, &message_len) == MINISIGN_NO_ROOM);
     CHECK(minisign_install_signature(&i, NULL, 0, NULL, 0, NOW, NULL, 0, &message_len) == MINISIGN_MISSING_UNTRUSTED_COMMENT);
+    i = at(MINISIGN_DUE_READ_LIST);
+    CHECK(minisign_install_list(&i, NULL, 0, NULL, 0) == MINISIGN_OK && minisign_install_answer(&i, YES) == MINISIGN_BAD_NAME);
+    i = at(MINISIGN_DUE_READ_LIST);
+    CHECK(minisign_install_list(&i, NULL, 0, bytes_of("app"), 3) == MINISIGN_OK && minisign_install_answer(&i, YES) == MINISIGN_NOT_LISTED);
     i = at(MINISIGN_DUE_WRITE_RECORD);
     CHECK(minisign_install_record_text(&i, NULL, 0) == 0);
     CHECK(minisign_judge_comment(NULL, 0, NULL, 0, MINISIGN_NUMBERING_TIMESTAMP, NOW, 0, &number) == MINISIGN_OTHER_FILE);
@@ -841,8 +1132,11 @@ static void takes_null_for_no_bytes(void)
 
 int main(void)
 {
-    makes_each_call_at_each_operation();
-    keeps_first_failure();
+    for (uses_list = 0; uses_list < 2; uses_list++) {
+        makes_each_call_at_each_operation();
+        keeps_first_failure();
+    }
+    uses_list = 0;
     rejects_bad_beginnings();
     reads_records();
     judges_comments();
@@ -855,6 +1149,12 @@ int main(void)
     asks_selected_keys();
     judges_recorded_version();
     rolls_back();
+    judges_lists();
+    judges_listed_data();
+    forgets_installed_file();
+    asks_about_list();
+    ignores_size_of_list();
+    judges_recorded_list();
     judges_plain_comments();
     takes_null_for_no_bytes();
     CHECK(requests == 0 && allocated_blocks == 0);

@@ -5,6 +5,15 @@
 
 #include "minisign_install.h"
 
+/* The digests of no data. */
+#define SHA256_OF_NOTHING "e3b0c44298fc1c149afbf4c8996fb92427ae41e4649b934ca495991b7852b855"
+#define SHA512_OF_NOTHING                                              \
+    "cf83e1357eefb8bdf1542850d66d8007d620e4050b5715dc83f4a921d36ce9ce" \
+    "47d0d13c5d85f2b0ff8318d2877eec2f63b931bd47417a81a538327af927da3e"
+#define BLAKE2B_OF_NOTHING                                             \
+    "786a02f742015903c6c6fd852552d272912f4740e15847618a86e217f71f5419" \
+    "d25e1031afee585313896444934eb04b903a685b1448b755d56f701afe9be2ce"
+
 static minisign_installation installations[COPIES];
 /* The first and the third key have the same key ID. The second is the published key. The last one was not read. */
 static minisign_public_key keys[COPIES];
@@ -40,7 +49,7 @@ static uint32_t any_flag(uint32_t times)
 
 static struct text any_name(void)
 {
-    static const char *const rare[] = { "", "abc", "ap", "\xff" };
+    static const char *const rare[] = { "", "abc", "ap", "\xff", "./app", "../app" };
     struct text name = { .len = 0 };
     const char *other = rare[random_below(LENGTH(rare))], *chosen = one_in(20) ? other : "app";
 
@@ -75,6 +84,8 @@ static void add_installation(const minisign_installation *installation)
     add_number(size);
     add_number(minisign_install_version(installation));
     CALLED(minisign_install_version);
+    add_number(minisign_install_line(installation));
+    CALLED(minisign_install_line);
 }
 
 /* ---- Calls ---- */
@@ -167,6 +178,54 @@ static void make_file(const minisign_public_key *key, struct text *file)
     }
 }
 
+/* Chooses if the signature is that of a list, and what 128 digits mean. */
+static void choose_list(minisign_install_options *options)
+{
+    static const uint32_t meanings[] = { 0, 2, 3 };
+    uint32_t usual = meanings[random_below(LENGTH(meanings))], other = any_flag(2);
+
+    options->is_list = any_flag(3);
+    options->long_digest = one_in(60) ? other : usual;
+}
+
+/* Returns a list. It is mostly accepted, and has the digest of no data under the name `app`. */
+static struct text any_list(void)
+{
+    static const char *const lines[] = { SHA256_OF_NOTHING "  app\n", SHA256_OF_NOTHING " *./app\r\n", "SHA256 (app) = " SHA256_OF_NOTHING "\n",
+                                         SHA512_OF_NOTHING "  app\n", "SHA512 (app) = " SHA512_OF_NOTHING "\n",
+                                         BLAKE2B_OF_NOTHING "  app\n", "BLAKE2b (app) = " BLAKE2B_OF_NOTHING "\n",
+                                         "SHA512 (app) = " BLAKE2B_OF_NOTHING "\n" };
+    static const char *const others[] = { "# text\n", "\n", "text\n", SHA256_OF_NOTHING "  abc\n", SHA256_OF_NOTHING "  app\n",
+                                          SHA512_OF_NOTHING "  abc\n", "\\" SHA256_OF_NOTHING "  a\\nb\n", SHA256_OF_NOTHING " app\n" };
+    struct text list = { .len = 0 };
+    const char *line = lines[random_below(LENGTH(lines))];
+    int place = (int) random_below(4);
+
+    for (int i = 0; i < 4; i++) {
+        const char *other = others[random_below(LENGTH(others))];
+
+        if (one_in(8)) {
+            append_string(&list, other);
+        }
+        if (i == place && !one_in(20)) {
+            append_string(&list, line);
+        }
+    }
+    if (one_in(30) && list.len > 0) {
+        size_t at = random_below((uint32_t) list.len);
+
+        list.bytes[at] = (uint8_t) random_number();
+    }
+    return list;
+}
+
+static void call_list(minisign_installation *installation)
+{
+    struct text list = any_list(), name = any_name();
+
+    CALL(minisign_install_list, installation, bytes_or_null(&list), list.len, bytes_or_null(&name), name.len);
+}
+
 /* Begins an installation. In half of the cases, the two keys are the same key, or have the same key ID. The signature is mostly
  * made with the first key. */
 static void call_init(void)
@@ -183,6 +242,7 @@ static void call_init(void)
     options.must_expire = any_flag(8);
     options.new_key = any_flag(8);
     options.roll_back = any_flag(8);
+    choose_list(&options);
     CALL(minisign_install_init, &installations[i], key, &keys[second], &options);
 }
 
@@ -306,8 +366,9 @@ static void call_no_target(minisign_installation *installation)
 /* Makes any call, which is mostly not due. */
 static void call_anything(minisign_installation *installation)
 {
-    switch (random_below(10)) {
+    switch (random_below(11)) {
     case 0: call_record_text(installation); break;
+    case 10: call_list(installation); break;
     case 1: call_signature(installation); break;
     case 2: call_question(installation); break;
     case 3: call_answer(installation); break;
@@ -346,7 +407,9 @@ static void call_due(minisign_installation *installation)
     switch (minisign_install_due(installation)) {
     case MINISIGN_DUE_READ_RECORD: call_record(installation); break;
     case MINISIGN_DUE_READ_SIGNATURE: call_signature(installation); break;
+    case MINISIGN_DUE_READ_LIST: call_list(installation); break;
     case MINISIGN_DUE_CHECK_COMMENT:
+    case MINISIGN_DUE_CHECK_LIST:
     case MINISIGN_DUE_CHECK_RECORD:
     case MINISIGN_DUE_CHECK_TARGET:
     case MINISIGN_DUE_CHECK_DATA:
@@ -391,6 +454,8 @@ static void call_whole_run(void)
     options.must_expire = 0;
     options.new_key = one_in(6);
     options.roll_back = one_in(6);
+    choose_list(&options);
+    options.is_list = options.is_list == 1;
     append_string(&comment, "file:app\tversion:");
     append_decimal(&comment, version);
     append_string(&comment, "\ttimestamp:");
@@ -410,7 +475,7 @@ static void call_whole_run(void)
     }
     is_whole_run = 1;
     CALL(minisign_install_init, installation, &keys[first], &keys[second], &options);
-    for (uint32_t step = 0, due = 0; step < 30 && due < MINISIGN_DUE_INSTALLED; step++) {
+    for (uint32_t step = 0, due = 0; step < 34 && due < MINISIGN_DUE_INSTALLED; step++) {
         if (step == failing_step) {
             call_failed(installation);
         } else {

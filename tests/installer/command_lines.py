@@ -66,9 +66,12 @@ REPORTS = (
     *(misuse(f"the unknown option {option}", [option, *value, *PATHS], option, "unknown option")
       for option, *value in (("--frist",), ("--num", "version"), ("-h",), ("-f",), ("--name=app",), ("--First",), ("--help",))),
     *(misuse(f"{arguments[0]} twice", [*arguments, *PATHS, *arguments], arguments[0], GIVEN_TWICE)
-      for arguments in (FIRST, ("--name", "a"), ("--check",), ("--must-expire",), ("--new-key",), ("--roll-back",))),
+      for arguments in (FIRST, ("--name", "a"), ("--check",), ("--must-expire",), ("--new-key",), ("--roll-back",), ("--list", "a"),
+                        ("--blake2b", "--list", "a"))),
     *(misuse(f"--check with {' '.join(arguments)}", [*arguments, "--check", PK, "new.sig", TARGET], arguments[0], NOT_WITH_CHECK)
       for arguments in (("--mode", "755"), ("--wait", "1"), ("--max-size", "1M"), ("--most", "1M"))),
+    misuse("--blake2b without --list", ["--blake2b", *PATHS], "--blake2b", "this option needs --list"),
+    misuse("--list without a value", [*PATHS, "--list"], "--list", NEEDS_VALUE),
     *(misuse(f"--first with {option}", ["--first", *PATHS, option], option, NOT_WITH_FIRST)
       for option in ("--new-key", "--roll-back")),
     misuse("--check and --first with --roll-back", ["--first", "--roll-back", *CHECK_ARGUMENTS], "--roll-back",

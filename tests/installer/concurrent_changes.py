@@ -81,8 +81,9 @@ def stalled_device(directory):
      dict(options=("--max-size", "1000"), more=SIZE_FIELD)),
     ("reads nothing from a pipe if the update is rejected", 0, dict(number=4)),
 )
-def reads_no_more(directory, count, options=(), **offered):
-    """A pipe is read only if the trusted comment was accepted. The byte after the limit shows that the data is too long."""
+def reads_no_more(directory, count, options=(), status=None, **offered):
+    """A pipe is read only if the trusted comment was accepted. The byte after the limit shows that the data is too long. `status` is
+    the expected exit status, if it is neither that for too much data nor that for an older update."""
     directory.offer(**offered)
     data = NEW_DATA + LATER_DATA
     reader, writer = os.pipe()
@@ -93,7 +94,7 @@ def reads_no_more(directory, count, options=(), **offered):
             process.wait(SECONDS)
             unread = pipe.readall()
             writing.result()
-    directory.expect_process_end(process, REJECTED if count else OLDER_VERSION)
+    directory.expect_process_end(process, status or (REJECTED if count else OLDER_VERSION))
     expect(len(data) - len(unread) == count, f"it read {len(data) - len(unread)} bytes, expected {count}")
     directory.expect_installed(OLD_DATA, b"5")
 

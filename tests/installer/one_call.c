@@ -11,6 +11,9 @@
  *     first  again  check  roll-back       options
  *     other=PK                             a second public key
  *     name=NAME  mode=MODE  max=BYTES  wait=SECONDS
+ *     list=PATH                            a signed list; its name is PATH
+ *     list-name=NAME                       another name of the list, or none
+ *     is_list=NUMBER  long=NUMBER          choices about the list
  *     now=SECONDS  now=none                a function that shows this time, or writes no time
  *     verify=all|none                      a function without context that accepts all signatures, or none
  *     answer=libsodium|all|none|nothing    a function with context that verifies with libsodium, accepts all signatures,
@@ -19,7 +22,8 @@
  *     silent                               passes no functions for messages, progress and comment
  *     without=FIELD                        leaves out a required field of the options
  *
- * The last line is `result STATUS, error ERROR, phases:` with each phase once. The exit status is 0.
+ * A message is printed as `message KIND, FILE, TEXT, ERRNO`, followed by the number of the line of a list if it has one. The
+ * last line is `result STATUS, error ERROR, phases:` with each phase once. The exit status is 0.
  */
 #include <errno.h>
 #include <fcntl.h>
@@ -35,7 +39,7 @@
 
 enum { TEXT_BYTES = 1 << 20 };
 
-static uint8_t key_text[TEXT_BYTES], signature[TEXT_BYTES];
+static uint8_t key_text[TEXT_BYTES], signature[TEXT_BYTES], list[TEXT_BYTES];
 /* The values of the words read, answer, verify and now. */
 static const char *reading, *answering, *verifying, *clock_word;
 static FILE *source;
@@ -108,8 +112,12 @@ static void show_phase(void *context, minisign_installing_progress *progress)
 static void show_message(void *context, const minisign_installing_message *message)
 {
     (void) context;
-    printf("message %d, %s, %s, %d\n", (int) message->kind, message->file == NULL ? "NULL" : message->file,
+    printf("message %d, %s, %s, %d", (int) message->kind, message->file == NULL ? "NULL" : message->file,
            message->text, message->system_error);
+    if (message->line != 0) {
+        printf(", line %llu", (unsigned long long) message->line);
+    }
+    putchar('\n');
 }
 
 static void ignore_signal(int number)
@@ -193,6 +201,23 @@ static void set_function(minisign_installing_options *options, const char *word)
     }
 }
 
+static void set_list(minisign_installing_options *options, const char *word)
+{
+    const char *value;
+
+    if ((value = value_of(word, "list")) != NULL) {
+        options->list = list;
+        options->list_len = read_text(value, list);
+        options->list_name = value;
+    } else if ((value = value_of(word, "list-name")) != NULL) {
+        options->list_name = strcmp(value, "none") == 0 ? NULL : value;
+    } else if ((value = value_of(word, "is_list")) != NULL) {
+        options->choices.is_list = (uint32_t) strtoul(value, NULL, 10);
+    } else if ((value = value_of(word, "long")) != NULL) {
+        options->choices.long_digest = (uint32_t) strtoul(value, NULL, 10);
+    }
+}
+
 static void apply_word(minisign_installing_options *options, const char *word)
 {
     static minisign_public_key other_key;
@@ -221,6 +246,7 @@ static void apply_word(minisign_installing_options *options, const char *word)
     }
     set_number_option(options, word);
     set_function(options, word);
+    set_list(options, word);
 }
 
 int main(int argc, char **argv)

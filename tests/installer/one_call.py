@@ -29,6 +29,7 @@ import proved
 import static_library
 import test_script
 from installers import EXPIRED_FIELD, LATER_DATA, LOCK, NEW_DATA, OLD_DATA, PK, RECORD, TARGET, Signer
+from list_updates import LIST, NEW_LIST, line, offer_list, sha512
 from running import Failure, expect, read, run_case_named, run_cases
 from runs import Cases, InstallerRunner
 from updates import OTHER_KEY, SIZE_FIELD, UNEXPIRED_FIELD
@@ -55,7 +56,7 @@ def lines_of(ran):
 
 def call(directory, words, result, error="OK", phases=(), messages=(), shown="", **options):
     """Runs one_call.c with these words, and expects that it prints this result, this error, these phases and messages (tuples of kind,
-    file, text and errno), and no others. If `shown` is a version number, the function must also pass this number and the trusted
+    file, text, errno and, if it is about a line of a list, the number of the line), and no others. If `shown` is a version number, the function must also pass this number and the trusted
     comment to its caller."""
     arguments = [*words, PK, "new.sig", TARGET]
     ran = directory.run(arguments, **options)
@@ -63,7 +64,8 @@ def call(directory, words, result, error="OK", phases=(), messages=(), shown="",
     if shown:
         comment = directory.content("new.sig").split(b"\n")[2].decode()
         expected.append(f"comment {shown} {comment.removeprefix('trusted comment: ')}")
-    expected += [f"message {kind}, {file}, {text}, {number}" for kind, file, text, number in messages]
+    expected += [f"message {kind}, {file}, {text}, {number}" + "".join(f", line {line}" for line in lines)
+                 for kind, file, text, number, *lines in messages]
     expected.append(f"result {result}, error {ERRORS[error]}, phases:{''.join(f' {phase}' for phase in phases)}")
     expect(ran.status == 0 and lines_of(ran) == expected, ran, f"expected {expected}")
 
@@ -287,6 +289,101 @@ def rejects_weak_data(directory):
     expect_old(directory)
 
 
+# == Lists ==
+
+@one_call_cases.table(
+    ("installs a file of a list from a path", ["data=new"], FROM_FILE),
+    ("installs a file of a list from a descriptor", ["fd=new"], FROM_FILE),
+    ("installs a file of a list from a function", ["read=new", f"max={len(NEW_DATA)}"], FROM_FUNCTION),
+    ("installs a file of a list in another directory", ["data=new", f"list-name=somewhere/{LIST}"], FROM_FILE),
+    ("installs a file of a list with the choice of a list", ["data=new", "is_list=1"], FROM_FILE),
+    ("installs a file of a list whose size is signed", ["data=new"], FROM_FILE, dict(more="\tsize:5")),
+    ("installs a file of a list of SHA-512", ["data=new", "long=2"], FROM_FILE, dict(listed=f"{sha512(NEW_DATA)}  {TARGET}\n".encode())),
+    ("installs a file of a list under another name", ["data=new", "name=app"], FROM_FILE, dict(listed=line(NEW_DATA, "app"))),
+)
+def installs_listed(directory, words, phases, listed=NEW_LIST, **offered):
+    offer_list(directory, listed, **offered)
+    words = [f"list={LIST}", *words]
+    call(directory, ["check", *words], INSTALLED, shown=6)
+    call(directory, words, INSTALLED, phases=phases, shown=6)
+    directory.expect_installed_with_record(NEW_DATA, directory.signer.version_record(listed, 6))
+    call(directory, words, ALREADY_INSTALLED, phases=[COMPARING], shown=6)
+
+
+@one_call_cases.table(*((f"rejects a list {what}", *row) for what, *row in (
+    ("with a malformed line", "MALFORMED_LINE", "line 4 is malformed", [4], dict(listed=NEW_LIST + b"text\n")),
+    ("with 128 digits that mean nothing", "MALFORMED_LINE", "line 1 is malformed", [1],
+     dict(listed=f"{sha512(NEW_DATA)}  {TARGET}\n".encode())),
+    ("with the name twice", "LISTED_TWICE", "line 5 is the second line with this name", [5], dict(listed=NEW_LIST + b"\n" + line(NEW_DATA))),
+    ("without the name", "NOT_LISTED", "the list does not contain this name", [], dict(listed=line(NEW_DATA, "other"))),
+    ("without a byte", "NOT_LISTED", "the list does not contain this name", [], dict(listed=b"")),
+    ("that is not signed", "SIGNATURE_REFUSED", "Signature verification failed", [], dict(listed=NEW_LIST + b"text\n", signed=NEW_LIST)),
+    ("that is not UTF-8", "NOT_UTF8", "stream did not contain valid UTF-8", [], dict(listed=NEW_LIST + b"\xff\n")))))
+def rejects_list(directory, error, text, number, listed, **offered):
+    """A list is rejected before any data is read."""
+    directory.offer(**{"signed": listed, "names": LIST, **offered})
+    directory.put(LIST, listed)
+    message = [(ERROR, LIST, text, 0, *number)]
+    for words in (["data=new"], ["read=fails", "max=1"], ["check"]):
+        call(directory, [f"list={LIST}", *words], REJECTED, error, messages=message, shown=6)
+    expect_old(directory)
+
+
+@one_call_cases.table("rejects a name that no list can contain")
+def rejects_list_name(directory):
+    offer_list(directory)
+    message = [(ERROR, LIST, "a list can only contain relative paths without .. or special characters", 0)]
+    call(directory, ["data=new", f"list={LIST}", "name=../app"], REJECTED, "BAD_NAME", messages=message, shown=6)
+    expect_old(directory)
+
+
+@one_call_cases.table("rejects a list of another name")
+def rejects_other_list(directory):
+    offer_list(directory, names="other")
+    message = [(ERROR, SIGNATURE, "the trusted comment does not name the list", 0)]
+    call(directory, ["data=new", f"list={LIST}"], REJECTED, "OTHER_LIST", messages=message, shown=6)
+    expect_old(directory)
+
+
+@one_call_cases.table(("rejects data that is not listed", "data"), ("rejects received data that is not listed", "read"))
+def rejects_unlisted_data(directory, word):
+    """Even with a function that accepts all signatures, the data must have the listed digest."""
+    offer_list(directory, line(LATER_DATA))
+    for verifying in ("verify=all", "answer=all", "answer=libsodium"):
+        call(directory, [f"{word}=new", f"list={LIST}", "max=1000000", verifying], REJECTED, "DIGEST_MISMATCH",
+             [*[RECEIVING] * (word == "read"), COPYING, VERIFYING],
+             [(ERROR, DATA if word == "data" else "NULL", "the digest of this file is not the one in the list", 0)], 6)
+    expect_old(directory)
+
+
+@one_call_cases.table("rejects a weak signature of a list, with verify=all")
+def rejects_weak_list(directory):
+    offer_list(directory)
+    lines = directory.content("new.sig").split(b"\n")
+    record = base64.b64decode(lines[1])
+    lines[1] = base64.b64encode(record[:10] + b"\1" + bytes(63))
+    directory.put("new.sig", b"\n".join(lines))
+    call(directory, ["data=new", f"list={LIST}", "verify=all"], REJECTED, "SIGNATURE_REFUSED",
+         messages=[(ERROR, LIST, "Signature verification failed", 0)], shown=6)
+    expect_old(directory)
+
+
+@one_call_cases.table("needs a limit for data from a function that a list contains")
+def needs_limit(directory):
+    """Without a limit the call reads nothing. A signed size is not that of the data. A file and a check need no limit."""
+    for more in ("", SIZE_FIELD):
+        offer_list(directory, more=more)
+        words = [f"list={LIST}", "read=new"]
+        call(directory, words, MISUSE, "BAD_OPTION", messages=[
+            (ERROR, "NULL", "with a list, data that is not in a regular file needs a maximum size", 0),
+            (HINT, "NULL", "use --max-size BYTES to limit the data", 0)])
+        expect_old(directory)
+        call(directory, [*words, "check"], INSTALLED, shown=6)
+    call(directory, [f"list={LIST}", "read=new", f"max={len(NEW_DATA) - 1}"], TOO_LARGE, "READING_FAILED",
+         [RECEIVING], [(CAUSE, "NULL", "the data is larger than the limit", 0)], 6)
+    expect_old(directory)
+
+
 @one_call_cases.table("finishes both renames after a signal")
 def finishes_renames(directory):
     """A signal whose handler returns does not disturb a run, in any phase."""
@@ -307,6 +404,10 @@ NO_NAME = "this path does not end with a file name"
     ("a mode above 0777", ["mode=1000"], "the mode in the options is above 0777"),
     ("a wait of more than a day", ["wait=86401"], "the wait in the options is longer than a day"),
     ("an empty name", ["name="], "the name in the options is empty"),
+    ("a list without a name", ["list=new", "list-name=none"], "the options have no name of the list"),
+    ("a list whose name ends with a slash", ["list=new", "list-name=new/"], "the options have no name of the list"),
+    ("the choice of a list without a list", ["is_list=1"], "the options have no list"),
+    ("an unknown meaning of 128 digits", ["list=new", "long=1"], None, "BAD_HASH"),
     ("first with roll-back", ["first", "roll-back"], None, "BAD_OPTION"),
     ("a choice that is neither 0 nor 1", ["is_check=2"], None, "BAD_OPTION"),
     ("a choice that is neither 0 nor 1, with data from a function", ["read=new", "is_check=2"], None, "BAD_OPTION"),

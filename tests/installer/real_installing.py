@@ -8,6 +8,7 @@ PROGRAM is a build of minisign-install. Without it, the script builds the progra
 the cases whose name contains it. Minisign's own program makes keys and signatures.
 
 - updates.py: newer, older and bad updates, and each option;
+- list_updates.py: updates that a signed list contains;
 - command_lines.py: command lines and messages;
 - checking.py: --check, and the systemd unit of docs/INSTALLING.md;
 - downloads.py: the updater script of docs/INSTALLING.md;
@@ -41,6 +42,7 @@ from concurrent_changes import concurrent_cases
 from cut_off import cut_off_cases
 from downloads import download_cases
 from installers import NAME, PK, TARGET, Signer
+from list_updates import list_cases
 from owners import owner_cases
 from permissions import KEPT, REQUESTED, WITHOUT_PROC, permission_cases
 from running import run_cases
@@ -50,7 +52,7 @@ from updates import update_cases
 
 def cases_of(runner):
     """Yields all test cases: tuples of a name, a function, and its arguments."""
-    for cases in (update_cases, owner_cases, concurrent_cases, cut_off_cases, check_cases, download_cases, command_line_cases):
+    for cases in (update_cases, list_cases, owner_cases, concurrent_cases, cut_off_cases, check_cases, download_cases, command_line_cases):
         for name, case, *arguments in cases:
             yield name, runner.run_case, case, *arguments
     yield from permission_cases(runner, lambda path: runner.new_directory(path).path_of(TARGET),

@@ -309,7 +309,7 @@ class RecordedRun:
 
     def begin(self, octets):
         """Begins the trace of a machine, and compares its options, which are the bytes `octets`, with those of the command."""
-        numbering, *flags = struct.unpack("7I", octets)
+        numbering, *flags, is_list, _ = struct.unpack("9I", octets)
         command, is_first = self.command, not self.traces
         letters, data = command.letters, command.data
         given = [letter for letter, flag in zip(OPTION_LETTERS, flags) if flag] + ["T"] * (numbering == 0)
@@ -321,8 +321,9 @@ class RecordedRun:
         elif command.is_pipe:
             data = b"" if self.due == "ALREADY_INSTALLED" else data[:command.max_received]
         keys = [b"".join(part for name, part in self.parameters if name == key) for key in ("key", "other")]
-        if {*given} != {*letters} or keys != (command.keys * 2)[:2]:
-            self.add_offence(f"the options of a machine are {given} and {keys}, expected {letters}")
+        # Runs with a list are not recorded.
+        if {*given} != {*letters} or keys != (command.keys * 2)[:2] or is_list:
+            self.add_offence(f"the options of a machine are {given}, {is_list} and {keys}, expected {letters}")
         self.expect_no_effects()
         self.traces.append(Trace(command, letters, data, self.files))
         self.data_file = self.record_file = self.target_inode = self.lock_inode = self.open_inode = None

@@ -208,13 +208,13 @@ class Update:
         self.created |= created
 
 
-def check_and_install(directory, status, error_output=b"", **given):
-    """Runs --check and all installations of an update. `given` has the fields of `Update`, and other arguments of
-    `Directory.offer`. Returns the traced calls of the last installation."""
-    names = {each.name for each in fields(Update)}
+def check_and_install(directory, status, error_output=b"", kind=Update, **given):
+    """Runs --check and all installations of an update. `given` has the fields of `kind`, which is `Update` or a subclass, and other
+    arguments of `Directory.offer`. Returns the traced calls of the last installation."""
+    names = {each.name for each in fields(kind)}
     offered = {name: value for name, value in given.items() if name not in names}
     of_update = {name: value for name, value in given.items() if name in names}
-    update = Update(directory, status, error_output, offered=offered, **of_update)
+    update = kind(directory, status, error_output, offered=offered, **of_update)
     update.put_installed()
     update.offer()
     update.expect_check()

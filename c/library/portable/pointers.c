@@ -99,6 +99,8 @@ static inline void given_minisign_install_options(minisign_install_options *lent
     store32(address(&lent->must_expire), lent->must_expire);
     store32(address(&lent->new_key), lent->new_key);
     store32(address(&lent->roll_back), lent->roll_back);
+    store32(address(&lent->is_list), lent->is_list);
+    store32(address(&lent->long_digest), lent->long_digest);
 }
 
 static inline void given_minisign_list(minisign_list *lent)
@@ -644,6 +646,14 @@ uint32_t portable_minisign_install_signature(minisign_installation *installation
     return result;
 }
 
+uint32_t machine_minisign_install_list(uint64_t, uint64_t, uint64_t, uint64_t, uint64_t);
+
+uint32_t portable_minisign_install_list(minisign_installation *installation, const uint8_t *list, size_t list_len,
+                                        const uint8_t *name, size_t name_len)
+{
+    return machine_minisign_install_list(address(installation), address(list), list_len, address(name), name_len);
+}
+
 uint32_t machine_minisign_install_question(uint64_t, uint64_t, uint64_t, uint64_t);
 
 uint32_t portable_minisign_install_question(const minisign_installation *installation, uint8_t *public_key,
@@ -697,6 +707,13 @@ uint32_t machine_minisign_install_error(uint64_t);
 uint32_t portable_minisign_install_error(const minisign_installation *installation)
 {
     return machine_minisign_install_error(address(installation));
+}
+
+uint64_t machine_minisign_install_line(uint64_t);
+
+uint64_t portable_minisign_install_line(const minisign_installation *installation)
+{
+    return machine_minisign_install_line(address(installation));
 }
 
 uint32_t machine_minisign_judge_comment(uint64_t, uint64_t, uint64_t, uint64_t, uint32_t, uint64_t, uint64_t,

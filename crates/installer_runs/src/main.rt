@@ -16,11 +16,13 @@
 //! - `l`: the signature is a legacy one
 //! - `s`: the comment signature has 63 bytes and not 64
 //! - `-`: the time is before 1970, otherwise it is 100
+//! - `L`: the signature is that of a list; `5`: 128 digits in a list are SHA-512, otherwise they are malformed
 //!
 //! RECORD is `own`, a record of version 2 that names the first key; `other`, one that names a key that is not
 //! passed; `old`, version 2 in the format of minisign-install 0.2; or else the record itself.
 //!
-//! COMMENT is the trusted comment. CALLS are the names that the function `call` lists, separated by spaces.
+//! COMMENT is the trusted comment. CALLS are the names that the functions `call` and `list` list, separated by
+//! spaces. The installed file and the data consist of pieces of the bytes `piece`.
 
 #![tactic(auto)]
 
@@ -88,6 +90,8 @@ fn choices(options: &str) -> Choices {
         must_expire: has(options, 'X'),
         new_key: has(options, 'K'),
         roll_back: has(options, 'B'),
+        is_list: has(options, 'L'),
+        long_digest: 2 * has(options, '5').min(1),
     }
 }
 
@@ -110,6 +114,26 @@ fn keys(options: &str) -> (PublicKeyValue, PublicKeyValue) {
         (key, key)
     } else {
         (key, other)
+    }
+}
+
+// Returns the list that the call with this name passes.
+fn list(name: &str) -> &str {
+    match name {
+        "list" => "34235a2c502e3919d3f00af5dabb87cb58aef4566b10631f2a5db94950ebffbd  app\n",
+        "list_of_pieces" =>
+            "2da140dfddd31db670fe68f4cbd2b03c61953a3a0317c47e22077d91d467d55ce9fb31d980580050e4ec322a74d76005e2cf1ae5ed66803d371a0c640cca8989  app\n",
+        "list_with_blake2b" =>
+            "BLAKE2b (app) = 94d4852f927363b8e8c9456298e41ee95783e0b650c2e138c126d7d3c285abbcf75cf8292d7971c620979747a821e74162572661b244cea818fcfc3f816a0715\n",
+        "list_of_other_data" =>
+            "d9298a10d1b0735837dc4bd85dac641b0f3cef27a47e5d53a54f2f3f5b2fcffa  app\n",
+        "list_of_other_file" =>
+            "34235a2c502e3919d3f00af5dabb87cb58aef4566b10631f2a5db94950ebffbd  tool\n",
+        "list_with_two_entries" =>
+            "# two entries\n34235a2c502e3919d3f00af5dabb87cb58aef4566b10631f2a5db94950ebffbd  app\n34235a2c502e3919d3f00af5dabb87cb58aef4566b10631f2a5db94950ebffbd *app\n",
+        "list_with_malformed_line" =>
+            "34235a2c502e3919d3f00af5dabb87cb58aef4566b10631f2a5db94950ebffbd  app\napp\n",
+        _ => "",
     }
 }
 
@@ -163,8 +187,21 @@ fn call(installation: &mut Installation, name: &str, line: &str, text: &str) -> 
         "copied" => was_due(installation.copied(5)),
         "failed" => was_due(installation.failed(NamedFault::WritingFailed)),
         "in_use" => was_due(installation.in_use()),
-        _ => false,
+        "pieces" => report_pieces(installation),
+        _ => {
+            !list(name).is_empty() && was_due(installation.list(list(name).as_bytes(), b"./app"))
+        }
     }
+}
+
+// Reports 40 pieces. Returns false if they are not due.
+fn report_pieces(installation: &mut Installation) -> bool {
+    'pieces: for _ in 0..40 {
+        if !was_due(installation.piece(b"piece")) {
+            return false;
+        }
+    }
+    true
 }
 
 // Makes the calls of a run until one is not due, and writes the state of the installation.
@@ -188,6 +225,9 @@ fn write_run<W: Write>(alloc: Global, line: &str, out: &mut W) -> io::Result<()>
         installation.due(),
         installation.error()
     )?;
+    if installation.line() > 0 {
+        writeln!(out, "line {}", installation.line())?;
+    }
     if let Some(asked) = installation.question() {
         let (key, digest) = (asked.key[31], asked.digest[0]);
         let (signature, comment) = (asked.signature[0], asked.is_comment);

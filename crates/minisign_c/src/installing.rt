@@ -8,7 +8,7 @@ ghost use Rattle.minisign_install.specs.Installations.{Represents, error_number,
 ghost use Rattle.minisign_install.specs.Installations.{IsNewRecord, piece_event, question_due, record_due};
 ghost use Rattle.minisign_install.specs.Installations.{written_if};
 ghost use Rattle.minisign_install.specs.Step.{Answered, Done, PieceCopied, RecordRead, State, TargetMissing};
-ghost use Rattle.minisign_install.specs.Step.{begin, step};
+ghost use Rattle.minisign_install.specs.Step.{ListRead, begin, line_at_fault, step};
 ghost use Rattle.minisign_c.specs.InstallCalls.{NumberReads, NumberSteps, ReturnsQuestion, ReturnsVersionOf};
 ghost use Rattle.minisign_c.specs.InstallCalls.{failure_event, failure_of, starting_misuse, step_number};
 ghost use Rattle.minisign_c.specs.InstallCalls.{time_of};
@@ -43,8 +43,8 @@ pub extern "C" fn minisign_install_init(
     ensures begun { result ≡ 0 → (file : List ℕ)
         → Represents installation.new (begin (options_by key.now other.now options.now file)) }
     // The errors are, in this order: an option is neither 0 nor 1, or two options must not be combined;
-    // `numbering` is not a known number; a public key was not read. After an error the installation is
-    // unchanged.
+    // `numbering` is not a known number; `long_digest` is not a known number; a public key was not read.
+    // After an error the installation is unchanged.
     ensures number { MatchOption (starting_misuse key.now other.now options.now) (result ≡ 0)
         (λ m. result ≡ misuse_number m) }
     ensures unchanged { 0 < result → installation.new ≡ installation.old }
@@ -218,6 +218,22 @@ fn time_of(now: i64) -> Option<u64>
     u64::try_from(now).ok()
 }
 
+/// Reports the signed list of files, and the name to look up in it.
+#[unsafe(no_mangle)]
+pub extern "C" fn minisign_install_list(
+    installation: &mut Installation,
+    list: &[u8],
+    name: &[u8],
+) -> u32
+    // If the installation represents a state, the result and the new state are those that `step` computes
+    // from this state and this event.
+    ensures steps { NumberSteps (ListRead list.now name.now) installation.old installation.new result }
+    // After `NotDue` the installation is unchanged.
+    ensures misuse { result ≡ misuse_number NotDue → installation.new ≡ installation.old }
+{
+    number_of(installation.list(list, name))
+}
+
 /// Writes the question for Ed25519 that is due: a public key, a signature, and the digest that was signed.
 /// For the question about the trusted comment, the digest is zeros, because `minisign_install_signature` has
 /// already written its message.
@@ -328,6 +344,17 @@ pub extern "C" fn minisign_install_error(installation: &Installation) -> u32
     ensures { (s : State) → Represents installation.now s → result ≡ error_number s.error }
 {
     installation.error()
+}
+
+/// Returns the number of the line of the list because of which the run is rejected, or 0.
+#[unsafe(no_mangle)]
+pub extern "C" fn minisign_install_line(installation: &Installation) -> u64
+    // If the installation represents a state, the result is the number of its line at fault: that of the
+    // first malformed line or of the second line with the name, after the signature of the list was
+    // verified.
+    ensures { (s : State) → Represents installation.now s → result ≡ line_at_fault s }
+{
+    installation.line()
 }
 
 /// Checks the fields of a trusted comment that the caller has verified, and writes its version number.

@@ -18,6 +18,7 @@ use Rattle.minisign_install.proofs.SafeCalls as safe_calls
 use Rattle.minisign_install.proofs.StepArrivals.{good_update_gets_installed}
 use Rattle.minisign_install.proofs.StepEnds.{run_ends}
 use Rattle.minisign_install.proofs.StepReasons.{ends_are_true, errors_are_true}
+use Rattle.minisign_install.specs.Histories.{list_calls}
 
 abbrev pub event_of : Call → Event
 event_of c = c.event
@@ -52,7 +53,7 @@ length_map (c ∷ more) = ap suc (length_map more)
 -- The length of a run is bounded by the lengths of the data and of the installed file.
 pub application_ends : (w : World) (o : Options) (m : Snapshot) (calls : List Call) (t : State)
     (end : Snapshot) → Applies w (begin o) m calls t end
-    → length calls ≤ 23 + length o.keys + w.most + 2 * length w.update
+    → length calls ≤ 23 + list_calls o + length o.keys + w.most + 2 * length w.update
 application_ends w o m calls t end run =
     rw (sym (length_map calls)) (run_ends w o (map event_of calls) t (true_run w o m calls t end run))
 

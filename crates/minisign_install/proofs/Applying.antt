@@ -18,6 +18,10 @@ use Rattle.minisign_install.specs.Step.{data_question}
 use Rattle.minisign_install.specs.StepRuns.{says_yes}
 use Rattle.minisign_install.specs.StepRuns.{IsTrueEvent, World, count}
 use Rattle.minisign_install.proofs.StepSafety.{Passed}
+use Rattle.minisign_lists.specs.declared.digests.ListedDigest.{ListedDigest}
+use Rattle.minisign_install.specs.Faults.{DigestMismatch}
+use Rattle.minisign_install.specs.Step.{ListRead}
+use Rattle.minisign_install.proofs.Listings.{both_true}
 
 -- There is a file with these bytes.
 abbrev pub HasBytes : Option File → List ℕ → Type 0
@@ -60,7 +64,7 @@ module _ (w : World) (F Q : Type 0) where
 
   -- The signature is valid for the bytes that were read.
   abbrev pub IsSigned : State → Type 0
-  IsSigned s = says_yes w (data_question due.CheckTarget s) ≡ true
+  IsSigned s = (says_yes w (data_question due.CheckTarget s) ≡ true) × (due.is_listed s ≡ true)
 
   -- The invariant of the files, for each operation.
   abbrev pub Has : ℕ → Operation → State → Snapshot → Type 0
@@ -68,6 +72,8 @@ module _ (w : World) (F Q : Type 0) where
   Has n due.ReadRecord s m = (n ≡ 0) × IsHeld s m
   Has n due.ReadSignature s m = IsEarly n s m
   Has n due.CheckComment s m = IsEarly n s m
+  Has n due.ReadList s m = IsEarly n s m
+  Has n due.CheckList s m = IsEarly n s m
   Has n due.CheckRecord s m = IsEarly n s m
   Has n due.ReadTarget s m = IsEarly n s m
   Has n due.CheckTarget s m = IsEarly n s m × (Q → IsOpened s m)
@@ -144,6 +150,8 @@ module _ (w : World) (F Q : Type 0) where
   stays n due.ReadRecord s old new others target has = rw others.lock_stays has
   stays n due.ReadSignature s old new others target has = rw others.lock_stays has
   stays n due.CheckComment s old new others target has = rw others.lock_stays has
+  stays n due.ReadList s old new others target has = rw others.lock_stays has
+  stays n due.CheckList s old new others target has = rw others.lock_stays has
   stays n due.CheckRecord s old new others target has = rw others.lock_stays has
   stays n due.ReadTarget s old new others target has = rw others.lock_stays has
   stays n due.CheckTarget s old new others target (has, opened) =
@@ -202,6 +210,8 @@ module _ (w : World) (F Q : Type 0) where
   is_true n op (RecordRead found) s old new has is = absurd is
   is_true n due.ReadSignature (SignatureRead text time) s old new has is = is.0
   is_true n op (SignatureRead text time) s old new has is = absurd is
+  is_true n due.ReadList (ListRead list name) s old new has is = (is.0, is.1)
+  is_true n op (ListRead list name) s old new has is = absurd is
   is_true n op (Answered accepted) s old new has is = is.0
   is_true n due.ReadTarget (PieceRead bytes) s old new has is = (is.0, is.1)
   is_true n due.ReadBack (PieceRead bytes) s old new (lock_held, (file, at, holds)) (some, (rest, is), same) =
@@ -260,7 +270,8 @@ module _ (w : World) (F Q : Type 0) where
 
   after_comment : (n : ℕ) (s : State) (fault : Option InstallFault) (m : Snapshot) → IsEarly n s m
       → Holds n m (due.after_comment fault (record s { is_signed = true }))
-  after_comment n s None m has = compare n (record s { is_signed = true }) m has
+  after_comment n s None m has =
+      either n (is_some s.options.list) _ _ m has (compare n (record s { is_signed = true }) m has)
   after_comment n s (Some fault) m has = reject n fault (record s { is_signed = true }) m
 
   next_key : (n : ℕ) (s : State) (signers : List PublicKeyValue) (m : Snapshot) → s.due ≡ due.CheckComment
@@ -268,6 +279,16 @@ module _ (w : World) (F Q : Type 0) where
   next_key n s [] m at has = reject n _ s m
   next_key n s (v ∷ []) m at has = reject n _ s m
   next_key n s (v ∷ u ∷ more) m at has = rw at has
+
+  after_listing : (n : ℕ) (s : State) (listed : Result ListedDigest InstallFault) (m : Snapshot)
+      → IsEarly n s m → Holds n m (due.after_listing listed s)
+  after_listing n s (Ok digest) m has = compare n s m has
+  after_listing n s (Err fault) m has = reject n fault s m
+
+  after_data : (n : ℕ) (s : State) (listed : Bool) (m : Snapshot) → Has n due.CheckData s m
+      → Holds n m (due.after_data listed s)
+  after_data n s true m has = has
+  after_data n s false m has = reject n DigestMismatch s m
 
   after_digest : (n : ℕ) (s : State) (accepted : Bool) (m : Snapshot) → IsEarly n s m
       → Holds n m (due.after_digest accepted s)
@@ -280,10 +301,9 @@ module _ (w : World) (F Q : Type 0) where
   target_is_update n false s m is signed opened = (signed, opened)
 
   after_target : (n : ℕ) (s : State) (accepted : Bool) (m : Snapshot) → IsEarly n s m
-      → accepted ≡ says_yes w (data_question due.CheckTarget s) → (Q → IsOpened s m)
-      → Holds n m (due.after_target accepted s)
+      → (accepted ≡ true → IsSigned s) → (Q → IsOpened s m) → Holds n m (due.after_target accepted s)
   after_target n s true m has is opened =
-      target_is_update n s.options.check (due.after_target true s) m refl (sym is) opened
+      target_is_update n s.options.check (due.after_target true s) m refl (is refl) opened
   after_target n s false m has is opened =
       either n (s.is_recorded || s.options.again) _ _ m (install n s m has) (reject n SameNumber s m)
 
@@ -346,6 +366,10 @@ module _ (w : World) (F Q : Type 0) where
       after_comment n s s.fault new (rw is.1 has)
   keeps n due.CheckComment (Answered false) s old new at reads has is =
       next_key n s s.signers new at (rw is.1 has)
+  keeps n due.ReadList (ListRead list name) s old new at reads has is = rw is.2 has
+  keeps n due.CheckList (Answered true) s old new at reads has is =
+      after_listing n (record s { is_list_signed = true }) s.listing.listed new (rw is.1 has)
+  keeps n due.CheckList (Answered false) s old new at reads has is = reject n _ s new
   keeps n due.CheckRecord (Answered accepted) s old new at reads has is =
       after_digest n s accepted new (rw is.1 has)
   keeps n due.ReadTarget (PieceRead bytes) s old new at reads has is = rw (at, is.2) has
@@ -353,7 +377,11 @@ module _ (w : World) (F Q : Type 0) where
       rw is (has, λ q. (file, present, holds, refl))
   keeps n due.ReadTarget TargetMissing s old new at reads has is = install n s new (rw is.1 has)
   keeps n due.CheckTarget (Answered accepted) s old new at reads has is =
-      after_target n s accepted new (rw is.1 has.0) is.0 (λ q. rw is.1 (has.1 q))
+      after_target n s (accepted && due.is_listed s) new (rw is.1 has.0)
+      (λ both. (
+        sym is.0 ∙ (both_true accepted (due.is_listed s) both).0,
+        (both_true accepted (due.is_listed s) both).1,
+      )) (λ q. rw is.1 (has.1 q))
   keeps n due.RemoveLeftovers Done s old new at reads (none, (locked, known)) is =
       rw is (none, (locked, known, refl))
   keeps n due.CreateFile Done s old new at reads (none, lock_held) (number, is) =
@@ -369,7 +397,8 @@ module _ (w : World) (F Q : Type 0) where
   keeps n due.ReadBack (PieceRead bytes) s old new at reads has is = rw (at, is.2) has
   keeps n due.ReadBack Done s old new at reads (lock_held, (file, present, holds)) is =
       rw is.1 (lock_held, (file, present, sym (ap bytes_of present) ∙ sym is.0))
-  keeps n due.CheckData (Answered true) s old new at reads has is = rw is.1 has
+  keeps n due.CheckData (Answered true) s old new at reads has is =
+      after_data n s (due.is_listed s) new (rw is.1 has)
   keeps n due.CheckData (Answered false) s old new at reads has is = reject n _ s new
   keeps n due.SetPermissions Done s old new at reads (lock_held, (file, present, holds)) is =
       rw is (

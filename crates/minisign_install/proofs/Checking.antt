@@ -13,12 +13,16 @@ use Rattle.minisign_install.specs.Step.{step}
 use Rattle.minisign_install.specs.Step as due
 use Rattle.minisign_install.specs.StepRuns.{World}
 use Rattle.minisign_install.proofs.StepSafety.{Passed}
+use Rattle.minisign_lists.specs.declared.digests.ListedDigest.{ListedDigest}
+use Rattle.minisign_install.specs.Step.{ListRead}
 
 -- The run is a check, and this is one of its operations.
 abbrev Reads : Operation → State → Type 0
 Reads due.ReadRecord s = s.options.check ≡ true
 Reads due.ReadSignature s = s.options.check ≡ true
 Reads due.CheckComment s = s.options.check ≡ true
+Reads due.ReadList s = s.options.check ≡ true
+Reads due.CheckList s = s.options.check ≡ true
 Reads due.CheckRecord s = s.options.check ≡ true
 Reads due.ReadTarget s = s.options.check ≡ true
 Reads due.CheckTarget s = s.options.check ≡ true
@@ -36,6 +40,8 @@ reject : (op : Operation) (fault : InstallFault) (s : State) → s.due ≡ op �
 reject due.ReadRecord fault s at is = rw at is
 reject due.ReadSignature fault s at is = rw at is
 reject due.CheckComment fault s at is = rw at is
+reject due.ReadList fault s at is = rw at is
+reject due.CheckList fault s at is = rw at is
 reject due.CheckRecord fault s at is = rw at is
 reject due.ReadTarget fault s at is = rw at is
 reject due.CheckTarget fault s at is = rw at is
@@ -68,7 +74,8 @@ after_signature s (Err fault) time at is = reject due.ReadSignature _ s at is
 
 after_comment : (s : State) (fault : Option InstallFault) → s.due ≡ due.CheckComment
     → s.options.check ≡ true → Holds (due.after_comment fault (record s { is_signed = true }))
-after_comment s None at is = compare (record s { is_signed = true }) is
+after_comment s None at is =
+    either (is_some s.options.list) _ _ is (compare (record s { is_signed = true }) is)
 after_comment s (Some fault) at is = reject due.CheckComment fault (record s { is_signed = true }) at is
 
 next_key : (s : State) (signers : List PublicKeyValue) → s.due ≡ due.CheckComment
@@ -76,6 +83,11 @@ next_key : (s : State) (signers : List PublicKeyValue) → s.due ≡ due.CheckCo
 next_key s [] at is = reject due.CheckComment _ s at is
 next_key s (v ∷ []) at is = reject due.CheckComment _ s at is
 next_key s (v ∷ u ∷ more) at is = rw at is
+
+after_listing : (s : State) (listed : Result ListedDigest InstallFault) → s.due ≡ due.CheckList
+    → s.options.check ≡ true → Holds (due.after_listing listed s)
+after_listing s (Ok digest) at is = compare s is
+after_listing s (Err fault) at is = reject due.CheckList fault s at is
 
 after_digest : (s : State) (accepted : Bool) → s.options.check ≡ true → Holds (due.after_digest accepted s)
 after_digest s accepted is = either (not accepted && due.is_rolling_back s) _ _ (install s is) is
@@ -94,6 +106,8 @@ keeps : (op : Operation) (e : Event) (s : State) → s.due ≡ op → Reads op s
 keeps due.ReadRecord (Failed f) s at is = maybe (due.is_failure f) _ (reject due.ReadRecord _ s at is)
 keeps due.ReadSignature (Failed f) s at is = maybe (due.is_failure f) _ (reject due.ReadSignature _ s at is)
 keeps due.CheckComment (Failed f) s at is = maybe (due.is_failure f) _ (reject due.CheckComment _ s at is)
+keeps due.ReadList (Failed f) s at is = maybe (due.is_failure f) _ (reject due.ReadList _ s at is)
+keeps due.CheckList (Failed f) s at is = maybe (due.is_failure f) _ (reject due.CheckList _ s at is)
 keeps due.CheckRecord (Failed f) s at is = maybe (due.is_failure f) _ (reject due.CheckRecord _ s at is)
 keeps due.ReadTarget (Failed f) s at is = maybe (due.is_failure f) _ (reject due.ReadTarget _ s at is)
 keeps due.CheckTarget (Failed f) s at is = maybe (due.is_failure f) _ (reject due.CheckTarget _ s at is)
@@ -105,14 +119,20 @@ keeps due.ReadSignature (SignatureRead text time) s at is =
     after_signature s (judge_text s.options text) time at is
 keeps due.CheckComment (Answered true) s at is = after_comment s s.fault at is
 keeps due.CheckComment (Answered false) s at is = next_key s s.signers at is
+keeps due.ReadList (ListRead list name) s at is = is
+keeps due.CheckList (Answered true) s at is =
+    after_listing (record s { is_list_signed = true }) s.listing.listed at is
+keeps due.CheckList (Answered false) s at is = reject due.CheckList _ s at is
 keeps due.CheckRecord (Answered accepted) s at is = after_digest s accepted is
 keeps due.ReadTarget (PieceRead bytes) s at is = rw at is
 keeps due.ReadTarget TargetMissing s at is = install s is
 keeps due.ReadTarget Done s at is = is
-keeps due.CheckTarget (Answered accepted) s at is = after_target s accepted at is
+keeps due.CheckTarget (Answered accepted) s at is = after_target s (accepted && due.is_listed s) at is
 keeps due.ReadRecord e s at is = tt
 keeps due.ReadSignature e s at is = tt
 keeps due.CheckComment e s at is = tt
+keeps due.ReadList e s at is = tt
+keeps due.CheckList e s at is = tt
 keeps due.CheckRecord e s at is = tt
 keeps due.ReadTarget e s at is = tt
 keeps due.CheckTarget e s at is = tt
@@ -129,12 +149,15 @@ leaves : (w : World) (op : Operation) (e : Event) (s : State) (old new : Snapsho
     → Performs w s op e old new → LeavesAll old new
 leaves w due.ReadRecord (RecordRead found) s old new reads is = rw is.2 refl
 leaves w due.ReadSignature (SignatureRead text time) s old new reads is = rw is.1 refl
+leaves w due.ReadList (ListRead list name) s old new reads is = rw is.2 refl
 leaves w due.ReadTarget (PieceRead bytes) s old new reads is = rw is.2 refl
 leaves w due.ReadTarget Done s old new reads is = rw is.3 refl
 leaves w due.ReadTarget TargetMissing s old new reads is = rw is.1 refl
 leaves w due.ReadRecord (Answered accepted) s old new reads is = rw is.1 refl
 leaves w due.ReadSignature (Answered accepted) s old new reads is = rw is.1 refl
 leaves w due.CheckComment (Answered accepted) s old new reads is = rw is.1 refl
+leaves w due.ReadList (Answered accepted) s old new reads is = rw is.1 refl
+leaves w due.CheckList (Answered accepted) s old new reads is = rw is.1 refl
 leaves w due.CheckRecord (Answered accepted) s old new reads is = rw is.1 refl
 leaves w due.ReadTarget (Answered accepted) s old new reads is = rw is.1 refl
 leaves w due.CheckTarget (Answered accepted) s old new reads is = rw is.1 refl
@@ -144,6 +167,8 @@ leaves w due.Rejected (Answered accepted) s old new reads is = rw is.1 refl
 leaves w due.ReadRecord (Failed f) s old new reads is = rw is refl
 leaves w due.ReadSignature (Failed f) s old new reads is = rw is refl
 leaves w due.CheckComment (Failed f) s old new reads is = rw is refl
+leaves w due.ReadList (Failed f) s old new reads is = rw is refl
+leaves w due.CheckList (Failed f) s old new reads is = rw is refl
 leaves w due.CheckRecord (Failed f) s old new reads is = rw is refl
 leaves w due.ReadTarget (Failed f) s old new reads is = rw is refl
 leaves w due.CheckTarget (Failed f) s old new reads is = rw is refl
@@ -153,6 +178,8 @@ leaves w due.Rejected (Failed f) s old new reads is = rw is refl
 leaves w due.ReadRecord e s old new reads is = absurd is
 leaves w due.ReadSignature e s old new reads is = absurd is
 leaves w due.CheckComment e s old new reads is = absurd is
+leaves w due.ReadList e s old new reads is = absurd is
+leaves w due.CheckList e s old new reads is = absurd is
 leaves w due.CheckRecord e s old new reads is = absurd is
 leaves w due.ReadTarget e s old new reads is = absurd is
 leaves w due.CheckTarget e s old new reads is = absurd is

@@ -28,7 +28,6 @@ use Rattle.minisign_install.specs.declared.installation.Question.{Question}
 use Rattle.minisign_external.specs.declared.state.Misuse.{Misuse}
 use Rattle.minisign_external.specs.declared.state.Refusal.{Refusal}
 use Rattle.minisign_external.specs.declared.state.Refusal.TheVariants.{WrongUse}
-use Rattle.minisign_hash.specs.Blake2b.{blake2b_digest}
 use Rattle.minisign_install.specs.Traces.{IsReadFrom, is_reported}
 use Rattle.minisign_install.specs.Traces.{MessageFits, IsAsked, IsWhole, StateKnows}
 use Rattle.std.specs.Prelude.{replicate, ◌≢◌}
@@ -46,6 +45,9 @@ use Rattle.minisign_install.specs.declared.traces.Report.{Report}
 use Rattle.minisign_install.specs.declared.traces.Report.TheVariants as report
 use Rattle.minisign_install.proofs.StepSafety.{Passed, text_parsed}
 use Rattle.minisign_install.proofs.Tracing.{bytes_are}
+use Rattle.minisign_lists.specs.declared.digests.ListedDigest.{ListedDigest}
+use Rattle.minisign_install.specs.Faults.{DigestMismatch}
+use Rattle.minisign_install.specs.Step.{signed_digest}
 
 pub are_same : (one other : List ℕ) → one ≡ other → bytes_eq one other ≡ true
 are_same one other is = (bytes_eq-Decides one other).1 is
@@ -271,6 +273,20 @@ after_record : (r : Result Recorded InstallFault) (s : State) → Not (due.after
 after_record (Ok r) s = λ at. cc at
 after_record (Err fault) s = reject fault s
 
+compare : (s : State) → Not (due.compare s).due
+compare s =
+    either (due.is_newer s) (due.install s) _ (install s)
+    (either (is_some s.recorded.digest) (due.go due.CheckRecord s) _ (λ at. cc at)
+    (either (due.is_rolling_back s) (due.install s) (due.go due.ReadTarget s) (install s) (λ at. cc at)))
+
+after_listing : (listed : Result ListedDigest InstallFault) (s : State) → Not (due.after_listing listed s).due
+after_listing (Ok digest) s = compare s
+after_listing (Err fault) s = reject fault s
+
+after_data : (listed : Bool) (s : State) → Not (due.after_data listed s).due
+after_data true s = λ at. cc at
+after_data false s = reject DigestMismatch s
+
 after_digest : (accepted : Bool) (s : State) → Not (due.after_digest accepted s).due
 after_digest accepted s =
     either (not accepted && due.is_rolling_back s) (due.install s)
@@ -330,14 +346,20 @@ stays due.ReadSignature (due.SignatureRead text time) s at other = absurd (true�
 stays due.Lock due.InUse s at other = λ is. absurd (reject TargetInUse s is)
 stays due.ReadRecord (due.RecordRead found) s at other =
     λ is. absurd (after_record (judge_record s.options found) s is)
+stays due.ReadList (due.ListRead list name) s at other = λ is. cc is
+stays due.CheckList (due.Answered true) s at other =
+    λ is. absurd (after_listing s.listing.listed (record s { is_list_signed = true }) is)
+stays due.CheckList (due.Answered false) s at other =
+    λ is. absurd (reject (Library (Named named.SignatureRefused)) s is)
 stays due.CheckRecord (due.Answered accepted) s at other = λ is. absurd (after_digest accepted s is)
 stays due.ReadTarget (due.PieceRead bytes) s at other = λ is. cc (at, is)
 stays due.ReadTarget due.TargetMissing s at other = λ is. absurd (install s is)
-stays due.CheckTarget (due.Answered accepted) s at other = λ is. absurd (after_target accepted s is)
+stays due.CheckTarget (due.Answered accepted) s at other =
+    λ is. absurd (after_target (accepted && due.is_listed s) s is)
 stays due.CopyData (due.PieceCopied n) s at other = λ is. absurd (after_piece n s.left s at is)
 stays due.CopyData due.Done s at other = λ is. absurd (after_copy s.left s is)
 stays due.ReadBack (due.PieceRead bytes) s at other = λ is. cc (at, is)
-stays due.CheckData (due.Answered true) s at other = λ is. cc is
+stays due.CheckData (due.Answered true) s at other = λ is. absurd (after_data (due.is_listed s) s is)
 stays due.CheckData (due.Answered false) s at other =
     λ is. absurd (reject (Library (Named named.SignatureRefused)) s is)
 stays due.Lock due.Done s at other = λ is. cc is
@@ -476,12 +498,14 @@ comment_key s due.CheckComment true (Some k) q is one = (
   ap (λ (x : Question). Some x.key) (same_Some (question_about k s.comment_signature) q is),
   ap (λ (x : Question). x.signature) (sym (same_Some (question_about k s.comment_signature) q is)),
 )
+comment_key s due.CheckList true (Some k) q is one =
+    one_or_other q.is_comment (about_data k s.signature (Some (signed_digest s)) q is) one
 comment_key s due.CheckRecord true (Some k) q is one =
     one_or_other q.is_comment (about_data k s.signature s.recorded.digest q is) one
 comment_key s due.CheckTarget true (Some k) q is one =
-    one_or_other q.is_comment (about_data k s.signature (Some (blake2b_digest 64 s.read)) q is) one
+    one_or_other q.is_comment (about_data k s.signature (Some (signed_digest s)) q is) one
 comment_key s due.CheckData true (Some k) q is one =
-    one_or_other q.is_comment (about_data k s.signature (Some (blake2b_digest 64 s.read)) q is) one
+    one_or_other q.is_comment (about_data k s.signature (Some (signed_digest s)) q is) one
 comment_key s op true (Some k) q is one = absurd (none-some q is)
 comment_key s op true None q is one = absurd (none-some q is)
 comment_key s op false key q is one = absurd (none-some q is)

@@ -21,8 +21,7 @@ use Rattle.minisign_install.specs.Faults.{InstallFault, Library, TargetInUse, in
 use Rattle.minisign_install.specs.RecordTexts.{record_of}
 use Rattle.minisign_install.specs.Installations.{IsNewRecord, IsWritten}
 use Rattle.hex.specs.Hex.{IsBytes}
-use Rattle.minisign_hash.specs.Blake2b.{blake2b_digest}
-use Rattle.minisign_install.proofs.RecordTexts.{digest_bytes, length_digest, reads_back}
+use Rattle.minisign_install.proofs.RecordTexts.{reads_back}
 use Rattle.minisign_install.specs.Installations.{HoldsState, IsOwnNumber, Represents, RepresentsIf}
 use Rattle.minisign_install.specs.Installations.{RunLeadsTo}
 use Rattle.minisign_install.specs.Installations.{Steps}
@@ -44,6 +43,9 @@ use Rattle.minisign_install.specs.declared.installation.Installation.{Installati
 use Rattle.minisign_install.specs.declared.installation.Question.{Question}
 use Rattle.minisign_install.specs.declared.installation.progress.Progress.{Progress}
 use Rattle.minisign_install.specs.declared.installation.progress.RecordedValue.{RecordedValue}
+use Rattle.minisign_install.specs.Installations.{is_reading_list}
+use Rattle.minisign_install.specs.Step.{ListRead, after_data, after_list, after_listing, is_listed}
+use Rattle.minisign_install.specs.Step.{signed_digest}
 
 -- == The struct ==
 
@@ -120,6 +122,9 @@ compare_error s =
     pick_error (is_newer s) _ _ s.error refl
     (pick_error (is_some s.recorded.digest) _ _ s.error refl
     (pick_error (is_rolling_back s) _ _ s.error refl refl))
+
+pub comment_error : (s : State) → (after_comment None s).error ≡ s.error
+comment_error s = pick_error (is_some s.options.list) _ _ s.error refl (compare_error s)
 
 pub digest_error : (a : Bool) (s : State) → (after_digest a s).error ≡ s.error
 digest_error a s = pick_error (not a && is_rolling_back s) _ _ s.error refl refl
@@ -271,14 +276,11 @@ written text same n old new is some rest none =
     subst (λ (t : List ℕ). IsWritten t n old new) is (record { front = some; rest = rest; room = none })
 
 pub new_record_is : (s : State) (numbering : Numbering) (n : ℕ) (key digest : List ℕ) {bytes : List ℕ}
-    → s.options.numbering ≡ numbering → new_version s ≡ n → new_key s ≡ key → blake2b_digest 64 s.read
-    ≡ digest
-    → n < 2 ^ 64 → length key ≡ 32 → IsBytes key → bytes ≡ record_of numbering n key digest
-    → IsNewRecord s bytes
-new_record_is s numbering n key digest numbered version named fits bound whole are is =
-    rw (is, numbered, version, named, sym fits)
-    (reads_back numbering n bound key (blake2b_digest 64 s.read) whole (length_digest s.read) are
-    (digest_bytes s.read))
+    → s.options.numbering ≡ numbering → new_version s ≡ n → new_key s ≡ key → signed_digest s ≡ digest
+    → n < 2 ^ 64 → length key ≡ 32 → IsBytes key → length digest ≡ 64 → IsBytes digest
+    → bytes ≡ record_of numbering n key digest → IsNewRecord s bytes
+new_record_is s numbering n key digest numbered version named fits bound whole are long digits is =
+    rw (is, numbered, version, named, fits) (reads_back numbering n bound key digest whole long are digits)
 
 -- == The comment ==
 
@@ -330,12 +332,21 @@ pub record_either : (op : Operation) (a : Bool) (s : State) → op ≡ due.Check
     → after op (Answered a) s ≡ Some (after_digest a s)
 record_either op a s at = rw at refl
 
-pub target_either : (op : Operation) (a b : Bool) (s : State) → op ≡ due.CheckTarget → a ≡ b
-    → after op (Answered a) s ≡ Some (after_target b s)
+pub list_yes : (op : Operation) (a : Bool) (s : State) → op ≡ due.CheckList → a ≡ true
+    → after op (Answered a) s
+    ≡ Some (after_listing s.listing.listed (record s { is_list_signed = true }))
+list_yes op a s at is = rw (at, is) refl
+
+pub list_no : (op : Operation) (a : Bool) (s : State) → op ≡ due.CheckList → a ≡ false
+    → after op (Answered a) s ≡ Some (reject (Library (Named SignatureRefused)) s)
+list_no op a s at is = rw (at, is) refl
+
+pub target_either : (op : Operation) (a b : Bool) (s : State) → op ≡ due.CheckTarget
+    → (a && is_listed s) ≡ b → after op (Answered a) s ≡ Some (after_target b s)
 target_either op a b s at is = rw (at, is) refl
 
 pub data_yes : (op : Operation) (a : Bool) (s : State) → op ≡ due.CheckData → a ≡ true
-    → after op (Answered a) s ≡ Some (go due.SetPermissions s)
+    → after op (Answered a) s ≡ Some (after_data (is_listed s) s)
 data_yes op a s at is = rw (at, is) refl
 
 pub data_no : (op : Operation) (a : Bool) (s : State) → op ≡ due.CheckData → a ≡ false
@@ -343,13 +354,14 @@ pub data_no : (op : Operation) (a : Bool) (s : State) → op ≡ due.CheckData �
 data_no op a s at is = rw (at, is) refl
 
 -- At an operation without a question for Ed25519, a result of Ed25519 does not fit.
-pub no_answer_at : (op : Operation) (a : Bool) (s : State) → op ≢ due.CheckComment → op ≢ due.CheckRecord
-    → op ≢ due.CheckTarget → op ≢ due.CheckData → after op (Answered a) s ≡ None
-no_answer_at due.CheckComment a s comment recorded target data_is = absurd (comment refl)
-no_answer_at due.CheckRecord a s comment recorded target data_is = absurd (recorded refl)
-no_answer_at due.CheckTarget a s comment recorded target data_is = absurd (target refl)
-no_answer_at due.CheckData a s comment recorded target data_is = absurd (data_is refl)
-no_answer_at _ a s comment recorded target data_is = refl
+pub no_answer_at : (op : Operation) (a : Bool) (s : State) → op ≢ due.CheckComment → op ≢ due.CheckList
+    → op ≢ due.CheckRecord → op ≢ due.CheckTarget → op ≢ due.CheckData → after op (Answered a) s ≡ None
+no_answer_at due.CheckComment a s comment list recorded target data_is = absurd (comment refl)
+no_answer_at due.CheckList a s comment list recorded target data_is = absurd (list refl)
+no_answer_at due.CheckRecord a s comment list recorded target data_is = absurd (recorded refl)
+no_answer_at due.CheckTarget a s comment list recorded target data_is = absurd (target refl)
+no_answer_at due.CheckData a s comment list recorded target data_is = absurd (data_is refl)
+no_answer_at _ a s comment list recorded target data_is = refl
 
 -- == An installation ==
 
@@ -358,7 +370,7 @@ pub stored : (i : Installation) (s : State) → (i.mark == begun_mark) ≡ true 
 stored i s is held = subst (λ (b : Bool). RepresentsIf b i.progress s) is held
 
 pub unbegun : (i : Installation) (s : State) → (i.mark == begun_mark) ≡ false → Represents i s
-    → (s.due ≡ due.Nothing) × (s.is_signed ≡ false) × (s.error ≡ None)
+    → (s.due ≡ due.Nothing) × (s.is_signed ≡ false) × (s.error ≡ None) × (s.is_list_signed ≡ false)
 unbegun i s is held = subst (λ (b : Bool). RepresentsIf b i.progress s) is held
 
 pub begun_steps : (i : Installation) (p : Progress) (s : State) (e : Event)
@@ -410,6 +422,16 @@ pub no_read_at : (op : Operation) (bytes : List ℕ) (s : State) → is_reading 
 no_read_at due.ReadTarget bytes s is = absurd (true≢false is)
 no_read_at due.ReadBack bytes s is = absurd (true≢false is)
 no_read_at _ bytes s is = refl
+
+pub list_at : (op : Operation) (list name : List ℕ) (s : State) → is_reading_list op ≡ true
+    → after op (ListRead list name) s ≡ Some (after_list list name s)
+list_at due.ReadList list name s is = refl
+list_at _ list name s is = absurd (true≢false (sym is))
+
+pub no_list_at : (op : Operation) (list name : List ℕ) (s : State) → is_reading_list op ≡ false
+    → after op (ListRead list name) s ≡ None
+no_list_at due.ReadList list name s is = absurd (true≢false is)
+no_list_at _ list name s is = refl
 
 pub missing_at : (op : Operation) (s : State) → is_reading_target op ≡ true
     → after op TargetMissing s ≡ Some (install s)

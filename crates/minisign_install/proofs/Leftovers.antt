@@ -14,6 +14,8 @@ use Rattle.minisign_install.specs.Step.{answer, begin, has_ended, step}
 use Rattle.minisign_install.specs.Step as due
 use Rattle.minisign_install.specs.StepRuns.{Succeeds, World}
 use Rattle.minisign_install.proofs.StepSafety.{Passed}
+use Rattle.minisign_lists.specs.declared.digests.ListedDigest.{ListedDigest}
+use Rattle.minisign_install.specs.Step.{ListRead}
 
 -- There is no temporary file of the record.
 abbrev NoRecord : Snapshot → Type 0
@@ -70,7 +72,8 @@ after_signature (Err fault) time s m none = reject (Library fault) s m none
 
 after_comment : (fault : Option InstallFault) (s : State) (m : Snapshot) → HasNoFiles m
     → Lacks (due.after_comment fault s).due m
-after_comment None s m none = compare s m none
+after_comment None s m none =
+    either (is_some s.options.list) (due.go due.ReadList s) _ m none (compare s m none)
 after_comment (Some fault) s m none = reject fault s m none
 
 next_key : (signers : List PublicKeyValue) (s : State) (m : Snapshot) → s.due ≡ due.CheckComment
@@ -79,6 +82,16 @@ next_key : (signers : List PublicKeyValue) (s : State) (m : Snapshot) → s.due 
 next_key [] s m at none = reject (Library (Named named.CommentSignatureRefused)) s m none
 next_key (v ∷ []) s m at none = reject (Library (Named named.CommentSignatureRefused)) s m none
 next_key (v ∷ u ∷ more) s m at none = rw at none
+
+after_listing : (listed : Result ListedDigest InstallFault) (s : State) (m : Snapshot) → HasNoFiles m
+    → Lacks (due.after_listing listed s).due m
+after_listing (Ok digest) s m none = compare s m none
+after_listing (Err fault) s m none = reject fault s m none
+
+after_data : (listed : Bool) (s : State) (m : Snapshot) → s.due ≡ due.CheckData → NoRecord m
+    → Lacks (due.after_data listed s).due m
+after_data true s m at none = none
+after_data false s m at none = rw at tt
 
 after_digest : (accepted : Bool) (s : State) (m : Snapshot) → HasNoFiles m
     → Lacks (due.after_digest accepted s).due m
@@ -126,13 +139,18 @@ keeps w due.CheckComment (Answered true) s old new at none is fine =
     after_comment s.fault (record s { is_signed = true }) new (same_none old new is.1 none)
 keeps w due.CheckComment (Answered false) s old new at none is fine =
     next_key s.signers s new at (same_none old new is.1 none)
+keeps w due.ReadList (ListRead list name) s old new at none is fine = same_none old new is.2 none
+keeps w due.CheckList (Answered true) s old new at none is fine =
+    after_listing s.listing.listed (record s { is_list_signed = true }) new (same_none old new is.1 none)
+keeps w due.CheckList (Answered false) s old new at none is fine =
+    reject (Library (Named named.SignatureRefused)) s new (same_none old new is.1 none)
 keeps w due.CheckRecord (Answered accepted) s old new at none is fine =
     after_digest accepted s new (same_none old new is.1 none)
 keeps w due.ReadTarget (PieceRead bytes) s old new at none is fine = rw at (same_none old new is.2 none)
 keeps w due.ReadTarget Done s old new at none (file, present, holds, is) fine = rw is none
 keeps w due.ReadTarget TargetMissing s old new at none is fine = install s new (same_none old new is.1 none)
 keeps w due.CheckTarget (Answered accepted) s old new at none is fine =
-    after_target accepted s new (same_none old new is.1 none)
+    after_target (accepted && due.is_listed s) s new (same_none old new is.1 none)
 keeps w due.SyncTarget Done s old new at none is fine = rw is none
 keeps w due.SyncTargetName Done s old new at none is fine = rw is none
 keeps w due.RemoveLeftovers Done s old new at none is fine = rw is none
@@ -143,7 +161,8 @@ keeps w due.CopyData Done s old new at none is fine =
     after_copy s.left s new at (same_record old new is.1 none)
 keeps w due.ReadBack (PieceRead bytes) s old new at none is fine = rw at (same_record old new is.2 none)
 keeps w due.ReadBack Done s old new at none is fine = same_record old new is.1 none
-keeps w due.CheckData (Answered true) s old new at none is fine = same_record old new is.1 none
+keeps w due.CheckData (Answered true) s old new at none is fine =
+    after_data (due.is_listed s) s new at (same_record old new is.1 none)
 keeps w due.CheckData (Answered false) s old new at none is fine = rw at tt
 keeps w due.SetPermissions Done s old new at none is fine = rw is none
 keeps w due.SyncFile Done s old new at none is fine = rw is none

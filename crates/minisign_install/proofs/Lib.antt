@@ -4,8 +4,11 @@ mod Checking
 mod Decisions
 mod Fields
 mod Judged
+mod HeldListings
 mod HeldStates
 mod Leftovers
+mod ListLaws
+mod Listings
 mod NewKeys
 mod FullTraces
 mod RecordTexts

@@ -18,6 +18,7 @@ use Rattle.minisign_install.specs.StepRuns.{count}
 use Rattle.minisign_install.proofs.Applications.{event_of}
 use Rattle.minisign_install.proofs.SafeCalls.{true_run}
 use Rattle.minisign_install.proofs.StepRejections.{rejected_changes_nothing}
+use Rattle.minisign_install.specs.Step.{ListRead}
 
 -- A disk without files. In the proof, a run starts with this disk; a rename adds a file to it, and no
 -- operation removes one. So if the disk is empty after the run, no file was renamed.
@@ -66,6 +67,7 @@ leaves w s due.RenameFile Done old new d is fine none =
 leaves w s due.Lock Done old new d is fine none = (none, rw is.1 (refl, refl))
 leaves w s due.ReadRecord (RecordRead found) old new d is fine none = (none, unchanged old new is.2)
 leaves w s due.ReadSignature (SignatureRead text time) old new d is fine none = (none, unchanged old new is.1)
+leaves w s due.ReadList (ListRead list name) old new d is fine none = (none, unchanged old new is.2)
 leaves w s due.ReadTarget (PieceRead bytes) old new d is fine none = (none, unchanged old new is.2)
 leaves w s due.ReadTarget Done old new d (file, at, holds, is) fine none = (none, rw is (refl, refl))
 leaves w s due.ReadTarget TargetMissing old new d is fine none = (none, unchanged old new is.1)

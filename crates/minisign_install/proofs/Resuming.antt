@@ -2,15 +2,14 @@
 -- installs the older update.
 use Rattle.std.specs.Prelude.{◌≡◌, ◌<◌, ◌≤◌, ◌+◌, ◌⊎◌, ⊤, ℕ, Bool, true, false, List, [], ◌∷◌, length}
 use Rattle.std.specs.Prelude.{Option}
-use Rattle.std.specs.Prelude.{Some, None, Result, IfSome, ◌++◌, ◌||◌, not, is_some, take, if◌then◌else◌}
+use Rattle.std.specs.Prelude.{Some, None, Result, IfSome, ◌++◌, ◌||◌, ◌&&◌, not, is_some, take, if◌then◌else◌}
 use Rattle.std.proofs.Common.{refl, subst, sym, inl, inr, ap, ◌∙◌, arith, lt-ltb, ⊎_elim}
 use Rattle.std.proofs.lemmas.Bool.{le-ltb}
 use Rattle.std.proofs.Common.{le-leb, eq-eqb, true≢false, unwrap_or}
 use Rattle.std.proofs.lemmas.Option.{none-some, same_Some}
 use Rattle.minisign.specs.SignatureText.{SignatureTextRecord}
 use Rattle.minisign_external.specs.declared.public_keys.PublicKeyValue.{PublicKeyValue}
-use Rattle.minisign_hash.specs.Blake2b.{blake2b_digest}
-use Rattle.minisign_install.specs.Decisions.{Options, Recorded, is_below, size_in}
+use Rattle.minisign_install.specs.Decisions.{Options, Recorded, is_below, signed_size}
 use Rattle.minisign_install.specs.Faults.{Fault}
 use Rattle.minisign_install.specs.Step.{Event, Done, InUse, Failed, RecordRead, SignatureRead, Answered}
 use Rattle.minisign_install.specs.Step.{PieceRead, PieceCopied, State, begin, step, Operation, after}
@@ -22,6 +21,10 @@ use Rattle.minisign_install.specs.StepRuns.{IsTrueEvent, World, count}
 use Rattle.minisign_install.specs.StepRuns.{first_signer}
 use Rattle.minisign_install.proofs.SafeCalls.{Invariant, next, true_event}
 use Rattle.minisign_install.proofs.SafeCalls as safe_calls
+use Rattle.minisign_install.specs.Step.{ListRead, signed_digest}
+use Rattle.minisign_install.specs.StepRuns.{HasListing}
+use Rattle.minisign_install.specs.Listings.{digest_to_sign, fits_list}
+use Rattle.minisign_install.proofs.Listings.{digest_is, found_is, listed_is, same_digest, signer_is}
 
 module _ (w : World) (o : Options) (g : IsOldUpdate w o) where
   -- After n bytes were copied, the rest of the signed size is the length of the data that is left.
@@ -29,9 +32,18 @@ module _ (w : World) (o : Options) (g : IsOldUpdate w o) where
   Left n None = ⊤
   Left n (Some left) = left + n ≡ length w.update
 
-  -- The state has the signature of the update, and the key that signed it.
+  -- The state has the signature of the update, the key that signed it, and the listing of the update.
   abbrev StateKnows : State → Type 0
-  StateKnows s = (s.signature ≡ g.text.signature.signature) × (key_of s.signers ≡ g.key)
+  StateKnows s =
+      (s.signature ≡ g.text.signature.signature) × (key_of s.signers ≡ g.key) × (s.options ≡ o)
+      × HasListing w o s
+
+  -- The comment was accepted.
+  abbrev IsAccepted : ℕ → State → Type 0
+  IsAccepted n s =
+      (s.options ≡ o) × (n ≡ 0) × (s.recorded ≡ g.recorded) × (s.version ≡ g.version)
+      × (s.signature ≡ g.text.signature.signature) × (key_of s.signers ≡ g.key)
+      × (s.left ≡ signed_size o.list g.text.comments.trusted)
 
   -- The data is being copied, and n bytes of it were copied.
   abbrev IsReady : ℕ → State → Type 0
@@ -54,11 +66,13 @@ module _ (w : World) (o : Options) (g : IsOldUpdate w o) where
       (s.options ≡ o) × (n ≡ 0) × (s.recorded ≡ g.recorded) × (s.fault ≡ None) × (s.version ≡ g.version)
       × (s.signature ≡ g.text.signature.signature)
       × (s.comment_signature ≡ take 64 g.text.comments.signature)
-      × (s.left ≡ size_in g.text.comments.trusted)
+      × (s.left ≡ signed_size o.list g.text.comments.trusted)
       × (first_signer w g.text s.signers ≡ Some g.key)
+  OnTrack n due.ReadList s = IsAccepted n s × (is_some o.list ≡ true)
+  OnTrack n due.CheckList s = IsAccepted n s × (is_some o.list ≡ true) × HasListing w o s
   OnTrack n due.CheckRecord s =
       CanInstall n s
-      × ((s.recorded.digest ≡ Some (blake2b_digest 64 w.update)) ⊎ (due.is_rolling_back s ≡ true))
+      × ((s.recorded.digest ≡ Some (digest_to_sign o.list w.list w.update)) ⊎ (due.is_rolling_back s ≡ true))
   OnTrack n due.ReadTarget s = Compares n s
   OnTrack n due.CheckTarget s = Compares n s
   OnTrack n due.SyncTarget s = ⊤
@@ -119,15 +133,14 @@ module _ (w : World) (o : Options) (g : IsOldUpdate w o) where
   rolls_back None v last is less = cc is
   rolls_back (Some k) v last is less = lt-ltb v k (omega (arith, same_Some k last is, less))
 
-  install : (n : ℕ) (s : State) → CanInstall n s → OnTrack n (due.install s).due (due.install s)
-  install n s (knows, left, none, installs) = rw installs (knows, left, refl, omega (arith, none))
+  to_install : (n : ℕ) (check : Bool) (s : State) → check ≡ false → IsReady n (due.install s)
+      → OnTrack n (if check then due.WouldInstall else due.RemoveLeftovers) (due.install s)
+  to_install n true s is ready = absurd (true≢false is)
+  to_install n false s is ready = ready
 
-  key_found : (signers : List PublicKeyValue)
-      → true ≡ w.accepts (g.text.signature.signature ++ g.text.comments.trusted) (key_of signers)
-      (take 64 g.text.comments.signature) → first_signer w g.text signers ≡ Some g.key
-      → key_of signers ≡ g.key
-  key_found [] accepted is = absurd (none-some g.key is)
-  key_found (v ∷ more) accepted is = same_Some v.key g.key (rw (sym accepted) at is)
+  install : (n : ℕ) (s : State) → CanInstall n s → OnTrack n (due.install s).due (due.install s)
+  install n s (knows, left, none, installs) =
+      to_install n s.options.check s installs (knows, left, refl, omega (arith, none))
 
   after_record : (n : ℕ) (s : State) (found : Option (List ℕ)) → (s.options ≡ o) × (n ≡ 0)
       → found ≡ w.found_record
@@ -141,35 +154,56 @@ module _ (w : World) (o : Options) (g : IsOldUpdate w o) where
       rw (is_o, is ∙ g.parsed, g.passed, recorded)
       (refl, none, refl, fine, ap (λ v. unwrap_or v 0) g.numbered, refl, refl, refl, g.signed_comment)
 
+  compare : (n : ℕ) (s : State) → IsAccepted n s → HasListing w o s
+      → OnTrack n (due.compare s).due (due.compare s)
+  compare n s (is_o, none, recorded, version, signature, key, left) listing =
+      let older = is_not_newer s.recorded.version s.version g.last
+      (ap (λ (r : Recorded). r.version) recorded ∙ g.last_is) (omega (arith, version, g.not_newer)) in
+      let installs : s.options.check ≡ false = ap (λ (x : Options). x.check) is_o ∙ g.installs in
+      let ready : Left n s.left =
+      rw left (left_at n (signed_size o.list g.text.comments.trusted) none g.sized) in
+      let knows : StateKnows s = (signature, key, is_o, listing) in
+      let can : CanInstall n s = (knows, ready, none, installs) in
+      ⊎_elim
+      (λ own.
+      let has : s.recorded.digest ≡ Some (digest_to_sign o.list w.list w.update) =
+      ap (λ (r : Recorded). r.digest) recorded ∙ own in
+      second n (due.is_newer s) (is_some s.recorded.digest) (due.install s)
+      (due.go due.CheckRecord s)
+      (if due.is_rolling_back s then due.install s else due.go due.ReadTarget s)
+      older (ap is_some has) (can, inl has))
+      (λ less.
+      let back : due.is_rolling_back s ≡ true =
+      rolls_back s.recorded.version s.version g.last
+      (ap (λ (r : Recorded). r.version) recorded ∙ g.last_is) (omega (arith, version, less)) in
+      last_two n (due.is_newer s) (is_some s.recorded.digest) (due.is_rolling_back s)
+      (due.install s) (due.go due.CheckRecord s) (due.install s)
+      (due.go due.ReadTarget s) older back (can, inr back) (install n s can)) g.own
+
+  list_next : (listed : Bool) (n : ℕ) (s : State) → is_some o.list ≡ listed → IsAccepted n s
+      → OnTrack n (if listed then due.go due.ReadList s else due.compare s).due
+      (if listed then due.go due.ReadList s else due.compare s)
+  list_next true n s some known = (known, some)
+  list_next false n s none known = compare n s known (λ some. absurd (true≢false (sym some ∙ none)))
+
   after_comment : (n : ℕ) (s : State) → OnTrack n due.CheckComment s
       → IsTrueEvent w n s due.CheckComment (Answered true) → Stays n due.CheckComment (Answered true) s
   after_comment n s (is_o, none, recorded, fault, version, signature, also, left, signer) is =
       let accepted = is g.text g.parsed in
-      let accepts = rw (signature, also) at accepted in
-      let older = is_not_newer s.recorded.version s.version g.last
-      (ap (λ (r : Recorded). r.version) recorded ∙ g.last_is) (omega (arith, version, g.not_newer)) in
-      let installs : s.options.check ≡ false = ap (λ (x : Options). x.check) is_o ∙ g.installs in
-      let ready : Left n s.left = rw left (left_at n (size_in g.text.comments.trusted) none g.sized) in
+      let key = signer_is w g.text g.key s.signers (rw (signature, also) at accepted) signer in
       let signed : State = record s { is_signed = true } in
-      let knows : StateKnows signed = (signature, key_found s.signers accepts signer) in
-      let can : CanInstall n signed = (knows, ready, none, installs) in
-      let on : OnTrack n (due.compare signed).due (due.compare signed) =
-      ⊎_elim
-      (λ own.
-      let has : s.recorded.digest ≡ Some (blake2b_digest 64 w.update) =
-      ap (λ (r : Recorded). r.digest) recorded ∙ own in
-      second n (due.is_newer signed) (is_some signed.recorded.digest) (due.install signed)
-      (due.go due.CheckRecord signed)
-      (if due.is_rolling_back signed then due.install signed else due.go due.ReadTarget signed)
-      older (ap is_some has) (can, inl has))
-      (λ less.
-      let back : due.is_rolling_back signed ≡ true =
-      rolls_back s.recorded.version s.version g.last
-      (ap (λ (r : Recorded). r.version) recorded ∙ g.last_is) (omega (arith, version, less)) in
-      last_two n (due.is_newer signed) (is_some signed.recorded.digest) (due.is_rolling_back signed)
-      (due.install signed) (due.go due.CheckRecord signed) (due.install signed)
-      (due.go due.ReadTarget signed) older back (can, inr back) (install n signed can)) g.own in
-      subst (λ f. OnTrack n (due.after_comment f signed).due (due.after_comment f signed)) (sym fault) on
+      subst (λ f. OnTrack n (due.after_comment f signed).due (due.after_comment f signed)) (sym fault)
+      (list_next (is_some s.options.list) n signed (ap (λ (x : Options). is_some x.list) (sym is_o))
+      (is_o, none, recorded, version, signature, key, left))
+
+  after_listing : (n : ℕ) (s : State) → OnTrack n due.CheckList s
+      → OnTrack n (due.after_listing s.listing.listed (record s { is_list_signed = true })).due
+      (due.after_listing s.listing.listed (record s { is_list_signed = true }))
+  after_listing n s (known, some, listing) =
+      let (digest, found) = found_is w o s w.update some listing g.listed in
+      let signed : State = record s { is_list_signed = true } in
+      subst (λ r. OnTrack n (due.after_listing r signed).due (due.after_listing r signed)) (sym found)
+      (compare n signed known listing)
 
   next_key : (n : ℕ) (s : State) (signers : List PublicKeyValue) → s.due ≡ due.CheckComment
       → OnTrack n due.CheckComment (record s { signers = signers })
@@ -200,15 +234,35 @@ module _ (w : World) (o : Options) (g : IsOldUpdate w o) where
       rw (eq-eqb left 0 (omega (arith, is, all))) (knows, (w.update, rw read refl))
 
   check_data : {P : Type 0} (s : State) → StateKnows s × (s.read ≡ w.update)
-      → false ≡ w.accepts (blake2b_digest 64 s.read) (key_of s.signers) s.signature → P
-  check_data s ((signature, key), read) rejected =
-      absurd (true≢false (sym g.signed_data ∙ sym (rw (read, key, signature) at rejected)))
+      → false ≡ w.accepts (signed_digest s) (key_of s.signers) s.signature → P
+  check_data s ((signature, key, same, listing), read) rejected =
+      let wrong = rw (digest_is w o s same listing, key, signature) at rejected in
+      absurd (true≢false (sym g.signed_data ∙ sym (rw read at wrong)))
+
+  after_data : (n : ℕ) (s : State) → StateKnows s × (s.read ≡ w.update)
+      → OnTrack n (due.after_data (due.is_listed s) s).due (due.after_data (due.is_listed s) s)
+  after_data n s ((signature, key, same, listing), read) =
+      let fits : due.is_listed s ≡ true =
+      listed_is w o s same listing ∙ ap (fits_list o.list w.list w.name) read ∙ g.listed in
+      rw fits tt
+
+  check_list : {P : Type 0} (n : ℕ) (s : State) → OnTrack n due.CheckList s
+      → false ≡ w.accepts (signed_digest s) (key_of s.signers) s.signature → P
+  check_list n s ((same, none, recorded, version, signature, key, left), some, listing) rejected =
+      let wrong = rw (
+        digest_is w o s same listing,
+        same_digest o.list w.list s.read w.update some,
+        key,
+        signature,
+      )
+      at rejected in
+      absurd (true≢false (sym g.signed_data ∙ sym wrong))
 
   digest_known : (n : ℕ) (s : State) (accepted : Bool) → OnTrack n due.CheckRecord s
       → accepted ≡ w.accepts (unwrap_or s.recorded.digest []) (key_of s.signers) s.signature
       → OnTrack n (due.after_digest accepted s).due (due.after_digest accepted s)
   digest_known n s true (can, own) is = (can, refl)
-  digest_known n s false (((signature, key), left, none, installs), inl own) is =
+  digest_known n s false (((signature, key, same, listing), left, none, installs), inl own) is =
       absurd (true≢false (sym g.signed_data ∙ sym (rw (own, key, signature) at is)))
   digest_known n s false (can, inr back) is =
       first n (due.is_rolling_back s) (due.install s) _ back (install n s can)
@@ -234,11 +288,18 @@ module _ (w : World) (o : Options) (g : IsOldUpdate w o) where
   keeps n due.CheckComment (Answered true) s at on fine is = after_comment n s on is
   keeps n due.CheckComment (Answered false) s at on fine is =
       next_key n s s.signers at on (rw (on.5, on.6) at (is g.text g.parsed))
+  keeps n due.ReadList (ListRead list name) s at (known, some) fine is =
+      (known, some, λ listed. rw (ap (λ (x : Options). x.list) known.0, is.0, is.1) refl)
+  keeps n due.CheckList (Answered true) s at on fine is = after_listing n s on
+  keeps n due.CheckList (Answered false) s at on fine is = check_list n s on is
+  keeps n due.ReadList e s at on fine is = tt
+  keeps n due.CheckList e s at on fine is = tt
   keeps n due.CheckRecord (Answered accepted) s at on fine is = digest_known n s accepted on is
   keeps n due.ReadTarget (PieceRead bytes) s at on fine is = rw at on
   keeps n due.ReadTarget due.TargetMissing s at on fine is = install n s on.0
   keeps n due.ReadTarget Done s at on fine is = on
-  keeps n due.CheckTarget (Answered accepted) s at on fine is = target_known n s accepted on
+  keeps n due.CheckTarget (Answered accepted) s at on fine is =
+      target_known n s (accepted && due.is_listed s) on
   keeps n due.AlreadyInstalled e s at on fine is = tt
   keeps n due.CopyData (PieceCopied k) s at (knows, left, read, more) fine is =
       after_piece n k s s.left at knows left refl read is.1
@@ -246,7 +307,7 @@ module _ (w : World) (o : Options) (g : IsOldUpdate w o) where
       after_copy n s s.left knows left read is
   keeps n due.ReadBack (PieceRead bytes) s at (knows, rest) fine is = rw at (knows, is.1)
   keeps n due.ReadBack Done s at (knows, rest) fine is = (knows, is)
-  keeps n due.CheckData (Answered true) s at on fine is = tt
+  keeps n due.CheckData (Answered true) s at on fine is = after_data n s on
   keeps n due.CheckData (Answered false) s at on fine is = check_data s on is
   keeps n due.Lock Done s at on fine is = on
   keeps n due.RemoveLeftovers Done s at on fine is = on

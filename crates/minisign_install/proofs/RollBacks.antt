@@ -1,11 +1,10 @@
 -- Proves that no later run undoes a roll-back.
-use Rattle.std.specs.Prelude.{◌≡◌, ◌<◌, ◌||◌, ⊤, ℕ, Bool, true, false, not, List, [], ◌∷◌, Option}
+use Rattle.std.specs.Prelude.{◌≡◌, ◌<◌, ◌||◌, ⊤, ℕ, Bool, true, false, not, List, [], ◌∷◌, Option, ◌&&◌}
 use Rattle.std.specs.Prelude.{Some, None, Result, Ok, Err, IfSome, is_some, nat_lt, if◌then◌else◌}
 use Rattle.std.specs.Option.{unwrap_or}
 use Rattle.std.proofs.Common.{refl, sym, ap, ◌∙◌, arith, true≢false}
 use Rattle.std.proofs.lemmas.Grind.{common_steps}
 use Rattle.minisign_external.specs.declared.public_keys.PublicKeyValue.{PublicKeyValue}
-use Rattle.minisign_hash.specs.Blake2b.{blake2b_digest}
 use Rattle.minisign_install.specs.Applications.{Applies, Call, Snapshot, Performs}
 use Rattle.minisign_install.specs.Decisions.{Options, Recorded, judge_record, judge_text}
 use Rattle.minisign_install.specs.Faults.{InstallFault, SameNumber}
@@ -17,8 +16,11 @@ use Rattle.minisign_install.specs.Step as due
 use Rattle.minisign_install.specs.StepRuns.{IsUpdate, World, count}
 use Rattle.minisign_install.proofs.NewKeys.{version_is_kept}
 use Rattle.minisign_install.proofs.SafeCalls.{Invariant, begins, knows, next}
-use Rattle.minisign_install.proofs.StepSafety.{IsAccepted, IsJudged, Known, Passed}
+use Rattle.minisign_install.proofs.StepSafety.{IsJudged, Known, Passed}
 use Rattle.minisign_install.proofs.Versions.{later_record}
+use Rattle.minisign_lists.specs.declared.digests.ListedDigest.{ListedDigest}
+use Rattle.minisign_install.specs.Step.{signed_digest}
+use Rattle.minisign_install.proofs.StepSafety.{IsCommented}
 
 abbrev pub ok : Recorded → Result Recorded InstallFault
 ok r = Ok r
@@ -53,7 +55,7 @@ module _ (v : World) (p : Options) (k : ℕ) (digest : List ℕ) (r : Recorded)
   has_digest s judged = ap (λ (x : Recorded). x.digest) (recorded_is s judged) ∙ written
 
   -- The signature is not valid for the recorded digest under the first of the signers.
-  pub not_signed : (s : State) (signers : List PublicKeyValue) → s.signers ≡ signers → IsAccepted v p s
+  pub not_signed : (s : State) (signers : List PublicKeyValue) → s.signers ≡ signers → IsCommented v p s
       → v.accepts digest (due.key_of signers) s.signature ≡ false
   not_signed s [] none (judged, fine, comment) =
       absurd (omega (arith, whole _ _ _ (rw none at comment)))
@@ -71,6 +73,8 @@ module _ (v : World) (p : Options) (k : ℕ) (digest : List ℕ) (r : Recorded)
   Past due.ReadRecord s m = HasTarget m
   Past due.ReadSignature s m = HasTarget m
   Past due.CheckComment s m = HasTarget m
+  Past due.ReadList s m = HasTarget m
+  Past due.CheckList s m = HasTarget m
   Past due.CheckRecord s m = HasTarget m
   Past due.ReadTarget s m = HasTarget m × (s.is_recorded ≡ false)
   Past due.CheckTarget s m = s.is_recorded ≡ false
@@ -90,6 +94,8 @@ module _ (v : World) (p : Options) (k : ℕ) (digest : List ℕ) (r : Recorded)
   ended due.ReadRecord s m is = refl
   ended due.ReadSignature s m is = refl
   ended due.CheckComment s m is = refl
+  ended due.ReadList s m is = refl
+  ended due.CheckList s m is = refl
   ended due.CheckRecord s m is = refl
   ended due.ReadTarget s m is = refl
   ended due.CheckTarget s m is = refl
@@ -112,6 +118,15 @@ module _ (v : World) (p : Options) (k : ℕ) (digest : List ℕ) (r : Recorded)
   compare : (s : State) (m : Snapshot) → IsJudged v p s → HasTarget m → Holds m (due.compare s)
   compare s m judged has_target = rw (not_newer s judged, has_digest s judged) has_target
 
+  either : (is : Bool) (x y : State) (m : Snapshot) → Holds m x → Holds m y → Holds m (if is then x else y)
+  either true x y m one other = one
+  either false x y m one other = other
+
+  after_listing : (listed : Result ListedDigest InstallFault) (s : State) (m : Snapshot) → IsJudged v p s
+      → HasTarget m → Holds m (due.after_listing listed s)
+  after_listing (Ok digest) s m judged has_target = compare s m judged has_target
+  after_listing (Err fault) s m judged has_target = reject fault s m
+
   after_record : (found : Result Recorded InstallFault) (s : State) (m : Snapshot) → HasTarget m
       → Holds m (due.after_record found s)
   after_record (Ok recorded) s m has_target = has_target
@@ -124,7 +139,9 @@ module _ (v : World) (p : Options) (k : ℕ) (digest : List ℕ) (r : Recorded)
 
   after_comment : (fault : Option InstallFault) (s : State) (m : Snapshot) → IsJudged v p s → HasTarget m
       → Holds m (due.after_comment fault (record s { is_signed = true }))
-  after_comment None s m judged has_target = compare (record s { is_signed = true }) m judged has_target
+  after_comment None s m judged has_target =
+      either (is_some s.options.list) (due.go due.ReadList (record s { is_signed = true })) _ m has_target
+      (compare (record s { is_signed = true }) m judged has_target)
   after_comment (Some fault) s m judged has_target = reject fault (record s { is_signed = true }) m
 
   next_key : (signers : List PublicKeyValue) (s : State) (m : Snapshot) → s.due ≡ due.CheckComment
@@ -174,6 +191,8 @@ module _ (v : World) (p : Options) (k : ℕ) (digest : List ℕ) (r : Recorded)
   keeps due.ReadRecord (due.Failed f) s old new at known past is = failed s _ (due.is_failure f) new
   keeps due.ReadSignature (due.Failed f) s old new at known past is = failed s _ (due.is_failure f) new
   keeps due.CheckComment (due.Failed f) s old new at known past is = failed s _ (due.is_failure f) new
+  keeps due.ReadList (due.Failed f) s old new at known past is = failed s _ (due.is_failure f) new
+  keeps due.CheckList (due.Failed f) s old new at known past is = failed s _ (due.is_failure f) new
   keeps due.CheckRecord (due.Failed f) s old new at known past is = failed s _ (due.is_failure f) new
   keeps due.ReadTarget (due.Failed f) s old new at known past is = failed s _ (due.is_failure f) new
   keeps due.CheckTarget (due.Failed f) s old new at known past is = failed s _ (due.is_failure f) new
@@ -194,16 +213,21 @@ module _ (v : World) (p : Options) (k : ℕ) (digest : List ℕ) (r : Recorded)
       after_comment s.fault s new known (same_target old new is.1 past)
   keeps due.CheckComment (due.Answered false) s old new at known past is =
       next_key s.signers s new at (same_target old new is.1 past)
+  keeps due.ReadList (due.ListRead list name) s old new at known past is = same_target old new is.2 past
+  keeps due.CheckList (due.Answered true) s old new at known past is =
+      after_listing s.listing.listed (record s { is_list_signed = true }) new known.0.0.0
+      (same_target old new is.1 past)
+  keeps due.CheckList (due.Answered false) s old new at known past is = reject _ s new
   keeps due.CheckRecord (due.Answered accepted) s old new at known past is =
-      let none = is.0 ∙ rw (has_digest s known.0) (not_signed s s.signers refl known) in
-      after_digest accepted s new none known.0 (same_target old new is.1 past)
+      let none = is.0 ∙ rw (has_digest s known.0.0) (not_signed s s.signers refl known.0) in
+      after_digest accepted s new none known.0.0 (same_target old new is.1 past)
   keeps due.ReadTarget (due.PieceRead bytes) s old new at known past is =
       rw at (same_target old new is.2 past.0, past.1)
   keeps due.ReadTarget due.Done s old new at known past is = past.1
   keeps due.ReadTarget due.TargetMissing s old new at known past is =
       absurd (true≢false (sym past.0 ∙ ap is_some is.0))
   keeps due.CheckTarget (due.Answered accepted) s old new at known past is =
-      after_target accepted s new past known.0.4
+      after_target (accepted && due.is_listed s) s new past known.0.0.4
   keeps due.SyncTarget due.Done s old new at known past is = tt
   keeps due.SyncTargetName due.Done s old new at known past is = tt
   keeps due.RemoveFiles due.Done s old new at known past is = tt
@@ -211,6 +235,8 @@ module _ (v : World) (p : Options) (k : ℕ) (digest : List ℕ) (r : Recorded)
   keeps due.ReadRecord e s old new at known past is = tt
   keeps due.ReadSignature e s old new at known past is = tt
   keeps due.CheckComment e s old new at known past is = tt
+  keeps due.ReadList e s old new at known past is = tt
+  keeps due.CheckList e s old new at known past is = tt
   keeps due.CheckRecord e s old new at known past is = tt
   keeps due.ReadTarget e s old new at known past is = tt
   keeps due.CheckTarget e s old new at known past is = tt
@@ -233,6 +259,8 @@ module _ (v : World) (p : Options) (k : ℕ) (digest : List ℕ) (r : Recorded)
   stays due.ReadRecord s m new is past = rw is past
   stays due.ReadSignature s m new is past = rw is past
   stays due.CheckComment s m new is past = rw is past
+  stays due.ReadList s m new is past = rw is past
+  stays due.CheckList s m new is past = rw is past
   stays due.CheckRecord s m new is past = rw is past
   stays due.ReadTarget s m new is past = (rw is past.0, past.1)
   stays due.CheckTarget s m new is past = past
@@ -273,7 +301,7 @@ pub version_reads_back : (w : World) (o : Options) → AcceptsWholeKeys w.accept
     → judge_record p v.found_record ≡ Ok (record {
       version = Some k;
       key = record_key (new_record s);
-      digest = Some (blake2b_digest 64 s.read);
+      digest = Some (signed_digest s);
     })
 version_reads_back w o whole s update k is less v p later =
     ap (judge_record p) later.finds
@@ -281,16 +309,16 @@ version_reads_back w o whole s update k is less v p later =
     ∙ ap (λ (n : ℕ). ok (record {
       version = Some n;
       key = record_key (new_record s);
-      digest = Some (blake2b_digest 64 s.read);
+      digest = Some (signed_digest s);
     })) (version_is_kept s k is less)
 
 -- No later run installs other data of the version before the roll-back.
 pub roll_back_stays : (w : World) (o : Options) → AcceptsWholeKeys w.accepts → (s : State) → IsUpdate w o s
     → (k : ℕ) → s.recorded.version ≡ Some k → s.version < k → (v : World) (p : Options)
     → AcceptsWholeKeys v.accepts → IsLaterRun v p o.numbering s
-    → IsOtherUpdate v p k (blake2b_digest 64 s.read) → (m : Snapshot) (calls : List Call) (t : State)
+    → IsOtherUpdate v p k (signed_digest s) → (m : Snapshot) (calls : List Call) (t : State)
     (end : Snapshot) → Applies v (begin p) m calls t end → OthersLeaveTarget m calls
     → is_some m.target ≡ true → leads_to_install t.due ≡ false
 roll_back_stays w o whole s update k is less v p whole_later later other m calls t end run leaves has_target =
-    past v p k (blake2b_digest 64 s.read) _ (version_reads_back w o whole s update k is less v p later) refl
+    past v p k (signed_digest s) _ (version_reads_back w o whole s update k is less v p later) refl
     refl whole_later other later.once m calls t end run leaves has_target

@@ -1,11 +1,11 @@
 -- Proves that a run which would undo a roll-back ends with the error SameNumber, unless its update is
 -- installed already.
-use Rattle.std.specs.Prelude.{◌≡◌, ◌<◌, ◌++◌, ◌||◌, ◌⊎◌, ⊤, ℕ, Bool, true, false, List, [], ◌∷◌, Option, take}
+use Rattle.std.specs.Prelude.{◌≡◌, ◌<◌, ◌++◌, ◌||◌, ◌&&◌, ◌⊎◌, ⊤, ℕ, Bool, true, false, List, [], ◌∷◌}
+use Rattle.std.specs.Prelude.{Option, take}
 use Rattle.std.specs.Prelude.{Some, None, Ok, IfSome, is_some, if◌then◌else◌}
 use Rattle.std.proofs.Common.{refl, sym, ap, inl, inr, ◌∙◌, true≢false}
 use Rattle.std.proofs.lemmas.Option.{none-some}
 use Rattle.minisign_external.specs.declared.public_keys.PublicKeyValue.{PublicKeyValue}
-use Rattle.minisign_hash.specs.Blake2b.{blake2b_digest}
 use Rattle.minisign_install.specs.Applications.{Applies, Call, Snapshot, Performs}
 use Rattle.minisign_install.specs.Decisions.{Options, Recorded, comment_fault, judge_record, judge_text}
 use Rattle.minisign_install.specs.Faults.{InstallFault, SameNumber}
@@ -19,11 +19,17 @@ use Rattle.minisign_install.proofs.RollBacks.{has_digest, not_newer, not_older, 
 use Rattle.minisign_install.proofs.RollBacks.{version_reads_back}
 use Rattle.minisign_install.proofs.SafeCalls.{Invariant, begins, knows, next}
 use Rattle.minisign_install.proofs.StepSafety.{IsJudged, Known, Passed, text_parsed}
+use Rattle.minisign_install.specs.Step.{signed_digest}
+use Rattle.minisign_install.specs.StepRuns.{HasListing, IsListAccepted}
+use Rattle.minisign_install.proofs.Listings.{digest_is, listed_as, signer_is}
+use Rattle.minisign_lists.specs.declared.lines.LongDigest.{LongDigest}
+use Rattle.std.proofs.Common.{subst}
 
 module _ (v : World) (p : Options) (k : ℕ) (digest : List ℕ) (r : Recorded)
     (record_applies : judge_record p v.found_record ≡ Ok r) (version : r.version ≡ Some k)
     (written : r.digest ≡ Some digest) (whole : AcceptsWholeKeys v.accepts)
-    (update : IsOtherUpdate v p k digest) (once : p.again ≡ false) (g : IsSigned v p) where
+    (update : IsOtherUpdate v p k digest) (once : p.again ≡ false) (g : IsSigned v p)
+    (accepted_list : IsListAccepted g) where
   abbrev IsInstalled : Snapshot → Type 0
   IsInstalled m = is_some m.target ≡ true
 
@@ -33,12 +39,18 @@ module _ (v : World) (p : Options) (k : ℕ) (digest : List ℕ) (r : Recorded)
       × (s.signature ≡ g.text.signature.signature)
       × (s.comment_signature ≡ take 64 g.text.comments.signature)
 
+  -- The state has the signature of the update, and the key that signed it.
+  abbrev IsByKey : State → Type 0
+  IsByKey s = (s.signature ≡ g.text.signature.signature) × (due.key_of s.signers ≡ g.key)
+
   -- Invariant of a run that ends with this error or finds the update installed.
   abbrev OnTrack : Operation → State → Snapshot → Type 0
   OnTrack due.Lock s m = IsInstalled m
   OnTrack due.ReadRecord s m = IsInstalled m
   OnTrack due.ReadSignature s m = IsInstalled m
   OnTrack due.CheckComment s m = IsInstalled m × IsAcceptable s
+  OnTrack due.ReadList s m = IsInstalled m × IsByKey s
+  OnTrack due.CheckList s m = IsInstalled m × IsByKey s
   OnTrack due.CheckRecord s m = IsInstalled m
   OnTrack due.ReadTarget s m = IsInstalled m × (s.is_recorded ≡ false)
   OnTrack due.CheckTarget s m = s.is_recorded ≡ false
@@ -80,10 +92,35 @@ module _ (v : World) (p : Options) (k : ℕ) (digest : List ℕ) (r : Recorded)
   after_text found time s m is same judged fine present =
       rw is (after_signature time s m same judged fine present)
 
+  either : (is : Bool) (x y : State) (m : Snapshot) → Holds m x → Holds m y → Holds m (if is then x else y)
+  either true x y m one other = one
+  either false x y m one other = other
+
   after_comment : (fault : Option InstallFault) (s : State) (m : Snapshot) → fault ≡ None → IsJudged v p s
-      → IsInstalled m → Holds m (due.after_comment fault (record s { is_signed = true }))
-  after_comment None s m none judged present = compare (record s { is_signed = true }) m judged present
-  after_comment (Some fault) s m none judged present = absurd (none-some fault (sym none))
+      → IsByKey s → IsInstalled m → Holds m (due.after_comment fault (record s { is_signed = true }))
+  after_comment None s m none judged known present =
+      either (is_some s.options.list) (due.go due.ReadList (record s { is_signed = true })) _ m
+      (present, known)
+      (compare (record s { is_signed = true }) m judged present)
+  after_comment (Some fault) s m none judged known present = absurd (none-some fault (sym none))
+
+  -- The list is signed, and has the name.
+  after_listing : (s : State) (m : Snapshot) (mode : Option LongDigest) → p.list ≡ mode → s.options ≡ p
+      → HasListing v p s → IsJudged v p s → is_some mode ≡ true → IsInstalled m
+      → Holds m (due.after_listing s.listing.listed s)
+  after_listing s m None is same listing judged some present = absurd (true≢false (sym some))
+  after_listing s m (Some long) is same listing judged some present =
+      let (signed, (found, has)) = accepted_list long is in
+      let listed : Ok found ≡ s.listing.listed = sym has ∙ listed_as v p s long is listing in
+      subst (λ r. Holds m (due.after_listing r s)) listed (compare s m judged present)
+
+  not_refused : {P : Type 0} (s : State) (mode : Option LongDigest) → p.list ≡ mode → s.options ≡ p
+      → HasListing v p s → IsByKey s → is_some mode ≡ true
+      → false ≡ v.accepts (signed_digest s) (due.key_of s.signers) s.signature → P
+  not_refused s None is same listing known some wrong = absurd (true≢false (sym some))
+  not_refused s (Some long) is same listing (signature, key) some wrong =
+      let (signed, found) = accepted_list long is in
+      absurd (true≢false (sym signed ∙ sym (rw (digest_is v p s same listing, is, signature, key) at wrong)))
 
   next_key : (signers : List PublicKeyValue) (s : State) (m : Snapshot) → s.due ≡ due.CheckComment
       → s.signers ≡ signers → IsAcceptable s
@@ -136,28 +173,40 @@ module _ (v : World) (p : Options) (k : ℕ) (digest : List ℕ) (r : Recorded)
       after_text (judge_text s.options text) time s new (rw (known.0, is.0) g.passed) known.0 known.1 fine
       (same_target old new is.1 on)
   keeps due.CheckComment (due.Answered true) s old new at known on is fine =
-      after_comment s.fault s new on.1.0 known (same_target old new is.1 on.0)
+      let (fine, signer, one, two) = on.1 in
+      let accepted = is.0 g.text (text_parsed v p v.text g.text g.keys g.passed) in
+      let key = signer_is v g.text g.key s.signers (rw (one, two) at accepted) signer in
+      after_comment s.fault s new fine known (one, key) (same_target old new is.1 on.0)
   keeps due.CheckComment (due.Answered false) s old new at known on is fine =
       next_key s.signers s new at refl on.1 (is.0 g.text (text_parsed v p v.text g.text g.keys g.passed))
       (same_target old new is.1 on.0)
+  keeps due.ReadList (due.ListRead list name) s old new at known on is fine =
+      (same_target old new is.2 on.0, on.1)
+  keeps due.CheckList (due.Answered true) s old new at ((known, listing), some) on is fine =
+      after_listing (record s { is_list_signed = true }) new p.list refl known.0.4 listing known.0 some
+      (same_target old new is.1 on.0)
+  keeps due.CheckList (due.Answered false) s old new at ((known, listing), some) on is fine =
+      not_refused s p.list refl known.0.4 listing on.1 some is.0
   keeps due.CheckRecord (due.Answered accepted) s old new at known on is fine =
       let none =
-      is.0 ∙ rw (has_digest v p k digest r record_applies version written whole update once s known.0)
-      (not_signed v p k digest r record_applies version written whole update once s s.signers refl known) in
-      after_digest accepted s new none known.0 (same_target old new is.1 on)
+      is.0 ∙ rw (has_digest v p k digest r record_applies version written whole update once s known.0.0)
+      (not_signed v p k digest r record_applies version written whole update once s s.signers refl known.0) in
+      after_digest accepted s new none known.0.0 (same_target old new is.1 on)
   keeps due.ReadTarget (due.PieceRead bytes) s old new at known on is fine =
       rw at (same_target old new is.2 on.0, on.1)
   keeps due.ReadTarget due.Done s old new at known on is fine = on.1
   keeps due.ReadTarget due.TargetMissing s old new at known on is fine =
       absurd (true≢false (sym on.0 ∙ ap is_some is.0))
   keeps due.CheckTarget (due.Answered accepted) s old new at known on is fine =
-      after_target accepted s new at on known.0.4
+      after_target (accepted && due.is_listed s) s new at on known.0.0.4
   keeps due.SyncTarget due.Done s old new at known on is fine = tt
   keeps due.SyncTargetName due.Done s old new at known on is fine = tt
   keeps due.Lock e s old new at known on is fine = tt
   keeps due.ReadRecord e s old new at known on is fine = tt
   keeps due.ReadSignature e s old new at known on is fine = tt
   keeps due.CheckComment e s old new at known on is fine = tt
+  keeps due.ReadList e s old new at known on is fine = tt
+  keeps due.CheckList e s old new at known on is fine = tt
   keeps due.CheckRecord e s old new at known on is fine = tt
   keeps due.ReadTarget e s old new at known on is fine = tt
   keeps due.CheckTarget e s old new at known on is fine = tt
@@ -178,6 +227,8 @@ module _ (v : World) (p : Options) (k : ℕ) (digest : List ℕ) (r : Recorded)
   stays due.ReadRecord s m new is on = rw is on
   stays due.ReadSignature s m new is on = rw is on
   stays due.CheckComment s m new is on = (rw is on.0, on.1)
+  stays due.ReadList s m new is on = (rw is on.0, on.1)
+  stays due.CheckList s m new is on = (rw is on.0, on.1)
   stays due.CheckRecord s m new is on = rw is on
   stays due.ReadTarget s m new is on = (rw is on.0, on.1)
   stays due.CheckTarget s m new is on = on
@@ -215,11 +266,12 @@ module _ (v : World) (p : Options) (k : ℕ) (digest : List ℕ) (r : Recorded)
 pub roll_back_is_named : (w : World) (o : Options) → AcceptsWholeKeys w.accepts → (s : State)
     → IsUpdate w o s → (k : ℕ) → s.recorded.version ≡ Some k → s.version < k → (v : World) (p : Options)
     → AcceptsWholeKeys v.accepts → IsLaterRun v p o.numbering s
-    → IsOtherUpdate v p k (blake2b_digest 64 s.read) → (g : IsSigned v p) (m : Snapshot) (calls : List Call)
+    → IsOtherUpdate v p k (signed_digest s) → (g : IsSigned v p) → IsListAccepted g → (m : Snapshot)
+    (calls : List Call)
     (t : State) (end : Snapshot) → Applies v (begin p) m calls t end → OthersLeaveTarget m calls
     → is_some m.target ≡ true → AllEvents (IsAcceptableAt p k g.text) calls → has_ended t.due ≡ true
     → (t.due ≡ due.AlreadyInstalled) ⊎ ((t.due ≡ due.Rejected) × (t.error ≡ Some SameNumber))
-roll_back_is_named w o whole s update k is less v p whole_later later other g m calls t end run leaves present
-    fine over =
-    ends v p k (blake2b_digest 64 s.read) _ (version_reads_back w o whole s update k is less v p later) refl
-    refl whole_later other later.once g m calls t end run leaves present fine over
+roll_back_is_named w o whole s update k is less v p whole_later later other g listed m calls t end run leaves
+    present fine over =
+    ends v p k (signed_digest s) _ (version_reads_back w o whole s update k is less v p later) refl
+    refl whole_later other later.once g listed m calls t end run leaves present fine over

@@ -1,7 +1,7 @@
 -- Proves that each operation of a lawful application is safe, even if the machine crashes after it.
 use Rattle.std.specs.Prelude.{◌≡◌, ◌==◌, ◌⊎◌, ⊤, ℕ, Bool, true, false, List, [], ◌∷◌, Option, Some, None}
 use Rattle.std.specs.Prelude.{is_some, map, if◌then◌else◌}
-use Rattle.std.proofs.Common.{refl, inl, inr, ap, ◌∙◌}
+use Rattle.std.proofs.Common.{refl, inl, inr, ap, ◌∙◌, sym}
 use Rattle.std.proofs.lemmas.Option.{same_Some}
 use Rattle.minisign_install.specs.Applications.{Applies, Call, File, RecordMayBe, TargetMayBe, CrashMayLeave}
 use Rattle.minisign_install.specs.Applications.{CrashMayLeaveOneOf, Snapshot, Others, Performs, content}
@@ -17,6 +17,7 @@ use Rattle.minisign_install.proofs.Applying.{Has, IsOnDisk, is_true, stays}
 use Rattle.minisign_install.proofs.Applying as applying
 use Rattle.minisign_install.proofs.StepSafety.{Known, update_of}
 use Rattle.minisign_install.proofs.StepSafety as known
+use Rattle.minisign_install.proofs.Listings.{listed_is}
 
 -- == Files that a crash may leave ==
 
@@ -141,6 +142,8 @@ module _ (w : World) (o : Options) (F Q : Type 0) where
       rw is.2 (λ found x. inl x, λ found x. inl x)
   safe_at n due.ReadSignature (due.SignatureRead text time) s old new knows has is =
       rw is.1 (λ found x. inl x, λ found x. inl x)
+  safe_at n due.ReadList (due.ListRead list name) s old new knows has is =
+      rw is.2 (λ found x. inl x, λ found x. inl x)
   safe_at n due.ReadTarget (due.PieceRead bytes) s old new knows has is =
       rw is.2 (λ found x. inl x, λ found x. inl x)
   safe_at n due.ReadTarget Done s old new knows has is = rw is.3 (λ found x. inl x, λ found x. inl x)
@@ -298,9 +301,11 @@ durable w o n due.Installed s m knows (state_held, recorded, left, complete) =
       (present.0, present.1, present.2, present.3, present.4, target_left),
       state_held.2,
     )
-durable w o n due.AlreadyInstalled s m knows (signed, inl check) = (signed, inl check)
-durable w o n due.AlreadyInstalled s m knows (signed, inr holds) =
-    let (present, left) = holds tt in (signed, inr (on_disk present left))
+durable w o n due.AlreadyInstalled s m knows ((signed, listed), inl check) =
+    (signed, knows.1, sym (listed_is w o s knows.0.0.4 knows.1) ∙ listed, inl check)
+durable w o n due.AlreadyInstalled s m knows ((signed, listed), inr holds) =
+    let (present, left) = holds tt in
+    (signed, knows.1, sym (listed_is w o s knows.0.0.4 knows.1) ∙ listed, inr (on_disk present left))
 durable w o n op s m knows has = tt
 
 -- If other processes leave the target alone, no crash can undo a run that has ended with Installed or

@@ -15,7 +15,7 @@ use Rattle.minisign_external.specs.declared.public_keys.PublicKeyValue.{PublicKe
 use Rattle.minisign_external.specs.declared.state.Misuse.TheVariants.{NoRoom, NotDue}
 use Rattle.minisign_external.specs.declared.state.Refusal.{Refusal}
 use Rattle.minisign_external.specs.declared.state.Refusal.TheVariants.{Refused, WrongUse}
-use Rattle.minisign_install.specs.Decisions.{Options, comment_fault, judge_keys, judge_text, size_in}
+use Rattle.minisign_install.specs.Decisions.{Options, comment_fault, judge_keys, judge_text, signed_size}
 use Rattle.minisign_install.specs.Decisions.{version_in}
 use Rattle.minisign_install.specs.Faults.{Fault, InstallFault, Library, Named}
 use Rattle.minisign_install.specs.Installations.{HasMessage, IsJudgedAs, HoldsState, IsReadAs, Represents}
@@ -158,7 +158,8 @@ pub with_signature : (p : Progress) (s : State) (t : SignatureTextRecord) (secon
       by_other_key = by_other_key;
     }) (with_text s (given p.chosen t) t.signature.signature (take 64 t.comments.signature)
     (comment_fault s.options s.recorded.version time t.comments.trusted)
-    (unwrap_or (version_in s.options.numbering t.comments.trusted) 0) (size_in t.comments.trusted))
+    (unwrap_or (version_in s.options.numbering t.comments.trusted) 0)
+    (signed_size s.options.list t.comments.trusted))
 with_signature p s t second j recorded time by_key by_other_key state_held version is whole one other =
     let o : Options = options_of p.chosen state_held.file in
     record {
@@ -169,7 +170,8 @@ with_signature p s t second j recorded time by_key by_other_key state_held versi
       state = ap (λ (x : State).
           with_text x (given p.chosen t) t.signature.signature (take 64 t.comments.signature)
           (comment_fault x.options x.recorded.version time t.comments.trusted)
-          (unwrap_or (version_in x.options.numbering t.comments.trusted) 0) (size_in t.comments.trusted))
+          (unwrap_or (version_in x.options.numbering t.comments.trusted) 0)
+          (signed_size x.options.list t.comments.trusted))
           state_held.state
           ∙ same_text (state_of p state_held.file state_held.read state_held.fault state_held.error)
           (signers_same t p.chosen.key p.chosen.other (by_key == 1) (by_other_key == 1) one other)

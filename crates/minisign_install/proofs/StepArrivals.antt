@@ -2,13 +2,13 @@
 use Rattle.std.specs.Prelude.{◌≡◌, ◌<◌, ◌≤◌, ◌+◌, ⊤, ℕ, Bool, true, false, List, [], ◌∷◌, length, Option}
 use Rattle.std.specs.Prelude.{Some, None, Result, IfSome, ◌++◌, ◌||◌, not, is_some, take, if◌then◌else◌}
 use Rattle.std.specs.Prelude.{◌⊎◌, ◌-◌, Ok}
-use Rattle.std.proofs.Common.{refl, sym, inl, inr, zero, suc, append-nil, eq-or-lt_of_le, ap, ◌∙◌, arith}
+use Rattle.std.proofs.Common.{refl, subst, sym, inl, inr, zero, suc, append-nil, eq-or-lt_of_le, ap}
+use Rattle.std.proofs.Common.{◌∙◌, arith}
 use Rattle.std.proofs.Common.{le-leb, lt-ltb, eq-eqb, true≢false, unwrap_or}
-use Rattle.std.proofs.lemmas.Option.{none-some, same_Some}
+use Rattle.std.proofs.lemmas.Option.{none-some}
 use Rattle.minisign.specs.SignatureText.{SignatureTextRecord}
 use Rattle.minisign_external.specs.declared.public_keys.PublicKeyValue.{PublicKeyValue}
-use Rattle.minisign_hash.specs.Blake2b.{blake2b_digest}
-use Rattle.minisign_install.specs.Decisions.{Options, comment_fault, is_below, size_in}
+use Rattle.minisign_install.specs.Decisions.{Options, comment_fault, is_below, signed_size}
 use Rattle.minisign_install.specs.Faults.{Fault}
 use Rattle.minisign_install.specs.Step.{Event, Done, InUse, Failed, RecordRead, SignatureRead, Answered}
 use Rattle.minisign_install.specs.Step.{PieceRead, PieceCopied, State, begin, step, Operation, after}
@@ -18,6 +18,10 @@ use Rattle.minisign_install.specs.StepRuns.{IsAcceptable, IsGoodUpdate, IsRun, I
 use Rattle.minisign_install.specs.StepRuns.{World, count}
 use Rattle.minisign_install.specs.StepRuns.{IsGoodRun, says_yes, first_signer}
 use Rattle.minisign_install.proofs.StepEnds.{left, step_less}
+use Rattle.minisign_install.specs.Step.{ListRead, signed_digest}
+use Rattle.minisign_install.specs.StepRuns.{HasListing}
+use Rattle.minisign_install.specs.Listings.{fits_list}
+use Rattle.minisign_install.proofs.Listings.{digest_is, found_is, listed_is, same_digest, signer_is}
 
 module _ (w : World) (o : Options) (g : IsGoodUpdate w o) where
   -- After n bytes were copied, the rest of the signed size is the length of the data that is left.
@@ -25,9 +29,18 @@ module _ (w : World) (o : Options) (g : IsGoodUpdate w o) where
   Left n None = ⊤
   Left n (Some left) = left + n ≡ length w.update
 
-  -- The state has the signature of the update, and the key that signed it.
+  -- The state has the signature of the update, the key that signed it, and the listing of the update.
   abbrev StateKnows : State → Type 0
-  StateKnows s = (s.signature ≡ g.text.signature.signature) × (key_of s.signers ≡ g.key)
+  StateKnows s =
+      (s.signature ≡ g.text.signature.signature) × (key_of s.signers ≡ g.key) × (s.options ≡ o)
+      × HasListing w o s
+
+  -- The comment was accepted.
+  abbrev IsAccepted : ℕ → State → Type 0
+  IsAccepted n s =
+      (s.options ≡ o) × (n ≡ 0) × (s.recorded ≡ g.recorded) × (s.version ≡ g.version)
+      × (s.signature ≡ g.text.signature.signature) × (key_of s.signers ≡ g.key)
+      × (s.left ≡ signed_size o.list g.text.comments.trusted)
 
   -- The data is being copied, and n bytes of it were copied.
   abbrev IsReady : ℕ → State → Type 0
@@ -42,8 +55,10 @@ module _ (w : World) (o : Options) (g : IsGoodUpdate w o) where
       (s.options ≡ o) × (n ≡ 0) × (s.recorded ≡ g.recorded) × (s.fault ≡ None) × (s.version ≡ g.version)
       × (s.signature ≡ g.text.signature.signature)
       × (s.comment_signature ≡ take 64 g.text.comments.signature)
-      × (s.left ≡ size_in g.text.comments.trusted)
+      × (s.left ≡ signed_size o.list g.text.comments.trusted)
       × (first_signer w g.text s.signers ≡ Some g.key)
+  OnTrack n due.ReadList s = IsAccepted n s × (is_some o.list ≡ true)
+  OnTrack n due.CheckList s = IsAccepted n s × (is_some o.list ≡ true) × HasListing w o s
   OnTrack n due.RemoveLeftovers s = IsReady n s
   OnTrack n due.CreateFile s = IsReady n s
   OnTrack n due.CopyData s = IsReady n s
@@ -74,13 +89,6 @@ module _ (w : World) (o : Options) (g : IsGoodUpdate w o) where
   is_newer None v newer = refl
   is_newer (Some k) v newer = lt-ltb k v (newer k refl)
 
-  key_found : (signers : List PublicKeyValue)
-      → true ≡ w.accepts (g.text.signature.signature ++ g.text.comments.trusted) (key_of signers)
-      (take 64 g.text.comments.signature) → first_signer w g.text signers ≡ Some g.key
-      → key_of signers ≡ g.key
-  key_found [] accepted is = absurd (none-some g.key is)
-  key_found (v ∷ more) accepted is = same_Some v.key g.key (rw (sym accepted) at is)
-
   after_record : (n : ℕ) (s : State) (found : Option (List ℕ)) → (s.options ≡ o) × (n ≡ 0)
       → found ≡ w.found_record
       → Stays n due.ReadRecord (RecordRead found) s
@@ -93,19 +101,54 @@ module _ (w : World) (o : Options) (g : IsGoodUpdate w o) where
       rw (is_o, is ∙ g.parsed, g.passed, recorded)
       (refl, none, refl, fine, ap (λ v. unwrap_or v 0) g.numbered, refl, refl, refl, g.signed_comment)
 
+  first : (n : ℕ) (b : Bool) (x y : State) → b ≡ true → OnTrack n x.due x
+      → OnTrack n (if b then x else y).due (if b then x else y)
+  first n true x y is on = on
+  first n false x y is on = absurd (true≢false (sym is))
+
+  to_install : (n : ℕ) (check : Bool) (s : State) → check ≡ false → IsReady n (due.install s)
+      → OnTrack n (if check then due.WouldInstall else due.RemoveLeftovers) (due.install s)
+  to_install n true s is ready = absurd (true≢false is)
+  to_install n false s is ready = ready
+
+  compare : (n : ℕ) (s : State) → IsAccepted n s → HasListing w o s
+      → OnTrack n (due.compare s).due (due.compare s)
+  compare n s (is_o, none, recorded, version, signature, key, left) listing =
+      let newer : due.is_newer s ≡ true =
+      rw (recorded, version) (is_newer g.recorded.version g.version g.newer) in
+      let installs : s.options.check ≡ false = ap (λ (x : Options). x.check) is_o ∙ g.installs in
+      first n (due.is_newer s) (due.install s) _ newer
+      (to_install n s.options.check s installs (
+        (signature, key, is_o, listing),
+        rw left (left_at n (signed_size o.list g.text.comments.trusted) none g.sized),
+        refl,
+        omega (arith, none),
+      ))
+
+  list_next : (listed : Bool) (n : ℕ) (s : State) → is_some o.list ≡ listed → IsAccepted n s
+      → OnTrack n (if listed then due.go due.ReadList s else due.compare s).due
+      (if listed then due.go due.ReadList s else due.compare s)
+  list_next true n s some known = (known, some)
+  list_next false n s none known = compare n s known (λ some. absurd (true≢false (sym some ∙ none)))
+
   after_comment : (n : ℕ) (s : State) → OnTrack n due.CheckComment s
       → IsTrueEvent w n s due.CheckComment (Answered true) → Stays n due.CheckComment (Answered true) s
   after_comment n s (is_o, none, recorded, fault, version, signature, second, left, signer) is =
       let accepted = is g.text g.parsed in
-      let accepts = rw (signature, second) at accepted in
-      let newer = is_newer g.recorded.version g.version g.newer in
-      let installs : s.options.check ≡ false = ap (λ (x : Options). x.check) is_o ∙ g.installs in
-      rw (fault, recorded, version, newer, installs) (
-        (signature, key_found s.signers accepts signer),
-        rw left (left_at n (size_in g.text.comments.trusted) none g.sized),
-        refl,
-        omega (arith, none),
-      )
+      let key = signer_is w g.text g.key s.signers (rw (signature, second) at accepted) signer in
+      let signed : State = record s { is_signed = true } in
+      subst (λ f. OnTrack n (due.after_comment f signed).due (due.after_comment f signed)) (sym fault)
+      (list_next (is_some s.options.list) n signed (ap (λ (x : Options). is_some x.list) (sym is_o))
+      (is_o, none, recorded, version, signature, key, left))
+
+  after_listing : (n : ℕ) (s : State) → OnTrack n due.CheckList s
+      → OnTrack n (due.after_listing s.listing.listed (record s { is_list_signed = true })).due
+      (due.after_listing s.listing.listed (record s { is_list_signed = true }))
+  after_listing n s (known, some, listing) =
+      let (digest, found) = found_is w o s w.update some listing g.listed in
+      let signed : State = record s { is_list_signed = true } in
+      subst (λ r. OnTrack n (due.after_listing r signed).due (due.after_listing r signed)) (sym found)
+      (compare n signed known listing)
 
   next_key : (n : ℕ) (s : State) (signers : List PublicKeyValue) → s.due ≡ due.CheckComment
       → OnTrack n due.CheckComment (record s { signers = signers })
@@ -136,9 +179,29 @@ module _ (w : World) (o : Options) (g : IsGoodUpdate w o) where
       rw (eq-eqb left 0 (omega (arith, is, all))) (knows, (w.update, rw read refl))
 
   check_data : {P : Type 0} (s : State) → StateKnows s × (s.read ≡ w.update)
-      → false ≡ w.accepts (blake2b_digest 64 s.read) (key_of s.signers) s.signature → P
-  check_data s ((signature, key), read) rejected =
-      absurd (true≢false (sym g.signed_data ∙ sym (rw (read, key, signature) at rejected)))
+      → false ≡ w.accepts (signed_digest s) (key_of s.signers) s.signature → P
+  check_data s ((signature, key, same, listing), read) rejected =
+      let wrong = rw (digest_is w o s same listing, key, signature) at rejected in
+      absurd (true≢false (sym g.signed_data ∙ sym (rw read at wrong)))
+
+  after_data : (n : ℕ) (s : State) → StateKnows s × (s.read ≡ w.update)
+      → OnTrack n (due.after_data (due.is_listed s) s).due (due.after_data (due.is_listed s) s)
+  after_data n s ((signature, key, same, listing), read) =
+      let fits : due.is_listed s ≡ true =
+      listed_is w o s same listing ∙ ap (fits_list o.list w.list w.name) read ∙ g.listed in
+      rw fits tt
+
+  check_list : {P : Type 0} (n : ℕ) (s : State) → OnTrack n due.CheckList s
+      → false ≡ w.accepts (signed_digest s) (key_of s.signers) s.signature → P
+  check_list n s ((same, none, recorded, version, signature, key, left), some, listing) rejected =
+      let wrong = rw (
+        digest_is w o s same listing,
+        same_digest o.list w.list s.read w.update some,
+        key,
+        signature,
+      )
+      at rejected in
+      absurd (true≢false (sym g.signed_data ∙ sym wrong))
 
   keeps : (n : ℕ) (op : Operation) (e : Event) (s : State) → s.due ≡ op → OnTrack n op s → IsAcceptable g e
       → IsTrueEvent w n s op e → Stays n op e s
@@ -160,13 +223,19 @@ module _ (w : World) (o : Options) (g : IsGoodUpdate w o) where
   keeps n due.CheckComment (Answered true) s at on fine is = after_comment n s on is
   keeps n due.CheckComment (Answered false) s at on fine is =
       next_key n s s.signers at on (rw (on.5, on.6) at (is g.text g.parsed))
+  keeps n due.ReadList (ListRead list name) s at (known, some) fine is =
+      (known, some, λ listed. rw (ap (λ (x : Options). x.list) known.0, is.0, is.1) refl)
+  keeps n due.CheckList (Answered true) s at on fine is = after_listing n s on
+  keeps n due.CheckList (Answered false) s at on fine is = check_list n s on is
+  keeps n due.ReadList e s at on fine is = tt
+  keeps n due.CheckList e s at on fine is = tt
   keeps n due.CopyData (PieceCopied k) s at (knows, left, read, more) fine is =
       after_piece n k s s.left at knows left refl read is.1
   keeps n due.CopyData Done s at (knows, left, read, more) fine is =
       after_copy n s s.left knows left read is
   keeps n due.ReadBack (PieceRead bytes) s at (knows, rest) fine is = rw at (knows, is.1)
   keeps n due.ReadBack Done s at (knows, rest) fine is = (knows, is)
-  keeps n due.CheckData (Answered true) s at on fine is = tt
+  keeps n due.CheckData (Answered true) s at on fine is = after_data n s on
   keeps n due.CheckData (Answered false) s at on fine is = check_data s on is
   keeps n due.Lock Done s at on fine is = on
   keeps n due.RemoveLeftovers Done s at on fine is = on
@@ -205,6 +274,11 @@ module _ (w : World) (o : Options) (g : IsGoodUpdate w o) where
   fits_comment s true = refl
   fits_comment s false = refl
 
+  fits_listing : (s : State) (accepted : Bool)
+      → is_some (after due.CheckList (Answered accepted) s) ≡ true
+  fits_listing s true = refl
+  fits_listing s false = refl
+
   fits_data : (s : State) (accepted : Bool) → is_some (after due.CheckData (Answered accepted) s) ≡ true
   fits_data s true = refl
   fits_data s false = refl
@@ -242,6 +316,9 @@ module _ (w : World) (o : Options) (g : IsGoodUpdate w o) where
           λ t parsed. ap (λ x. says_yes w (comment_question s x.comments.trusted)) (same_text t parsed),
           tt,
         )
+    has_next n due.ReadList s on = inr (ListRead w.list w.name, refl, (refl, refl), tt)
+    has_next n due.CheckList s on =
+        inr (Answered (says_yes w (data_question due.CheckList s)), fits_listing s _, refl, tt)
     has_next n due.RemoveLeftovers s on = inr (Done, refl, tt, tt)
     has_next n due.CreateFile s on = inr (Done, refl, tt, tt)
     has_next n due.CopyData s (knows, left, read, more) = inr (next_piece n s more)

@@ -1,5 +1,6 @@
 -- Proves that a check decides as an installation with otherwise the same options and the same events does.
-use Rattle.std.specs.Prelude.{◌≡◌, ℕ, Bool, true, false, List, [], ◌∷◌, Option, Some, None, Result, Ok, Err}
+use Rattle.std.specs.Prelude.{◌≡◌, ◌&&◌, ℕ, Bool, true, false, List, [], ◌∷◌, Option, Some, None}
+use Rattle.std.specs.Prelude.{Result, Ok, Err}
 use Rattle.std.specs.Prelude.{◌||◌, is_some, if◌then◌else◌}
 use Rattle.std.proofs.Common.{refl, sym, ap, ◌∙◌, true≢false, option_map}
 use Rattle.minisign_base.specs.declared.faults.NamedFault.{NamedFault}
@@ -11,6 +12,8 @@ use Rattle.minisign_install.specs.Step.{TargetMissing, State, after, answer, ste
 use Rattle.minisign_install.specs.Step as due
 use Rattle.minisign_install.specs.StepRuns.{as_check, check_due, decides}
 use Rattle.minisign_install.proofs.StepSafety.{Passed}
+use Rattle.minisign_lists.specs.declared.digests.ListedDigest.{ListedDigest}
+use Rattle.minisign_install.specs.Step.{ListRead}
 
 pick : (is : Bool) (x y : State) (x' y' : State) → x' ≡ as_check x → y' ≡ as_check y
     → (if is then x' else y') ≡ as_check (if is then x else y)
@@ -39,8 +42,15 @@ compare_same s installs =
 comment_same : (s : State) (fault : Option InstallFault) → s.due ≡ due.CheckComment → s.options.check ≡ false
     → due.after_comment fault (record (as_check s) { is_signed = true })
     ≡ as_check (due.after_comment fault (record s { is_signed = true }))
-comment_same s None at installs = compare_same (record s { is_signed = true }) installs
+comment_same s None at installs =
+    pick (is_some s.options.list) _ _ _ _ refl (compare_same (record s { is_signed = true }) installs)
 comment_same s (Some fault) at installs = rw at refl
+
+listing_same : (s : State) (listed : Result ListedDigest InstallFault) → s.due ≡ due.CheckList
+    → s.options.check ≡ false
+    → due.after_listing listed (as_check s) ≡ as_check (due.after_listing listed s)
+listing_same s (Ok digest) at installs = compare_same s installs
+listing_same s (Err fault) at installs = rw at refl
 
 key_same : (s : State) (signers : List PublicKeyValue) → s.due ≡ due.CheckComment
     → due.next_key signers (as_check s) ≡ as_check (due.next_key signers s)
@@ -73,6 +83,10 @@ fail_same due.ReadSignature f s at is = choose (due.is_failure f) (due.reject (d
     (rw at refl)
 fail_same due.CheckComment f s at is = choose (due.is_failure f) (due.reject (due.failure s.due f) s) _
     (rw at refl)
+fail_same due.ReadList f s at is = choose (due.is_failure f) (due.reject (due.failure s.due f) s) _
+    (rw at refl)
+fail_same due.CheckList f s at is = choose (due.is_failure f) (due.reject (due.failure s.due f) s) _
+    (rw at refl)
 fail_same due.CheckRecord f s at is = choose (due.is_failure f) (due.reject (due.failure s.due f) s) _
     (rw at refl)
 fail_same due.ReadTarget f s at is = choose (due.is_failure f) (due.reject (due.failure s.due f) s) _
@@ -86,6 +100,8 @@ same_after : (op : Operation) (e : Event) (s : State) → s.due ≡ op → decid
 same_after due.ReadRecord (Failed f) s at is installs = fail_same due.ReadRecord f s at is
 same_after due.ReadSignature (Failed f) s at is installs = fail_same due.ReadSignature f s at is
 same_after due.CheckComment (Failed f) s at is installs = fail_same due.CheckComment f s at is
+same_after due.ReadList (Failed f) s at is installs = fail_same due.ReadList f s at is
+same_after due.CheckList (Failed f) s at is installs = fail_same due.CheckList f s at is
 same_after due.CheckRecord (Failed f) s at is installs = fail_same due.CheckRecord f s at is
 same_after due.ReadTarget (Failed f) s at is installs = fail_same due.ReadTarget f s at is
 same_after due.CheckTarget (Failed f) s at is installs = fail_same due.CheckTarget f s at is
@@ -97,15 +113,23 @@ same_after due.CheckComment (Answered true) s at is installs =
     ap (λ (t : State). Some t) (comment_same s s.fault at installs)
 same_after due.CheckComment (Answered false) s at is installs =
     ap (λ (t : State). Some t) (key_same s s.signers at)
+same_after due.ReadList (ListRead list name) s at is installs = refl
+same_after due.CheckList (Answered true) s at is installs =
+    ap (λ (t : State). Some t)
+    (listing_same (record s { is_list_signed = true }) s.listing.listed at installs)
+same_after due.CheckList (Answered false) s at is installs =
+    ap (λ (t : State). Some t) (rw at refl)
 same_after due.CheckRecord (Answered accepted) s at is installs =
     ap (λ (t : State). Some t) (digest_same s accepted installs)
 same_after due.ReadTarget TargetMissing s at is installs =
     ap (λ (t : State). Some t) (install_same s installs)
 same_after due.CheckTarget (Answered accepted) s at is installs =
-    ap (λ (t : State). Some t) (target_same s accepted at installs)
+    ap (λ (t : State). Some t) (target_same s (accepted && due.is_listed s) at installs)
 same_after due.ReadRecord e s at is installs = refl
 same_after due.ReadSignature e s at is installs = refl
 same_after due.CheckComment e s at is installs = refl
+same_after due.ReadList e s at is installs = refl
+same_after due.CheckList e s at is installs = refl
 same_after due.CheckRecord e s at is installs = refl
 same_after due.ReadTarget e s at is installs = refl
 same_after due.CheckTarget e s at is installs = refl

@@ -15,9 +15,11 @@ use Rattle.minisign_install.specs.Decisions.{Options, Recorded, judge_keys, judg
 use Rattle.minisign_install.specs.Faults.{Fault, InstallFault}
 use Rattle.minisign_install.specs.Step.{Event, Done, InUse, Failed, RecordRead, SignatureRead, Operation}
 use Rattle.minisign_install.specs.Step.{Answered, PieceRead, TargetMissing, PieceCopied, State, after}
-use Rattle.minisign_install.specs.Step.{answer, begin, has_files, step}
+use Rattle.minisign_install.specs.Step.{ListRead, answer, begin, has_files, is_listed, step}
 use Rattle.minisign_install.specs.Step as due
 use Rattle.minisign_install.specs.StepRuns.{IsRun, IsLawfulEvent, IsTrueEvent, World, count}
+use Rattle.minisign_lists.specs.declared.digests.ListedDigest.{ListedDigest}
+use Rattle.minisign_install.specs.Histories.{list_calls}
 
 -- The maximum number of operations from this one on, not counting repeated ones.
 abbrev rank : Operation → ℕ
@@ -25,6 +27,8 @@ rank due.Lock = 23
 rank due.ReadRecord = 22
 rank due.ReadSignature = 21
 rank due.CheckComment = 20
+rank due.ReadList = 19
+rank due.CheckList = 19
 rank due.CheckRecord = 19
 rank due.ReadTarget = 18
 rank due.CheckTarget = 17
@@ -97,12 +101,24 @@ module _ (w : World) where
   keys_left due.CheckComment s = length s.signers
   keys_left op s = 0
 
+  -- The number of operations for a list that are left, if there is one.
+  abbrev list_left : Operation → State → ℕ
+  list_left due.Lock s = list_calls s.options
+  list_left due.ReadRecord s = list_calls s.options
+  list_left due.ReadSignature s = list_calls s.options
+  list_left due.CheckComment s = list_calls s.options
+  list_left due.ReadList s = 2
+  list_left due.CheckList s = 1
+  list_left op s = 0
+
   -- The number of bytes of the installed file that may still be read.
   abbrev target_left : Operation → State → ℕ
   target_left due.Lock s = w.most
   target_left due.ReadRecord s = w.most
   target_left due.ReadSignature s = w.most
   target_left due.CheckComment s = w.most
+  target_left due.ReadList s = w.most
+  target_left due.CheckList s = w.most
   target_left due.CheckRecord s = w.most
   target_left due.ReadTarget s = w.most - length s.read
   target_left op s = 0
@@ -129,7 +145,7 @@ module _ (w : World) where
   copy_left n op s = length w.update + length w.update
 
   abbrev pub left : ℕ → Operation → State → ℕ
-  left n op s = rank op + keys_left op s + target_left op s + copy_left n op s
+  left n op s = rank op + list_left op s + keys_left op s + target_left op s + copy_left n op s
 
   removal : (n : ℕ) (is : Bool) (s : State)
       → left n (if is then due.RemoveFiles else due.Rejected) s ≤ 1
@@ -178,10 +194,16 @@ module _ (w : World) where
       (either n m (is_some s.recorded.digest) _ _ (omega (arith, more))
       (either n m (due.is_rolling_back s) _ _ (install n m s (omega (arith, more))) (omega (arith, more))))
 
+  list_next : (n : ℕ) (listed : Bool) (s : State) → is_some s.options.list ≡ listed
+      → left n (if listed then due.go due.ReadList s else due.compare s).due
+      (if listed then due.go due.ReadList s else due.compare s) < left n due.CheckComment s
+  list_next n true s some = rw some (omega arith)
+  list_next n false s none = compare n _ s (omega arith)
+
   after_comment : (n : ℕ) (s : State) (fault : Option InstallFault)
       → left n (due.after_comment fault (record s { is_signed = true })).due
       (due.after_comment fault (record s { is_signed = true })) < left n due.CheckComment s
-  after_comment n s None = compare n _ (record s { is_signed = true }) (omega arith)
+  after_comment n s None = list_next n (is_some s.options.list) (record s { is_signed = true }) refl
   after_comment n s (Some fault) = reject n _ fault (record s { is_signed = true }) (omega arith)
 
   next_key : (n : ℕ) (s : State) (signers : List PublicKeyValue) → s.due ≡ due.CheckComment
@@ -190,6 +212,17 @@ module _ (w : World) where
   next_key n s [] at = reject n _ _ s (omega arith)
   next_key n s (v ∷ []) at = reject n _ _ s (omega arith)
   next_key n s (v ∷ u ∷ more) at = rw at (omega arith)
+
+  after_listing : (n : ℕ) (s : State) (listed : Result ListedDigest InstallFault)
+      → left n (due.after_listing listed (record s { is_list_signed = true })).due
+      (due.after_listing listed (record s { is_list_signed = true })) < left n due.CheckList s
+  after_listing n s (Ok digest) = compare n _ (record s { is_list_signed = true }) (omega arith)
+  after_listing n s (Err fault) = reject n _ fault (record s { is_list_signed = true }) (omega arith)
+
+  after_data : (n : ℕ) (s : State) (listed : Bool)
+      → left n (due.after_data listed s).due (due.after_data listed s) < left n due.CheckData s
+  after_data n s true = omega arith
+  after_data n s false = reject n _ _ s (omega arith)
 
   after_digest : (n : ℕ) (s : State) (accepted : Bool)
       → left n (due.after_digest accepted s).due (due.after_digest accepted s) < left n due.CheckRecord s
@@ -239,11 +272,15 @@ module _ (w : World) where
       after_signature n s (judge_text s.options text) time (few_signers s.options text)
   decreases n due.CheckComment (Answered true) s at is = after_comment n s s.fault
   decreases n due.CheckComment (Answered false) s at is = next_key n s s.signers at
+  decreases n due.ReadList (ListRead list name) s at is = omega arith
+  decreases n due.CheckList (Answered true) s at is =
+      after_listing n s s.listing.listed
+  decreases n due.CheckList (Answered false) s at is = reject n _ _ s (omega arith)
   decreases n due.CheckRecord (Answered accepted) s at is = after_digest n s accepted
   decreases n due.ReadTarget (PieceRead bytes) s at is =
       rw at (omega (arith, is.0, is.1, length-append s.read bytes))
   decreases n due.ReadTarget TargetMissing s at is = install n _ s (omega arith)
-  decreases n due.CheckTarget (Answered accepted) s at is = after_target n s accepted
+  decreases n due.CheckTarget (Answered accepted) s at is = after_target n s (accepted && is_listed s)
   decreases n due.CopyData (PieceCopied k) s at is = after_piece n k s s.left at is.0 is.1
   decreases n due.CopyData Done s at is = after_copy n s s.left
   decreases n due.ReadBack (PieceRead bytes) s at (some, (rest, whole)) =
@@ -254,7 +291,7 @@ module _ (w : World) where
         length-append (s.read ++ bytes) rest,
         ap length whole,
       ))
-  decreases n due.CheckData (Answered true) s at is = omega arith
+  decreases n due.CheckData (Answered true) s at is = after_data n s (is_listed s)
   decreases n due.CheckData (Answered false) s at is = reject n _ _ s (omega arith)
   decreases n due.Nothing Done s at is = tt
   decreases n due.Installed Done s at is = tt
@@ -264,6 +301,8 @@ module _ (w : World) where
   decreases n due.ReadRecord Done s at is = tt
   decreases n due.ReadSignature Done s at is = tt
   decreases n due.CheckComment Done s at is = tt
+  decreases n due.ReadList Done s at is = tt
+  decreases n due.CheckList Done s at is = tt
   decreases n due.CheckRecord Done s at is = tt
   decreases n due.CheckTarget Done s at is = tt
   decreases n due.CheckData Done s at is = tt
@@ -289,12 +328,12 @@ module _ (w : World) where
 
   at_first : (check : Bool) (o : Options)
       → left 0 (if check then due.ReadRecord else due.Lock) (begin o)
-      ≤ 23 + length o.keys + w.most + 2 * length w.update
+      ≤ 23 + list_calls o + length o.keys + w.most + 2 * length w.update
   at_first true o = omega arith
   at_first false o = omega arith
 
 -- The number of events in a run is bounded.
 pub run_ends : (w : World) (o : Options) (events : List Event) (t : State)
     → IsRun (IsLawfulEvent w) 0 (begin o) events t
-    → length events ≤ 23 + length o.keys + w.most + 2 * length w.update
+    → length events ≤ 23 + list_calls o + length o.keys + w.most + 2 * length w.update
 run_ends w o events t run = omega (arith, bounded w 0 (begin o) events t run, at_first w o.check o)

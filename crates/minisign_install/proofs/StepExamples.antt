@@ -28,6 +28,7 @@ options = record {
   must_expire = false;
   new_key = false;
   roll_back = false;
+  list = None;
 }
 
 abbrev signature_file : SignatureTextRecord
@@ -51,6 +52,8 @@ world = record {
   found_record = Some recorded_2;
   text = Ok signature_file;
   update = 7 ∷ [];
+  list = [];
+  name = [];
   most = 0;
 }
 
@@ -78,6 +81,7 @@ good = record {
   key = replicate 32 0;
   signed_comment = refl;
   signed_data = refl;
+  listed = refl;
   version = 3;
   numbered = refl;
   newer = newer_than_2;

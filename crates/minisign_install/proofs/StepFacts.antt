@@ -18,10 +18,13 @@ use Rattle.minisign_install.specs.Decisions.{Options}
 use Rattle.minisign_install.specs.Faults.{BadExpiry, BadSize, DamagedRecord, DirectoryNotSynced, Expired}
 use Rattle.minisign_install.specs.Faults.{Fault, InstallFault, KeptByTimestamp, KeptByVersion, Library}
 use Rattle.minisign_install.specs.Faults.{Named, NoExpiry, NoNumber, NoRecord, OlderUpdate, OtherFile}
-use Rattle.minisign_install.specs.Faults.{OtherSize, SameNumber, TargetInUse}
+use Rattle.minisign_install.specs.Faults.{BadName, MalformedLine, NotListed, OtherSize, SameNumber}
+use Rattle.minisign_install.specs.Faults.{TargetInUse}
+use Rattle.minisign_lists.specs.Lists.{listed_entry}
+use Rattle.minisign_lists.specs.declared.lines.LongDigest.TheVariants as long
 use Rattle.minisign_install.specs.Step.{Operation, Event, Done, InUse, Failed, RecordRead, SignatureRead}
 use Rattle.minisign_install.specs.Step.{Answered, TargetMissing, PieceRead, PieceCopied, State, begin, step}
-use Rattle.minisign_install.specs.Step.{new_key, new_version}
+use Rattle.minisign_install.specs.Step.{ListRead, line_at_fault, new_key, new_version}
 use Rattle.minisign_install.specs.Step as due
 
 -- == Keys, signature files and records ==
@@ -88,6 +91,7 @@ usual = record {
   must_expire = false;
   new_key = false;
   roll_back = false;
+  list = None;
 }
 
 -- == Runs ==
@@ -831,6 +835,59 @@ check_of_a_roll_back : exits (record with_roll_back { check = true }) (checked (
     version_1) (Some 5) ++ valid ∷ invalid ∷ []) ≡ Some 0
 unfolding is_utf8 chars encode decode_pairs
 check_of_a_roll_back = refl
+
+-- == A signed list ==
+
+abbrev with_list : Options
+with_list = record usual { list = Some long.Rejected }
+
+-- The comment is signed, and this list was read, in which the name is looked up.
+abbrev listed : List ℕ → List ℕ → List Event
+listed list name =
+    begun (Some record_2) (signed version_3) (Some 5) ++ valid ∷ ListRead list name ∷ []
+
+list_is_read_after_the_comment : course (begin with_list) (listed [] (codes "app")) ≡
+    due.Lock ∷ due.ReadRecord ∷ due.ReadSignature ∷ due.CheckComment ∷ due.ReadList ∷ due.CheckList ∷ []
+unfolding is_utf8 chars encode decode_pairs
+list_is_read_after_the_comment = refl
+
+list_that_is_not_signed : error_of with_list (listed (codes "x") (codes "app") ++ invalid ∷ []) ≡
+    Some (Library (Named named.SignatureRefused))
+unfolding is_utf8 chars encode decode_pairs
+list_that_is_not_signed = refl
+
+list_without_the_name : error_of with_list (listed (codes "# no files") (codes "app") ++ valid ∷ []) ≡
+    Some NotListed
+unfolding is_utf8 chars encode decode_pairs listed_entry
+list_without_the_name = refl
+
+list_without_the_name_exits : exits with_list (listed [] (codes "app") ++ valid ∷ []) ≡ Some 3
+unfolding is_utf8 chars encode decode_pairs listed_entry
+list_without_the_name_exits = refl
+
+name_that_no_list_contains : error_of with_list (listed [] (codes "../app") ++ valid ∷ []) ≡ Some BadName
+unfolding is_utf8 chars encode decode_pairs listed_entry
+name_that_no_list_contains = refl
+
+malformed_line : error_of with_list (listed (codes "# x" ++ 10 ∷ codes "x") (codes "app") ++ valid ∷ []) ≡
+    Some MalformedLine
+unfolding is_utf8 chars encode decode_pairs listed_entry
+malformed_line = refl
+
+malformed_line_has_a_number : line_at_fault (after (begin with_list) (listed (codes "# x" ++ 10 ∷ codes "x")
+    (codes "app") ++ valid ∷ [])) ≡ 2
+unfolding is_utf8 chars encode decode_pairs listed_entry
+malformed_line_has_a_number = refl
+
+unsigned_line_has_no_number : line_at_fault (after (begin with_list) (listed (codes "x") (codes "app") ++
+    invalid ∷ [])) ≡ 0
+unfolding is_utf8 chars encode decode_pairs listed_entry
+unsigned_line_has_no_number = refl
+
+size_of_a_list_is_ignored : (after (begin with_list) (begun (Some record_2) (with_field (codes "size:5"))
+    (Some 5))).size ≡ None
+unfolding is_utf8 chars encode decode_pairs
+size_of_a_list_is_ignored = refl
 
 -- == Results ==
 

@@ -12,6 +12,9 @@ use Rattle.minisign_install.specs.Step.{answer, begin, has_ended, has_files, ste
 use Rattle.minisign_install.specs.Step as due
 use Rattle.minisign_install.specs.StepRuns.{EventFits, IsRun, Owned, count, nothing_owned, owned_by, owns}
 use Rattle.minisign_install.proofs.StepSafety.{Passed}
+use Rattle.minisign_lists.specs.declared.digests.ListedDigest.{ListedDigest}
+use Rattle.minisign_install.specs.Faults.{DigestMismatch}
+use Rattle.minisign_install.specs.Step.{ListRead}
 
 -- The run owns no temporary file.
 abbrev OwnsNone : Owned → Type 0
@@ -88,7 +91,8 @@ after_signature s (Err fault) time d at is = reject due.ReadSignature (Library f
 
 after_comment : (s : State) (fault : Option InstallFault) (d : Owned) → s.due ≡ due.CheckComment
     → OwnsNone d → Holds d (due.after_comment fault (record s { is_signed = true }))
-after_comment s None d at is = compare (record s { is_signed = true }) d is
+after_comment s None d at is =
+    either (is_some s.options.list) _ _ d is (compare (record s { is_signed = true }) d is)
 after_comment s (Some fault) d at is =
     reject due.CheckComment fault (record s { is_signed = true }) d at (λ same. cc same) is
 
@@ -99,6 +103,16 @@ next_key s [] d at is = reject due.CheckComment (Library (Named named.CommentSig
 next_key s (v ∷ []) d at is = reject due.CheckComment (Library
     (Named named.CommentSignatureRefused)) s d at (λ same. cc same) is
 next_key s (v ∷ u ∷ more) d at is = rw at is
+
+after_listing : (s : State) (listed : Result ListedDigest InstallFault) (d : Owned) → s.due ≡ due.CheckList
+    → OwnsNone d → Holds d (due.after_listing listed s)
+after_listing s (Ok digest) d at is = compare s d is
+after_listing s (Err fault) d at is = reject due.CheckList fault s d at (λ same. cc same) is
+
+after_data : (s : State) (listed : Bool) (d : Owned) → s.due ≡ due.CheckData → d.record_file ≡ false
+    → Holds d (due.after_data listed s)
+after_data s true d at is = is
+after_data s false d at is = reject due.CheckData DigestMismatch s d at (λ same. cc same) is
 
 after_digest : (s : State) (accepted : Bool) (d : Owned) → OwnsNone d → Holds d (due.after_digest accepted s)
 after_digest s accepted d is =
@@ -150,14 +164,19 @@ keeps due.ReadSignature (SignatureRead text time) s d at is =
     after_signature s (judge_text s.options text) time d at is
 keeps due.CheckComment (Answered true) s d at is = after_comment s s.fault d at is
 keeps due.CheckComment (Answered false) s d at is = next_key s s.signers d at is
+keeps due.ReadList (ListRead list name) s d at is = is
+keeps due.CheckList (Answered true) s d at is =
+    after_listing (record s { is_list_signed = true }) s.listing.listed d at is
+keeps due.CheckList (Answered false) s d at is = reject due.CheckList (Library
+    (Named named.SignatureRefused)) s d at (λ same. cc same) is
 keeps due.CheckRecord (Answered accepted) s d at is = after_digest s accepted d is
 keeps due.ReadTarget (PieceRead bytes) s d at is = rw at is
 keeps due.ReadTarget TargetMissing s d at is = install s d is
-keeps due.CheckTarget (Answered accepted) s d at is = after_target s accepted d at is
+keeps due.CheckTarget (Answered accepted) s d at is = after_target s (accepted && due.is_listed s) d at is
 keeps due.CopyData (PieceCopied k) s d at is = after_piece k s s.left d at is
 keeps due.CopyData Done s d at is = after_copy s s.left d at is
 keeps due.ReadBack (PieceRead bytes) s d at is = rw at is
-keeps due.CheckData (Answered true) s d at is = is
+keeps due.CheckData (Answered true) s d at is = after_data s (due.is_listed s) d at is
 keeps due.CheckData (Answered false) s d at is = reject due.CheckData (Library
     (Named named.SignatureRefused)) s d at (λ same. cc same) is
 keeps due.CreateFile Done s d at is = is.1
@@ -173,6 +192,8 @@ keeps due.AlreadyInstalled Done s d at is = tt
 keeps due.WouldInstall Done s d at is = tt
 keeps due.Rejected Done s d at is = tt
 keeps due.ReadRecord Done s d at is = tt
+keeps due.ReadList Done s d at is = tt
+keeps due.CheckList Done s d at is = tt
 keeps due.ReadSignature Done s d at is = tt
 keeps due.CheckComment Done s d at is = tt
 keeps due.CheckRecord Done s d at is = tt

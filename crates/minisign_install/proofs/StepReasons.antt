@@ -1,17 +1,17 @@
 -- Proves that each error has a cause (IsReason), and that a run ends without an error only if IsEnd holds.
 use Rattle.std.specs.Prelude.{◌≡◌, ◌≢◌, ◌<◌, ◌≤◌, ◌+◌, ◌-◌, ⊤, ℕ, Bool, true, false, List, [], ◌∷◌, length}
-use Rattle.std.specs.Prelude.{Option, Some, None, Result, Ok, Err, IfSome, ◌++◌, ◌||◌, ◌==◌, nat_le, not}
+use Rattle.std.specs.Prelude.{Option, Some, None, Result, Ok, Err, IfSome, ◌++◌, ◌||◌, ◌&&◌, ◌==◌}
+use Rattle.std.specs.Prelude.{nat_le, not}
 use Rattle.std.specs.Prelude.{is_some, if◌then◌else◌, take}
 use Rattle.std.proofs.Common.{refl, inl, inr, sym, ap, ◌∙◌, arith, ltb-false, leb-false, eq-eqb, true≢false}
 use Rattle.std.proofs.Common.{unwrap_or, subst, leb-true}
 use Rattle.std.proofs.lemmas.Option.{none-some, same_Some}
 use Rattle.minisign.specs.SignatureText.{SignatureTextRecord}
 use Rattle.minisign_external.specs.declared.public_keys.PublicKeyValue.{PublicKeyValue}
-use Rattle.minisign_hash.specs.Blake2b.{blake2b_digest}
 use Rattle.minisign_external.specs.declared.state.Refusal.{Refusal}
 use Rattle.minisign_external.specs.declared.state.Refusal.TheVariants.{Refused}
 use Rattle.minisign_install.specs.Decisions.{Options, Recorded, comment_fault, is_below, judge_record}
-use Rattle.minisign_install.specs.Decisions.{judge_keys, judge_text, size_in, version_in}
+use Rattle.minisign_install.specs.Decisions.{judge_keys, judge_text, signed_size, version_in}
 use Rattle.minisign_install.specs.Faults.{Fault, InstallFault, Library, OtherSize, SameNumber}
 use Rattle.minisign_install.specs.Step.{Event, Done, InUse, Failed, RecordRead, SignatureRead, Answered}
 use Rattle.minisign_install.specs.Step.{PieceRead, TargetMissing, PieceCopied, State, begin, step}
@@ -21,6 +21,14 @@ use Rattle.minisign_install.specs.StepRuns.{IsAtOneOf, TimeOf}
 use Rattle.minisign_install.specs.StepRuns.{IsEnd, IsSameVersion, IsReason, IsRun, IsSigned, IsLawfulEvent}
 use Rattle.minisign_install.specs.StepRuns.{IsTrueEvent, World, accepts_digest, count, first_signer, total}
 use Rattle.minisign_install.proofs.StepSafety.{Passed, no_pass, pass, required, text_parsed}
+use Rattle.minisign_base.specs.declared.faults.NamedFault.TheVariants as named
+use Rattle.minisign_install.specs.Faults.{Named}
+use Rattle.minisign_install.specs.Listings.{digest_to_sign, fits_list}
+use Rattle.minisign_install.specs.Step.{ListRead, signed_digest}
+use Rattle.minisign_install.specs.StepRuns.{HasListing, IsListAccepted, accepts_data}
+use Rattle.minisign_install.proofs.Listings.{and_true, digest_is, list_digest, listed_as, listed_is}
+use Rattle.minisign_install.proofs.Listings.{same_digest, some_is}
+use Rattle.minisign_lists.specs.declared.digests.ListedDigest.{ListedDigest}
 
 -- The number of keys in a result of judge_text. It is not 0 if the checks succeed.
 abbrev key_count : Passed → ℕ
@@ -70,16 +78,33 @@ module _ (w : World) (o : Options) (times : Option ℕ → Bool) where
       × (s.version ≡ unwrap_or (version_in o.numbering text.comments.trusted) 0)
       × (s.signature ≡ text.signature.signature)
       × (s.comment_signature ≡ take 64 text.comments.signature)
-      × (s.left ≡ size_in text.comments.trusted) × (n ≡ 0)
+      × (s.left ≡ signed_size o.list text.comments.trusted) × (n ≡ 0)
       × (0 < length s.signers)
 
   -- The comment is signed, and not rejected.
+  abbrev IsCommented : State → Type 0
+  IsCommented s =
+      (g : IsSigned w o) × (time : TimeOf times) × (s.options ≡ o) × (s.recorded ≡ g.recorded)
+      × (comment_fault o g.recorded.version time.0 g.text.comments.trusted ≡ None)
+      × (s.version ≡ unwrap_or (version_in o.numbering g.text.comments.trusted) 0)
+      × (s.signature ≡ g.text.signature.signature) × (key_of s.signers ≡ g.key)
+
+  -- And the list, if there is one, was read, is signed, and has the name.
   abbrev IsAccepted : State → Type 0
   IsAccepted s =
       (g : IsSigned w o) × (time : TimeOf times) × (s.options ≡ o) × (s.recorded ≡ g.recorded)
       × (comment_fault o g.recorded.version time.0 g.text.comments.trusted ≡ None)
       × (s.version ≡ unwrap_or (version_in o.numbering g.text.comments.trusted) 0)
       × (s.signature ≡ g.text.signature.signature) × (key_of s.signers ≡ g.key)
+      × HasListing w o s × IsListAccepted g
+
+  abbrev commented : (s : State) → IsAccepted s → IsCommented s
+  commented s known = (known.0, known.1, known.2, known.3, known.4, known.5, known.6, known.7)
+
+  abbrev accepted_with : (s : State) (known : IsCommented s) → HasListing w o s → IsListAccepted known.0
+      → IsAccepted s
+  accepted_with s known listing list =
+      (known.0, known.1, known.2, known.3, known.4, known.5, known.6, known.7, listing, list)
 
   -- The update is not newer than the recorded version.
   abbrev IsNotNewer : State → Type 0
@@ -97,37 +122,43 @@ module _ (w : World) (o : Options) (times : Option ℕ → Bool) where
   Known n due.ReadRecord s = (s.options ≡ o) × (n ≡ 0)
   Known n due.ReadSignature s = (s.options ≡ o) × (n ≡ 0) × (judge_record o w.found_record ≡ Ok s.recorded)
   Known n due.CheckComment s = IsJudged n s
+  Known n due.ReadList s =
+      (known : IsCommented s) × Left n (signed_size o.list known.0.text.comments.trusted) s.left
+      × (is_some o.list ≡ true)
+  Known n due.CheckList s =
+      (known : IsCommented s) × Left n (signed_size o.list known.0.text.comments.trusted) s.left
+      × (is_some o.list ≡ true) × HasListing w o s
   Known n due.CheckRecord s =
-      (known : IsAccepted s) × Left n (size_in known.0.text.comments.trusted) s.left × IsNotNewer s
+      (known : IsAccepted s) × Left n (signed_size o.list known.0.text.comments.trusted) s.left × IsNotNewer s
   Known n due.ReadTarget s =
-      (known : IsAccepted s) × Left n (size_in known.0.text.comments.trusted) s.left × IsNotNewer s
+      (known : IsAccepted s) × Left n (signed_size o.list known.0.text.comments.trusted) s.left × IsNotNewer s
       × IsCompared s known
   Known n due.CheckTarget s =
-      (known : IsAccepted s) × Left n (size_in known.0.text.comments.trusted) s.left × IsNotNewer s
+      (known : IsAccepted s) × Left n (signed_size o.list known.0.text.comments.trusted) s.left × IsNotNewer s
       × IsCompared s known
   Known n due.SyncTarget s =
       (known : IsAccepted s)
-      × ((installed : List ℕ) × (accepts_digest known.0 (blake2b_digest 64 installed) ≡ true))
+      × ((installed : List ℕ) × (accepts_data known.0 installed ≡ true))
   Known n due.SyncTargetName s =
       (known : IsAccepted s)
-      × ((installed : List ℕ) × (accepts_digest known.0 (blake2b_digest 64 installed) ≡ true))
+      × ((installed : List ℕ) × (accepts_data known.0 installed ≡ true))
   Known n due.AlreadyInstalled s =
       (known : IsAccepted s)
-      × ((installed : List ℕ) × (accepts_digest known.0 (blake2b_digest 64 installed) ≡ true))
+      × ((installed : List ℕ) × (accepts_data known.0 installed ≡ true))
   Known n due.WouldInstall s = IsAccepted s × (o.check ≡ true)
   Known n due.RemoveLeftovers s =
-      (known : IsAccepted s) × Left n (size_in known.0.text.comments.trusted) s.left
+      (known : IsAccepted s) × Left n (signed_size o.list known.0.text.comments.trusted) s.left
   Known n due.CreateFile s =
-      (known : IsAccepted s) × Left n (size_in known.0.text.comments.trusted) s.left
+      (known : IsAccepted s) × Left n (signed_size o.list known.0.text.comments.trusted) s.left
   Known n due.CopyData s =
-      (known : IsAccepted s) × Left n (size_in known.0.text.comments.trusted) s.left
+      (known : IsAccepted s) × Left n (signed_size o.list known.0.text.comments.trusted) s.left
   Known n due.ReadBack s = IsAccepted s
   Known n due.CheckData s = IsAccepted s × (s.read ≡ w.update)
   Known n due.RemoveFiles s = ⊤
   Known n due.Rejected s = ⊤
   Known n due.Nothing s = ⊤
   Known n op s =
-      (known : IsAccepted s) × (accepts_digest known.0 (blake2b_digest 64 w.update) ≡ true)
+      (known : IsAccepted s) × (accepts_data known.0 w.update ≡ true)
 
   -- If the event sets this error, it is a reason for it.
   abbrev Explains : State → Event → Option InstallFault → Type 0
@@ -158,13 +189,13 @@ module _ (w : World) (o : Options) (times : Option ℕ → Bool) where
   either n false s x y e one other = other refl
 
   to_install : (n : ℕ) (check : Bool) (s : State) (known : IsAccepted s) → check ≡ o.check
-      → Left n (size_in known.0.text.comments.trusted) s.left
+      → Left n (signed_size o.list known.0.text.comments.trusted) s.left
       → Known n (if check then due.WouldInstall else due.RemoveLeftovers) (due.install s)
   to_install n true s known is sized = (known, sym is)
   to_install n false s known is sized = (known, sized)
 
   install : (n : ℕ) (s t : State) (e : Event) (known : IsAccepted t)
-      → Left n (size_in known.0.text.comments.trusted) t.left → t.error ≡ s.error
+      → Left n (signed_size o.list known.0.text.comments.trusted) t.left → t.error ≡ s.error
       → Holds n s e (due.install t)
   install n s t e known sized same = (
     to_install n t.options.check t known (ap (λ (x : Options). x.check) known.2) sized,
@@ -177,7 +208,7 @@ module _ (w : World) (o : Options) (times : Option ℕ → Bool) where
   not_newer (Some k) v is = (k, refl, ltb-false k v is)
 
   compare : (n : ℕ) (s t : State) (e : Event) (known : IsAccepted t)
-      → Left n (size_in known.0.text.comments.trusted) t.left → t.error ≡ s.error
+      → Left n (signed_size o.list known.0.text.comments.trusted) t.left → t.error ≡ s.error
       → Holds n s e (due.compare t)
   compare n s t e known sized same =
       let quiet : Explains s e t.error = λ fault none some. calm s e fault none (sym same ∙ some) in
@@ -221,7 +252,7 @@ module _ (w : World) (o : Options) (times : Option ℕ → Bool) where
       rw same refl,
       refl,
       refl,
-      refl,
+      rw same refl,
       none,
       some_signers o w.text t keys passed,
     ),
@@ -240,16 +271,41 @@ module _ (w : World) (o : Options) (times : Option ℕ → Bool) where
   left_at n size None is none = tt
   left_at n size (Some left) is none = sym is ∙ ap (λ (x : ℕ). Some x) (omega (arith, none))
 
+  -- The answer is about the key and the signature of the update.
+  of_update : (s : State) (known : IsCommented s) (digest : List ℕ) (accepted : Bool)
+      → accepted ≡ w.accepts digest (key_of s.signers) s.signature → accepts_digest known.0 digest ≡ accepted
+  of_update s (g, time, same, recorded, none, version, signature, key) digest accepted is =
+      sym (rw (key, signature) at is)
+
+  -- The answer about the digest that has to be signed.
+  answered : (s : State) (known : IsCommented s) (accepted : Bool) → HasListing w o s
+      → accepted ≡ w.accepts (signed_digest s) (key_of s.signers) s.signature
+      → accepts_digest known.0 (digest_to_sign o.list w.list s.read) ≡ accepted
+  answered s known accepted listing is =
+      of_update s known (digest_to_sign o.list w.list s.read) accepted
+      (is ∙ ap (λ d. w.accepts d (key_of s.signers) s.signature) (digest_is w o s known.2 listing))
+
+  list_next : (listed : Bool) (n : ℕ) (s t : State) (known : IsCommented t) → is_some o.list ≡ listed
+      → Left n (signed_size o.list known.0.text.comments.trusted) t.left → t.error ≡ s.error
+      → Holds n s (Answered true) (if listed then due.go due.ReadList t else due.compare t)
+  list_next true n s t known some sized same =
+      ((known, sized, some), λ fault none found. calm s (Answered true) fault none (sym same ∙ found))
+  list_next false n s t known not sized same =
+      compare n s t (Answered true)
+      (accepted_with t known (λ some. absurd (true≢false (sym some ∙ not)))
+      (λ long is. absurd (true≢false (sym (ap is_some is) ∙ not)))) sized same
+
   by_fault : (n : ℕ) (s : State) (time : TimeOf times) (g : IsSigned w o) (fault : Option InstallFault)
       → s.options ≡ o → s.recorded ≡ g.recorded
       → comment_fault o g.recorded.version time.0 g.text.comments.trusted ≡ fault
       → s.version ≡ unwrap_or (version_in o.numbering g.text.comments.trusted) 0
       → s.signature ≡ g.text.signature.signature → key_of s.signers ≡ g.key
-      → Left n (size_in g.text.comments.trusted) s.left
+      → Left n (signed_size o.list g.text.comments.trusted) s.left
       → Holds n s (Answered true) (due.after_comment fault (record s { is_signed = true }))
   by_fault n s time g None same recorded none version signature key left =
-      compare n s (record s { is_signed = true }) (Answered true)
-      (g, time, same, recorded, none, version, signature, key) left refl
+      list_next (is_some s.options.list) n s (record s { is_signed = true })
+      (g, time, same, recorded, none, version, signature, key)
+      (ap (λ (x : Options). is_some x.list) (sym same)) left refl
   by_fault n s time g (Some fault) same recorded some version signature key left =
       reject n fault s (record s { is_signed = true }) (Answered true) (inr (inr (inr (inl
       (g, time, some)))))
@@ -286,7 +342,7 @@ module _ (w : World) (o : Options) (times : Option ℕ → Bool) where
         signer = signers ∙ first_is text s.signers some (rw (signature, second) at accepted);
       } in
       by_fault n s time g fault same refl (sym is_fault ∙ is) version signature refl
-      (left_at n (size_in text.comments.trusted) s.left left none)
+      (left_at n (signed_size o.list text.comments.trusted) s.left left none)
 
   next_key : (n : ℕ) (s : State) (signers : List PublicKeyValue) → s.due ≡ due.CheckComment
       → (judged : IsJudged n (record s { signers = signers }))
@@ -368,28 +424,61 @@ module _ (w : World) (o : Options) (times : Option ℕ → Bool) where
         calm s (Answered false),
       )
 
-  -- The result of Ed25519 is about the key and the signature of the update.
-  of_update : (s : State) (known : IsAccepted s) (digest : List ℕ) (accepted : Bool)
-      → accepted ≡ w.accepts digest (key_of s.signers) s.signature → accepts_digest known.0 digest ≡ accepted
-  of_update s (g, time, same, recorded, none, version, signature, key) digest accepted is =
-      sym (rw (key, signature) at is)
+  -- The result of Ed25519 about the data is about the key and the signature of the update.
+  data_answered : (s : State) (known : IsAccepted s) (accepted : Bool)
+      → accepted ≡ w.accepts (signed_digest s) (key_of s.signers) s.signature
+      → accepts_data known.0 s.read ≡ (accepted && due.is_listed s)
+  data_answered s known accepted is =
+      let signed = answered s (commented s known) accepted known.8 is in
+      let listed = listed_is w o s known.2 known.8 in
+      λ i. signed i && sym listed i
+
+  -- After Ed25519 accepted the list.
+  after_listing : (n : ℕ) (s : State) (listed : Result ListedDigest InstallFault) (known : IsCommented s)
+      → Left n (signed_size o.list known.0.text.comments.trusted) s.left → is_some o.list ≡ true
+      → HasListing w o s → s.listing.listed ≡ listed
+      → accepts_digest known.0 (digest_to_sign o.list w.list s.read) ≡ true
+      → Holds n s (Answered true) (due.after_listing listed (record s { is_list_signed = true }))
+  after_listing n s (Ok digest) known sized some listing is signed =
+      compare n s (record s { is_list_signed = true }) (Answered true)
+      (accepted_with (record s { is_list_signed = true }) known listing (λ long mode. (
+        ap (accepts_digest known.0) (sym (list_digest o.list w.list s.read long mode)) ∙ signed,
+        (digest, listed_as w o s long mode listing ∙ is),
+      ))) sized refl
+  after_listing n s (Err fault) known sized some listing is signed =
+      let (long, mode) = some_is o.list some in
+      reject n fault s (record s { is_list_signed = true }) (Answered true)
+      (inr (inr (inr (inr (inr (inr (inr (inl (
+        known.0,
+        ap (accepts_digest known.0) (same_digest o.list w.list w.update s.read some) ∙ signed,
+        (long, mode, listed_as w o s long mode listing ∙ is),
+      )))))))))
+
+  list_refused : (n : ℕ) (s : State) (known : IsCommented s) → is_some o.list ≡ true
+      → accepts_digest known.0 (digest_to_sign o.list w.list s.read) ≡ false
+      → Holds n s (Answered false) (due.reject (Library (Named named.SignatureRefused)) s)
+  list_refused n s known some wrong =
+      reject n _ s s (Answered false)
+      (inr (inr (inr (inr (inr (inr (inl (
+        known.0,
+        refl,
+        ap (accepts_digest known.0) (same_digest o.list w.list w.update s.read some) ∙ wrong,
+      ))))))))
 
   other_digest : (s : State) (digest : List ℕ) (known : IsAccepted s)
       → false ≡ w.accepts (unwrap_or s.recorded.digest []) (key_of s.signers) s.signature
       → s.recorded.digest ≡ Some digest → accepts_digest known.0 digest ≡ false
-  other_digest s digest known is some = of_update s known digest false (rw some at is)
+  other_digest s digest known is some = of_update s (commented s known) digest false (rw some at is)
 
   same_number : (r : Option ℕ) (v k : ℕ) → r ≡ Some k → v ≤ k → is_below (Some v) r ≡ false → v ≡ k
   same_number None v k is older not = absurd (none-some k is)
   same_number (Some j) v k is older not = omega (arith, same_Some j k is, older, ltb-false v j not)
 
   same_version : (s : State) (known : IsAccepted s) → IsNotNewer s → IsCompared s known
-      → (s.is_recorded || s.options.again) ≡ false
-      → false ≡ w.accepts (blake2b_digest 64 s.read) (key_of s.signers) s.signature
+      → (s.is_recorded || s.options.again) ≡ false → accepts_data known.0 s.read ≡ false
       → IsSameVersion known.0
-  same_version s (g, time, same, recorded, none, version, signature, key)
+  same_version s (g, time, same, recorded, none, version, signature, key, listing, list)
       (k, is_k, older) compared may_not is =
-      let known : IsAccepted s = (g, time, same, recorded, none, version, signature, key) in
       let both = neither s.is_recorded s.options.again may_not in
       let others = compared both.0 in
       record {
@@ -398,7 +487,7 @@ module _ (w : World) (o : Options) (times : Option ℕ → Bool) where
         recorded = sym (ap (λ (r : Recorded). r.version) recorded) ∙ is_k;
         offered = sym version ∙ same_number s.recorded.version s.version k is_k older others.0;
         installed = s.read;
-        other = of_update s known (blake2b_digest 64 s.read) false is;
+        other = is;
         other_digest =
             λ digest some. others.1 digest (ap (λ (r : Recorded). r.digest) recorded ∙ some);
       }
@@ -427,26 +516,44 @@ module _ (w : World) (o : Options) (times : Option ℕ → Bool) where
       ))
 
   target_is_update : (n : ℕ) (check : Bool) (t : State) (known : IsAccepted t)
-      → ((installed : List ℕ) × (accepts_digest known.0 (blake2b_digest 64 installed) ≡ true))
+      → ((installed : List ℕ) × (accepts_data known.0 installed ≡ true))
       → Known n (if check then due.AlreadyInstalled else due.SyncTarget) t
   target_is_update n true t known is = (known, is)
   target_is_update n false t known is = (known, is)
 
-  after_target : (n : ℕ) (s : State) (accepted : Bool) → Known n due.CheckTarget s
-      → accepted ≡ w.accepts (blake2b_digest 64 s.read) (key_of s.signers) s.signature
-      → Holds n s (Answered accepted) (due.after_target accepted s)
-  after_target n s true (known, sized, older, compared) is = (
-    target_is_update n s.options.check (due.after_target true s) known (s.read, of_update s known _ true is),
-    calm s (Answered true),
+  after_target : (n : ℕ) (s : State) (accepted is_update : Bool) → (known : Known n due.CheckTarget s)
+      → accepts_data known.0.0 s.read ≡ is_update
+      → Holds n s (Answered accepted) (due.after_target is_update s)
+  after_target n s accepted true (known, sized, older, compared) is = (
+    target_is_update n s.options.check (due.after_target true s) known (s.read, is),
+    calm s (Answered accepted),
   )
-  after_target n s false (known, sized, older, compared) is =
-      either n (s.is_recorded || s.options.again) s _ _ (Answered false)
-      (λ may. install n s s (Answered false) known sized refl)
-      (λ may_not. reject n SameNumber s s (Answered false)
+  after_target n s accepted false (known, sized, older, compared) is =
+      either n (s.is_recorded || s.options.again) s _ _ (Answered accepted)
+      (λ may. install n s s (Answered accepted) known sized refl)
+      (λ may_not. reject n SameNumber s s (Answered accepted)
       (inr (inr (inr (inr (inl (known.0, refl, same_version s known older compared may_not is)))))))
 
+  after_data : (n : ℕ) (s : State) (listed : Bool) (known : IsAccepted s) → due.is_listed s ≡ listed
+      → s.read ≡ w.update → accepts_digest known.0 (digest_to_sign o.list w.list s.read) ≡ true
+      → Holds n s (Answered true) (due.after_data listed s)
+  after_data n s true known listed whole signed =
+      let fits = sym (listed_is w o s known.2 known.8) ∙ listed in (
+        (known, ap (λ m. accepts_data known.0 m) (sym whole) ∙ and_true _ _ signed fits),
+        calm s (Answered true),
+      )
+  after_data n s false known not whole signed =
+      let other = sym (listed_is w o s known.2 known.8) ∙ not in
+      reject n _ s s (Answered true)
+      (inr (inr (inr (inr (inr (inr (inr (inr (
+        known.0,
+        refl,
+        ap (λ m. accepts_digest known.0 (digest_to_sign o.list w.list m)) (sym whole) ∙ signed,
+        ap (fits_list o.list w.list w.name) (sym whole) ∙ other,
+      )))))))))
+
   after_piece : (n k : ℕ) (s : State) (left : Option ℕ) → s.due ≡ due.CopyData → s.left ≡ left
-      → (known : IsAccepted s) → Left n (size_in known.0.text.comments.trusted) left
+      → (known : IsAccepted s) → Left n (signed_size o.list known.0.text.comments.trusted) left
       → n + k ≤ length w.update → Holds (n + k) s (PieceCopied k) (due.after_piece k left s)
   after_piece n k s None at is_left known sized fits =
       (rw (at, is_left) (known, tt), calm s (PieceCopied k))
@@ -460,7 +567,7 @@ module _ (w : World) (o : Options) (times : Option ℕ → Bool) where
       (inr (inr (inr (inr (inr (inl (known.0, refl, (left + n, sized, too_long n k left more fits)))))))))
 
   after_copy : (n : ℕ) (s : State) (left : Option ℕ) → (known : IsAccepted s)
-      → Left n (size_in known.0.text.comments.trusted) left → n ≡ length w.update
+      → Left n (signed_size o.list known.0.text.comments.trusted) left → n ≡ length w.update
       → Holds n s Done (due.after_copy left s)
   after_copy n s None known sized all = (known, calm s Done)
   after_copy n s (Some left) known sized all =
@@ -494,32 +601,35 @@ module _ (w : World) (o : Options) (times : Option ℕ → Bool) where
       (is known.0 known.5)
   keeps n due.CheckComment (Answered false) s at known is timed = next_key n s s.signers at known
       (is known.0 known.5)
+  keeps n due.ReadList (ListRead list name) s at (known, sized, some) is timed = (
+    (known, sized, some, λ listed. rw (ap (λ (x : Options). x.list) known.2, is.0, is.1) refl),
+    calm s (ListRead list name),
+  )
+  keeps n due.CheckList (Answered true) s at (known, sized, some, listing) is timed =
+      after_listing n s s.listing.listed known sized some listing refl (answered s known true listing is)
+  keeps n due.CheckList (Answered false) s at (known, sized, some, listing) is timed =
+      list_refused n s known some (answered s known false listing is)
   keeps n due.CheckRecord (Answered accepted) s at known is timed = after_digest n s accepted known is
   keeps n due.ReadTarget (PieceRead bytes) s at known is timed = (rw at known, calm s (PieceRead bytes))
   keeps n due.ReadTarget TargetMissing s at (known, sized, older, compared) is timed =
       install n s s TargetMissing known sized refl
-  keeps n due.CheckTarget (Answered accepted) s at known is timed = after_target n s accepted known is
+  keeps n due.CheckTarget (Answered accepted) s at known is timed =
+      after_target n s accepted (accepted && due.is_listed s) known (data_answered s known.0 accepted is)
   keeps n due.CopyData (PieceCopied k) s at (known, sized) is timed =
       after_piece n k s s.left at refl known sized is.1
   keeps n due.CopyData Done s at (known, sized) is timed = after_copy n s s.left known sized is
   keeps n due.ReadBack (PieceRead bytes) s at known is timed = (rw at known, calm s (PieceRead bytes))
   keeps n due.ReadBack Done s at known is timed = ((known, is), calm s Done)
-  keeps n due.CheckData (Answered true) s at (known, whole) is timed = (
-    (
-      known,
-      ap (λ m. accepts_digest known.0 (blake2b_digest 64 m)) (sym whole)
-          ∙ of_update s known _ true is,
-    ),
-    calm s (Answered true),
-  )
+  keeps n due.CheckData (Answered true) s at (known, whole) is timed =
+      after_data n s (due.is_listed s) known refl whole (answered s (commented s known) true known.8 is)
   keeps n due.CheckData (Answered false) s at (known, whole) is timed =
       reject n _ s s (Answered false)
-      (inr (inr (inr (inr (inr (inr (
+      (inr (inr (inr (inr (inr (inr (inl (
         known.0,
         refl,
-        ap (λ m. accepts_digest known.0 (blake2b_digest 64 m)) (sym whole)
-            ∙ of_update s known _ false is,
-      )))))))
+        ap (λ m. accepts_digest known.0 (digest_to_sign o.list w.list m)) (sym whole)
+            ∙ answered s (commented s known) false known.8 is,
+      ))))))))
   keeps n due.RemoveFiles Done s at known is timed = (tt, calm s Done)
   keeps n due.Nothing Done s at known is timed = tt
   keeps n due.Installed Done s at known is timed = tt
@@ -529,6 +639,8 @@ module _ (w : World) (o : Options) (times : Option ℕ → Bool) where
   keeps n due.ReadRecord Done s at known is timed = tt
   keeps n due.ReadSignature Done s at known is timed = tt
   keeps n due.CheckComment Done s at known is timed = tt
+  keeps n due.ReadList Done s at known is timed = tt
+  keeps n due.CheckList Done s at known is timed = tt
   keeps n due.CheckRecord Done s at known is timed = tt
   keeps n due.CheckTarget Done s at known is timed = tt
   keeps n due.CheckData Done s at known is timed = tt
@@ -553,12 +665,14 @@ module _ (w : World) (o : Options) (times : Option ℕ → Bool) where
   begins false = (refl, refl)
 
   ends : (n : ℕ) (op : Operation) (s : State) → Known n op s → IsEnd w o times op
-  ends n due.Installed s ((g, time, same, recorded, none, version, signature, key), whole) =
+  ends n due.Installed s ((g, time, same, recorded, none, version, signature, key, listing, list), whole) =
       (g, time, none, whole)
-  ends n due.AlreadyInstalled s ((g, time, same, recorded, none, version, signature, key), present) =
+  ends n due.AlreadyInstalled s
+      ((g, time, same, recorded, none, version, signature, key, listing, list), present) =
       (g, time, none, present)
-  ends n due.WouldInstall s ((g, time, same, recorded, none, version, signature, key), check) =
-      (check, (g, time, none))
+  ends n due.WouldInstall s
+      ((g, time, same, recorded, none, version, signature, key, listing, list), check) =
+      (check, (g, time, none, list))
   ends n op s known = tt
 
   refused : (before now : Option InstallFault) (fault : InstallFault)

@@ -13,6 +13,9 @@ use Rattle.minisign_install.specs.Step.{Answered, Done, Event, Failed, InUse, Op
 use Rattle.minisign_install.specs.Step.{PieceRead, RecordRead, SignatureRead, State, TargetMissing, after}
 use Rattle.minisign_install.specs.Step.{answer, begin, step}
 use Rattle.minisign_install.specs.StepRuns.{AllSucceed, Changes, Disk, Runs, Succeeds, World, count}
+use Rattle.minisign_lists.specs.declared.digests.ListedDigest.{ListedDigest}
+use Rattle.minisign_install.specs.Faults.{DigestMismatch}
+use Rattle.minisign_install.specs.Step.{ListRead}
 
 module _ (old : Disk) where
   -- Until the record is renamed, the target and the record are unchanged. After that, only a failure can
@@ -57,7 +60,7 @@ module _ (old : Disk) where
 
   after_comment : (s : State) (d : Disk) (fault : Option InstallFault) → d ≡ old
       → Holds (due.after_comment fault s).due d
-  after_comment s d None is = compare s d is
+  after_comment s d None is = either (is_some s.options.list) (due.go due.ReadList s) _ d is (compare s d is)
   after_comment s d (Some fault) is = reject fault s d is
 
   next_key : (s : State) (d : Disk) (signers : List PublicKeyValue) → s.due ≡ due.CheckComment → d ≡ old
@@ -65,6 +68,15 @@ module _ (old : Disk) where
   next_key s d [] same is = reject (Library (Named named.CommentSignatureRefused)) s d is
   next_key s d (v ∷ []) same is = reject (Library (Named named.CommentSignatureRefused)) s d is
   next_key s d (v ∷ w ∷ more) same is = rw same is
+
+  after_listing : (s : State) (d : Disk) (listed : Result ListedDigest InstallFault) → d ≡ old
+      → Holds (due.after_listing listed s).due d
+  after_listing s d (Ok digest) is = compare s d is
+  after_listing s d (Err fault) is = reject fault s d is
+
+  after_data : (s : State) (d : Disk) (listed : Bool) → d ≡ old → Holds (due.after_data listed s).due d
+  after_data s d true is = is
+  after_data s d false is = reject DigestMismatch s d is
 
   after_digest : (s : State) (d : Disk) (accepted : Bool) → d ≡ old
       → Holds (due.after_digest accepted s).due d
@@ -101,17 +113,23 @@ module _ (old : Disk) where
       after_comment (record s { is_signed = true }) new s.fault (change ∙ same)
   keeps due.CheckComment (Answered false) s mid new at same change fine =
       next_key s new s.signers at (change ∙ same)
+  keeps due.ReadList (ListRead list name) s mid new at same change fine = change ∙ same
+  keeps due.CheckList (Answered true) s mid new at same change fine =
+      after_listing (record s { is_list_signed = true }) new s.listing.listed (change ∙ same)
+  keeps due.CheckList (Answered false) s mid new at same change fine =
+      reject (Library (Named named.SignatureRefused)) s new (change ∙ same)
   keeps due.CheckRecord (Answered accepted) s mid new at same change fine =
       after_digest s new accepted (change ∙ same)
   keeps due.ReadTarget (PieceRead bytes) s mid new at same change fine = rw at (change ∙ same)
   keeps due.ReadTarget TargetMissing s mid new at same change fine = install s new (change ∙ same)
   keeps due.CheckTarget (Answered accepted) s mid new at same change fine =
-      after_target s new accepted (change ∙ same)
+      after_target s new (accepted && due.is_listed s) (change ∙ same)
   keeps due.CopyData (PieceCopied k) s mid new at same change fine =
       after_piece k s new s.left at (change ∙ same)
   keeps due.CopyData Done s mid new at same change fine = after_copy s new s.left (change ∙ same)
   keeps due.ReadBack (PieceRead bytes) s mid new at same change fine = rw at (change ∙ same)
-  keeps due.CheckData (Answered true) s mid new at same change fine = change ∙ same
+  keeps due.CheckData (Answered true) s mid new at same change fine =
+      after_data s new (due.is_listed s) (change ∙ same)
   keeps due.CheckData (Answered false) s mid new at same change fine =
       reject (Library (Named named.SignatureRefused)) s new (change ∙ same)
   keeps due.RenameRecord Done s mid new at same change fine = tt
@@ -126,6 +144,8 @@ module _ (old : Disk) where
   keeps due.ReadRecord Done s mid new at holds change fine = tt
   keeps due.ReadSignature Done s mid new at holds change fine = tt
   keeps due.CheckComment Done s mid new at holds change fine = tt
+  keeps due.ReadList Done s mid new at holds change fine = tt
+  keeps due.CheckList Done s mid new at holds change fine = tt
   keeps due.CheckRecord Done s mid new at holds change fine = tt
   keeps due.CheckTarget Done s mid new at holds change fine = tt
   keeps due.CheckData Done s mid new at holds change fine = tt

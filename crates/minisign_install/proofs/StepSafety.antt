@@ -13,14 +13,19 @@ use Rattle.minisign_base.specs.declared.faults.NamedFault.{NamedFault}
 use Rattle.minisign_install.specs.Decisions.{Options, Recorded, comment_fault, is_below, judge_keys}
 use Rattle.minisign_install.specs.Decisions.{judge_record, judge_text, judge_version, names_other_key}
 use Rattle.minisign_install.specs.Decisions.{nothing_recorded, recorded_version, version_in}
-use Rattle.minisign_install.specs.Faults.{Fault, InstallFault, Library, OtherSize, SameNumber}
+use Rattle.minisign_install.specs.Faults.{DigestMismatch, Fault, InstallFault, Library, OtherSize}
+use Rattle.minisign_install.specs.Faults.{SameNumber}
+use Rattle.minisign_install.specs.Listings.{fits_list}
 use Rattle.minisign_install.specs.Step.{Event, Done, InUse, Failed, RecordRead, SignatureRead, Answered}
-use Rattle.minisign_install.specs.Step.{PieceRead, TargetMissing, PieceCopied, State, begin, step}
+use Rattle.minisign_install.specs.Step.{ListRead, PieceRead, TargetMissing, PieceCopied, State, begin}
+use Rattle.minisign_install.specs.Step.{is_listed, step}
 use Rattle.minisign_install.specs.Step.{Operation, after, answer, comment_question, data_question}
 use Rattle.minisign_install.specs.Step.{has_files, new_record}
 use Rattle.minisign_install.specs.Step as due
 use Rattle.minisign_install.specs.StepRuns.{IsTrueEvent, World, count, Changes, Disk, IsSafe, HasVersion}
-use Rattle.minisign_install.specs.StepRuns.{ComparesNoVersion, IsUpdate, Runs, says_yes}
+use Rattle.minisign_install.specs.StepRuns.{HasListing, ComparesNoVersion, IsUpdate, Runs, says_yes}
+use Rattle.minisign_install.proofs.Listings.{listed_is}
+use Rattle.minisign_lists.specs.declared.digests.ListedDigest.{ListedDigest}
 
 pub required : {V : Type 0} (holds : Bool) (fault : NamedFault) (more : Result V Fault) (v : V)
     → require holds fault more ≡ Ok v → more ≡ Ok v
@@ -130,14 +135,20 @@ module _ (w : World) (o : Options) where
       × (s.comment_signature ≡ take 64 text.comments.signature)
 
   -- The comment is not rejected, and the first of the signers has signed it.
-  abbrev pub IsAccepted : State → Type 0
-  IsAccepted s =
+  abbrev pub IsCommented : State → Type 0
+  IsCommented s =
       (judged : IsJudged s) × (s.fault ≡ None)
       × (says_yes w (comment_question s judged.0.comments.trusted) ≡ true)
 
-  -- In addition, this key has signed the data that was read.
+  -- In addition, the list was read, if there is one.
+  abbrev pub IsAccepted : State → Type 0
+  IsAccepted s = IsCommented s × HasListing w o s
+
+  -- In addition, this key has signed the data that was read, or the list in which it is listed.
   abbrev pub IsWhole : State → Type 0
-  IsWhole s = IsAccepted s × (says_yes w (data_question due.CheckData s) ≡ true)
+  IsWhole s =
+      IsAccepted s × (says_yes w (data_question due.CheckData s) ≡ true)
+      × (fits_list o.list w.list w.name s.read ≡ true)
 
   not_below : (r : Option ℕ) (v k : ℕ) → r ≡ Some k
       → k ≤ (if is_below (Some v) r then unwrap_or r v else v)
@@ -151,24 +162,28 @@ module _ (w : World) (o : Options) where
   update_of s (
     (
       (
-        text,
-        keys,
-        others,
-        time,
-        same,
-        record_applies,
-        parsed,
-        passed,
-        given,
-        fault,
-        version,
-        signature,
-        second,
+        (
+          text,
+          keys,
+          others,
+          time,
+          same,
+          record_applies,
+          parsed,
+          passed,
+          given,
+          fault,
+          version,
+          signature,
+          second,
+        ),
+        none,
+        comment,
       ),
-      none,
-      comment,
+      listing,
     ),
     whole,
+    listed,
   ) = record {
     same = same;
     record_applies = record_applies;
@@ -185,6 +200,8 @@ module _ (w : World) (o : Options) where
     comment_signature = second;
     signed_comment = comment;
     signed_data = whole;
+    listing = listing;
+    listed = listed;
     not_older = λ k is. (
       has_version w.found_record s.recorded k record_applies is,
       not_below s.recorded.version
@@ -199,6 +216,8 @@ module _ (w : World) (o : Options) where
   Known due.ReadRecord s = s.options ≡ o
   Known due.ReadSignature s = (s.options ≡ o) × (judge_record o w.found_record ≡ Ok s.recorded)
   Known due.CheckComment s = IsJudged s
+  Known due.ReadList s = IsCommented s × (is_some o.list ≡ true)
+  Known due.CheckList s = IsAccepted s × (is_some o.list ≡ true)
   Known due.CheckRecord s = IsAccepted s
   Known due.ReadTarget s = IsAccepted s
   Known due.CheckTarget s = IsAccepted s
@@ -321,12 +340,21 @@ module _ (w : World) (o : Options) where
         (either (is_some s.recorded.digest) _ _ new (accepted, is)
         (either (due.is_rolling_back s) _ _ new (install s new accepted is) (accepted, is)))
 
+    list_next : (listed : Bool) (s : State) (new : Disk) → is_some o.list ≡ listed → IsCommented s
+        → new ≡ old
+        → Holds (if listed then due.go due.ReadList s else due.compare s).due
+        (if listed then due.go due.ReadList s else due.compare s) new
+    list_next true s new some known is = ((known, some), is)
+    list_next false s new none known is =
+        compare s new (known, λ some. absurd (true≢false (sym some ∙ none))) is
+
     after_comment : (s : State) (new : Disk) (fault : Option InstallFault) → (judged : IsJudged s)
         → s.fault ≡ fault → says_yes w (comment_question s judged.0.comments.trusted) ≡ true → new ≡ old
         → Holds (due.after_comment fault (record s { is_signed = true })).due
         (due.after_comment fault (record s { is_signed = true })) new
     after_comment s new None judged none comment is =
-        compare (record s { is_signed = true }) new (judged, none, comment) is
+        list_next (is_some s.options.list) (record s { is_signed = true }) new
+        (ap (λ (x : Options). is_some x.list) (sym judged.4)) (judged, none, comment) is
     after_comment s new (Some fault) judged some comment is =
         reject fault (record s { is_signed = true }) new (inl is)
 
@@ -371,6 +399,18 @@ module _ (w : World) (o : Options) where
           ),
           is,
         )
+
+    after_listing : (s : State) (new : Disk) (listed : Result ListedDigest InstallFault) → IsAccepted s
+        → new ≡ old → Holds (due.after_listing listed s).due (due.after_listing listed s) new
+    after_listing s new (Ok digest) known is = compare s new known is
+    after_listing s new (Err fault) known is = reject fault s new (inl is)
+
+    after_data : (s : State) (new : Disk) (listed : Bool) → is_listed s ≡ listed → IsAccepted s
+        → says_yes w (data_question due.CheckData s) ≡ true → new ≡ old
+        → Holds (due.after_data listed s).due (due.after_data listed s) new
+    after_data s new true listed (known, listing) whole is =
+        (((known, listing), whole, sym (listed_is w o s known.0.4 listing) ∙ listed), is)
+    after_data s new false listed known whole is = reject DigestMismatch s new (inl is)
 
     after_digest : (s : State) (new : Disk) (accepted : Bool) → IsAccepted s → new ≡ old
         → Holds (due.after_digest accepted s).due (due.after_digest accepted s) new
@@ -432,6 +472,17 @@ module _ (w : World) (o : Options) where
         after_comment s new s.fault known refl (sym (is known.0 known.6)) (change ∙ same)
     keeps n due.CheckComment (Answered false) s mid new at (known, same) change is =
         next_key s new s.signers at known (change ∙ same)
+    keeps n due.ReadList (ListRead list name) s mid new at (known, same) change is = (
+      (
+        (known.0, λ some. rw (ap (λ (x : Options). x.list) known.0.0.4, is.0, is.1) refl),
+        known.1,
+      ),
+      change ∙ same,
+    )
+    keeps n due.CheckList (Answered true) s mid new at (known, same) change is =
+        after_listing (record s { is_list_signed = true }) new s.listing.listed known.0 (change ∙ same)
+    keeps n due.CheckList (Answered false) s mid new at (known, same) change is =
+        reject _ s new (inl (change ∙ same))
     keeps n due.CheckRecord (Answered accepted) s mid new at (known, same) change is =
         after_digest s new accepted known (change ∙ same)
     keeps n due.ReadTarget (PieceRead bytes) s mid new at (known, same) change is = rw at
@@ -439,7 +490,7 @@ module _ (w : World) (o : Options) where
     keeps n due.ReadTarget TargetMissing s mid new at (known, same) change is =
         install s new known (change ∙ same)
     keeps n due.CheckTarget (Answered accepted) s mid new at (known, same) change is =
-        after_target s new accepted known (change ∙ same)
+        after_target s new (accepted && is_listed s) known (change ∙ same)
     keeps n due.CopyData (PieceCopied k) s mid new at (known, same) change is =
         after_piece k s new s.left at known (change ∙ same)
     keeps n due.CopyData Done s mid new at (known, same) change is = after_copy s new s.left known
@@ -450,7 +501,7 @@ module _ (w : World) (o : Options) where
           ∙ same,
     )
     keeps n due.CheckData (Answered true) s mid new at (known, same) change is =
-        ((known, sym is), change ∙ same)
+        after_data s new (is_listed s) refl known (sym is) (change ∙ same)
     keeps n due.CheckData (Answered false) s mid new at (known, same) change is =
         reject _ s new (inl (change ∙ same))
     keeps n due.RenameRecord Done s mid new at (known, same) change is = (
@@ -473,6 +524,8 @@ module _ (w : World) (o : Options) where
     keeps n due.ReadRecord Done s mid new at holds change is = tt
     keeps n due.ReadSignature Done s mid new at holds change is = tt
     keeps n due.CheckComment Done s mid new at holds change is = tt
+    keeps n due.ReadList Done s mid new at holds change is = tt
+    keeps n due.CheckList Done s mid new at holds change is = tt
     keeps n due.CheckRecord Done s mid new at holds change is = tt
     keeps n due.CheckTarget Done s mid new at holds change is = tt
     keeps n due.CheckData Done s mid new at holds change is = tt

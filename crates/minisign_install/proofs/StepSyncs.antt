@@ -14,6 +14,8 @@ use Rattle.minisign_install.specs.StepRuns.{EventFits, IsRun, IsSynced, OnDisk, 
 use Rattle.minisign_install.specs.StepRuns.{synced_by}
 use Rattle.minisign_install.specs.StepRuns.{syncs}
 use Rattle.minisign_install.proofs.StepSafety.{Passed}
+use Rattle.minisign_lists.specs.declared.digests.ListedDigest.{ListedDigest}
+use Rattle.minisign_install.specs.Faults.{DigestMismatch}
 
 -- The files that must be synced in this state are synced.
 abbrev Holds : OnDisk → State → Type 0
@@ -54,7 +56,8 @@ after_signature s (Err fault) time d = reject _ s d
 
 after_comment : (s : State) (fault : Option InstallFault) (d : OnDisk)
     → Holds d (due.after_comment fault (record s { is_signed = true }))
-after_comment s None d = compare (record s { is_signed = true }) d
+after_comment s None d =
+    either (is_some s.options.list) _ _ d tt (compare (record s { is_signed = true }) d)
 after_comment s (Some fault) d = reject fault (record s { is_signed = true }) d
 
 next_key : (s : State) (signers : List PublicKeyValue) (d : OnDisk) → s.due ≡ due.CheckComment
@@ -62,6 +65,15 @@ next_key : (s : State) (signers : List PublicKeyValue) (d : OnDisk) → s.due �
 next_key s [] d at = reject _ s d
 next_key s (v ∷ []) d at = reject _ s d
 next_key s (v ∷ u ∷ more) d at = rw at tt
+
+after_listing : (s : State) (listed : Result ListedDigest InstallFault) (d : OnDisk)
+    → Holds d (due.after_listing listed s)
+after_listing s (Ok digest) d = compare s d
+after_listing s (Err fault) d = reject fault s d
+
+after_data : (s : State) (listed : Bool) (d : OnDisk) → Holds d (due.after_data listed s)
+after_data s true d = tt
+after_data s false d = reject DigestMismatch s d
 
 after_digest : (s : State) (accepted : Bool) (d : OnDisk) → Holds d (due.after_digest accepted s)
 after_digest s accepted d = either (not accepted && due.is_rolling_back s) _ _ d (install s d) tt
@@ -105,14 +117,17 @@ keeps due.ReadSignature (SignatureRead text time) s d at is =
     after_signature s (judge_text s.options text) time d
 keeps due.CheckComment (Answered true) s d at is = after_comment s s.fault d
 keeps due.CheckComment (Answered false) s d at is = next_key s s.signers d at
+keeps due.CheckList (Answered true) s d at is =
+    after_listing (record s { is_list_signed = true }) s.listing.listed d
+keeps due.CheckList (Answered false) s d at is = reject _ s d
 keeps due.CheckRecord (Answered accepted) s d at is = after_digest s accepted d
 keeps due.ReadTarget (PieceRead bytes) s d at is = rw at tt
 keeps due.ReadTarget TargetMissing s d at is = install s d
-keeps due.CheckTarget (Answered accepted) s d at is = after_target s accepted d
+keeps due.CheckTarget (Answered accepted) s d at is = after_target s (accepted && due.is_listed s) d
 keeps due.CopyData (PieceCopied k) s d at is = after_piece k s s.left _ at
 keeps due.CopyData Done s d at is = after_copy s s.left d
 keeps due.ReadBack (PieceRead bytes) s d at is = rw at tt
-keeps due.CheckData (Answered true) s d at is = tt
+keeps due.CheckData (Answered true) s d at is = after_data s (due.is_listed s) d
 keeps due.CheckData (Answered false) s d at is = reject _ s d
 keeps due.SyncFile Done s d at is = refl
 keeps due.SyncTarget Done s d at is = refl

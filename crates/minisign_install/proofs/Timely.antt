@@ -13,6 +13,8 @@ use Rattle.minisign_install.specs.Step as due
 use Rattle.minisign_install.specs.StepRuns.{World, count}
 use Rattle.minisign_install.proofs.SafeCalls.{Invariant, begins, knows, next}
 use Rattle.minisign_install.proofs.StepSafety.{Known, Passed, text_parsed}
+use Rattle.minisign_lists.specs.declared.digests.ListedDigest.{ListedDigest}
+use Rattle.minisign_install.specs.Faults.{DigestMismatch}
 
 abbrev ok : SignatureTextRecord → Result SignatureTextRecord Fault
 ok t = Ok t
@@ -80,7 +82,8 @@ module _ (w : World) (o : Options) (time : Option ℕ) where
 
   after_comment : (fault : Option InstallFault) (s : State) → IsTimely s
       → Holds (due.after_comment fault (record s { is_signed = true }))
-  after_comment None s is = compare (record s { is_signed = true }) is
+  after_comment None s is =
+      either (is_some s.options.list) _ _ is (compare (record s { is_signed = true }) is)
   after_comment (Some fault) s is = reject fault (record s { is_signed = true })
 
   next_key : (signers : List PublicKeyValue) (s : State) → s.due ≡ due.CheckComment → IsTimely s
@@ -88,6 +91,15 @@ module _ (w : World) (o : Options) (time : Option ℕ) where
   next_key [] s at is = reject _ s
   next_key (v ∷ []) s at is = reject _ s
   next_key (v ∷ u ∷ more) s at is = rw at is
+
+  after_listing : (listed : Result ListedDigest InstallFault) (s : State) → IsTimely s
+      → Holds (due.after_listing listed s)
+  after_listing (Ok digest) s is = compare s is
+  after_listing (Err fault) s is = reject fault s
+
+  after_data : (listed : Bool) (s : State) → IsTimely s → Holds (due.after_data listed s)
+  after_data true s is = is
+  after_data false s is = reject DigestMismatch s
 
   after_digest : (accepted : Bool) (s : State) → IsTimely s → Holds (due.after_digest accepted s)
   after_digest accepted s is = either (not accepted && due.is_rolling_back s) _ _ (install s is) is
@@ -133,14 +145,19 @@ module _ (w : World) (o : Options) (time : Option ℕ) where
       after_signature (judge_text s.options text) other s known.0 now (rw (known.0, done.0) refl)
   keeps due.CheckComment (due.Answered true) s old new at known is done now = after_comment s.fault s is
   keeps due.CheckComment (due.Answered false) s old new at known is done now = next_key s.signers s at is
+  keeps due.ReadList (due.ListRead list name) s old new at known is done now = is
+  keeps due.CheckList (due.Answered true) s old new at known is done now =
+      after_listing s.listing.listed (record s { is_list_signed = true }) is
+  keeps due.CheckList (due.Answered false) s old new at known is done now = reject _ s
   keeps due.CheckRecord (due.Answered accepted) s old new at known is done now = after_digest accepted s is
   keeps due.ReadTarget (due.PieceRead bytes) s old new at known is done now = rw at is
   keeps due.ReadTarget due.TargetMissing s old new at known is done now = install s is
-  keeps due.CheckTarget (due.Answered accepted) s old new at known is done now = after_target accepted s is
+  keeps due.CheckTarget (due.Answered accepted) s old new at known is done now =
+      after_target (accepted && due.is_listed s) s is
   keeps due.CopyData (due.PieceCopied n) s old new at known is done now = after_piece n s.left s at is
   keeps due.CopyData due.Done s old new at known is done now = after_copy s.left s is
   keeps due.ReadBack (due.PieceRead bytes) s old new at known is done now = rw at is
-  keeps due.CheckData (due.Answered true) s old new at known is done now = is
+  keeps due.CheckData (due.Answered true) s old new at known is done now = after_data (due.is_listed s) s is
   keeps due.CheckData (due.Answered false) s old new at known is done now = reject _ s
   keeps due.Lock due.Done s old new at known is done now = tt
   keeps due.RemoveFiles due.Done s old new at known is done now = tt
@@ -191,28 +208,30 @@ module _ (w : World) (o : Options) (time : Option ℕ) where
   accepted_at : (op : Operation) (s : State) → At op s → Known w o op s → is_past_comment op ≡ true
       → (text : SignatureTextRecord) → w.text ≡ Ok text
       → comment_fault o s.recorded.version time text.comments.trusted ≡ None
-  accepted_at due.CheckRecord s holds known is = fault_is s holds known.1
-  accepted_at due.ReadTarget s holds known is = fault_is s holds known.1
-  accepted_at due.CheckTarget s holds known is = fault_is s holds known.1
-  accepted_at due.SyncTarget s holds known is = fault_is s holds known.1
-  accepted_at due.SyncTargetName s holds known is = fault_is s holds known.1
-  accepted_at due.AlreadyInstalled s holds known is = fault_is s holds known.1
-  accepted_at due.RemoveLeftovers s holds known is = fault_is s holds known.1
-  accepted_at due.CreateFile s holds known is = fault_is s holds known.1
-  accepted_at due.CopyData s holds known is = fault_is s holds known.1
-  accepted_at due.ReadBack s holds known is = fault_is s holds known.1
-  accepted_at due.CheckData s holds known is = fault_is s holds known.1
-  accepted_at due.WouldInstall s holds known is = fault_is s holds known.1
-  accepted_at due.SetPermissions s holds known is = fault_is s holds known.0.1
-  accepted_at due.SyncFile s holds known is = fault_is s holds known.0.1
-  accepted_at due.CreateRecord s holds known is = fault_is s holds known.0.1
-  accepted_at due.WriteRecord s holds known is = fault_is s holds known.0.1
-  accepted_at due.SyncRecord s holds known is = fault_is s holds known.0.1
-  accepted_at due.RenameRecord s holds known is = fault_is s holds known.0.1
-  accepted_at due.SyncRecordName s holds known is = fault_is s holds known.0.1
-  accepted_at due.RenameFile s holds known is = fault_is s holds known.0.1
-  accepted_at due.SyncFileName s holds known is = fault_is s holds known.0.1
-  accepted_at due.Installed s holds known is = fault_is s holds known.0.1
+  accepted_at due.ReadList s holds known is = fault_is s holds known.0.1
+  accepted_at due.CheckList s holds known is = fault_is s holds known.0.0.1
+  accepted_at due.CheckRecord s holds known is = fault_is s holds known.0.1
+  accepted_at due.ReadTarget s holds known is = fault_is s holds known.0.1
+  accepted_at due.CheckTarget s holds known is = fault_is s holds known.0.1
+  accepted_at due.SyncTarget s holds known is = fault_is s holds known.0.1
+  accepted_at due.SyncTargetName s holds known is = fault_is s holds known.0.1
+  accepted_at due.AlreadyInstalled s holds known is = fault_is s holds known.0.1
+  accepted_at due.RemoveLeftovers s holds known is = fault_is s holds known.0.1
+  accepted_at due.CreateFile s holds known is = fault_is s holds known.0.1
+  accepted_at due.CopyData s holds known is = fault_is s holds known.0.1
+  accepted_at due.ReadBack s holds known is = fault_is s holds known.0.1
+  accepted_at due.CheckData s holds known is = fault_is s holds known.0.1
+  accepted_at due.WouldInstall s holds known is = fault_is s holds known.0.1
+  accepted_at due.SetPermissions s holds known is = fault_is s holds known.0.0.1
+  accepted_at due.SyncFile s holds known is = fault_is s holds known.0.0.1
+  accepted_at due.CreateRecord s holds known is = fault_is s holds known.0.0.1
+  accepted_at due.WriteRecord s holds known is = fault_is s holds known.0.0.1
+  accepted_at due.SyncRecord s holds known is = fault_is s holds known.0.0.1
+  accepted_at due.RenameRecord s holds known is = fault_is s holds known.0.0.1
+  accepted_at due.SyncRecordName s holds known is = fault_is s holds known.0.0.1
+  accepted_at due.RenameFile s holds known is = fault_is s holds known.0.0.1
+  accepted_at due.SyncFileName s holds known is = fault_is s holds known.0.0.1
+  accepted_at due.Installed s holds known is = fault_is s holds known.0.0.1
   accepted_at op s holds known is = absurd (true≢false (sym is))
 
 -- When the question about the comment is due, `fault` is the result of checking the comment at the time that

@@ -46,6 +46,8 @@ use Rattle.minisign_install.specs.declared.traces.Files.{Files}
 use Rattle.minisign_install.specs.declared.traces.Follower.{Follower}
 use Rattle.minisign_install.specs.declared.traces.Line.{Line}
 use Rattle.minisign_install.specs.declared.traces.Line.TheVariants as line
+use Rattle.minisign_lists.specs.declared.digests.ListedDigest.{ListedDigest}
+use Rattle.minisign_install.specs.Faults.{DigestMismatch}
 
 same_bytes : (one other : List ℕ) → bytes_eq one other ≡ true → one ≡ other
 same_bytes one other is = (bytes_eq-Decides one other).0 is
@@ -168,6 +170,8 @@ nothing_found text = record {
   found_record = None;
   text = text;
   update = [];
+  list = [];
+  name = [];
   most = 0;
 }
 
@@ -318,7 +322,9 @@ after_signature (Err fault) time s = reject (Library fault) s
 
 after_comment : (fault : Option InstallFault) (s : State)
     → Keeps s.read (due.after_comment fault (record s { is_signed = true }))
-after_comment None s = compare (record s { is_signed = true })
+after_comment None s =
+    either (is_some s.options.list) s.read (due.go due.ReadList (record s { is_signed = true }))
+    (due.compare (record s { is_signed = true })) refl (compare (record s { is_signed = true }))
 after_comment (Some fault) s = reject fault (record s { is_signed = true })
 
 next_key : (signers : List PublicKeyValue) (s : State) → s.due ≡ due.CheckComment
@@ -326,6 +332,15 @@ next_key : (signers : List PublicKeyValue) (s : State) → s.due ≡ due.CheckCo
 next_key [] s at = reject (Library (Named named.CommentSignatureRefused)) s
 next_key (v ∷ []) s at = reject (Library (Named named.CommentSignatureRefused)) s
 next_key (v ∷ u ∷ more) s at = rw at refl
+
+after_listing : (listed : Result ListedDigest InstallFault) (s : State)
+    → Keeps s.read (due.after_listing listed s)
+after_listing (Ok digest) s = compare s
+after_listing (Err fault) s = reject fault s
+
+after_data : (listed : Bool) (s : State) → Keeps s.read (due.after_data listed s)
+after_data true s = refl
+after_data false s = reject DigestMismatch s
 
 after_digest : (accepted : Bool) (s : State) → Keeps s.read (due.after_digest accepted s)
 after_digest accepted s =
@@ -377,14 +392,18 @@ reads due.ReadSignature (due.SignatureRead text time) s at =
     after_signature (judge_text s.options text) time s
 reads due.CheckComment (due.Answered true) s at = after_comment s.fault s
 reads due.CheckComment (due.Answered false) s at = next_key s.signers s at
+reads due.ReadList (due.ListRead list name) s at = refl
+reads due.CheckList (due.Answered true) s at =
+    after_listing s.listing.listed (record s { is_list_signed = true })
+reads due.CheckList (due.Answered false) s at = reject (Library (Named named.SignatureRefused)) s
 reads due.CheckRecord (due.Answered accepted) s at = after_digest accepted s
 reads due.ReadTarget (due.PieceRead bytes) s at = rw at refl
 reads due.ReadTarget due.TargetMissing s at = install s
-reads due.CheckTarget (due.Answered accepted) s at = after_target accepted s
+reads due.CheckTarget (due.Answered accepted) s at = after_target (accepted && due.is_listed s) s
 reads due.CopyData (due.PieceCopied n) s at = after_piece n s.left s at
 reads due.CopyData due.Done s at = after_copy s.left s
 reads due.ReadBack (due.PieceRead bytes) s at = rw at refl
-reads due.CheckData (due.Answered true) s at = refl
+reads due.CheckData (due.Answered true) s at = after_data (due.is_listed s) s
 reads due.CheckData (due.Answered false) s at = reject (Library (Named named.SignatureRefused)) s
 reads due.Lock due.Done s at = refl
 reads due.ReadTarget due.Done s at = refl
@@ -426,7 +445,7 @@ snoc w s m [] t end c (is, same) others fits done =
 snoc w s m (d ∷ more) t end c (other, fit, is, run) others fits done =
     (other, fit, is, snoc w (step s d.event).1 d.after more t end c run others fits done)
 
-known_from : (w : World) (o : Options) (n : ℕ) (s : State) (m : Snapshot) (calls : List Call) (t : State)
+pub known_from : (w : World) (o : Options) (n : ℕ) (s : State) (m : Snapshot) (calls : List Call) (t : State)
     (end : Snapshot) → Invariant w o ⊤ ⊥ n s m → Applies w s m calls t end
     → (k : ℕ) × Invariant w o ⊤ ⊥ k t end
 known_from w o n s m [] t end known (is, same) = (n, rw (is, same) known)

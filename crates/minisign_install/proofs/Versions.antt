@@ -8,7 +8,6 @@ use Rattle.std.proofs.lemmas.Option.{none-some, same_Some}
 use Rattle.hex.specs.Hex.{decode_sized}
 use Rattle.hex.specs.declared.error.FromHexError.{FromHexError}
 use Rattle.hex.proofs.HexLemmas.{decode_of-ok, decode_sized-ok, decode_sized-twice}
-use Rattle.minisign_hash.specs.Blake2b.{blake2b_digest}
 use Rattle.minisign_install.specs.Applications.{Applies, Call, Crashes, File, IsSynced, RecordMayBe}
 use Rattle.minisign_install.specs.Applications.{CrashMayLeave, CrashMayLeaveOneOf, Snapshot, content}
 use Rattle.minisign_install.specs.Comments.{Numbering, number_label, strip, value_of}
@@ -28,6 +27,8 @@ use Rattle.minisign_install.specs.StepRuns.{ComparesNoVersion, IsUpdate, World, 
 use Rattle.minisign_install.proofs.Decisions.{reads_number}
 use Rattle.minisign_install.proofs.SafeCalls.{Invariant, Safe, begins, next, safe_now}
 use Rattle.minisign_install.proofs.StepRecords.{new_version_reads, next_run_reads}
+use Rattle.minisign_install.specs.Step.{signed_digest}
+use Rattle.minisign_install.proofs.Listings.{update_digest}
 
 -- == Versions and keys in records ==
 
@@ -127,7 +128,7 @@ module _ (w : World) (o : Options) (accepts_whole : AcceptsWholeKeys w.accepts) 
       → recorded_version o.numbering (new_record s) ≡ Some (new_version s)
   update_reads s update =
       rw (sym (ap (λ (x : Options). x.numbering) update.same))
-      (new_version_reads s (next_bound s update) (next_key_length s update))
+      (new_version_reads s (next_bound s update) (next_key_length s update) (update_digest w o s update))
 
   -- The next run with these options, unless they include --first or --new-key, reads the version number and
   -- the digest that this run has recorded.
@@ -135,11 +136,11 @@ module _ (w : World) (o : Options) (accepts_whole : AcceptsWholeKeys w.accepts) 
       → judge_record o (Some (new_record s)) ≡ Ok (record {
         version = Some (new_version s);
         key = record_key (new_record s);
-        digest = Some (blake2b_digest 64 s.read);
+        digest = Some (signed_digest s);
       })
   own_record s update not_first not_new =
       next_run_reads o s not_first not_new (sym (ap (λ (x : Options). x.numbering) update.same))
-      (next_bound s update) (next_key_length s update)
+      (next_bound s update) (next_key_length s update) (update_digest w o s update)
 
   -- So does a run with other options and other keys.
   pub later_record : (p : Options) (s : State) → IsUpdate w o s → p.numbering ≡ o.numbering → p.first ≡ false
@@ -147,11 +148,11 @@ module _ (w : World) (o : Options) (accepts_whole : AcceptsWholeKeys w.accepts) 
       → judge_record p (Some (new_record s)) ≡ Ok (record {
         version = Some (new_version s);
         key = record_key (new_record s);
-        digest = Some (blake2b_digest 64 s.read);
+        digest = Some (signed_digest s);
       })
   later_record p s update same not_first not_new =
       next_run_reads p s not_first not_new (same ∙ sym (ap (λ (x : Options). x.numbering) update.same))
-      (next_bound s update) (next_key_length s update)
+      (next_bound s update) (next_key_length s update) (update_digest w o s update)
 
   -- == A step ==
 

@@ -5,7 +5,7 @@
 -- may show any time.
 use Rattle.std.specs.Prelude.{◌≡◌, ◌<◌, ◌≤◌, ◌++◌, ◌==◌, ◌⊎◌, ⊤, ℕ, Bool, true, false, is_some}
 use Rattle.std.specs.Prelude.{if◌then◌else◌, List, [], ◌∷◌, length, Option, Some, None}
-use Rattle.minisign_install.specs.Step.{Answered}
+use Rattle.minisign_install.specs.Step.{Answered, ListRead, ReadList}
 use Rattle.minisign_install.specs.Step.{CopyData, CreateFile, CreateRecord, Done, Event, Failed, InUse, Lock}
 use Rattle.minisign_install.specs.Step.{Operation, PieceCopied, PieceRead, ReadBack, ReadRecord}
 use Rattle.minisign_install.specs.Step.{ReadSignature, ReadTarget, RecordRead, RemoveFiles, RemoveLeftovers}
@@ -93,15 +93,16 @@ record_renamed m =
     record m { recorded = m.record_file; recorded_left = m.recorded ∷ m.recorded_left; record_file = None }
 
 -- The operation is performed in this state, and this event is reported. `w` has the inputs of the run: the
--- record, the parsed signature file, the data, and the signatures that Ed25519 accepts. An operation that
--- fails may have been done in part: its temporary file may have any content, and a rename may have taken
--- effect.
+-- record, the parsed signature file, the data, the list, and the signatures that Ed25519 accepts. An
+-- operation that fails may have been done in part: its temporary file may have any content, and a rename may
+-- have taken effect.
 abbrev pub Performs : World → State → Operation → Event → Snapshot → Snapshot → Type 0
 Performs w s Lock Done old new = (old.busy ≡ false) × (new ≡ record old { locked = true })
 Performs w s Lock InUse old new = (old.busy ≡ true) × (new ≡ old)
 Performs w s ReadRecord (RecordRead found) old new =
     (found ≡ w.found_record) × (found ≡ content old.recorded) × (new ≡ old)
 Performs w s ReadSignature (SignatureRead text time) old new = (text ≡ w.text) × (new ≡ old)
+Performs w s ReadList (ListRead list name) old new = (list ≡ w.list) × (name ≡ w.name) × (new ≡ old)
 Performs w s ReadTarget (PieceRead bytes) old new =
     (0 < length bytes) × (length (s.read ++ bytes) ≤ w.most) × (new ≡ old)
 Performs w s ReadTarget Done old new =

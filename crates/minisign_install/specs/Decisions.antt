@@ -22,9 +22,12 @@ use Rattle.minisign_install.specs.Faults.{OtherFile}
 use Rattle.minisign_install.specs.RecordTexts.{is_foreign_key, kept_by, other_field, record_digest}
 use Rattle.minisign_install.specs.RecordTexts.{record_key}
 use Rattle.minisign_install.specs.RecordTexts.{record_text}
+use Rattle.minisign_lists.specs.declared.lines.LongDigest.{LongDigest}
 
 -- The options of a run. `keys` are the public keys that were given, one or two. `file` is the name that the
--- trusted comment must contain, and `numbering` its field with the version number. Each other field says
+-- trusted comment must contain, and `numbering` its field with the version number. `list` is None if the
+-- signature is that of the data. Otherwise it is that of a signed list, in which the data must be listed, and
+-- `list` is the meaning of 128 digits on a line that does not name its hash function. Each other field says
 -- whether the option of minisign-install with this name is given, such as --must-expire.
 pub record Options : Type 0 where
   pub keys : List PublicKeyValue
@@ -36,6 +39,7 @@ pub record Options : Type 0 where
   pub must_expire : Bool
   pub new_key : Bool
   pub roll_back : Bool
+  pub list : Option LongDigest
 
 -- --first installs without a record, and --new-key and --roll-back need one, so they must not be combined.
 abbrev pub fit_together : Options → Bool
@@ -163,6 +167,10 @@ size_of fields = None
 
 abbrev pub size_in : List ℕ → Option ℕ
 size_in comment = size_of (values_of size_label comment)
+
+-- The signed size of the data. The comment of a list does not say how long the data is.
+abbrev pub signed_size : Option LongDigest → List ℕ → Option ℕ
+signed_size mode comment = if is_some mode then None else size_in comment
 
 -- The error if there are several fields `size:`, or one whose value is not a number.
 abbrev pub size_fault : List (List ℕ) → Option InstallFault

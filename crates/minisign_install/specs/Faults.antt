@@ -3,7 +3,7 @@
 use Rattle.std.specs.Prelude.{◌≡◌, ◌≢◌, Bool, ℕ, List, codes, false, true}
 use Rattle.minisign_base.specs.Fault.{kind_of, text_of}
 use Rattle.minisign_base.specs.Faults.{FaultRow, row}
-use Rattle.minisign_base.specs.declared.errors.ErrorKind.TheVariants.{Io, Verify}
+use Rattle.minisign_base.specs.declared.errors.ErrorKind.TheVariants.{Io, Misc, Verify}
 pub use Rattle.minisign_base.specs.Fault.{Fault, Named}
 pub use Rattle.minisign_base.specs.Devices.{ErrorCountRises}
 pub use Rattle.minisign_base.specs.declared.faults.NamedFault.TheVariants.{NotUtf8, OutOfMemory}
@@ -19,6 +19,9 @@ pub use Rattle.minisign_install.specs.declared.faults.InstallFault.TheVariants.{
 pub use Rattle.minisign_install.specs.declared.faults.InstallFault.TheVariants.{DirectoryNotSynced, Expired}
 pub use Rattle.minisign_install.specs.declared.faults.InstallFault.TheVariants.{BadExpiry, SameNumber}
 pub use Rattle.minisign_install.specs.declared.faults.InstallFault.TheVariants.{NoExpiry, BadSize, OtherSize}
+pub use Rattle.minisign_install.specs.declared.faults.InstallFault.TheVariants.{BadName, MalformedLine}
+pub use Rattle.minisign_install.specs.declared.faults.InstallFault.TheVariants.{NotListed, ListedTwice}
+pub use Rattle.minisign_install.specs.declared.faults.InstallFault.TheVariants.{DigestMismatch}
 
 -- The number, the kind and the text of each error.
 abbrev pub install_row : InstallFault → FaultRow
@@ -44,6 +47,11 @@ install_row NoExpiry = row 58 Verify (codes "the trusted comment does not say wh
 install_row BadSize =
     row 59 Verify (codes "the trusted comment has an invalid or repeated size: field")
 install_row OtherSize = row 60 Verify (codes "the size of the data is not the one in the trusted comment")
+install_row BadName = row 90 Misc (codes "a list can only contain relative paths without .. or special characters")
+install_row MalformedLine = row 91 Misc (codes "a line of the list is malformed")
+install_row NotListed = row 92 Verify (codes "the list does not contain this name")
+install_row ListedTwice = row 93 Verify (codes "the list contains this name twice")
+install_row DigestMismatch = row 94 Verify (codes "the digest of the data is not the one in the list")
 
 -- The number of an error. An error of the library keeps its number.
 abbrev pub install_number : InstallFault → ℕ

@@ -1,6 +1,6 @@
 -- A directory in which lawful applications run, over time. Each run is complete or cut off anywhere. Between
 -- runs the machine may crash, other processes may act, and the clock may change.
-use Rattle.std.specs.Prelude.{Bool, IfSome, map}
+use Rattle.std.specs.Prelude.{Bool, IfSome, if◌then◌else◌, is_some, map}
 use Rattle.std.specs.Prelude.{◌≡◌, ◌<◌, ◌≤◌, ◌⊎◌, ◌||◌, ◌++◌, ⊤, false, ℕ, true, false, List, [], ◌∷◌}
 use Rattle.std.specs.Prelude.{length, Option}
 use Rattle.std.specs.Prelude.{Some}
@@ -8,21 +8,22 @@ use Rattle.std.specs.Prelude.{None, Ok}
 use Rattle.minisign.specs.Acceptance.{Verifier}
 use Rattle.minisign.specs.SignatureText.{SignatureTextRecord}
 use Rattle.minisign_external.specs.declared.public_keys.PublicKeyValue.{PublicKeyValue}
-use Rattle.minisign_hash.specs.Blake2b.{blake2b_digest}
 use Rattle.minisign_install.specs.Applications.{Applies, Call, Crashes, File, IsBeforeRun, RecordMayBe}
 use Rattle.minisign_install.specs.Applications.{content}
 use Rattle.minisign_install.specs.Applications.{TargetMayBe, Snapshot}
 use Rattle.minisign_install.specs.Comments.{Numbering}
 use Rattle.minisign_install.specs.Decisions.{Options, Recorded, comment_fault, judge_record, judge_text}
-use Rattle.minisign_install.specs.Decisions.{names_other_key, recorded_version, size_in, version_in}
+use Rattle.minisign_install.specs.Decisions.{names_other_key, recorded_version, signed_size, version_in}
+use Rattle.minisign_install.specs.Listings.{digest_to_sign, fits_list}
 use Rattle.minisign_install.specs.RecordTexts.{HasNoNumber, IsNumberFor, used_record}
 use Rattle.minisign_install.specs.Step.{AlreadyInstalled, CheckTarget, Event, Failed, InUse, Installed}
 use Rattle.minisign_install.specs.Step.{CheckData, CopyData, CreateFile, CreateRecord, Operation, ReadBack}
-use Rattle.minisign_install.specs.Step.{CheckRecord, ReadTarget, SyncTarget, SyncTargetName}
+use Rattle.minisign_install.specs.Step.{CheckList, CheckRecord, ReadList, ReadTarget, SyncTarget}
+use Rattle.minisign_install.specs.Step.{SyncTargetName}
 use Rattle.minisign_install.specs.Step.{RemoveLeftovers, RenameFile, RenameRecord, SetPermissions, SyncFile}
 use Rattle.minisign_install.specs.Step.{SyncFileName, SyncRecord, SyncRecordName, WouldInstall, WriteRecord}
 use Rattle.minisign_install.specs.Step.{SignatureRead, State, begin, data_question, new_record}
-use Rattle.minisign_install.specs.StepRuns.{IsUpdate, World, says_yes, first_signer}
+use Rattle.minisign_install.specs.StepRuns.{HasListing, IsUpdate, World, says_yes, first_signer}
 
 -- == One operation ==
 
@@ -78,14 +79,16 @@ IsDurable place left bytes =
 -- The files after a run, if other processes leave the target alone. After Installed, the update is at the
 -- target, its permissions were set, its record is beside it, no crash can undo this, and no temporary files
 -- of killed runs are left. After AlreadyInstalled, the signature is valid for the bytes that were read from
--- the target; unless the run is a check, the target has these bytes, and no crash can undo this.
+-- the target, or for the list, which has their digest for the name; unless the run is a check, the target has
+-- these bytes, and no crash can undo this.
 abbrev pub EndIsDurable : World → Options → Operation → State → Snapshot → Type 0
 EndIsDurable w o Installed s m =
     IsUpdate w o s × IsDurable m.recorded m.recorded_left (new_record s)
     × ((file : File) × (m.target ≡ Some file) × (file.bytes ≡ s.read) × (file.permissions ≡ true)
     × (file.synced ≡ true) × (m.target_left ≡ [])) × (m.leftovers ≡ false)
 EndIsDurable w o AlreadyInstalled s m =
-    (says_yes w (data_question CheckTarget s) ≡ true)
+    (says_yes w (data_question CheckTarget s) ≡ true) × HasListing w o s
+    × (fits_list o.list w.list w.name s.read ≡ true)
     × ((s.options.check ≡ true) ⊎ IsDurable m.target m.target_left s.read)
 EndIsDurable w o op s m = ⊤
 
@@ -170,10 +173,11 @@ IsHistory numbering old (OthersChangeFiles m ∷ later) new =
 -- == An interrupted run ==
 
 -- An update that a run can install again or roll back to. The record is accepted, and its version is not
--- below that of the update. Either the digest in the record is that of the data, as after an interrupted run,
--- or the update is older, which needs --roll-back. The signature file has passed the checks that need no
--- Ed25519, and keys are the keys with its key ID. The first of them that signed the comment also signed the
--- data. The data has the signed size.
+-- below that of the update. Either the digest in the record is that of the data, or else of the list, as
+-- after an interrupted run, or the update is older, which needs --roll-back. The signature file has passed
+-- the checks that need no Ed25519, and keys are the keys with its key ID. The first of them that signed the
+-- comment also signed the data, or else the list, which has the digest of the data for the name. The data
+-- has the signed size.
 pub record IsOldUpdate (w : World) (o : Options) : Type 0 where
   pub installs : o.check ≡ false
   pub recorded : Recorded
@@ -186,12 +190,13 @@ pub record IsOldUpdate (w : World) (o : Options) : Type 0 where
   pub passed : judge_text o (Ok text) ≡ Ok (text, keys)
   pub key : List ℕ
   pub signed_comment : first_signer w text keys ≡ Some key
-  pub signed_data : w.accepts (blake2b_digest 64 w.update) key text.signature.signature ≡ true
+  pub signed_data : w.accepts (digest_to_sign o.list w.list w.update) key text.signature.signature ≡ true
+  pub listed : fits_list o.list w.list w.name w.update ≡ true
   pub version : ℕ
   pub numbered : version_in o.numbering text.comments.trusted ≡ Some version
   pub not_newer : version ≤ last
-  pub own : (recorded.digest ≡ Some (blake2b_digest 64 w.update)) ⊎ (version < last)
-  pub sized : (size : ℕ) → size_in text.comments.trusted ≡ Some size → length w.update ≡ size
+  pub own : (recorded.digest ≡ Some (digest_to_sign o.list w.list w.update)) ⊎ (version < last)
+  pub sized : (size : ℕ) → signed_size o.list text.comments.trusted ≡ Some size → length w.update ≡ size
 
 -- The event is not a failure, and the comment is not rejected at the time that is passed in.
 abbrev pub IsAcceptableFor : {w : World} {o : Options} → IsOldUpdate w o → Event → Type 0
@@ -280,8 +285,21 @@ abbrev pub IsAtTime : Option ℕ → Event → Type 0
 IsAtTime time (SignatureRead text other) = other ≡ time
 IsAtTime time e = ⊤
 
--- The comment was accepted: the update is being compared or installed, or the run has ended without an error.
+-- The number of calls that a run makes only if the signature is that of a list.
+abbrev pub list_calls : Options → ℕ
+list_calls o = if is_some o.list then 2 else 0
+
+-- The operation reads the list, or checks its signature.
+abbrev pub is_for_list : Operation → Bool
+is_for_list ReadList = true
+is_for_list CheckList = true
+is_for_list op = false
+
+-- The comment was accepted: the list is being read, the update is being compared or installed, or the run has
+-- ended without an error.
 abbrev pub is_past_comment : Operation → Bool
+is_past_comment ReadList = true
+is_past_comment CheckList = true
 is_past_comment CheckRecord = true
 is_past_comment ReadTarget = true
 is_past_comment CheckTarget = true

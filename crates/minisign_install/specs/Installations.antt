@@ -9,28 +9,30 @@ use Rattle.minisign.specs.Records.{is_prehashed}
 use Rattle.minisign.specs.SignatureText.{SignatureTextRecord, read_signature}
 use Rattle.minisign.specs.Texts.{require}
 use Rattle.minisign_base.specs.declared.faults.NamedFault.TheVariants as named
+use Rattle.minisign_external.specs.Numbers.{fault_number}
 use Rattle.minisign_external.specs.PublicKeys.{read_utf8}
 use Rattle.minisign_external.specs.Questions.{has_whole_signature}
 use Rattle.minisign_external.specs.declared.state.Misuse.TheVariants.{NoRoom}
 use Rattle.minisign_external.specs.declared.state.Refusal.TheVariants.{WrongUse}
-use Rattle.minisign_install.specs.Decisions.{comment_fault, judge_text, size_in, version_in}
+use Rattle.minisign_install.specs.Decisions.{comment_fault, judge_text, signed_size, version_in}
 use Rattle.minisign_install.specs.Faults.{Fault}
 use Rattle.minisign_install.specs.Step.{ReadSignature, SignatureRead, after_signature}
 use Rattle.minisign_install.specs.declared.installation.progress.Judged.{Judged}
-use Rattle.minisign_hash.specs.Blake2b.{blake2b_digest}
 use Rattle.minisign_hash.specs.Stored.{WasFed}
 use Rattle.minisign_external.specs.declared.public_keys.PublicKeyValue.{PublicKeyValue}
 use Rattle.minisign_external.specs.declared.state.Misuse.{Misuse}
-use Rattle.minisign_external.specs.declared.state.Misuse.TheVariants.{BadNumbering, BadOption}
+use Rattle.minisign_external.specs.declared.state.Misuse.TheVariants.{BadHash, BadNumbering, BadOption}
 use Rattle.minisign_external.specs.declared.state.Refusal.{Refusal}
 use Rattle.minisign_install.specs.Comments.{Numbering, Timestamp, Version}
 use Rattle.minisign_install.specs.Decisions.{Options, Recorded}
-use Rattle.minisign_install.specs.Faults.{InstallFault}
+use Rattle.minisign_install.specs.Faults.{BadName, InstallFault, Library, ListedTwice, MalformedLine, Named}
+use Rattle.minisign_install.specs.Faults.{NotListed, NotUtf8}
 use Rattle.minisign_install.specs.Faults.{install_number, is_own}
 use Rattle.minisign_install.specs.RecordTexts.{IsRecordOf, record_digest, record_key}
 use Rattle.minisign_install.specs.Step.{CopyData, Done, Lock, PieceRead, ReadBack, ReadRecord, ReadTarget}
 use Rattle.minisign_install.specs.Step.{RemoveFiles, WriteRecord, new_key, new_record, new_version}
-use Rattle.minisign_install.specs.Step.{CheckComment, CheckData, CheckRecord, CheckTarget}
+use Rattle.minisign_install.specs.Step.{CheckComment, CheckData, CheckList, CheckRecord, CheckTarget}
+use Rattle.minisign_install.specs.Step.{ReadList, signed_digest}
 use Rattle.minisign_install.specs.Step.{has_ended}
 use Rattle.minisign_install.specs.declared.installation.Choices.{Choices}
 use Rattle.minisign_install.specs.declared.installation.Question.{Question}
@@ -39,6 +41,18 @@ use Rattle.minisign_install.specs.declared.installation.Installation.{Installati
 use Rattle.minisign_install.specs.declared.installation.progress.Chosen.{Chosen}
 use Rattle.minisign_install.specs.declared.installation.progress.Progress.{Progress}
 use Rattle.minisign_install.specs.declared.installation.progress.RecordedValue.{RecordedValue}
+use Rattle.minisign_install.specs.Listings.{Listing}
+use Rattle.minisign_install.specs.declared.installation.listing.ListingValue.{ListingValue}
+use Rattle.minisign_install.specs.declared.installation.reading.Reading.{Reading}
+use Rattle.minisign_lists.specs.declared.digests.Algorithm.{Algorithm}
+use Rattle.minisign_lists.specs.declared.digests.ListedDigest.{ListedDigest}
+use Rattle.minisign_lists.specs.declared.lines.LongDigest.{LongDigest}
+use Rattle.minisign_lists.specs.Values.{algorithm_numbered, digest_of_padded, long_numbered}
+use Rattle.minisign_lists.specs.declared.digests.Algorithm.TheVariants as algorithm
+use Rattle.minisign_lists.specs.declared.lines.LongDigest.TheVariants as long
+use Rattle.minisign_sha2.specs.Hashers.{WasFed256, WasFed512}
+use Rattle.minisign_sha2.specs.declared.stored.StoredSha256.{StoredSha256}
+use Rattle.minisign_sha2.specs.declared.stored.StoredSha512.{StoredSha512}
 
 -- == The state of a struct ==
 
@@ -57,6 +71,10 @@ numbering_of n = if n == numbering_number Version then Version else Timestamp
 abbrev pub when : {A : Type 0} → Bool → A → Option A
 when holds value = if holds then Some value else None
 
+-- What 128 digits mean in a list, if the signature is that of a list.
+abbrev pub list_of : ℕ → ℕ → Option LongDigest
+list_of is_list number = when (is_list == 1) (unwrap_or (long_numbered number) long.Rejected)
+
 abbrev pub options_of : Chosen → List ℕ → Options
 options_of c file = record {
   keys = c.key ∷ c.other ∷ [];
@@ -68,6 +86,7 @@ options_of c file = record {
   must_expire = c.must_expire == 1;
   new_key = c.new_key == 1;
   roll_back = c.roll_back == 1;
+  list = list_of c.is_list c.long_digest;
 }
 
 abbrev pub recorded_of : RecordedValue → Recorded
@@ -80,6 +99,26 @@ recorded_of r = record {
 -- The contents of a record that is used: this version number, and the key and the digest in its bytes.
 abbrev pub numbered : ℕ → List ℕ → Recorded
 numbered n bytes = record { version = Some n; key = record_key bytes; digest = record_digest bytes }
+
+-- The error with this number, if the list does not have exactly one entry of the name.
+abbrev pub list_fault_of : ℕ → InstallFault
+list_fault_of n =
+    if n == 90 then BadName
+    else if n == 91 then MalformedLine
+    else if n == 93 then ListedTwice
+    else if n == fault_number (Named NotUtf8) then Library (Named NotUtf8) else NotListed
+
+-- The listed digest with these bytes, or the error with this number if there is no hash function.
+abbrev pub listed_of : Option Algorithm → List ℕ → ℕ → Result ListedDigest InstallFault
+listed_of (Some a) digest fault = Ok (digest_of_padded a digest)
+listed_of None digest fault = Err (list_fault_of fault)
+
+abbrev pub listing_of : ListingValue → Listing
+listing_of v = record {
+  digest = v.list_digest;
+  listed = listed_of (algorithm_numbered v.hash) v.digest v.fault;
+  line = v.line;
+}
 
 -- The contents of the record, or the error with which it is rejected.
 abbrev pub judgment_of : Result RecordedValue InstallFault → Result Recorded InstallFault
@@ -106,6 +145,8 @@ state_of p file read fault error = record {
   version = p.judged.version;
   size = when (p.judged.has_size == 1) p.judged.size;
   is_signed = p.is_signed == 1;
+  listing = listing_of p.listing;
+  is_list_signed = p.is_list_signed == 1;
   is_recorded = p.is_recorded == 1;
   read = read;
   left = when (p.has_left == 1) p.left;
@@ -122,6 +163,30 @@ abbrev pub error_number : Option InstallFault → ℕ
 error_number None = 0
 error_number (Some e) = install_number e
 
+-- The state of SHA-256 and that of SHA-512, if the file is read for one of them.
+abbrev pub stored_256 : Reading → StoredSha256
+stored_256 r =
+    record { h = r.sha256; buffer = take 64 r.blake2b.buffer; count = r.blake2b.count_low }
+
+abbrev pub stored_512 : Reading → StoredSha512
+stored_512 r = record {
+  h = r.blake2b.h;
+  buffer = take 128 r.blake2b.buffer;
+  count_low = r.blake2b.count_low;
+  count_high = r.blake2b.count_high;
+}
+
+-- The state of this hash function was fed these bytes. Without a listed digest it is BLAKE2b.
+abbrev pub WasRead : Option Algorithm → Reading → List ℕ → Type 0
+WasRead (Some algorithm.Sha256) r m = WasFed256 (stored_256 r) m
+WasRead (Some algorithm.Sha512) r m = WasFed512 (stored_512 r) m
+WasRead (Some algorithm.Blake2b) r m = WasFed r.blake2b m
+WasRead None r m = WasFed r.blake2b m
+
+-- The hash function for which files are read: that of the listed digest, if there is one.
+abbrev pub reading_for : Chosen → ListingValue → Option Algorithm
+reading_for c l = if c.is_list == 1 then algorithm_numbered l.hash else None
+
 -- The struct represents the state.
 pub record HoldsState (p : Progress) (s : State) : Type 0 where
   pub file : List ℕ
@@ -131,7 +196,7 @@ pub record HoldsState (p : Progress) (s : State) : Type 0 where
   pub state : s ≡ state_of p file read fault error
   pub fault_number : IsOwnNumber p.judged.fault fault
   pub error_number : p.error ≡ error_number error
-  pub fed : WasFed p.hash read
+  pub fed : WasRead (reading_for p.chosen p.listing) p.reading read
 
 -- The mark (magic number) of an installation that was begun: the letters "minstall".
 abbrev pub begun_mark : ℕ
@@ -139,7 +204,8 @@ begun_mark = 7812726606361684333
 
 abbrev pub RepresentsIf : Bool → Progress → State → Type 0
 RepresentsIf true p s = HoldsState p s
-RepresentsIf false p s = (s.due ≡ Nothing) × (s.is_signed ≡ false) × (s.error ≡ None)
+RepresentsIf false p s =
+    (s.due ≡ Nothing) × (s.is_signed ≡ false) × (s.error ≡ None) × (s.is_list_signed ≡ false)
 
 -- **The installation represents the state. An installation that was never begun represents every state in
 -- which nothing is due, nothing is signed and no error was found.**
@@ -172,6 +238,10 @@ is_reading_record op = false
 abbrev pub is_reading_signature : Operation → Bool
 is_reading_signature ReadSignature = true
 is_reading_signature op = false
+
+abbrev pub is_reading_list : Operation → Bool
+is_reading_list ReadList = true
+is_reading_list op = false
 
 abbrev pub is_reading_target : Operation → Bool
 is_reading_target ReadTarget = true
@@ -206,9 +276,10 @@ question_of CheckComment key s = Some (record {
   digest = replicate 64 0;
   is_comment = 1;
 })
+question_of CheckList key s = Some (about key s.signature (signed_digest s))
 question_of CheckRecord key s = option_map (about key s.signature) s.recorded.digest
-question_of CheckTarget key s = Some (about key s.signature (blake2b_digest 64 s.read))
-question_of CheckData key s = Some (about key s.signature (blake2b_digest 64 s.read))
+question_of CheckTarget key s = Some (about key s.signature (signed_digest s))
+question_of CheckData key s = Some (about key s.signature (signed_digest s))
 question_of op key s = None
 
 abbrev pub question_by : Bool → Option (List ℕ) → Operation → State → Option Question
@@ -225,10 +296,9 @@ record_due s =
     if is_writing_record s.due then option_map (λ key. new_record s) (first_key s.signers) else None
 
 -- These bytes are the record that the run writes. A roll-back does not decrease the recorded version. The
--- digest is that of the bytes that were read.
+-- digest is that of the list, or else of the bytes that were read.
 abbrev pub IsNewRecord : State → List ℕ → Type 0
-IsNewRecord s bytes =
-    IsRecordOf s.options.numbering (new_version s) (new_key s) (blake2b_digest 64 s.read) bytes
+IsNewRecord s bytes = IsRecordOf s.options.numbering (new_version s) (new_key s) (signed_digest s) bytes
 
 -- The first n bytes of the buffer are the text, and the rest is unchanged. If n is 0, the buffer was too
 -- short, and is unchanged.
@@ -256,23 +326,30 @@ options_by key other c file = record {
   must_expire = c.must_expire == 1;
   new_key = c.new_key == 1;
   roll_back = c.roll_back == 1;
+  list = list_of c.is_list c.long_digest;
 }
 
+-- The API misuse if the options are rejected: BadOption if an option is neither 0 nor 1 or if two options
+-- must not be combined, BadNumbering if there is no field with this number, and otherwise BadHash if 128
+-- digits cannot have this meaning.
 abbrev pub is_flag : ℕ → Bool
 is_flag n = nat_le n 1
 
 abbrev pub are_flags : Choices → Bool
 are_flags c = is_flag c.is_first && is_flag c.again && is_flag c.is_check && is_flag c.must_expire
-    && is_flag c.new_key && is_flag c.roll_back
+    && is_flag c.new_key && is_flag c.roll_back && is_flag c.is_list
 
 abbrev pub choices_fit : Choices → Bool
 choices_fit c = not (c.is_first == 1 && (c.new_key == 1 || c.roll_back == 1))
 
--- The API misuse if the options are rejected: BadOption if an option is neither 0 nor 1 or if two options
--- must not be combined, otherwise BadNumbering if there is no field with this number.
+abbrev pub number_misuse : Option LongDigest → Option Misuse
+number_misuse (Some long) = None
+number_misuse None = Some BadHash
+
 abbrev pub choices_misuse : Choices → Option Misuse
 choices_misuse c =
-    if are_flags c && choices_fit c then if nat_le c.numbering 1 then None else Some BadNumbering
+    if are_flags c && choices_fit c
+    then if nat_le c.numbering 1 then number_misuse (long_numbered c.long_digest) else Some BadNumbering
     else Some BadOption
 
 -- The event of an empty piece: the end of the file, if a file is being read.
@@ -344,7 +421,7 @@ pub record IsReadAs (j : Judged) (o : Options) (t : SignatureTextRecord) (second
   pub signature : j.signature ≡ t.signature.signature
   pub comment_signature : j.comment_signature ≡ second
   pub version : j.version ≡ unwrap_or (version_in o.numbering t.comments.trusted) 0
-  pub size : when (j.has_size == 1) j.size ≡ size_in t.comments.trusted
+  pub size : when (j.has_size == 1) j.size ≡ signed_size o.list t.comments.trusted
   pub fault : IsOwnNumber j.fault (comment_fault o recorded time t.comments.trusted)
 
 -- The struct represents the state t, and the result is that of a step from s to t.

@@ -5,6 +5,7 @@ pub mod Decisions
 pub mod Faults
 pub mod Histories
 pub mod Installations
+pub mod Listings
 pub mod RecordTexts
 pub mod Step
 pub mod StepRuns

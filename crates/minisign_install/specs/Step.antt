@@ -7,17 +7,21 @@
 -- | ReadRecord      | reads the record                                         | RecordRead                |
 -- | ReadSignature   | reads the signature file and the clock, once             | SignatureRead             |
 -- | CheckComment    | asks Ed25519 about the trusted comment                   | Answered                  |
+-- | ReadList        | reads the signed list, once                              | ListRead                  |
+-- | CheckList       | asks Ed25519 about the digest of the list                | Answered                  |
 -- | CheckRecord     | asks Ed25519 about the digest in the record              | Answered                  |
 -- | ReadTarget      | reads the installed file, piece by piece                 | PieceRead and then Done,  |
 -- |                 |                                                          | or TargetMissing          |
--- | CheckTarget     | asks Ed25519 about the digest of the installed file      | Answered                  |
+-- | CheckTarget     | asks Ed25519 about the digest of the installed file, or  | Answered                  |
+-- |                 | that of the list                                         |                           |
 -- | SyncTarget      | syncs the installed file                                 | Done                      |
 -- | SyncTargetName  | syncs the directory                                      | Done                      |
 -- | RemoveLeftovers | removes temporary files of killed runs, if it can        | Done                      |
 -- | CreateFile      | creates a temporary file                                 | Done                      |
 -- | CopyData        | copies the data to the temporary file, piece by piece    | PieceCopied and then Done |
 -- | ReadBack        | reads the temporary file through the same descriptor     | PieceRead and then Done   |
--- | CheckData       | asks Ed25519 about the digest of what was read back      | Answered                  |
+-- | CheckData       | asks Ed25519 about the digest of what was read back, or  | Answered                  |
+-- |                 | that of the list                                         |                           |
 -- | SetPermissions  | gives the temporary file the permissions of the old file | Done                      |
 -- | SyncFile        | syncs the temporary file                                 | Done                      |
 -- | CreateRecord    | creates a temporary file for the record                  | Done                      |
@@ -29,6 +33,9 @@
 -- | SyncFileName    | syncs the directory                                      | Done                      |
 -- | RemoveFiles     | removes the temporary files that this run has made and   | Done                      |
 -- |                 | not renamed                                              |                           |
+--
+-- ReadList and CheckList are due only if the signature is that of a list. Then the signature is verified for
+-- the digest of the list, and the data must have the digest that the list has for its name.
 --
 -- With Installed, AlreadyInstalled, WouldInstall and Rejected the run has ended.
 --
@@ -51,14 +58,18 @@ use Rattle.minisign_external.specs.declared.state.Refusal.{Refusal}
 use Rattle.minisign_external.specs.declared.state.Refusal.TheVariants.{Refused, WrongUse}
 use Rattle.minisign_hash.specs.Blake2b.{blake2b_digest}
 use Rattle.minisign_install.specs.Decisions.{Options, Recorded, comment_fault, is_below, judge_record}
-use Rattle.minisign_install.specs.Decisions.{judge_text, nothing_recorded, size_in, version_in}
-use Rattle.minisign_install.specs.Faults.{DirectoryNotSynced, Fault, InstallFault, Library, Named}
-use Rattle.minisign_install.specs.Faults.{OtherSize, SameNumber, TargetInUse}
+use Rattle.minisign_install.specs.Decisions.{judge_text, nothing_recorded, signed_size, version_in}
+use Rattle.minisign_install.specs.Faults.{DigestMismatch, DirectoryNotSynced, Fault, InstallFault, Library}
+use Rattle.minisign_install.specs.Faults.{Named, OtherSize, SameNumber, TargetInUse}
+use Rattle.minisign_install.specs.Listings.{Listing, fits_listed, judge_list, nothing_listed}
 use Rattle.minisign_install.specs.RecordTexts.{record_of}
+use Rattle.minisign_lists.specs.declared.digests.ListedDigest.{ListedDigest}
+use Rattle.minisign_lists.specs.declared.lines.LongDigest.TheVariants as long
 pub use Rattle.minisign_install.specs.declared.installation.Operation.{Operation}
 pub use Rattle.minisign_install.specs.declared.installation.Operation.TheVariants.{Nothing, Lock, ReadRecord}
 pub use Rattle.minisign_install.specs.declared.installation.Operation.TheVariants.{ReadSignature}
 pub use Rattle.minisign_install.specs.declared.installation.Operation.TheVariants.{CheckComment, CheckRecord}
+pub use Rattle.minisign_install.specs.declared.installation.Operation.TheVariants.{ReadList, CheckList}
 pub use Rattle.minisign_install.specs.declared.installation.Operation.TheVariants.{ReadTarget, CheckTarget}
 pub use Rattle.minisign_install.specs.declared.installation.Operation.TheVariants.{SyncTarget, SyncTargetName}
 pub use Rattle.minisign_install.specs.declared.installation.Operation.TheVariants.{RemoveLeftovers}
@@ -78,19 +89,22 @@ pub use Rattle.minisign_install.specs.declared.installation.Operation.TheVariant
 -- The operations by their numbers, from 0 on. Nothing is due in a state that was never begun.
 abbrev pub operations : List Operation
 operations =
-    Nothing ∷ Lock ∷ ReadRecord ∷ ReadSignature ∷ CheckComment ∷ CheckRecord ∷ ReadTarget ∷ CheckTarget
-    ∷ SyncTarget ∷ SyncTargetName ∷ RemoveLeftovers ∷ CreateFile ∷ CopyData ∷ ReadBack ∷ CheckData
-    ∷ SetPermissions ∷ SyncFile ∷ CreateRecord ∷ WriteRecord ∷ SyncRecord ∷ RenameRecord ∷ SyncRecordName
-    ∷ RenameFile ∷ SyncFileName ∷ RemoveFiles ∷ Installed ∷ AlreadyInstalled ∷ WouldInstall ∷ Rejected ∷ []
+    Nothing ∷ Lock ∷ ReadRecord ∷ ReadSignature ∷ CheckComment ∷ ReadList ∷ CheckList ∷ CheckRecord
+    ∷ ReadTarget ∷ CheckTarget ∷ SyncTarget ∷ SyncTargetName ∷ RemoveLeftovers ∷ CreateFile ∷ CopyData
+    ∷ ReadBack ∷ CheckData ∷ SetPermissions ∷ SyncFile ∷ CreateRecord ∷ WriteRecord ∷ SyncRecord
+    ∷ RenameRecord ∷ SyncRecordName ∷ RenameFile ∷ SyncFileName ∷ RemoveFiles ∷ Installed
+    ∷ AlreadyInstalled ∷ WouldInstall ∷ Rejected ∷ []
 
--- The state of the installer. After the record was read, `recorded` is the part of it that applies. After the
--- signature file was read, `signers` are the keys that may have signed, `signature` is the signature of the
--- data, and `comment_signature` is that of the trusted comment. The comment has then been checked: `fault` is
--- the error for which it is rejected, `version` its version number (0 if it has none), and `size` the signed
--- size. None of these may be relied on before `is_signed` is true; then the first of the signers has signed
--- the comment. `is_recorded` says whether the digest in the record is that of the update. `read` holds the
--- bytes of the file that is being read, `left` is the number of bytes of the signed size that were not copied
--- yet, and `error` is the error for which the run is rejected.
+-- The state of the installer. After the record was read, `recorded` is the part of it that applies. After
+-- the signature file was read, `signers` are the keys that may have signed, `signature` is the signature of
+-- the data, and `comment_signature` is that of the trusted comment. The comment has then been checked:
+-- `fault` is the error for which it is rejected, `version` its version number (0 if it has none), and `size`
+-- the signed size. None of these may be relied on before `is_signed` is true; then the first of the signers
+-- has signed the comment. After the list was read, `listing` says what it has. It may not be relied on
+-- before `is_list_signed` is true; then this signer has signed the list. `is_recorded` says whether the
+-- digest in the record is that of the update. `read` holds the bytes of the file that is being read, `left`
+-- is the number of bytes of the signed size that were not copied yet, and `error` is the error for which the
+-- run is rejected.
 pub record State : Type 0 where
   pub due : Operation
   pub options : Options
@@ -102,6 +116,8 @@ pub record State : Type 0 where
   pub version : ℕ
   pub size : Option ℕ
   pub is_signed : Bool
+  pub listing : Listing
+  pub is_list_signed : Bool
   pub is_recorded : Bool
   pub read : List ℕ
   pub left : Option ℕ
@@ -120,6 +136,8 @@ begin o = record {
   version = 0;
   size = None;
   is_signed = false;
+  listing = nothing_listed;
+  is_list_signed = false;
   is_recorded = false;
   read = [];
   left = None;
@@ -130,15 +148,16 @@ begin o = record {
 
 -- The events that the application reports. RecordRead: the bytes of the record, or None if there is none.
 -- SignatureRead: the result of parsing the signature file, and the time in seconds since the beginning of
--- 1970, or None for a time before 1970. Answered: whether Ed25519 accepts. PieceRead: the next bytes of the
--- file. PieceCopied: the number of bytes that were copied. Failed: out of memory, or an operation of the
--- system failed.
+-- 1970, or None for a time before 1970. ListRead: the list, and the name to look up in it. Answered: whether
+-- Ed25519 accepts. PieceRead: the next bytes of the file. PieceCopied: the number of bytes that were copied.
+-- Failed: out of memory, or an operation of the system failed.
 pub data Event : Type 0 where
   Done : Event
   InUse : Event
   Failed : NamedFault → Event
   RecordRead : Option (List ℕ) → Event
   SignatureRead : Result SignatureTextRecord Fault → Option ℕ → Event
+  ListRead : List ℕ → List ℕ → Event
   Answered : Bool → Event
   TargetMissing : Event
   PieceRead : List ℕ → Event
@@ -165,10 +184,14 @@ comment_question s comment = record {
   signature = s.comment_signature;
 }
 
--- The digest in the record, or that of the file that was read.
+-- The digest of the list, or else of the file that was read.
+abbrev pub signed_digest : State → List ℕ
+signed_digest s = if is_some s.options.list then s.listing.digest else blake2b_digest 64 s.read
+
+-- The digest in the record, or the one that the update must be signed with.
 abbrev pub digest_due : Operation → State → List ℕ
 digest_due CheckRecord s = unwrap_or s.recorded.digest []
-digest_due op s = blake2b_digest 64 s.read
+digest_due op s = signed_digest s
 
 -- The question about data, at this operation. If the record has no digest, CheckRecord is never due.
 abbrev pub data_question : Operation → State → Question
@@ -237,8 +260,8 @@ after_signature (Ok (t, signers)) time s = record s {
   comment_signature = take 64 t.comments.signature;
   fault = comment_fault s.options s.recorded.version time t.comments.trusted;
   version = unwrap_or (version_in s.options.numbering t.comments.trusted) 0;
-  size = size_in t.comments.trusted;
-  left = size_in t.comments.trusted;
+  size = signed_size s.options.list t.comments.trusted;
+  left = signed_size s.options.list t.comments.trusted;
 }
 after_signature (Err fault) time s = reject (Library fault) s
 
@@ -258,10 +281,28 @@ compare s =
     else if is_rolling_back s then install s
     else go ReadTarget s
 
--- A key has signed the comment. The run continues, or is rejected with this error.
+-- A key has signed the comment. The run continues with the list, if there is one, or is rejected with this
+-- error.
 abbrev pub after_comment : Option InstallFault → State → State
-after_comment None s = compare s
+after_comment None s = if is_some s.options.list then go ReadList s else compare s
 after_comment (Some fault) s = reject fault s
+
+-- The list was read. The name is looked up here, and only here.
+abbrev pub after_list : List ℕ → List ℕ → State → State
+after_list list name s = record s {
+  due = CheckList;
+  listing = judge_list (unwrap_or s.options.list long.Rejected) list name;
+  read = [];
+}
+
+-- The list is signed. It has this digest for the name, or the run is rejected for this error.
+abbrev pub after_listing : Result ListedDigest InstallFault → State → State
+after_listing (Ok digest) s = compare s
+after_listing (Err fault) s = reject fault s
+
+-- The file that was read has the listed digest, or there is no list.
+abbrev pub is_listed : State → Bool
+is_listed s = fits_listed s.options.list s.listing.listed s.read
 
 -- This key has not signed the comment. The next key with this key ID is tried, if there is one.
 abbrev pub next_key : List PublicKeyValue → State → State
@@ -281,6 +322,11 @@ abbrev pub after_target : Bool → State → State
 after_target true s = go (if s.options.check then AlreadyInstalled else SyncTarget) s
 after_target false s =
     if s.is_recorded || s.options.again then install s else reject SameNumber s
+
+-- The signature is valid for the digest of the data, or for that of the list.
+abbrev pub after_data : Bool → State → State
+after_data true s = go SetPermissions s
+after_data false s = reject DigestMismatch s
 
 -- A piece of n bytes was copied. The run is rejected if the data is longer than the signed size.
 abbrev pub after_piece : ℕ → Option ℕ → State → State
@@ -329,14 +375,17 @@ after ReadRecord (RecordRead found) s = Some (after_record (judge_record s.optio
 after ReadSignature (SignatureRead text time) s = Some (after_signature (judge_text s.options text) time s)
 after CheckComment (Answered true) s = Some (after_comment s.fault (record s { is_signed = true }))
 after CheckComment (Answered false) s = Some (next_key s.signers s)
+after ReadList (ListRead list name) s = Some (after_list list name s)
+after CheckList (Answered true) s = Some (after_listing s.listing.listed (record s { is_list_signed = true }))
+after CheckList (Answered false) s = Some (reject (Library (Named named.SignatureRefused)) s)
 after CheckRecord (Answered accepted) s = Some (after_digest accepted s)
 after ReadTarget (PieceRead bytes) s = Some (record s { read = s.read ++ bytes })
 after ReadTarget TargetMissing s = Some (install s)
-after CheckTarget (Answered accepted) s = Some (after_target accepted s)
+after CheckTarget (Answered accepted) s = Some (after_target (accepted && is_listed s) s)
 after CopyData (PieceCopied n) s = Some (after_piece n s.left s)
 after CopyData Done s = Some (after_copy s.left s)
 after ReadBack (PieceRead bytes) s = Some (record s { read = s.read ++ bytes })
-after CheckData (Answered true) s = Some (go SetPermissions s)
+after CheckData (Answered true) s = Some (after_data (is_listed s) s)
 after CheckData (Answered false) s = Some (reject (Library (Named named.SignatureRefused)) s)
 after RemoveFiles (Failed f) s = if is_failure f then Some (go Rejected s) else None
 after Nothing (Failed f) s = None
@@ -371,7 +420,7 @@ has_ended op = false
 -- == The new record ==
 
 -- A roll-back keeps the recorded version and its key, so that the newer version is not installed again. The
--- digest is always that of the data that is installed.
+-- digest is always that of the data that is installed, or that of its list.
 abbrev pub new_version : State → ℕ
 new_version s = if is_rolling_back s then unwrap_or s.recorded.version s.version else s.version
 
@@ -379,4 +428,11 @@ abbrev pub new_key : State → List ℕ
 new_key s = if is_rolling_back s then unwrap_or s.recorded.key (key_of s.signers) else key_of s.signers
 
 abbrev pub new_record : State → List ℕ
-new_record s = record_of s.options.numbering (new_version s) (new_key s) (blake2b_digest 64 s.read)
+new_record s = record_of s.options.numbering (new_version s) (new_key s) (signed_digest s)
+
+-- == The line at fault ==
+
+-- The number of the line of the list for which the run is rejected. It is 0 if no line is at fault, or the
+-- list was not found to be signed.
+abbrev pub line_at_fault : State → ℕ
+line_at_fault s = if s.is_list_signed then s.listing.line else 0

@@ -3,7 +3,7 @@
 -- the installed file. They leave the record and the temporary files of this run alone while it holds the
 -- lock. proofs/StepSafety, StepReasons, StepArrivals, StepEnds, StepSyncs, StepFiles and StepChecks prove the
 -- laws.
-use Rattle.std.specs.Prelude.{◌≡◌, ◌≢◌, ◌<◌, ◌≤◌, ◌+◌, ◌++◌, ◌⊎◌, ◌||◌, ⊤, ℕ, Bool, true, false}
+use Rattle.std.specs.Prelude.{◌≡◌, ◌≢◌, ◌<◌, ◌≤◌, ◌+◌, ◌++◌, ◌⊎◌, ◌||◌, ◌&&◌, ⊤, ℕ, Bool, true, false}
 use Rattle.std.specs.Prelude.{if◌then◌else◌, List, [], ◌∷◌, length, take, is_some, Option, Some, None}
 use Rattle.std.specs.Prelude.{Result, Ok, Err}
 use Rattle.std.specs.Option.{unwrap_or}
@@ -13,26 +13,34 @@ use Rattle.minisign_base.specs.declared.faults.NamedFault.TheVariants as named
 use Rattle.minisign_external.specs.declared.public_keys.PublicKeyValue.{PublicKeyValue}
 use Rattle.minisign_hash.specs.Blake2b.{blake2b_digest}
 use Rattle.minisign_install.specs.Decisions.{Options, Recorded, comment_fault, judge_record, judge_text}
-use Rattle.minisign_install.specs.Decisions.{names_other_key, recorded_version, size_in, version_in}
-use Rattle.minisign_install.specs.Faults.{Fault, InstallFault, Library, Named, OtherSize, SameNumber}
-use Rattle.minisign_install.specs.Faults.{TargetInUse}
+use Rattle.minisign_install.specs.Decisions.{names_other_key, recorded_version, signed_size, version_in}
+use Rattle.minisign_install.specs.Faults.{DigestMismatch, Fault, InstallFault, Library, Named, OtherSize}
+use Rattle.minisign_install.specs.Faults.{SameNumber, TargetInUse}
+use Rattle.minisign_install.specs.Listings.{digest_found, digest_to_sign, entry_in, fits_list, judge_list}
 use Rattle.minisign_install.specs.Step.{AlreadyInstalled, Answered, CheckComment, CheckData, CopyData, Done}
 use Rattle.minisign_install.specs.Step.{Event, Failed, InUse, Installed, Operation, PieceCopied, PieceRead}
 use Rattle.minisign_install.specs.Step.{Question, ReadBack, ReadTarget, RecordRead, RenameFile}
 use Rattle.minisign_install.specs.Step.{RenameRecord, SignatureRead, State, WouldInstall, after, begin}
 use Rattle.minisign_install.specs.Step.{comment_question, CheckRecord, CheckTarget, ReadRecord}
+use Rattle.minisign_install.specs.Step.{CheckList, ListRead, ReadList}
 use Rattle.minisign_install.specs.Step.{ReadSignature, RemoveLeftovers, CreateFile, RemoveFiles}
 use Rattle.minisign_install.specs.Step.{CreateRecord, SetPermissions, SyncFile, SyncFileName, SyncRecord}
 use Rattle.minisign_install.specs.Step.{SyncRecordName, SyncTarget, SyncTargetName, WriteRecord}
 use Rattle.minisign_install.specs.Step.{data_question, failure, new_record, new_version, step}
+use Rattle.minisign_lists.specs.declared.digests.ListedDigest.{ListedDigest}
+use Rattle.minisign_lists.specs.declared.lines.LongDigest.{LongDigest}
+use Rattle.minisign_lists.specs.declared.lines.LongDigest.TheVariants as long
 
 -- The inputs of a run: the signatures that Ed25519 accepts (message, key and signature), the record, the
--- parsed signature file, and the data. The installed file never has more than `most` bytes.
+-- parsed signature file, and the data; if the signature is that of a list, also the list, and the name that
+-- the application looks up in it. The installed file never has more than `most` bytes.
 pub record World : Type 0 where
   pub accepts : Verifier
   pub found_record : Option (List ℕ)
   pub text : Result SignatureTextRecord Fault
   pub update : List ℕ
+  pub list : List ℕ
+  pub name : List ℕ
   pub most : ℕ
 
 -- Ed25519 accepts the signature in this question.
@@ -51,6 +59,7 @@ IsAnswer w s op accepted = accepted ≡ says_yes w (data_question op s)
 abbrev pub IsTrueEvent : World → ℕ → State → Operation → Event → Type 0
 IsTrueEvent w n s op (RecordRead found) = found ≡ w.found_record
 IsTrueEvent w n s op (SignatureRead text time) = text ≡ w.text
+IsTrueEvent w n s op (ListRead list name) = (list ≡ w.list) × (name ≡ w.name)
 IsTrueEvent w n s op (Answered accepted) = IsAnswer w s op accepted
 IsTrueEvent w n s ReadTarget (PieceRead bytes) =
     (0 < length bytes) × (length (s.read ++ bytes) ≤ w.most)
@@ -99,8 +108,8 @@ first_signer w t (v ∷ more) = if signs_comment w t v then Some v.key else firs
 
 -- The update ought to be installed. The record is accepted, or is missing and not needed. The signature file
 -- has passed the checks that need no Ed25519, and keys are the keys with its key ID. The first of them that
--- signed the comment also signed the data. The comment has a version number that is greater than the recorded
--- one, and the data has the signed size.
+-- signed the comment also signed the data, or else the list, which has the digest of the data for the name.
+-- The comment has a version number that is greater than the recorded one, and the data has the signed size.
 pub record IsGoodUpdate (w : World) (o : Options) : Type 0 where
   pub installs : o.check ≡ false
   pub recorded : Recorded
@@ -111,11 +120,12 @@ pub record IsGoodUpdate (w : World) (o : Options) : Type 0 where
   pub passed : judge_text o (Ok text) ≡ Ok (text, keys)
   pub key : List ℕ
   pub signed_comment : first_signer w text keys ≡ Some key
-  pub signed_data : w.accepts (blake2b_digest 64 w.update) key text.signature.signature ≡ true
+  pub signed_data : w.accepts (digest_to_sign o.list w.list w.update) key text.signature.signature ≡ true
+  pub listed : fits_list o.list w.list w.name w.update ≡ true
   pub version : ℕ
   pub numbered : version_in o.numbering text.comments.trusted ≡ Some version
   pub newer : (k : ℕ) → recorded.version ≡ Some k → k < version
-  pub sized : (size : ℕ) → size_in text.comments.trusted ≡ Some size → length w.update ≡ size
+  pub sized : (size : ℕ) → signed_size o.list text.comments.trusted ≡ Some size → length w.update ≡ size
 
 -- The event is not a failure, and the comment is not rejected at the time that is passed in.
 abbrev pub IsAcceptable : {w : World} {o : Options} → IsGoodUpdate w o → Event → Type 0
@@ -176,10 +186,16 @@ abbrev pub HasVersion : Options → Option (List ℕ) → ℕ → Type 0
 HasVersion o found k =
     (bytes : List ℕ) × (found ≡ Some bytes) × (recorded_version o.numbering bytes ≡ Some k)
 
+-- If the signature is that of a list, the state has the contents of this list for the name.
+abbrev pub HasListing : World → Options → State → Type 0
+HasListing w o s =
+    is_some o.list ≡ true → s.listing ≡ judge_list (unwrap_or o.list long.Rejected) w.list w.name
+
 -- The update that a run with these options may install: `keys` are the given keys that have the key ID of
 -- the signature. The run has passed over those in `others`; the first key after them has signed the comment
--- and the data, and the comment is not rejected at the time that was passed in. The version number that is
--- recorded next is not below the recorded one.
+-- and the data, and the comment is not rejected at the time that was passed in. If the signature is that of
+-- a list, the key has signed the list instead of the data, and the list has the digest of the data for the
+-- name. The version number that is recorded next is not below the recorded one.
 pub record IsUpdate (w : World) (o : Options) (s : State) : Type 0 where
   pub same : s.options ≡ o
   pub record_applies : judge_record o w.found_record ≡ Ok s.recorded
@@ -196,6 +212,8 @@ pub record IsUpdate (w : World) (o : Options) (s : State) : Type 0 where
   pub comment_signature : s.comment_signature ≡ take 64 text.comments.signature
   pub signed_comment : says_yes w (comment_question s text.comments.trusted) ≡ true
   pub signed_data : says_yes w (data_question CheckData s) ≡ true
+  pub listing : HasListing w o s
+  pub listed : fits_list o.list w.list w.name s.read ≡ true
   pub not_older : (k : ℕ) → s.recorded.version ≡ Some k → HasVersion o w.found_record k × (k ≤ new_version s)
   pub not_compared : s.recorded.version ≡ None → ComparesNoVersion o w.found_record
 
@@ -223,6 +241,23 @@ pub record IsSigned (w : World) (o : Options) : Type 0 where
 abbrev pub accepts_digest : {w : World} {o : Options} → IsSigned w o → List ℕ → Bool
 accepts_digest {w = w} g digest = w.accepts digest g.key g.text.signature.signature
 
+-- The signature is valid for the data; or else for the list, which has the digest of the data for the name.
+abbrev pub accepts_data : {w : World} {o : Options} → IsSigned w o → List ℕ → Bool
+accepts_data {w = w} {o = o} g m =
+    accepts_digest g (digest_to_sign o.list w.list m) && fits_list o.list w.list w.name m
+
+-- If the signature is that of a list, it is valid for the list, and the list has a digest for the name.
+abbrev pub IsListAccepted : {w : World} {o : Options} → IsSigned w o → Type 0
+IsListAccepted {w = w} {o = o} g =
+    (long : LongDigest) → o.list ≡ Some long → (accepts_digest g (blake2b_digest 64 w.list) ≡ true)
+    × ((digest : ListedDigest) × (digest_found (entry_in long w.list w.name) ≡ Ok digest))
+
+-- The signature is that of a list, which does not have exactly one entry of the name: this is the error.
+abbrev pub IsListFault : World → Options → InstallFault → Type 0
+IsListFault w o fault =
+    (long : LongDigest) × (o.list ≡ Some long)
+    × (digest_found (entry_in long w.list w.name) ≡ Err fault)
+
 -- The update has the recorded version, --again is not given, and neither the digest in the record nor the
 -- installed file is that of the update.
 pub record IsSameVersion {w : World} {o : Options} (g : IsSigned w o) : Type 0 where
@@ -231,7 +266,7 @@ pub record IsSameVersion {w : World} {o : Options} (g : IsSigned w o) : Type 0 w
   pub recorded : g.recorded.version ≡ Some version
   pub offered : unwrap_or (version_in o.numbering g.text.comments.trusted) 0 ≡ version
   pub installed : List ℕ
-  pub other : accepts_digest g (blake2b_digest 64 installed) ≡ false
+  pub other : accepts_data g installed ≡ false
   pub other_digest : (digest : List ℕ) → g.recorded.digest ≡ Some digest → accepts_digest g digest ≡ false
 
 -- If this event passes in a time, the time is in the set.
@@ -245,7 +280,9 @@ TimeOf times = (time : Option ℕ) × (times time ≡ true)
 
 -- The error is due to an input of the run: the record is rejected; or the signature file is; or no given key
 -- has signed the comment; or the signed comment is rejected at a time in the set; or the recorded version is
--- installed with a different file; or the data does not have the signed size; or the data is not signed.
+-- installed with a different file; or the data does not have the signed size; or the data, or else the list,
+-- is not signed; or the signed list does not have exactly one entry of the name; or the data does not have
+-- the digest in the signed list.
 abbrev pub IsFoundFault : World → Options → (Option ℕ → Bool) → InstallFault → Type 0
 IsFoundFault w o times fault =
     (judge_record o w.found_record ≡ Err fault)
@@ -257,9 +294,14 @@ IsFoundFault w o times fault =
     × (comment_fault o g.recorded.version time.0 g.text.comments.trusted ≡ Some fault))
     ⊎ ((g : IsSigned w o) × (fault ≡ SameNumber) × IsSameVersion g)
     ⊎ ((g : IsSigned w o) × (fault ≡ OtherSize)
-    × ((size : ℕ) × (size_in g.text.comments.trusted ≡ Some size) × (length w.update ≢ size)))
+    × ((size : ℕ) × (signed_size o.list g.text.comments.trusted ≡ Some size) × (length w.update ≢ size)))
     ⊎ ((g : IsSigned w o) × (fault ≡ Library (Named named.SignatureRefused))
-    × (accepts_digest g (blake2b_digest 64 w.update) ≡ false))
+    × (accepts_digest g (digest_to_sign o.list w.list w.update) ≡ false))
+    ⊎ ((g : IsSigned w o) × (accepts_digest g (digest_to_sign o.list w.list w.update) ≡ true)
+    × IsListFault w o fault)
+    ⊎ ((g : IsSigned w o) × (fault ≡ DigestMismatch)
+    × (accepts_digest g (digest_to_sign o.list w.list w.update) ≡ true)
+    × (fits_list o.list w.list w.name w.update ≡ false))
 
 -- The error with which an event in this state ends the run: the operation failed, the lock is in use, or an
 -- input is rejected.
@@ -271,19 +313,20 @@ IsReason w o times s e fault = IsFoundFault w o times fault
 -- The meaning of the end of a run. After Installed, AlreadyInstalled and WouldInstall, a given key has signed
 -- the trusted comment, and the comment is not rejected at a time in the set. After Installed, this key has
 -- also signed the data. After AlreadyInstalled, it has signed the digest of some data; `EndIsDurable` says
--- that this is the data that the run read at the target.
+-- that this is the data that the run read at the target. If the signature is that of a list, the key has
+-- signed the list instead, and the list has the digest of the data for the name.
 abbrev pub IsEnd : World → Options → (Option ℕ → Bool) → Operation → Type 0
 IsEnd w o times Installed =
     (g : IsSigned w o) × (time : TimeOf times)
     × (comment_fault o g.recorded.version time.0 g.text.comments.trusted ≡ None)
-    × (accepts_digest g (blake2b_digest 64 w.update) ≡ true)
+    × (accepts_data g w.update ≡ true)
 IsEnd w o times AlreadyInstalled =
     (g : IsSigned w o) × (time : TimeOf times)
     × (comment_fault o g.recorded.version time.0 g.text.comments.trusted ≡ None)
-    × ((installed : List ℕ) × (accepts_digest g (blake2b_digest 64 installed) ≡ true))
+    × ((installed : List ℕ) × (accepts_data g installed ≡ true))
 IsEnd w o times WouldInstall =
     (o.check ≡ true) × ((g : IsSigned w o) × (time : TimeOf times)
-    × (comment_fault o g.recorded.version time.0 g.text.comments.trusted ≡ None))
+    × (comment_fault o g.recorded.version time.0 g.text.comments.trusted ≡ None) × IsListAccepted g)
 IsEnd w o times op = ⊤
 
 -- == Checks ==
@@ -303,6 +346,8 @@ abbrev pub decides : Operation → Bool
 decides ReadRecord = true
 decides ReadSignature = true
 decides CheckComment = true
+decides ReadList = true
+decides CheckList = true
 decides CheckRecord = true
 decides ReadTarget = true
 decides CheckTarget = true

@@ -1,6 +1,7 @@
 -- A recorded run (trace) of an application: the changes by other processes, and for each operation its effect
 -- on the files and the event that the application reported. calls_of converts a trace to a run as
--- Applications defines it. IsLawful states that it is a run of a lawful application.
+-- Applications defines it. IsLawful states that it is a run of a lawful application. No line of a trace says
+-- that a signed list was read.
 use Rattle.std.specs.Prelude.{◌≤◌, if◌then◌else◌, ⊤}
 use Rattle.std.specs.Prelude.{◌≡◌, ◌<◌, ◌++◌, ◌==◌, ◌&&◌, ℕ, Bool, true, false, not, bytes_eq, length, take}
 use Rattle.std.specs.Prelude.{List, [], ◌∷◌, Option, Some, None, option_map, is_some, Ok}
@@ -45,6 +46,8 @@ world_of f = record {
   found_record = option_map (λ r. r.now) f.recorded;
   text = read_utf8 read_signature f.sig_text.now;
   update = f.update.now;
+  list = [];
+  name = [];
   most = f.most;
 }
 
@@ -289,6 +292,7 @@ installs op = false
 -- The bytes read so far, after an event.
 abbrev pub read_after : Event → List ℕ → List ℕ
 read_after (due.PieceRead bytes) read = read ++ bytes
+read_after (due.ListRead list name) read = []
 read_after e read = read
 
 abbrev pub is_growing : Effect → Bool

@@ -7,7 +7,7 @@ ghost use Rattle.minisign_base.specs.Faults.{row};
 ghost use Rattle.minisign_install.specs.Faults.{IsErrorText, Named, is_own, install_number};
 ghost use Rattle.minisign_install.specs.Faults.{install_row, Library};
 
-use minisign_base::ErrorKind::{self, Io, Verify};
+use minisign_base::ErrorKind::{self, Io, Misc, Verify};
 use minisign_base::{NamedFault, PError};
 use minisign_external::numbers::{self, Numbered};
 use std::fmt;
@@ -54,6 +54,16 @@ pub enum InstallFault {
     BadSize,
     /// The data is longer or shorter than the field `size:` of the trusted comment says.
     OtherSize,
+    /// No list can contain the name that is looked up.
+    BadName,
+    /// A line of the list is malformed.
+    MalformedLine,
+    /// No line of the list has the name.
+    NotListed,
+    /// Two lines of the list have the name.
+    ListedTwice,
+    /// The data does not have the listed digest.
+    DigestMismatch,
 }
 
 impl InstallFault {
@@ -91,6 +101,11 @@ impl InstallFault {
             58 => NoExpiry,
             59 => BadSize,
             60 => OtherSize,
+            90 => BadName,
+            91 => MalformedLine,
+            92 => NotListed,
+            93 => ListedTwice,
+            94 => DigestMismatch,
             _ => return None,
         })
     }
@@ -159,6 +174,19 @@ impl InstallFault {
                 60,
                 Verify,
                 "the size of the data is not the one in the trusted comment",
+            ),
+            BadName => &(
+                90,
+                Misc,
+                "a list can only contain relative paths without .. or special characters",
+            ),
+            MalformedLine => &(91, Misc, "a line of the list is malformed"),
+            NotListed => &(92, Verify, "the list does not contain this name"),
+            ListedTwice => &(93, Verify, "the list contains this name twice"),
+            DigestMismatch => &(
+                94,
+                Verify,
+                "the digest of the data is not the one in the list",
             ),
         })
     }

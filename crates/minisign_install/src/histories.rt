@@ -4,7 +4,6 @@
 ghost use Rattle.std.specs.Prelude.{◌≡◌, ◌≤◌, ◌+◌, ◌*◌, ℕ, List, Some, Ok, Err, true, false, is_some};
 ghost use Rattle.std.specs.Prelude.{◌<◌, ◌||◌, ◌⊎◌, Bool, None, Option, length};
 ghost use Rattle.minisign_external.specs.declared.state.Refusal.TheVariants.{Refused};
-ghost use Rattle.minisign_hash.specs.Blake2b.{blake2b_digest};
 ghost use Rattle.minisign_install.specs.Applications.{Applies, Call, LeavesAll, Snapshot, Others};
 ghost use Rattle.minisign_install.specs.Applications.{IsBeforeRun, Performs};
 ghost use Rattle.minisign_install.specs.Comments.{Numbering};
@@ -12,7 +11,7 @@ ghost use Rattle.minisign_install.specs.Decisions.{Options, Recorded, judge_reco
 ghost use Rattle.minisign_install.specs.Decisions.{nothing_recorded, record_fault, recorded_version};
 ghost use Rattle.minisign.specs.SignatureText.{SignatureTextRecord};
 ghost use Rattle.minisign_install.specs.Decisions.{comment_fault};
-ghost use Rattle.minisign_install.specs.Histories.{IsAtTime, is_past_comment};
+ghost use Rattle.minisign_install.specs.Histories.{IsAtTime, is_for_list, is_past_comment, list_calls};
 ghost use Rattle.minisign_install.specs.Histories.{AcceptsWholeKeys, AllCalls, AllEvents, HistoryEvent};
 ghost use Rattle.minisign_install.specs.Histories.{IsHistory, IsAcceptableFor, IsOldUpdate, IsSafeCall};
 ghost use Rattle.minisign_install.specs.Histories.{IsInstalled};
@@ -23,22 +22,28 @@ ghost use Rattle.minisign_install.specs.Histories.{KeepsVersion, leads_to_instal
 ghost use Rattle.minisign_install.specs.Histories.{OthersLeaveTarget, used_record_for};
 ghost use Rattle.minisign_install.specs.RecordTexts.{record_key};
 ghost use Rattle.minisign_install.specs.Step.{CheckComment, Installed, State, after, begin, has_ended};
-ghost use Rattle.minisign_install.specs.Step.{AlreadyInstalled, Rejected};
+ghost use Rattle.minisign_install.specs.Step.{AlreadyInstalled, Answered, CheckList, Event, Rejected};
+ghost use Rattle.minisign_install.specs.Step.{key_of, line_at_fault};
 ghost use Rattle.minisign_install.specs.Step.{new_record};
-ghost use Rattle.minisign_install.specs.Step.{new_key, new_version, step};
+ghost use Rattle.minisign_install.specs.Step.{new_key, new_version, signed_digest, step};
 ghost use Rattle.minisign_install.specs.Faults.{InstallFault, NoRecord, SameNumber};
 ghost use Rattle.minisign_install.specs.Installations.{numbered};
 ghost use Rattle.minisign_install.specs.StepRuns.{IsAtOneOf, IsEnd, IsAcceptable, IsGoodUpdate, IsReason};
 ghost use Rattle.minisign_install.specs.StepRuns.{IsUpdate, Succeeds};
-ghost use Rattle.minisign_install.specs.StepRuns.{IsSigned, World};
+ghost use Rattle.minisign_install.specs.StepRuns.{IsListAccepted, IsSigned, World};
+ghost use Rattle.minisign_hash.specs.Blake2b.{blake2b_digest};
+ghost use Rattle.minisign_lists.specs.Digests.{has_digest};
+ghost use Rattle.minisign_lists.specs.Lines.{Entry};
+ghost use Rattle.minisign_lists.specs.declared.lines.LongDigest.{LongDigest};
+ghost use Rattle.minisign_lists.specs.Lists.{listed_entry};
 
 /// States what is true of every run of a lawful application, complete or cut off anywhere. This function is a
 /// law: it does nothing, and exists only for its contract.
 pub fn any_application_is_safe()
     // After each operation, a process finds at the target, at once or after a crash, only what it could have
-    // found there before, or an update that a given key has signed; in the second case, the only record that
-    // it can find is that of this update. At the record, it finds only what it could have found there
-    // before, or the record of such an update.
+    // found there before, or an update that a given key has signed, or that is listed in a signed list; in
+    // the second case, the only record that it can find is that of this update. At the record, it finds only
+    // what it could have found there before, or the record of such an update.
     ensures safe { (w : World) (o : Options) (m : Snapshot) (calls : List Call) (t : State) (end : Snapshot)
         → Applies w (begin o) m calls t end → AllCalls (IsSafeCall w o) calls }
 
@@ -82,7 +87,8 @@ pub fn any_application_is_safe()
     // A run ends as installed or already installed, and a check says that it would install, only if a given
     // key has signed the trusted comment, and the comment is not rejected at a time that the application
     // passed in. If the update is installed, this key has also signed the data. If it was already installed,
-    // this key has signed the digest of some data.
+    // this key has signed the digest of some data. If the signature is that of a list, the key has signed the
+    // list instead, in which the data is listed.
     ensures ends { (w : World) (o : Options) (times : Option ℕ → Bool) (m : Snapshot) (calls : List Call)
         (t : State) (end : Snapshot) → Applies w (begin o) m calls t end → AllEvents (IsAtOneOf times) calls
         → IsEnd w o times t.due }
@@ -90,18 +96,19 @@ pub fn any_application_is_safe()
     // Suppose that other processes leave the target alone. If a run ends as installed, the update is at the
     // target and its record beside it, and no crash can undo this; the permissions of the new file were set,
     // and no temporary files of killed runs are left. If a run ends as already installed, the
-    // signature is valid for the bytes that were read from the target; unless the run is a check, the target
-    // has these bytes, and no crash can undo this.
+    // signature is valid for the bytes that were read from the target, or for the list in which they are
+    // listed; unless the run is a check, the target has these bytes, and no crash can undo this.
     ensures durable { (w : World) (o : Options) (m : Snapshot) (calls : List Call) (t : State)
         (end : Snapshot)
         → Applies w (begin o) m calls t end → OthersLeaveTarget m calls → EndIsDurable w o t.due t end }
 
-    // The length of a run is bounded: it has at most 23 calls, one more for each key, one more for each byte
-    // that the installed file can have, and two more for each byte of the data.
+    // The length of a run is bounded: it has at most 23 calls, two more if the signature is that of a list,
+    // one more for each key, one more for each byte that the installed file can have, and two more for each
+    // byte of the data.
     ensures bounded { (w : World) (o : Options) (m : Snapshot) (calls : List Call) (t : State)
         (end : Snapshot)
         → Applies w (begin o) m calls t end
-        → length calls ≤ 23 + length o.keys + w.most + 2 * length w.update }
+        → length calls ≤ 23 + list_calls o + length o.keys + w.most + 2 * length w.update }
 {}
 
 /// States that a good update is installed if nothing fails. This function is a law: it does nothing, and
@@ -109,9 +116,9 @@ pub fn any_application_is_safe()
 pub fn any_good_update_arrives()
     // Suppose that an update is good, as `IsGoodUpdate` defines it: the record is valid or not needed, the
     // signature file passes the checks that need no Ed25519, a given key has signed the comment and the
-    // data, the version number is greater than the recorded one, and the data has the signed size. If the
-    // comment is not rejected at the time that is passed in, no operation fails and the lock is free, then a
-    // run that has ended has installed the update.
+    // data, or else a list in which the data is listed, the version number is greater than the recorded one,
+    // and the data has the signed size. If the comment is not rejected at the time that is passed in, no
+    // operation fails and the lock is free, then a run that has ended has installed the update.
     ensures installed { (w : World) (o : Options) (g : IsGoodUpdate w o) (m : Snapshot) (calls : List Call)
         (t : State) (end : Snapshot) → Applies w (begin o) m calls t end → AllEvents (IsAcceptable g) calls
         → has_ended t.due ≡ true → t.due ≡ Installed }
@@ -125,15 +132,36 @@ pub fn any_good_update_arrives()
         → has_ended t.due ≡ true → IsInstalled t.due }
 
     // A later run with the same options reads from the new record the version number and the key that this
-    // run recorded, and the digest of the data that it installed. The options must not include --first or
-    // --new-key.
+    // run recorded, and the digest of the data that it installed, or of the list. The options must not
+    // include --first or --new-key.
     ensures own { (w : World) (o : Options) → AcceptsWholeKeys w.accepts → (s : State) → IsUpdate w o s
         → o.first ≡ false → o.new_key ≡ false
         → judge_record o (Some (new_record s)) ≡ Ok (record {
           version = Some (new_version s);
           key = record_key (new_record s);
-          digest = Some (blake2b_digest 64 s.read);
+          digest = Some (signed_digest s);
         }) }
+{}
+
+/// States what the installed data is if the signature is that of a list. This function is a law: it does
+/// nothing, and exists only for its contract.
+pub fn any_listed_update_is_listed()
+    // The data that a run installs has the digest of the only entry of the name in the list, and a given key
+    // has signed the list.
+    ensures listed { (w : World) (o : Options) (s : State) → IsUpdate w o s → (long : LongDigest)
+        → o.list ≡ Some long → (entry : Entry) × (listed_entry long w.list w.name ≡ Ok entry)
+        × (has_digest entry.digest s.read ≡ true)
+        × (w.accepts (blake2b_digest 64 w.list) (key_of s.signers) s.signature ≡ true) }
+
+    // An unsigned list has no line at fault: no line is at fault before the list is found to be signed, and
+    // this happens only when Ed25519 accepts the signature of its digest.
+    ensures signed { (s : State) (e : Event) → s.is_list_signed ≡ false
+        → (step s e).1.is_list_signed ≡ true → (s.due ≡ CheckList) × (e ≡ Answered true) }
+    ensures unsigned { (s : State) → s.is_list_signed ≡ false → line_at_fault s ≡ 0 }
+
+    // If the signature is that of the data, no list is read.
+    ensures none { (w : World) (o : Options) (m : Snapshot) (calls : List Call) (t : State) (end : Snapshot)
+        → o.list ≡ None → Applies w (begin o) m calls t end → is_for_list t.due ≡ false }
 {}
 
 /// States that versions do not decrease over time. This function is a law: it does nothing, and exists only
@@ -192,19 +220,20 @@ pub fn any_record_is_judged()
     ensures not_undone { (w : World) (o : Options) → AcceptsWholeKeys w.accepts → (s : State)
         → IsUpdate w o s → (k : ℕ) → s.recorded.version ≡ Some k → s.version < k → (v : World) (p : Options)
         → AcceptsWholeKeys v.accepts → IsLaterRun v p o.numbering s
-        → IsOtherUpdate v p k (blake2b_digest 64 s.read) → (m : Snapshot) (calls : List Call) (t : State)
+        → IsOtherUpdate v p k (signed_digest s) → (m : Snapshot) (calls : List Call) (t : State)
         (end : Snapshot) → Applies v (begin p) m calls t end → OthersLeaveTarget m calls
         → is_some m.target ≡ true → leads_to_install t.due ≡ false }
 
     // In addition, suppose that a given key has signed the comment, that the comment is not rejected at the
-    // time that is passed in, and that no operation fails. Then the later run ends with the error that
-    // different data of this version is installed (`SameNumber`), unless the update is already at the
+    // time that is passed in, and that no operation fails; if the signature is that of a list, suppose that
+    // the key has signed the list, and that the list has the name. Then the later run ends with the error
+    // that different data of this version is installed (`SameNumber`), unless the update is already at the
     // target.
     ensures named { (w : World) (o : Options) → AcceptsWholeKeys w.accepts → (s : State)
         → IsUpdate w o s → (k : ℕ) → s.recorded.version ≡ Some k → s.version < k → (v : World) (p : Options)
         → AcceptsWholeKeys v.accepts → IsLaterRun v p o.numbering s
-        → IsOtherUpdate v p k (blake2b_digest 64 s.read) → (g : IsSigned v p) (m : Snapshot)
-        (calls : List Call) (t : State) (end : Snapshot) → Applies v (begin p) m calls t end
+        → IsOtherUpdate v p k (signed_digest s) → (g : IsSigned v p) → IsListAccepted g
+        → (m : Snapshot) (calls : List Call) (t : State) (end : Snapshot) → Applies v (begin p) m calls t end
         → OthersLeaveTarget m calls → is_some m.target ≡ true → AllEvents (IsAcceptableAt p k g.text) calls
         → has_ended t.due ≡ true
         → (t.due ≡ AlreadyInstalled) ⊎ ((t.due ≡ Rejected) × (t.error ≡ Some SameNumber)) }
@@ -217,6 +246,6 @@ pub fn any_record_is_judged()
         → judge_record p v.found_record ≡ Ok (record {
           version = Some k;
           key = record_key (new_record s);
-          digest = Some (blake2b_digest 64 s.read);
+          digest = Some (signed_digest s);
         }) }
 {}

@@ -11,17 +11,21 @@ ghost use Rattle.minisign_install.specs.Installations.{SignatureSteps};
 ghost use Rattle.minisign_install.specs.Installations.{begun_mark, choices_misuse, error_number};
 ghost use Rattle.minisign_install.specs.Installations.{options_by, piece_event};
 ghost use Rattle.minisign_install.specs.Step.{Answered, Done, Failed, InUse, PieceCopied, State};
-ghost use Rattle.minisign_install.specs.Step.{RecordRead, TargetMissing, begin, step};
+ghost use Rattle.minisign_install.specs.Step.{ListRead, RecordRead, TargetMissing, begin, line_at_fault};
+ghost use Rattle.minisign_install.specs.Step.{step};
 ghost use Rattle.minisign_install.specs.Installations.{is_copying, is_locking, is_over, is_reading};
-ghost use Rattle.minisign_install.specs.Installations.{is_reading_record, is_reading_target, is_removing};
+ghost use Rattle.minisign_install.specs.Installations.{is_reading_list, is_reading_record};
+ghost use Rattle.minisign_install.specs.Installations.{is_reading_target, is_removing};
 ghost use Rattle.minisign_install.specs.Installations.{is_writing_record, operation_of, record_due};
 ghost use Rattle.minisign_install.specs.Installations.{IsNewRecord, is_reading_signature, question_due};
 ghost use Rattle.minisign_install.specs.Installations.{written_if};
 ghost use Rattle.minisign_install.specs.Step.{Rejected, RemoveFiles, failure, has_files, next};
 
 mod judging;
+mod listing;
 mod output;
 mod progress;
+mod reading;
 mod recorded;
 mod signature;
 
@@ -31,6 +35,7 @@ use minisign_base::NamedFault;
 use minisign_external::numbers::{ANSWER_YES, is_answer};
 use minisign_external::public_keys::PublicKeyValue;
 use minisign_external::state::{Misuse, Refusal};
+use minisign_lists::LongDigest;
 use progress::Progress;
 
 // The mark (magic number) of an installation that was begun: the letters `minstall`.
@@ -42,7 +47,7 @@ const BEGUN: u64 = 7812726606361684333;
 pub struct Installation {
     mark: u64,
     progress: Progress,
-    reserved: [u64; 28],
+    reserved: [u64; 5],
 }
 
 /// A question for Ed25519: is the signature valid under the key? Its message is the digest, or, if
@@ -60,7 +65,7 @@ pub struct Question {
     pub is_comment: u32,
 }
 
-/// The options of an installation, with the layout of C. All except `numbering` are 0 or 1.
+/// The options of an installation, with the layout of C. All except `numbering` and `long_digest` are 0 or 1.
 #[repr(C)]
 #[derive(Clone, Copy)]
 pub struct Choices {
@@ -78,6 +83,11 @@ pub struct Choices {
     pub new_key: u32,
     /// Install an update even if it is older than the recorded version, which stays recorded.
     pub roll_back: u32,
+    /// The signature is that of a signed list of files, in which the data must be listed.
+    pub is_list: u32,
+    /// The meaning of 128 hexadecimal digits on a line of the list that does not name its hash function: 0 if
+    /// such a line is malformed, 2 for SHA-512, 3 for BLAKE2b.
+    pub long_digest: u32,
 }
 
 /// The operation that is due, or the end of the run. The operations are numbered from 0 on, in this order.
@@ -93,11 +103,15 @@ pub enum Operation {
     ReadSignature,
     /// Ask Ed25519 about the trusted comment, and report the answer.
     CheckComment,
+    /// Read the signed list, once.
+    ReadList,
+    /// Ask Ed25519 about the digest of the list, and report the answer.
+    CheckList,
     /// Ask Ed25519 about the digest in the record, and report the answer.
     CheckRecord,
     /// Read the installed file and report its bytes piece by piece, or that there is no such file.
     ReadTarget,
-    /// Ask Ed25519 about the digest of the installed file, and report the answer.
+    /// Ask Ed25519 about the digest of the installed file, or that of the list, and report the answer.
     CheckTarget,
     /// Sync the installed file, which is already the update.
     SyncTarget,
@@ -113,7 +127,7 @@ pub enum Operation {
     /// Read back the temporary file of the data through the same descriptor, and report its bytes piece by
     /// piece.
     ReadBack,
-    /// Ask Ed25519 about the digest of what was read back, and report the answer.
+    /// Ask Ed25519 about the digest of what was read back, or that of the list, and report the answer.
     CheckData,
     /// Give the temporary file of the data the permissions of the installed file.
     SetPermissions,
@@ -162,7 +176,7 @@ impl Installation {
             Ok(()) => Ok(Installation {
                 mark: BEGUN,
                 progress: Progress::begin(key, other, choices),
-                reserved: [0; 28],
+                reserved: [0; 5],
             }),
             Err(misuse) => Err(misuse),
         }
@@ -338,6 +352,21 @@ impl Installation {
         }
     }
 
+    /// Reports the signed list of files, which must be passed whole, and the name to look up in it.
+    pub fn list(&mut self, list: &[u8], name: &[u8]) -> Result<(), Refusal<InstallFault>>
+        // If the installation represents a state, the result and the new state are those that `step`
+        // computes from this state and this event.
+        ensures steps { CallSteps (ListRead list.now name.now) self.old self.new result }
+        // After `NotDue` the installation is unchanged.
+        ensures misuse { result ≡ Err (WrongUse NotDue) → self.new ≡ self.old }
+    {
+        if self.is_begun() {
+            self.progress.list(list, name)
+        } else {
+            Err(Refusal::WrongUse(Misuse::NotDue))
+        }
+    }
+
     /// Returns the question for Ed25519 that is due, or `None` if none is due.
     pub fn question(&self) -> Option<Question>
         ensures { (s : State) → Represents self.now s → result ≡ question_due s }
@@ -443,6 +472,19 @@ impl Installation {
             0
         }
     }
+
+    /// Returns the number of the line of the list because of which the run is rejected: the first malformed
+    /// line, or the second line with the name. Returns 0 if no line is at fault, or the signature of the list
+    /// was not verified.
+    pub fn line(&self) -> u64
+        ensures { (s : State) → Represents self.now s → result ≡ line_at_fault s }
+    {
+        if self.is_begun() {
+            self.progress.line()
+        } else {
+            0
+        }
+    }
 }
 
 impl Choices {
@@ -456,6 +498,7 @@ impl Choices {
             && self.must_expire <= 1
             && self.new_key <= 1
             && self.roll_back <= 1
+            && self.is_list <= 1
     }
 
     // Returns true unless `is_first`, which installs without a record, is combined with an option that needs
@@ -467,7 +510,7 @@ impl Choices {
     }
 
     // Returns `BadOption` if an option is not 0 or 1 or two options must not be combined, else `BadNumbering`
-    // if there is no such field.
+    // if there is no such field, else `BadHash` if 128 digits cannot have this meaning.
     fn test(&self) -> Result<(), Misuse>
         ensures { MatchResult result (λ _. choices_misuse self.now ≡ None)
             (λ m. choices_misuse self.now ≡ Some m) }
@@ -478,7 +521,10 @@ impl Choices {
         if self.numbering > 1 {
             return Err(Misuse::BadNumbering);
         }
-        Ok(())
+        match LongDigest::of_number(self.long_digest) {
+            Some(_) => Ok(()),
+            None => Err(Misuse::BadHash),
+        }
     }
 }
 
@@ -495,7 +541,7 @@ impl Operation {
         ensures { result ≡ operation_of number }
     {
         use Operation::*;
-        if number > 28 {
+        if number > 30 {
             return Nothing;
         }
         match number {
@@ -504,30 +550,32 @@ impl Operation {
             2 => ReadRecord,
             3 => ReadSignature,
             4 => CheckComment,
-            5 => CheckRecord,
-            6 => ReadTarget,
-            7 => CheckTarget,
-            8 => SyncTarget,
-            9 => SyncTargetName,
-            10 => RemoveLeftovers,
-            11 => CreateFile,
-            12 => CopyData,
-            13 => ReadBack,
-            14 => CheckData,
-            15 => SetPermissions,
-            16 => SyncFile,
-            17 => CreateRecord,
-            18 => WriteRecord,
-            19 => SyncRecord,
-            20 => RenameRecord,
-            21 => SyncRecordName,
-            22 => RenameFile,
-            23 => SyncFileName,
-            24 => RemoveFiles,
-            25 => Installed,
-            26 => AlreadyInstalled,
-            27 => WouldInstall,
-            28 => Rejected,
+            5 => ReadList,
+            6 => CheckList,
+            7 => CheckRecord,
+            8 => ReadTarget,
+            9 => CheckTarget,
+            10 => SyncTarget,
+            11 => SyncTargetName,
+            12 => RemoveLeftovers,
+            13 => CreateFile,
+            14 => CopyData,
+            15 => ReadBack,
+            16 => CheckData,
+            17 => SetPermissions,
+            18 => SyncFile,
+            19 => CreateRecord,
+            20 => WriteRecord,
+            21 => SyncRecord,
+            22 => RenameRecord,
+            23 => SyncRecordName,
+            24 => RenameFile,
+            25 => SyncFileName,
+            26 => RemoveFiles,
+            27 => Installed,
+            28 => AlreadyInstalled,
+            29 => WouldInstall,
+            30 => Rejected,
             _ => Nothing,
         }
     }
@@ -640,6 +688,13 @@ impl Operation {
         ensures { result ≡ is_reading_signature self }
     {
         matches!(self, Operation::ReadSignature)
+    }
+
+    // Returns true if the operation is to read the signed list.
+    pub(crate) fn is_reading_list(self) -> bool
+        ensures { result ≡ is_reading_list self }
+    {
+        matches!(self, Operation::ReadList)
     }
 
     // Returns true if the operation is to write the new record.

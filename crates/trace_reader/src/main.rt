@@ -11,7 +11,8 @@
 //!     OPTIONS KEY KEY NAME SIGNATURE DATA MAX-SIZE RECORD-READ TARGET-INODE TARGET RECORD-INODE RECORD
 //!
 //! - OPTIONS are the letters of the options, or `-`: F `--first`, A `--again`, C `--check`, X
-//!   `--must-expire`, K `--new-key`, B `--roll-back`, and T if the version is the field `timestamp:`.
+//!   `--must-expire`, K `--new-key`, B `--roll-back`, and T if the version is the field `timestamp:`. The
+//!   signature is always that of the data, and not that of a list.
 //! - KEY is a key ID and a public key. NAME is the file name that the trusted comment has to contain.
 //! - SIGNATURE is the content of the signature file, and DATA is the update.
 //! - MAX-SIZE is the maximum size that the installed file ever has.
@@ -150,6 +151,8 @@ impl<'a> Words<'a> {
             must_expire: self.has_option('X') as u32,
             new_key: self.has_option('K') as u32,
             roll_back: self.has_option('B') as u32,
+            is_list: 0,
+            long_digest: 0,
         }
     }
 

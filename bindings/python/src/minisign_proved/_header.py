@@ -63,30 +63,32 @@ DUE_LOCK = 1
 DUE_READ_RECORD = 2
 DUE_READ_SIGNATURE = 3
 DUE_CHECK_COMMENT = 4
-DUE_CHECK_RECORD = 5
-DUE_READ_TARGET = 6
-DUE_CHECK_TARGET = 7
-DUE_SYNC_TARGET = 8
-DUE_SYNC_TARGET_NAME = 9
-DUE_REMOVE_LEFTOVERS = 10
-DUE_CREATE_FILE = 11
-DUE_COPY_DATA = 12
-DUE_READ_BACK = 13
-DUE_CHECK_DATA = 14
-DUE_SET_PERMISSIONS = 15
-DUE_SYNC_FILE = 16
-DUE_CREATE_RECORD = 17
-DUE_WRITE_RECORD = 18
-DUE_SYNC_RECORD = 19
-DUE_RENAME_RECORD = 20
-DUE_SYNC_RECORD_NAME = 21
-DUE_RENAME_FILE = 22
-DUE_SYNC_FILE_NAME = 23
-DUE_REMOVE_FILES = 24
-DUE_INSTALLED = 25
-DUE_ALREADY_INSTALLED = 26
-DUE_WOULD_INSTALL = 27
-DUE_REJECTED = 28
+DUE_READ_LIST = 5
+DUE_CHECK_LIST = 6
+DUE_CHECK_RECORD = 7
+DUE_READ_TARGET = 8
+DUE_CHECK_TARGET = 9
+DUE_SYNC_TARGET = 10
+DUE_SYNC_TARGET_NAME = 11
+DUE_REMOVE_LEFTOVERS = 12
+DUE_CREATE_FILE = 13
+DUE_COPY_DATA = 14
+DUE_READ_BACK = 15
+DUE_CHECK_DATA = 16
+DUE_SET_PERMISSIONS = 17
+DUE_SYNC_FILE = 18
+DUE_CREATE_RECORD = 19
+DUE_WRITE_RECORD = 20
+DUE_SYNC_RECORD = 21
+DUE_RENAME_RECORD = 22
+DUE_SYNC_RECORD_NAME = 23
+DUE_RENAME_FILE = 24
+DUE_SYNC_FILE_NAME = 25
+DUE_REMOVE_FILES = 26
+DUE_INSTALLED = 27
+DUE_ALREADY_INSTALLED = 28
+DUE_WOULD_INSTALL = 29
+DUE_REJECTED = 30
 
 NUMBERING_TIMESTAMP = 0
 NUMBERING_VERSION = 1
@@ -195,6 +197,8 @@ class InstallOptions(Structure):
         ("must_expire", c_uint32),
         ("new_key", c_uint32),
         ("roll_back", c_uint32),
+        ("is_list", c_uint32),
+        ("long_digest", c_uint32),
     ]
 
 
@@ -491,6 +495,14 @@ class Calls:
             c_size_t,
             POINTER(c_size_t),
         )
+        library.minisign_install_list.restype = error
+        library.minisign_install_list.argtypes = (
+            POINTER(Installation),
+            c_void_p,
+            c_size_t,
+            c_void_p,
+            c_size_t,
+        )
         library.minisign_install_question.restype = error
         library.minisign_install_question.argtypes = (
             POINTER(Installation),
@@ -517,6 +529,8 @@ class Calls:
         )
         library.minisign_install_error.restype = error
         library.minisign_install_error.argtypes = (POINTER(Installation),)
+        library.minisign_install_line.restype = c_uint64
+        library.minisign_install_line.argtypes = (POINTER(Installation),)
         library.minisign_judge_comment.restype = error
         library.minisign_judge_comment.argtypes = (
             c_void_p,
@@ -884,6 +898,13 @@ class Calls:
         )
         return message.raw[: length.value]
 
+    def install_list(
+        self, installation: Installation, list: bytes, name: bytes
+    ) -> None:
+        self._library.minisign_install_list(
+            installation, list, len(list), name, len(name)
+        )
+
     def install_question(
         self, installation: Installation
     ) -> Tuple[bytes, bytes, bytes]:
@@ -921,6 +942,9 @@ class Calls:
 
     def install_error(self, installation: Installation) -> None:
         self._library.minisign_install_error(installation)
+
+    def install_line(self, installation: Installation) -> None:
+        self._library.minisign_install_line(installation)
 
     def judge_comment(
         self, comment: bytes, file: bytes, numbering: int, now: int, kept: int

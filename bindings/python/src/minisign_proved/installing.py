@@ -19,6 +19,7 @@ from ._arguments import check_function, check_kind, check_number
 from ._calls import ed25519, error_of, library
 from ._keys import Progress, PublicKey, Signature, TooLong, is_file
 from .errors import OlderUpdate
+from .lists import LONG_DIGESTS, at_line, read_list
 
 # One public key, or two during a change of keys.
 Keys = Union[PublicKey, Sequence[PublicKey]]
@@ -85,6 +86,7 @@ class Message(ctypes.Structure):
         ("file", ctypes.c_char_p),
         ("text", ctypes.c_char_p),
         ("system_error", ctypes.c_int),
+        ("line", ctypes.c_uint64),
     ]
 
 
@@ -110,6 +112,9 @@ class InstallingOptions(ctypes.Structure):
         ("signature", ctypes.c_char_p),
         ("signature_len", ctypes.c_size_t),
         ("signature_name", ctypes.c_char_p),
+        ("list", ctypes.c_char_p),
+        ("list_len", ctypes.c_size_t),
+        ("list_name", ctypes.c_char_p),
         ("key", ctypes.POINTER(h.PublicKey)),
         ("other_key", ctypes.POINTER(h.PublicKey)),
         ("choices", h.InstallOptions),
@@ -199,7 +204,7 @@ class _Run:
         self.signals = _Signals()
         self.exception: Optional[BaseException] = None
         self.cause: Optional[OSError] = None
-        self.number, self.comment = 0, ""
+        self.number, self.comment, self.line = 0, "", 0
 
     def _catching(self, function: Callable[..., None]) -> Callable[..., None]:
         """Returns a function that remembers the first exception of `function`."""
@@ -248,6 +253,7 @@ class _Run:
 
     def _keep_message(self, message: "ctypes._Pointer[Message]") -> None:
         found = message.contents
+        self.line = self.line or found.line
         if found.kind == MESSAGE_CAUSE:
             reason, path = os.fsdecode(found.text), os.fsdecode(found.file or b"")
             self.cause = OSError(found.system_error or errno.EINVAL, reason, path)
@@ -279,7 +285,7 @@ class _Run:
         if status == STATUS_TOO_LARGE:
             raise TooLong("the data is larger than the limit") from self.cause
         if why.value != 0:
-            raise error_of(why.value) from self.cause
+            raise at_line(error_of(why.value), self.line) from self.cause
         return int(status)
 
 
@@ -294,6 +300,8 @@ def _options_struct(
     roll_back: bool,
     numbering: str,
     name: Optional[Path],
+    list_path: Optional[Path],
+    long_digest: str,
 ) -> InstallingOptions:
     """Checks the parameters that `install` and `check` have in common, and returns the
     options for them."""
@@ -311,6 +319,7 @@ def _options_struct(
     if first and (new_key or roll_back):
         raise ValueError("first must not be combined with new_key or roll_back")
     field = choice("numbering", numbering, NUMBERINGS)
+    long_hash = choice("long_digest", long_digest, LONG_DIGESTS)
     target_path = path_text("target", target)
     last_part = os.path.basename(target_path)
     if last_part in ("", ".", ".."):
@@ -318,10 +327,17 @@ def _options_struct(
     file_name = last_part if name is None else path_text("name", name)
     if not file_name:
         raise ValueError("name must not be empty")
+    text, list_name = None, None
+    if list_path is not None:
+        path = path_text("list_path", list_path)
+        text, list_name = read_list(path), os.fsencode(path)
     return InstallingOptions(
         target=os.fsencode(target_path),
         signature=signature.text,
         signature_len=len(signature.text),
+        list=text,
+        list_len=len(text or b""),
+        list_name=list_name,
         key=ctypes.pointer(keys[0]._parsed),
         other_key=ctypes.pointer(keys[-1]._parsed),
         choices=h.InstallOptions(
@@ -331,9 +347,18 @@ def _options_struct(
             must_expire=must_expire,
             new_key=new_key,
             roll_back=roll_back,
+            long_digest=long_hash,
         ),
         name=os.fsencode(file_name),
     )
+
+
+def _forbid(is_unlimited: bool) -> None:
+    """Raises a ValueError if nothing limits the size of the data."""
+    if is_unlimited:
+        raise ValueError(
+            "most must be passed with list_path if the data is not a regular file"
+        )
 
 
 def install(
@@ -349,6 +374,8 @@ def install(
     roll_back: bool = False,
     numbering: str = "timestamp",
     name: Optional[Path] = None,
+    list_path: Optional[Path] = None,
+    long_digest: str = "sha512",
     mode: Optional[int] = None,
     most: Optional[int] = None,
     wait: int = 0,
@@ -382,25 +409,37 @@ def install(
       "timestamp" or "version".
     - `name`: the file name that the trusted comment must contain. The default is the
       last part of `target`.
+    - `list_path`: a signed list, such as SHA256SUMS, with at most 1 MiB, if `signature`
+      is the signature of the list. The trusted comment must contain the last part of
+      `list_path`, and the data must have the digest that the list has for `name`. The
+      version number is that of the list.
+    - `long_digest`: how to read a digest of 128 digits on a line of the list that names
+      no hash function: "sha512", "blake2b" or "none", as for `SignedList`.
     - `mode`: the permissions of the new file, from 0 to 0o777. The default is the
       permissions of the installed file, or 0o600 if there is none. If the update is
       already installed, its permissions are unchanged.
-    - `most`: the maximum size of the data, in bytes.
+    - `most`: the maximum size of the data, in bytes. With `list_path`, it is required
+      if the data is not a regular file that is passed as a path, because the trusted
+      comment does not say how long the data is.
     - `wait`: the number of seconds, at most 86400, to wait for the lock if another
       installation holds it.
     - `progress`: called while the data is read, as by `verify`.
 
     Raises TypeError or ValueError for an argument that is not valid; the message names
     the argument. Raises ValueError if `target` does not end with a file name, or if
-    `first` is combined with `new_key` or `roll_back`. Raises OSError if the directory
-    or the data cannot be opened, or if data that is not a regular file cannot be read.
+    `first` is combined with `new_key` or `roll_back`. Raises OSError if the directory,
+    the data or the list cannot be opened, or if data that is not a regular file cannot
+    be read.
 
     Raises the errors of verifying; OtherFile, NoNumber, NoExpiry, BadExpiry, Expired,
     BadSize, OtherSize, OlderUpdate; TargetInUse; NoRecord, DamagedRecord,
     KeptByTimestamp, KeptByVersion; SameNumber; TooLong; ReadingFailed, WritingFailed,
-    RandomSourceFailed, OutOfMemory. After each of these errors, and after an exception
-    that `progress` raises, the target is unchanged. If a system call has failed, the
-    `__cause__` of the error says which one.
+    RandomSourceFailed, OutOfMemory. With `list_path`, also raises OtherList if the
+    trusted comment does not name the list; NotUtf8 and BadName; MalformedLine,
+    NotListed and ListedTwice; and DigestMismatch if the data has another digest. The
+    `line` of MalformedLine and ListedTwice is the line number. After each of these
+    errors, and after an exception that `progress` raises, the target is unchanged. If a
+    system call has failed, the `__cause__` of the error says which one.
 
     After DirectoryNotSynced the update is installed but not yet on disk: after a crash
     the old file may be back.
@@ -433,6 +472,8 @@ def install(
         roll_back,
         numbering,
         name,
+        list_path,
+        long_digest,
     )
     options.wait = wait
     options.has_mode, options.mode = mode is not None, mode or 0
@@ -440,12 +481,15 @@ def install(
     directory = os.path.dirname(os.fsdecode(options.target)) or "."
     os.close(os.open(directory, os.O_RDONLY | os.O_DIRECTORY))
     options.data_name = os.fsencode(source if isinstance(source, str) else directory)
+    needs_limit = list_path is not None and most is None
     if not isinstance(source, str):
+        _forbid(needs_limit)
         return _Run(source, progress).make(options) == STATUS_INSTALLED
     with open(source, "rb", buffering=0) as file:
         # Anything that is not a regular file is read by Python and not by the library,
         # because Python handles no signals while C code waits for data.
         is_regular = stat.S_ISREG(os.fstat(file.fileno()).st_mode)
+        _forbid(needs_limit and not is_regular)
         options.data_fd = file.fileno()
         run = _Run(None if is_regular else file, progress)
         return run.make(options) == STATUS_INSTALLED
@@ -463,11 +507,13 @@ def check(
     roll_back: bool = False,
     numbering: str = "timestamp",
     name: Optional[Path] = None,
+    list_path: Optional[Path] = None,
+    long_digest: str = "sha512",
 ) -> Checked:
     """Returns what `install` would do with an update. `check` needs only the signature,
-    the record and the installed file, so an updater can find out if there is an update
-    before it downloads the data. `check` writes nothing, and takes no lock. Its
-    parameters are those of `install`.
+    the list if there is one, the record and the installed file, so an updater can find
+    out if there is an update before it downloads the data. `check` writes nothing, and
+    takes no lock. Its parameters are those of `install`.
 
     The result is equal to an `Offer`, and has the version number and the trusted
     comment of the update. If the update is older than the recorded version, the result
@@ -476,7 +522,8 @@ def check(
     Raises the errors of `install` that do not depend on the data: those for a malformed
     signature file and for a comment signature that is not valid; OtherFile, NoNumber,
     NoExpiry, BadExpiry, Expired, BadSize; NoRecord, DamagedRecord, KeptByTimestamp,
-    KeptByVersion; SameNumber; ReadingFailed, WritingFailed and OutOfMemory. The
+    KeptByVersion; SameNumber; those of a list that is not signed, is malformed or does
+    not contain the name once; ReadingFailed, WritingFailed and OutOfMemory. The
     `__cause__` of the last three says which system call failed, or why the target
     cannot be replaced.
     """
@@ -491,6 +538,8 @@ def check(
         roll_back,
         numbering,
         name,
+        list_path,
+        long_digest,
     )
     options.choices.is_check = True
     run = _Run()

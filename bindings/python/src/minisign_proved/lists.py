@@ -48,6 +48,14 @@ class ListEntry:
     is_escaped: bool
 
 
+def at_line(error: MinisignError, line: int) -> MinisignError:
+    """Returns an error with the number of the line at fault, unless that is 0."""
+    error.line = line
+    if line:
+        error.args = (f"line {line}: {error}",)
+    return error
+
+
 def _at_line(call: Callable[[ctypes.c_uint64], object]) -> None:
     """Makes a call that writes the number of the line at fault to its argument. If the
     call raises a MinisignError, sets the `line` of the error to this number."""
@@ -55,10 +63,17 @@ def _at_line(call: Callable[[ctypes.c_uint64], object]) -> None:
     try:
         call(line)
     except MinisignError as why:
-        why.line = line.value
-        if why.line:
-            why.args = (f"line {why.line}: {why}",)
+        at_line(why, line.value)
         raise
+
+
+def read_list(path: str) -> bytes:
+    """Reads a list from a file."""
+    with open(path, "rb") as file:
+        text = file.read(LIST_BYTES + 1)
+    if len(text) > LIST_BYTES:
+        raise TooLong(f"{path} is larger than 1 MiB")
+    return text
 
 
 class SignedList:
@@ -127,10 +142,7 @@ class SignedList:
         has more than 1 MiB, and the errors of `SignedList`.
         """
         name = path_text("path", path)
-        with open(name, "rb") as file:
-            text = file.read(LIST_BYTES + 1)
-        if len(text) > LIST_BYTES:
-            raise TooLong(f"{name} is larger than 1 MiB")
+        text = read_list(name)
         if signature is None:
             signature = Signature.from_file(name + ".minisig")
         list_name = os.fsencode(os.path.basename(name))

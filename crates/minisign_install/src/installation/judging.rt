@@ -7,9 +7,9 @@ ghost use Rattle.minisign_install.specs.Comments.{value_of, values_of};
 ghost use Rattle.minisign_install.specs.Decisions.{comment_only_fault, comment_fault, expiry_fault, is_below};
 ghost use Rattle.minisign_install.specs.Decisions.{is_named, judge_comment_only, judge_comment};
 ghost use Rattle.minisign_install.specs.Decisions.{is_too_old, number_in, number_of, size_fault, size_in};
-ghost use Rattle.minisign_install.specs.Decisions.{unless, version_in};
+ghost use Rattle.minisign_install.specs.Decisions.{signed_size, unless, version_in};
 ghost use Rattle.minisign_install.specs.Faults.{NoNumber, OlderUpdate, OtherFile, is_own};
-ghost use Rattle.minisign_install.specs.Installations.{options_of};
+ghost use Rattle.minisign_install.specs.Installations.{list_of, options_of};
 
 use crate::comments::{self, Numbering, first_expiry, first_value, value};
 use crate::faults::InstallFault;
@@ -157,8 +157,19 @@ pub(crate) fn version_in(comment: &str, numbering: Numbering) -> Option<u64>
     }
 }
 
+// Returns the signed size of the data. The comment of a list does not say how long the data is.
+pub(crate) fn signed_size(chosen: &Chosen, comment: &str) -> Option<u64>
+    ensures { result ≡ signed_size (list_of chosen.now.is_list chosen.now.long_digest) comment.now }
+{
+    if chosen.is_list == 1 {
+        None
+    } else {
+        size_in(comment)
+    }
+}
+
 // Returns the signed size, if the comment has one field `size:`, with a number.
-pub(crate) fn size_in(comment: &str) -> Option<u64>
+fn size_in(comment: &str) -> Option<u64>
     ensures { result ≡ size_in comment.now }
 {
     match first_value(comment, "size:") {

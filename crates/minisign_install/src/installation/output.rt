@@ -2,13 +2,12 @@
 //! here allocates.
 
 ghost use Rattle.std.specs.Prelude.{◌≡◌, ◌<◌, ◌==◌, Some, drop, length, take, true};
-ghost use Rattle.minisign_hash.specs.Blake2b.{blake2b_digest};
 ghost use Rattle.std.specs.Option.{unwrap_or};
 ghost use Rattle.minisign_install.specs.Installations.{HoldsState, IsWritten, first_key, record_due};
 ghost use Rattle.minisign_install.specs.Installations.{written_if};
 ghost use Rattle.minisign_install.specs.Installations.{IsNewRecord, about, question_due, question_of};
 ghost use Rattle.minisign_install.specs.Step.{CheckComment, CheckRecord};
-ghost use Rattle.minisign_install.specs.Step.{State, key_of, new_key, new_record, new_version};
+ghost use Rattle.minisign_install.specs.Step.{State, key_of, new_key, new_record, new_version, signed_digest};
 
 use crate::installation::progress::Progress;
 use crate::installation::{Operation, Question};
@@ -43,6 +42,7 @@ impl Progress {
     {
         match self.due() {
             Operation::CheckComment => Some(self.comment_question(key)),
+            Operation::CheckList => Some(self.data_question(key)),
             Operation::CheckRecord => self.record_question(key),
             Operation::CheckTarget => Some(self.data_question(key)),
             Operation::CheckData => Some(self.data_question(key)),
@@ -82,11 +82,11 @@ impl Progress {
         self.recorded.has_digest == 1
     }
 
-    // Returns the question about the digest of what was read.
+    // Returns the question about the digest of the list, or else of what was read.
     fn data_question(&self, key: [u8; 32]) -> Question
         requires { (self.now.judged.is_judged == 1) ≡ true }
         ensures { (s : State) → HoldsState self.now s
-            → result ≡ about key s.signature (blake2b_digest 64 s.read) }
+            → result ≡ about key s.signature (signed_digest s) }
     {
         self.question_about(key, self.digest())
     }

@@ -2,8 +2,6 @@
 
 ghost use Rattle.std.specs.Prelude.{◌≡◌, ◌≢◌, ◌++◌, ℕ, List, Err, IfErr, None, true, false, if◌then◌else◌};
 ghost use Rattle.std.specs.Prelude.{◌==◌};
-ghost use Rattle.minisign_hash.specs.Blake2b.{blake2b_digest};
-ghost use Rattle.minisign_hash.specs.Stored.{WasFed};
 ghost use Rattle.minisign_external.specs.declared.state.Misuse.TheVariants.{NotDue};
 ghost use Rattle.minisign_external.specs.declared.state.Refusal.TheVariants.{Refused, WrongUse};
 ghost use Rattle.minisign_install.specs.Installations.{HoldsState, RunLeadsTo, Steps, operation_of};
@@ -12,20 +10,20 @@ ghost use Rattle.minisign_install.specs.Step.{Answered, CheckComment, CheckData,
 ghost use Rattle.minisign_install.specs.Step.{InUse, Lock, ReadRecord};
 ghost use Rattle.minisign_install.specs.Step.{PieceCopied, PieceRead};
 ghost use Rattle.minisign_install.specs.Step.{State, TargetMissing, after_comment, after_copy};
-ghost use Rattle.minisign_install.specs.Step.{after_digest, after_piece, after_target, begin, compare, go};
-ghost use Rattle.minisign_install.specs.Step.{install};
+ghost use Rattle.minisign_install.specs.Step.{after_data, after_digest, after_piece, after_target, begin};
+ghost use Rattle.minisign_install.specs.Step.{compare, go, install, is_listed, signed_digest};
 ghost use Rattle.minisign_install.specs.Step.{is_failure, is_newer, is_rolling_back, next_key, reject};
 
 use crate::faults::InstallFault;
+use crate::installation::listing::ListingValue;
+use crate::installation::reading::Reading;
 use crate::installation::{Choices, Operation};
 use minisign_base::NamedFault;
 use minisign_external::numbers::Numbered;
 use minisign_external::public_keys::PublicKeyValue;
 use minisign_external::state::{Misuse, Refusal};
-use minisign_hash::blake2b::Blake2b;
-use minisign_hash::blake2b::stored::StoredBlake2b;
 
-/// The options that the application chose at the beginning, 128 bytes. An option is 1 or 0.
+/// The options that the application chose at the beginning, 136 bytes. An option is 1 or 0.
 #[repr(C)]
 #[derive(Clone, Copy)]
 pub struct Chosen {
@@ -38,6 +36,8 @@ pub struct Chosen {
     pub(crate) must_expire: u32,
     pub(crate) new_key: u32,
     pub(crate) roll_back: u32,
+    pub(crate) is_list: u32,
+    pub(crate) long_digest: u32,
     pub(crate) reserved: u32,
 }
 
@@ -69,7 +69,7 @@ pub struct Judged {
     pub(crate) reserved: u32,
 }
 
-/// The state of an installation, 792 bytes with the layout of C.
+/// The state of an installation, 976 bytes with the layout of C.
 #[repr(C)]
 #[derive(Clone, Copy)]
 pub struct Progress {
@@ -90,9 +90,12 @@ pub struct Progress {
     // The number of bytes of the signed size that were not copied yet, if `has_left` is 1.
     pub(crate) left: u64,
     pub(crate) has_left: u32,
-    pub(crate) unused: u32,
+    // 1 if the first of the keys that may have signed has signed the list.
+    pub(crate) is_list_signed: u32,
     // The hash of the file that is being read.
-    pub(crate) hash: StoredBlake2b,
+    pub(crate) reading: Reading,
+    // The contents of the signed list.
+    pub(crate) listing: ListingValue,
 }
 
 impl Progress {
@@ -240,7 +243,7 @@ impl Progress {
     fn install(&mut self)
         ensures { (s : State) → HoldsState self.old s → HoldsState self.new (install s) }
     {
-        self.hash = StoredBlake2b::store(&Blake2b::new(64));
+        self.reading = Reading::begin(self.reading_for());
         let due = if self.chosen.is_check == 1 {
             Operation::WouldInstall
         } else {
@@ -269,7 +272,7 @@ impl Progress {
         if !self.due().is_reading() {
             return Err(Refusal::WrongUse(Misuse::NotDue));
         }
-        self.hash = fed(&self.hash, bytes);
+        self.reading = self.reading.updated(self.reading_for(), bytes);
         Ok(())
     }
 
@@ -286,9 +289,9 @@ impl Progress {
         }
     }
 
-    // Continues after a key was found to have signed the comment and the comment was accepted: compares the
-    // update with the record and the installed file, or installs it.
-    fn compare(&mut self)
+    // Continues after a key was found to have signed the comment, and the list, if there is one, and both
+    // were accepted: compares the update with the record and the installed file, or installs it.
+    pub(crate) fn compare(&mut self)
         ensures { (s : State) → HoldsState self.old s → HoldsState self.new (compare s) }
     {
         if self.is_newer() {
@@ -323,6 +326,7 @@ impl Progress {
     {
         match self.due() {
             Operation::CheckComment => self.answer_comment(accepted),
+            Operation::CheckList => self.answer_list(accepted),
             Operation::CheckRecord => {
                 self.answer_record(accepted);
                 Ok(())
@@ -352,7 +356,7 @@ impl Progress {
         ensures steps { (s : State) → HoldsState self.old s → Steps (Answered accepted) s result self.new }
         ensures proper { IfErr result (λ r. r ≢ WrongUse NotDue) }
     {
-        if accepted {
+        if accepted && self.is_listed() {
             self.accept_target();
             Ok(())
         } else {
@@ -367,10 +371,24 @@ impl Progress {
         ensures proper { IfErr result (λ r. r ≢ WrongUse NotDue) }
     {
         if accepted {
+            self.accept_data()
+        } else {
+            self.reject(NamedFault::SignatureRefused.into())
+        }
+    }
+
+    // Continues after the signature was found to be valid for the digest of the temporary file, or for that
+    // of the list.
+    fn accept_data(&mut self) -> Result<(), Refusal<InstallFault>>
+        ensures leads { (s : State) → HoldsState self.old s
+            → RunLeadsTo s (after_data (is_listed s) s) result self.new }
+        ensures proper { IfErr result (λ r. r ≢ WrongUse NotDue) }
+    {
+        if self.is_listed() {
             self.go(Operation::SetPermissions);
             Ok(())
         } else {
-            self.reject(NamedFault::SignatureRefused.into())
+            self.reject(InstallFault::DigestMismatch)
         }
     }
 
@@ -384,9 +402,20 @@ impl Progress {
         match self.fault() {
             Some(fault) => self.reject(fault),
             None => {
-                self.compare();
+                self.accept_signed();
                 Ok(())
             }
+        }
+    }
+
+    // Continues after the signed comment was accepted: with the list, if there is one.
+    fn accept_signed(&mut self)
+        ensures { (s : State) → HoldsState self.old s → HoldsState self.new (after_comment None s) }
+    {
+        if self.chosen.is_list == 1 {
+            self.go(Operation::ReadList);
+        } else {
+            self.compare();
         }
     }
 
@@ -472,15 +501,15 @@ impl Progress {
         }
     }
 
-    // Returns the digest of what was read.
+    // Returns the digest that has to be signed: that of the list, or else of what was read.
     pub(crate) fn digest(&self) -> [u8; 64]
-        ensures { (m : List ℕ) → WasFed self.now.hash m → result ≡ blake2b_digest 64 m }
+        ensures { (s : State) → HoldsState self.now s → result ≡ signed_digest s }
     {
-        let mut digest = [0u8; 64];
-        if let Some(mut hash) = self.hash.restore() {
-            hash.finalize(&mut digest);
+        if self.chosen.is_list == 1 {
+            self.listing.list_digest
+        } else {
+            self.reading.blake2b_digest()
         }
-        digest
     }
 
     // Begins an installation.
@@ -489,7 +518,6 @@ impl Progress {
             → HoldsState result (begin (options_by key.now other.now choices.now file)) }
     {
         let due = first_operation(choices).number();
-        let hash = StoredBlake2b::store(&Blake2b::new(64));
         Progress {
             due,
             error: 0,
@@ -503,6 +531,8 @@ impl Progress {
                 must_expire: choices.must_expire,
                 new_key: choices.new_key,
                 roll_back: choices.roll_back,
+                is_list: choices.is_list,
+                long_digest: choices.long_digest,
                 reserved: 0,
             },
             recorded: RecordedValue {
@@ -530,8 +560,9 @@ impl Progress {
             is_recorded: 0,
             left: 0,
             has_left: 0,
-            unused: 0,
-            hash,
+            is_list_signed: 0,
+            reading: Reading::begin(None),
+            listing: ListingValue::none(),
         }
     }
 }
@@ -557,18 +588,5 @@ fn first_operation(choices: &Choices) -> Operation
         Operation::ReadRecord
     } else {
         Operation::Lock
-    }
-}
-
-// Feeds these bytes to a hash and returns the new hash.
-fn fed(hash: &StoredBlake2b, bytes: &[u8]) -> StoredBlake2b
-    ensures { (m : List ℕ) → WasFed hash.now m → WasFed result (m ++ bytes.now) }
-{
-    match hash.restore() {
-        Some(mut restored) => {
-            restored.update(bytes);
-            StoredBlake2b::store(&restored)
-        }
-        None => *hash,
     }
 }

@@ -19,7 +19,7 @@ ghost use Rattle.minisign_install.specs.Step.{State, after_signature, reject};
 
 use crate::faults::InstallFault;
 use crate::installation::Operation;
-use crate::installation::judging::{comment_fault, size_in, version_in};
+use crate::installation::judging::{comment_fault, signed_size, version_in};
 use crate::installation::progress::{Chosen, Judged, Progress};
 use minisign::{SignatureView, read_signature};
 use minisign_base::{NamedFault, PError};
@@ -170,7 +170,7 @@ impl Judged {
             → IsReadAs result (options_of chosen.now file.now) t second.now recorded time }
     {
         let comment = view.trusted_comment();
-        let size = size_in(comment);
+        let size = signed_size(chosen, comment);
         Judged {
             version: version_in(comment, chosen.numbering()).unwrap_or(0),
             size: size.unwrap_or(0),

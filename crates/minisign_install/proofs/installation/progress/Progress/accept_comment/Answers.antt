@@ -1,7 +1,7 @@
-use Rattle.std.proofs.Common.{subst, true, Ok}
+use Rattle.std.proofs.Common.{None, subst, true, Ok}
 use Rattle.minisign_install.specs.Installations.{RunLeadsTo}
-use Rattle.minisign_install.specs.Step.{after_comment, compare}
-use Rattle.minisign_install.proofs.HeldStates.{compare_error, quiet, signed}
+use Rattle.minisign_install.specs.Step.{after_comment}
+use Rattle.minisign_install.proofs.HeldStates.{comment_error, quiet, signed}
 use Rattle.minisign_install.proofs.installation.progress.Progress.accept_comment.Goals as goal
 
 pub returns-in-Some-clause-leads : goal.returns-in-Some-clause-leads
@@ -14,8 +14,10 @@ returns-in-Some-clause-leads c = λ s state_held.
 pub returns-in-None-clause-leads : goal.returns-in-None-clause-leads
 returns-in-None-clause-leads c = λ s state_held.
     let now = signed c.args.self.now s state_held in
-    subst (λ f. RunLeadsTo s (after_comment f (record s { is_signed = true })) (Ok tt) c.compare.new.self)
+    subst (λ f. RunLeadsTo s (after_comment f (record s { is_signed = true })) (Ok tt)
+    c.accept_signed.new.self)
     (c.in-None.ensures _ now) (
-      c.compare.ensures _ now,
-      quiet s (compare (record s { is_signed = true })) (compare_error (record s { is_signed = true })),
+      c.accept_signed.ensures _ now,
+      quiet s (after_comment None (record s { is_signed = true }))
+          (comment_error (record s { is_signed = true })),
     )

@@ -1,6 +1,10 @@
-use Rattle.std.proofs.Common.{[], None, ◌∙◌, ap, refl, sym}
+use Rattle.std.proofs.Common.{[], None, ◌∙◌, refl, subst, sym}
+use Rattle.std.specs.Prelude.{Option, ◌==◌}
+use Rattle.minisign_install.specs.Installations.{WasRead}
+use Rattle.minisign_install.proofs.HeldListings.{no_algorithm}
+use Rattle.minisign_lists.specs.declared.digests.Algorithm.{Algorithm}
 use Rattle.minisign_install.specs.Installations.{options_by}
-use Rattle.minisign_install.specs.Step.{Operation, begin}
+use Rattle.minisign_install.specs.Step.{begin}
 use Rattle.minisign_install.proofs.installation.progress.Progress.begin.Goals as goal
 
 pub returns : goal.returns
@@ -11,9 +15,13 @@ returns c = λ file.
       read = [];
       fault = None;
       error = None;
-      state = ap (λ (op : Operation). record (begin o) { due = op })
-          (sym (c.number-due.ensures ∙ c.first_operation.ensures));
+      state =
+          let first = sym (c.number-due.ensures ∙ c.first_operation.ensures) in
+          let listing = sym c.none.ensures.listing in
+          λ i. record (begin o) { due = first i; listing = listing i };
       fault_number = refl;
       error_number = refl;
-      fed = c.store-hash.ensures [] c.new.ensures.fed;
+      fed = subst (λ (a : Option Algorithm). WasRead a c.begin.result [])
+          (sym (no_algorithm (c.args.choices.now.is_list == 1) c.none.result.hash c.none.ensures.hash))
+          c.begin.ensures;
     }

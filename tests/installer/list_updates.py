@@ -1,0 +1,469 @@
+"""Checks --list: an update is installed only if a signed list contains it under the name of the target. Each case of LIST_TABLE
+runs --check, an installation from a file, and one from a pipe. Other cases are about lists that real programs wrote, the size of the
+data, and runs that are cut off.
+"""
+
+import hashlib
+import os
+import subprocess
+from dataclasses import dataclass
+
+from concurrent_changes import reads_no_more
+from cut_off import break_each_call
+from installers import (ALREADY_INSTALLED, CHECK_ARGUMENTS, EXPIRED, EXPIRED_FIELD, FAILED, FIRST, LATER_DATA, MISUSED, NEW_DATA,
+                        OLDER_VERSION, OLD_DATA, PK, RECORD, REJECTED, SAME_VERSION, TARGET, UNRECORDED, error_text)
+from running import expect
+from runs import Cases, pipe_without_data
+from updates import (BAD_SIZE_FIELD_ERROR, BY_VERSION, COMMENT_ERROR, EXPIRED_ERROR, FILE_NAME_ERROR, HOLDS_TIMESTAMP_ERROR,
+                     LEGACY_ERROR, NO_EXPIRY_ERROR, NO_RECORD_ERROR, OLDER_ERROR, OTHER_DATA_ERROR, OUTCOMES, ROLL_BACK, TOO_LARGE_TEXTS,
+                     UNEXPIRED_FIELD, Update, check_and_install, recorded)
+
+list_cases = Cases()
+
+LIST = "SHA256SUMS"
+# A size limit that is greater than the size of any data here. A pipe needs one.
+LARGE = ("--max-size", "10M")
+BLAKE2B = ("--blake2b",)
+
+
+def sha256(data):
+    return hashlib.sha256(data).hexdigest()
+
+
+def sha512(data):
+    return hashlib.sha512(data).hexdigest()
+
+
+def blake2b(data):
+    return hashlib.blake2b(data).hexdigest()
+
+
+def line(data, name=TARGET):
+    """Returns a line of a list, as sha256sum writes it."""
+    return f"{sha256(data)}  {name}\n".encode()
+
+
+# The list that the cases use unless they say otherwise.
+NEW_LIST = line(OLD_DATA, "app") + line(NEW_DATA) + line(LATER_DATA, "other")
+# Another list that has the update, and one that has other data.
+EXTENDED_LIST = NEW_LIST + line(b"", "empty")
+LATER_LIST = line(LATER_DATA)
+
+# Errors and their hints.
+DOWNLOAD_LIST_AGAIN = "download the list and its signature again"
+DIGEST_ERROR = error_text("new", "the digest of this file is not the one in the list",
+                          "download the file again, or the list if it is older than the file")
+LIST_NAME_ERROR = error_text("new.sig", "the trusted comment does not name the list",
+                             "rename the list if it was signed under another name")
+TWICE_HINT = "have the signer list each file once"
+LINE_HINT = "see minisign-check(1) for the lines that a list may have"
+
+
+def other_name(text, name=TARGET):
+    """Returns the error for a name that is not in the list, with this text."""
+    hint = f"hint: use --name NAME if the list has the file under a name other than {name}\n"
+    return error_text(LIST, text) + hint.encode()
+
+
+UNSIGNED_ERROR = error_text(LIST, "Signature verification failed", DOWNLOAD_LIST_AGAIN)
+NOT_LISTED, IMPOSSIBLE_NAME = "the list does not contain this name", "a list can only contain relative paths without .. or special characters"
+
+
+def malformed(number):
+    return error_text(LIST, f"line {number} is malformed", LINE_HINT)
+
+
+def twice(number):
+    return error_text(LIST, f"line {number} is the second line with this name", TWICE_HINT)
+
+
+@dataclass
+class ListUpdate(Update):
+    """An update that is offered with a signed list."""
+
+    # The list, the path that --list has, and the name of the file of the list. The signature is that of the list, and the trusted
+    # comment names the list, unless the arguments of `Directory.offer` say otherwise.
+    listed: bytes = NEW_LIST
+    list_path: str = LIST
+    list_file: str = LIST
+
+    def __post_init__(self):
+        super().__post_init__()
+        self.offered = {"signed": self.listed, "names": LIST, **self.offered}
+        self.arguments += ["--list", self.list_path]
+        number, label = self.offered.get("number", 6), self.offered.get("label", "timestamp")
+        self.new_record = self.new_record or self.directory.signer.version_record(self.listed, number, label)
+
+    def offer(self):
+        super().offer()
+        self.directory.put(self.list_file, self.listed)
+
+    def installations(self):
+        """Adds a size limit to the installations from a pipe."""
+        return [((*options, *(LARGE if source == "/dev/stdin" else ())), source, status)
+                for options, source, status in super().installations()]
+
+
+def check_and_install_listed(directory, status, error_output=b"", **given):
+    """Runs --check and all installations of an update with a list."""
+    check_and_install(directory, status, error_output, kind=ListUpdate, **given)
+
+
+# Fields of `ListUpdate`: the update was installed with the same list.
+LIST_IS_INSTALLED = dict(installed=NEW_DATA, record=recorded(NEW_LIST, 6))
+
+# Lists that contain NEW_DATA: a description, the list, and the options.
+GOOD_LISTS = (
+    ("of one line", line(NEW_DATA), ()),
+    ("without a line feed at its end", line(NEW_DATA)[:-1], ()),
+    ("with CR LF", NEW_LIST.replace(b"\n", b"\r\n"), ()),
+    ("with comments and empty lines", b"# the files\n\n" + NEW_LIST + b"\n# the end", ()),
+    ("of binary files", NEW_LIST.replace(b"  ", b" *"), ()),
+    ("with a path that begins with ./", line(NEW_DATA, f"./{TARGET}"), ()),
+    ("of SHA-256 in upper case, in the format of BSD", f"SHA256 ({TARGET}) = {sha256(NEW_DATA).upper()}\n".encode(), ()),
+    ("of SHA-512 in the format of BSD", f"SHA512 ({TARGET}) = {sha512(NEW_DATA)}\n".encode(), ()),
+    ("of BLAKE2b in the format of BSD", f"BLAKE2b ({TARGET}) = {blake2b(NEW_DATA)}\n".encode(), ()),
+    ("of SHA-512", f"{sha512(NEW_DATA)}  {TARGET}\n".encode(), ()),
+    ("of BLAKE2b, with --blake2b", f"{blake2b(NEW_DATA)}  {TARGET}\n".encode(), BLAKE2B),
+    ("of SHA-256, with --blake2b", NEW_LIST, BLAKE2B),
+    ("of SHA-512 in the format of BSD, with --blake2b", f"SHA512 ({TARGET}) = {sha512(NEW_DATA)}\n".encode(), BLAKE2B),
+    ("of three functions", f"{sha512(OLD_DATA)}  a\n{sha256(NEW_DATA)}  {TARGET}\nBLAKE2b (b) = {blake2b(OLD_DATA)}\n".encode(), ()),
+    ("with a name that has escapes", line(NEW_DATA) + b"\\" + line(OLD_DATA, "back\\\\slash"), ()),
+)
+# Lists in which a digest differs from that of NEW_DATA: a description, the list, and the options.
+OTHER_DIGESTS = (
+    ("of other data", line(LATER_DATA), ()),
+    ("that has only the digest of another name", line(NEW_DATA, "other") + line(LATER_DATA), ()),
+    ("of SHA-512, with --blake2b", f"{sha512(NEW_DATA)}  {TARGET}\n".encode(), BLAKE2B),
+    ("of BLAKE2b, without --blake2b", f"{blake2b(NEW_DATA)}  {TARGET}\n".encode(), ()),
+    ("with the SHA-512 digest as that of BLAKE2b", f"BLAKE2b ({TARGET}) = {sha512(NEW_DATA)}\n".encode(), ()),
+    ("with the first half of the SHA-512 digest", f"SHA256 ({TARGET}) = {sha512(NEW_DATA)[:64]}\n".encode(), ()),
+    ("with a changed last digit", line(NEW_DATA).replace(sha256(NEW_DATA)[-1:].encode() + b" ", b"%x " % (int(sha256(NEW_DATA)[-1:], 16) ^ 1)), ()),
+    ("with a changed first digit", b"%x" % (int(sha256(NEW_DATA)[:1], 16) ^ 8) + line(NEW_DATA)[1:], ()),
+)
+# Malformed lines.
+MALFORMED = (("text", b"files:\n"), ("MD5", f"MD5 ({TARGET}) = {'0' * 32}\n".encode()), ("one space", line(NEW_DATA).replace(b"  ", b" ")),
+             ("an absolute path", line(OLD_DATA, "/app")), ("a parent directory", line(OLD_DATA, f"../{TARGET}")),
+             ("a tab in the name", line(OLD_DATA, "a\tb")), ("a digit less", line(OLD_DATA, "app")[1:]), ("a zero byte", b"\0\n"))
+
+# Rows as those of UPDATE_TABLE, with the fields of `ListUpdate`.
+LIST_TABLE = (
+    ("file of a list", 0),
+    ("file of a list, and no installed file", 0, dict(options=FIRST, record=None, installed=None)),
+    *((f"file of a list {what}", 0, dict(listed=listed, options=options)) for what, listed, options in GOOD_LISTS),
+    ("file of a list in another directory", 0, dict(list_path=f"./{LIST}")),
+    ("file of a list that has another name", 0, dict(list_path="sums.txt", list_file="sums.txt", names="sums.txt")),
+    ("file of a list under a path, with --name", 0, dict(options=("--name", "bin/app"), listed=line(OLD_DATA) + line(NEW_DATA, "bin/app"))),
+    ("file of a list under a path, with --name that begins with ./", 0,
+     dict(options=("--name", "./bin/app"), listed=line(NEW_DATA, "bin/app"))),
+    ("empty file of a list", 0, dict(data=b"", listed=line(b""))),
+    ("file of a list whose version is newer", 0,
+     dict(options=BY_VERSION, record=recorded(OLD_DATA, 5, "version"), label="version")),
+    ("file of a list that expires later", 0, dict(options=("--must-expire",), more=UNEXPIRED_FIELD)),
+    *((f"file of a list whose size is signed as {size}", 0, dict(more=f"\tsize:{size}"))
+      for size in (len(NEW_LIST), len(NEW_DATA) - 1, len(NEW_DATA) + 1, 0)),
+    *((f"file of a list, with keys {' and '.join(keys)}", 0, dict(keys=keys)) for keys in (["own"], ["other", "own"], ["twin", "own"])),
+    # The data.
+    *((f"list {what}", REJECTED, DIGEST_ERROR, dict(listed=listed, options=options, check_status=0)) for what, listed, options in OTHER_DIGESTS),
+    *((f"file of a list with {what}", REJECTED, DIGEST_ERROR, dict(data=data, check_status=0))
+      for what, data in (("a changed byte", NEW_DATA[:-1] + b"x"), ("a byte less", NEW_DATA[:-1]), ("a byte more", NEW_DATA + b"x"),
+                         ("no data", b""))),
+    ("list in place of its file", REJECTED, DIGEST_ERROR, dict(data=NEW_LIST, check_status=0)),
+    # The name.
+    ("name that is not listed", REJECTED, other_name(NOT_LISTED), dict(listed=line(NEW_DATA, "other"))),
+    ("name in other letters", REJECTED, other_name(NOT_LISTED), dict(listed=line(NEW_DATA, TARGET.upper()))),
+    ("name with a directory in the list", REJECTED, other_name(NOT_LISTED), dict(listed=line(NEW_DATA, f"bin/{TARGET}"))),
+    ("name with escapes in the list", REJECTED, other_name(NOT_LISTED), dict(listed=b"\\" + line(NEW_DATA, f"{TARGET}\\n"))),
+    ("list without entries", REJECTED, other_name(NOT_LISTED), dict(listed=b"# nothing\n")),
+    ("empty list", REJECTED, other_name(NOT_LISTED), dict(listed=b"")),
+    ("name of --name that is not listed", REJECTED, other_name(NOT_LISTED, "app-2"),
+     dict(options=("--name", "app-2"))),
+    *((f"name {name!r}, which no list can have", REJECTED, other_name(IMPOSSIBLE_NAME, name),
+       dict(options=("--name", name))) for name in (f"/{TARGET}", f"../{TARGET}", "a//b", ".", "bin/", "a\\b")),
+    ("name of --name with a control character", REJECTED, other_name(IMPOSSIBLE_NAME, "a\\u{1b}b"),
+     dict(options=("--name", "a\x1bb"))),
+    ("name that is listed twice", REJECTED, twice(4), dict(listed=NEW_LIST + line(LATER_DATA))),
+    ("name that is listed twice with the same digest", REJECTED, twice(4), dict(listed=NEW_LIST + line(NEW_DATA))),
+    ("name that is listed with two functions", REJECTED, twice(2),
+     dict(listed=line(NEW_DATA) + f"SHA512 ({TARGET}) = {sha512(NEW_DATA)}\n".encode())),
+    ("name that is listed three times", REJECTED, twice(3), dict(listed=line(NEW_DATA) + b"\n" + 2 * line(LATER_DATA))),
+    ("another name that is listed twice", 0, dict(listed=NEW_LIST + line(OLD_DATA, "app"))),
+    # The lines.
+    *((f"list that begins with {what}", REJECTED, malformed(1), dict(listed=bad + NEW_LIST)) for what, bad in MALFORMED),
+    *((f"list that ends with {what}", REJECTED, malformed(4), dict(listed=NEW_LIST + bad)) for what, bad in MALFORMED),
+    ("list with two malformed lines", REJECTED, malformed(2), dict(listed=b"\nfirst\n" + NEW_LIST + b"second\n")),
+    ("malformed list without the name", REJECTED, malformed(2), dict(listed=line(NEW_DATA, "other") + b"text\n")),
+    ("malformed list with the name twice", REJECTED, malformed(3), dict(listed=2 * line(NEW_DATA) + b"text\n")),
+    ("list that is not UTF-8", REJECTED, error_text(LIST, "stream did not contain valid UTF-8"), dict(listed=NEW_LIST + b"# \xff\n")),
+    # The signature.
+    ("list that is not signed", REJECTED, UNSIGNED_ERROR, dict(signed=EXTENDED_LIST)),
+    ("malformed list that is not signed", REJECTED, UNSIGNED_ERROR, dict(listed=b"text\n" + NEW_LIST, signed=NEW_LIST)),
+    ("list that is not signed, with the name twice", REJECTED, UNSIGNED_ERROR, dict(listed=2 * NEW_LIST, signed=NEW_LIST)),
+    ("list that is not signed, without the name", REJECTED, UNSIGNED_ERROR, dict(listed=b"", signed=NEW_LIST)),
+    ("signature of the data in place of the list", REJECTED, UNSIGNED_ERROR, dict(signed=NEW_DATA)),
+    ("list with a byte more than was signed", REJECTED, UNSIGNED_ERROR, dict(listed=NEW_LIST + b"\n", signed=NEW_LIST)),
+    ("list that is signed under the name of the file", REJECTED, LIST_NAME_ERROR, dict(names=TARGET)),
+    ("list that is signed under another name", REJECTED, LIST_NAME_ERROR, dict(names="SHA512SUMS")),
+    ("list that is signed under a path", REJECTED, LIST_NAME_ERROR, dict(names=f"./{LIST}", list_path=f"./{LIST}")),
+    ("renamed list", REJECTED, LIST_NAME_ERROR, dict(list_path="renamed", list_file="renamed")),
+    ("list that is signed under another name, with --name", REJECTED, LIST_NAME_ERROR, dict(names=TARGET, options=("--name", LIST))),
+    ("legacy signature of a list", REJECTED, LEGACY_ERROR, dict(legacy=True)),
+    ("changed timestamp in the trusted comment of a list", REJECTED,
+     error_text("new.sig", "Comment signature verification failed", DOWNLOAD_LIST_AGAIN),
+     dict(number=4, forge=lambda text: text.replace(b"timestamp:4", b"timestamp:9"))),
+    ("changed name of the list in the trusted comment", REJECTED,
+     error_text("new.sig", "Comment signature verification failed", DOWNLOAD_LIST_AGAIN),
+     dict(names="other", forge=lambda text: text.replace(b"file:other", f"file:{LIST}".encode()))),
+    # What the trusted comment says is checked before the list.
+    ("expired list", EXPIRED, EXPIRED_ERROR, dict(more=EXPIRED_FIELD)),
+    ("expired list that is malformed", EXPIRED, EXPIRED_ERROR, dict(more=EXPIRED_FIELD, listed=b"text\n")),
+    ("list that never expires, with --must-expire", REJECTED, NO_EXPIRY_ERROR, dict(options=("--must-expire",))),
+    ("list with two signed sizes", REJECTED, BAD_SIZE_FIELD_ERROR, dict(more="\tsize:5\tsize:5")),
+    ("list with a signed size that is not a number", REJECTED, BAD_SIZE_FIELD_ERROR, dict(more="\tsize:long")),
+    ("older list", OLDER_VERSION, OLDER_ERROR, dict(number=4)),
+    ("older list that is not signed", OLDER_VERSION, OLDER_ERROR, dict(number=4, signed=EXTENDED_LIST)),
+    ("older list with --first", OLDER_VERSION, OLDER_ERROR, dict(options=FIRST, number=4)),
+    ("list, and no version record", UNRECORDED, NO_RECORD_ERROR, dict(record=None)),
+    ("version of a list over a timestamp", UNRECORDED, HOLDS_TIMESTAMP_ERROR,
+     dict(options=BY_VERSION, record=recorded(OLD_DATA, 5), label="version")),
+    # The recorded version.
+    ("same list", ALREADY_INSTALLED, LIST_IS_INSTALLED),
+    ("same list, signed again", ALREADY_INSTALLED, dict(LIST_IS_INSTALLED, more=UNEXPIRED_FIELD)),
+    ("same list, and a record without a digest", ALREADY_INSTALLED, dict(number=5, installed=NEW_DATA)),
+    ("another list of the recorded version, with the installed file", ALREADY_INSTALLED, dict(LIST_IS_INSTALLED, listed=EXTENDED_LIST)),
+    ("list of the recorded version, with a file that was signed by itself", ALREADY_INSTALLED,
+     dict(installed=NEW_DATA, record=recorded(NEW_DATA, 6))),
+    *((f"same list over {what}", 0, dict(record=recorded(NEW_LIST, 6), installed=installed))
+      for what, installed in (("an older file", OLD_DATA), ("a changed file", NEW_DATA[:-1] + b"x"), ("an empty file", b""), ("no file", None))),
+    ("same list, signed again, over a changed file", 0, dict(record=recorded(NEW_LIST, 6), more=UNEXPIRED_FIELD)),
+    *((f"list of the recorded version over {what}", SAME_VERSION, OTHER_DATA_ERROR, dict(record=record))
+      for what, record in (("another list", recorded(LATER_LIST, 6)), ("an extended list", recorded(EXTENDED_LIST, 6)),
+                           ("the data", recorded(NEW_DATA, 6)), ("a number only", b"6"))),
+    ("list of the recorded version, over no file", 0, dict(record=recorded(LATER_LIST, 6), installed=None)),
+    ("older list, with --roll-back", 0, dict(options=ROLL_BACK, record=recorded(LATER_LIST, 7), installed=LATER_DATA, new_record=recorded(NEW_LIST, 7))),
+    ("older list that is installed already, with --roll-back", ALREADY_INSTALLED,
+     dict(options=ROLL_BACK, record=recorded(NEW_LIST, 7), installed=NEW_DATA)),
+    ("older list that is not signed, with --roll-back", REJECTED, UNSIGNED_ERROR,
+     dict(options=ROLL_BACK, record=recorded(LATER_LIST, 7), signed=EXTENDED_LIST)),
+    ("older list without the name, with --roll-back", REJECTED, other_name(NOT_LISTED),
+     dict(options=ROLL_BACK, record=recorded(LATER_LIST, 7), listed=line(NEW_DATA, "other"))),
+    ("older list of other data, with --roll-back", REJECTED, DIGEST_ERROR,
+     dict(options=ROLL_BACK, record=recorded(LATER_LIST, 7), data=OLD_DATA, check_status=0)),
+)
+list_cases.table(*((f"--list {OUTCOMES.get(status, 'rejects')}: {name}", status, *more)
+                   for name, status, *more in LIST_TABLE))(check_and_install_listed)
+
+
+# == Without --list ==
+
+list_cases.table(
+    ("rejects the signature of a list without --list", REJECTED, error_text("new", "Signature verification failed",
+                                                                           "download the file and its signature again"),
+     dict(signed=NEW_LIST, check_status=0)),
+    ("rejects the trusted comment of a list without --list", REJECTED, FILE_NAME_ERROR, dict(signed=NEW_LIST, names=LIST)),
+    ("keeps a file of a list that is then signed by itself", ALREADY_INSTALLED,
+     dict(installed=NEW_DATA, record=recorded(NEW_LIST, 6))),
+    ("rejects other data that is signed by itself under the version of a list", SAME_VERSION, OTHER_DATA_ERROR,
+     dict(record=recorded(NEW_LIST, 6))),
+    ("rejects a changed comment without --list", REJECTED, COMMENT_ERROR,
+     dict(number=4, forge=lambda text: text.replace(b"timestamp:4", b"timestamp:9"))),
+)(check_and_install)
+
+
+# == Lists that programs write ==
+
+def list_arguments(name, *options, path=LIST):
+    """Returns the command line that installs the update of this name with a list."""
+    return [*options, "--list", path, PK, name, "new.sig", TARGET]
+
+
+def offer_list(directory, listed=NEW_LIST, path=LIST, **offered):
+    """Offers NEW_DATA with this list, and puts the list there."""
+    directory.offer(signed=listed, **{"names": LIST, **offered})
+    directory.put(path, listed)
+
+
+@list_cases.table(
+    ("installs with a list of sha256sum", ["sha256sum"]),
+    ("installs with a list of sha256sum --tag", ["sha256sum", "--tag"]),
+    ("installs with a list of sha256sum --binary", ["sha256sum", "--binary"]),
+    ("installs with a list of sha512sum", ["sha512sum"]),
+    ("installs with a list of b2sum", ["b2sum"], BLAKE2B),
+    ("installs with a list of b2sum --tag", ["b2sum", "--tag"]),
+    ("installs with a list of cksum -a sha512", ["cksum", "-a", "sha512"]),
+)
+def installs_with_list_of(directory, command, options=()):
+    """The program makes a list of the public key and of the target. The update is installed over older data."""
+    directory.put(TARGET, NEW_DATA)
+    listed = subprocess.run([*command, PK, TARGET], cwd=directory.path, check=True, stdout=subprocess.PIPE, timeout=60).stdout
+    directory.put(TARGET, OLD_DATA)
+    offer_list(directory, listed)
+    directory.expect_run(list_arguments("new", *options), 0)
+    directory.expect_installed_with_record(NEW_DATA, directory.signer.version_record(listed, 6))
+    directory.expect_run(list_arguments("new", *options), ALREADY_INSTALLED)
+
+
+# == Options ==
+
+@list_cases.table("--list --again replaces other data of the recorded version")
+def replaces_again(directory):
+    offer_list(directory, number=5)
+    directory.expect_run(list_arguments("new"), SAME_VERSION, OTHER_DATA_ERROR)
+    directory.expect_run(list_arguments("new", "--again"), 0)
+    directory.expect_installed_with_record(NEW_DATA, directory.signer.version_record(NEW_LIST, 5))
+
+
+@list_cases.table("--list keeps an older list until a newer one comes")
+def keeps_rolled_back_list(directory):
+    """After a roll-back from a list, this list is not installed again unless --again is given. A newer one is."""
+    for name, data, number in (("bad", LATER_DATA, 7), ("next", OLD_DATA, 8), ("new", NEW_DATA, 6)):
+        listed = line(data)
+        directory.put(f"{name}.list", listed)
+        directory.offer(name, data, number, signed=listed, names=f"{name}.list")
+
+    def install(name, status, *options):
+        ran = directory.run([*options, "--list", f"{name}.list", PK, name, f"{name}.sig", TARGET])
+        directory.expect_end(ran, status)
+
+    def expect_record(data, listed_data, number):
+        directory.expect_installed_with_record(data, directory.signer.version_record(line(listed_data), number))
+
+    install("bad", 0)
+    install("new", OLDER_VERSION)
+    install("new", 0, *ROLL_BACK)
+    expect_record(NEW_DATA, NEW_DATA, 7)
+    install("bad", SAME_VERSION)
+    install("bad", SAME_VERSION, *ROLL_BACK)
+    expect_record(NEW_DATA, NEW_DATA, 7)
+    install("bad", 0, "--again")
+    expect_record(LATER_DATA, LATER_DATA, 7)
+    install("next", 0)
+    expect_record(OLD_DATA, OLD_DATA, 8)
+
+
+@list_cases.table("--list --check shows the comment of the list")
+def shows_comment_of_list(directory):
+    """--check prints the version and the trusted comment of the list, if the comment is signed, even if the list is rejected."""
+    comment = f"timestamp:6\tfile:{LIST}\tprehashed\n"
+    for listed, signed, status in ((NEW_LIST, None, 0), (b"text\n", None, REJECTED), (NEW_LIST, b"", REJECTED)):
+        offer_list(directory, listed)
+        if signed is not None:
+            directory.offer(signed=signed, names=LIST)
+        ran = directory.run(["--list", LIST, *CHECK_ARGUMENTS])
+        expect((ran.status, ran.stdout) == (status, f"6\n{comment}".encode()), ran, f"expected status {status} and {comment!r}")
+
+
+# == The size of the data, and the list as a file ==
+
+NO_LIMIT_ERROR = error_text("/dev/stdin", "with a list, data that is not in a regular file needs a maximum size",
+                            "use --max-size BYTES to limit the data")
+
+
+@list_cases.table("--list needs --max-size for a pipe")
+def needs_size_limit(directory):
+    """Without --max-size the run reads nothing from a pipe, and changes nothing. --check and a regular file need no limit."""
+    for more in ("", f"\tsize:{len(NEW_DATA)}"):
+        offer_list(directory, more=more)
+        before = directory.snapshot()
+        directory.expect_run(list_arguments("/dev/stdin"), MISUSED, NO_LIMIT_ERROR, typed=NEW_DATA)
+        with pipe_without_data() as pipe:
+            directory.expect_run(list_arguments("/dev/stdin"), MISUSED, NO_LIMIT_ERROR, stdin=pipe)
+        expect(directory.snapshot() == before, "something was changed")
+        directory.expect_run(["--list", LIST, *CHECK_ARGUMENTS], 0)
+    with open(directory.path_of("new"), "rb") as file:
+        directory.expect_run(list_arguments("/dev/stdin"), 0, stdin=file)
+
+
+@list_cases.table(*((f"--list limits data by --max-size {limit}", limit, status)
+                    for limit, status in ((len(NEW_DATA) - 1, REJECTED), (len(NEW_DATA), 0), (len(NEW_DATA) + 1, 0))))
+def limits_listed_data(directory, limit, status):
+    """The limit applies to data from a file and from a pipe. A signed size does not."""
+    offer_list(directory, more="\tsize:1")
+    for source in ("new", "/dev/stdin"):
+        directory.put_installed()
+        ran = directory.run(list_arguments(source, "--max-size", str(limit)), typed=NEW_DATA)
+        directory.expect_end(ran, status, error_text(source, *TOO_LARGE_TEXTS) if status else b"")
+        directory.expect_installed(*((OLD_DATA, b"5") if status else (NEW_DATA, b"6")))
+
+
+@list_cases.table(
+    ("--list reads one byte more from a pipe than --max-size allows", NEW_LIST, 1001),
+    ("--list reads nothing from a pipe if the name is not listed", line(NEW_DATA, "other"), 0),
+    ("--list reads nothing from a pipe if the list is not signed", NEW_LIST, 0, dict(signed=EXTENDED_LIST)),
+)
+def reads_no_more_with_list(directory, listed, count, **offered):
+    directory.put(LIST, listed)
+    reads_no_more(directory, count, ("--list", LIST, "--max-size", "1000"), REJECTED, **{"signed": listed, "names": LIST, **offered})
+
+
+@list_cases.table("--list rejects endless data by --max-size")
+def rejects_endless_listed_data(directory):
+    offer_list(directory)
+    directory.replace("new", os.symlink, "/dev/zero")
+    directory.expect_run(list_arguments("new", "--max-size", "1M"), REJECTED, error_text("new", *TOO_LARGE_TEXTS))
+    directory.expect_installed(OLD_DATA, b"5")
+
+
+@list_cases.table("--list reads at most 1 MiB of a list")
+def limits_list(directory):
+    padded = NEW_LIST + b"#" * ((1 << 20) - len(NEW_LIST))
+    too_large = error_text(LIST, "this file is larger than 1 MiB")
+    for listed, status, error_output in ((padded + b"#", REJECTED, too_large), (padded, 0, b"")):
+        offer_list(directory, listed)
+        directory.expect_run(list_arguments("new"), status, error_output)
+    directory.replace(LIST, os.symlink, "/dev/zero")
+    directory.expect_run(list_arguments("new"), REJECTED, too_large)
+
+
+@list_cases.table(
+    ("reports a missing list", "none", FAILED, error_text("none", "No such file or directory (os error 2)")),
+    ("reports a directory as the list", ".", FAILED, error_text(".", "Is a directory (os error 21)")),
+)
+def reports_unreadable_list(directory, path, status, error_output):
+    before = directory.snapshot()
+    with pipe_without_data() as pipe:
+        directory.expect_run(list_arguments("/dev/stdin", *LARGE, path=path), status, error_output, stdin=pipe)
+    expect(directory.snapshot() == before, "something was changed")
+
+
+# == Runs that are cut off ==
+
+@list_cases.table(
+    ("recovers from a kill with a list, over an older update", OLD_DATA, b"5"),
+    ("recovers from a kill with a list, over a changed file", OLD_DATA, None),
+    ("recovers from a kill with a list, over the same update", NEW_DATA, None),
+)
+def recovers_with_list(directory, data, record):
+    """If a run is killed at any call, the next run finishes the update. Without `record`, the record is that of the list."""
+    left = set()
+
+    def prepare(fresh):
+        offer_list(fresh)
+        fresh.put_installed(data, record or fresh.signer.version_record(NEW_LIST, 6))
+
+    def check(fresh, _):
+        state = fresh.installed_state()
+        left.add(state)
+        expect(state in ((OLD_DATA, b"5"), (OLD_DATA, b"6"), (NEW_DATA, b"6")), f"the run left {str(state)[:80]}")
+        ran = fresh.run(list_arguments("new"))
+        expect(ran.status in (0, ALREADY_INSTALLED) and not ran.stderr, "the next run", ran)
+        fresh.expect_run(["--list", LIST, *CHECK_ARGUMENTS], ALREADY_INSTALLED)
+        fresh.expect_installed_with_record(NEW_DATA, fresh.signer.version_record(NEW_LIST, 6))
+
+    break_each_call(directory, check, prepare, options=("--list", LIST))
+    expect(len(left) == (3 if record else 1 if data == NEW_DATA else 2), f"the kills left {len(left)} different states")
+
+
+@list_cases.table("installs listed data while the data file is swapped")
+def swapped_listed_data(directory):
+    """Between copying and verifying, another process writes to the data file. The run verifies the copy."""
+    offer_list(directory)
+
+    def swap(fresh):
+        fresh.put("new", LATER_DATA)
+
+    ran = directory.runner.run_stopped(directory.path, list_arguments("new"), lambda: swap(directory), AT=1, CALLS="pread")
+    expect(ran.reached, "it read nothing back", ran)
+    directory.expect_end(ran, 0, b"")
+    directory.expect_installed_with_record(NEW_DATA, directory.signer.version_record(NEW_LIST, 6))
+    expect(directory.content(RECORD) == b"6", "the record is that of another version")
