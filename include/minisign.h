@@ -42,7 +42,7 @@
  *
  * Machine-checked proofs show, if the caller meets the "Requirements" below, what each call returns and writes, and
  * what the calls achieve in sequence, to verify or to sign. The contracts in crates/minisign_c/src/lib.rt of the
- * sources state the first, and in_a_row.rt in the same directory states the second. Only tests show that memory from
+ * sources state the first, and sequences.rt in the same directory states the second. Only tests show that memory from
  * malloc is cleared before it is freed; that no secret stays on the stack or in registers; that MINISIGN_TEXT_BYTES is
  * large enough; that the C code between the calls of this header and the proved calls, and between the proved calls
  * and malloc, works (boundary.c, allocation.c and clearing.c in c/library); and that this header describes the

@@ -43,7 +43,7 @@
  * Machine-checked proofs show what each call returns and writes, and which error it returns if several apply, provided
  * that the caller meets the Requirements. The contracts in crates/minisign_c/src/lib.rt of the sources state these
  * promises. Other proofs show what the steps above achieve in sequence, for every list and all data, split into pieces
- * in any way. They are in lists_in_a_row.rt in the same directory.
+ * in any way. They are in list_sequences.rt in the same directory.
  */
 #ifndef MINISIGN_LIST_H
 #define MINISIGN_LIST_H

@@ -38,7 +38,7 @@ SIGNING = Part((("minisign", "sign_bytes", "headline"),))
 DEVICES = Part((("minisign", "verify_texts", "headline"), ("minisign", "SecretKey::from_box", "headline"),
                 ("minisign", "sign_texts", "headline")))
 # The calls from C, and what a sequence of them promises.
-FROM_C = Part((("minisign_c", "verify_in_a_row", "number"), ("minisign_c", "verify_in_a_row", "accepted"), ("minisign_c", "sign_in_a_row", "verifies")),
+FROM_C = Part((("minisign_c", "verify_in_sequence", "number"), ("minisign_c", "verify_in_sequence", "accepted"), ("minisign_c", "sign_in_sequence", "verifies")),
               # The table of errors is in docs/FORMATS.md.
               files=r"/crates/minisign_base/specs/Faults\.antt")
 # Of minisign_install, only the definitions in these files are printed in full; they are the laws, the relation that describes an
@@ -50,8 +50,8 @@ RUNS = Part((("minisign_install", "any_history_keeps_the_version", "versions"),)
 # The function that decides if a recorded run follows these rules.
 RECORDED = Part((("minisign_install", "first_unlawful_line", "lawful"),), files=OF_APPLICATIONS)
 LISTS = Part((("minisign_lists", "verify_listed", ""), ("minisign_lists", "lists_are_decided", ""),
-              ("minisign_c", "check_listed_in_a_row", "number"), ("minisign_c", "check_listed_in_a_row", "accepted"),
-              ("minisign_c", "check_listed_in_a_row", "verdict")), "listed_verdict")
+              ("minisign_c", "check_listed_in_sequence", "number"), ("minisign_c", "check_listed_in_sequence", "accepted"),
+              ("minisign_c", "check_listed_in_sequence", "verdict")), "listed_verdict")
 KIT = Part(())
 PARTS = (VERDICT, OPENING, SIGNING, DEVICES, FROM_C, INSTALLING, RUNS, RECORDED, LISTS, KIT)
 

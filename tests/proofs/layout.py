@@ -44,8 +44,8 @@ CLAUSES = {
     ("minisign", "judge", ""): "it names both Ed25519 checks of the scheme",
     ("minisign_base", "SliceSource::read", "read"): "an impl names each ghost member of its trait by the type",
     ("minisign_base", "SliceSource::mark", "mark"): "an impl names each ghost member of its trait by the type",
-    ("minisign_external", "answers_decide", "given"): LAW,
-    ("minisign_external", "answers_decide", "own"): LAW,
+    ("minisign_external", "results_decide_verdict", "given"): LAW,
+    ("minisign_external", "results_decide_verdict", "own"): LAW,
     ("minisign_external", "KeyText::open_parsed", ""): "it describes success and failure at once",
 }
 # The functions that may be longer, by crate and name, and the reason.

@@ -35,12 +35,13 @@ on_fault (Err e) Ends Q ended f = f e ended
 
 -- If bytes were read from the front and a prefix of the rest was removed after that, a prefix was
 -- removed in total.
-pub given_behind : (old mid new : Option (List ℕ)) (a : List ℕ) → Consumes old mid a → PrefixIsRemoved mid new
+pub removed_after_consumed : (old mid new : Option (List ℕ)) (a : List ℕ) → Consumes old mid a
+    → PrefixIsRemoved mid new
     → PrefixIsRemoved old new
-given_behind _ _ None a _ _ = tt
-given_behind None _ (Some _) a _ _ = tt
-given_behind (Some _) None (Some _) a all _ = absurd all
-given_behind (Some _) (Some _) (Some ys) a all (front, more) =
+removed_after_consumed _ _ None a _ _ = tt
+removed_after_consumed None _ (Some _) a _ _ = tt
+removed_after_consumed (Some _) None (Some _) a all _ = absurd all
+removed_after_consumed (Some _) (Some _) (Some ys) a all (front, more) =
     (a ++ front, all ∙ ap (λ l. a ++ l) more ∙ sym (append_assoc a front ys))
 
 -- Reading bytes removes a prefix.

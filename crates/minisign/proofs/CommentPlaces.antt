@@ -94,7 +94,7 @@ placed bytes line part text at n h front fits is =
           ∙ ap (drop at) (sym (take-take _ _ _ many)
           ∙ ap (take (at + length bytes)) front)
           ∙ drop-take at _ _
-          ∙ h.same;
+          ∙ h.bytes_at_offset;
     }
   where
     drop-behind : (text part : List ℕ) (at n : ℕ) → part ≡ drop n text
@@ -120,7 +120,7 @@ in_line line comment own rest trimmed n labelled also begun at ended front fits 
     let behind = at ∙ ap (drop n) (sym own_is) ∙ drop-drop n label line in
     let stands : IsAtOffset trimmed line (length line - length rest) = record {
       within = omega (arith, fits, ap length behind, length-drop (label + n) line);
-      same = ap (take (length trimmed)) (behind_front _ _ _ behind) ∙ sym front;
+      bytes_at_offset = ap (take (length trimmed)) (behind_front _ _ _ behind) ∙ sym front;
     } in (
       ap (λ l. length line - length l) (begun ∙ ap trim_start (sym own_is)),
       ap length same,

@@ -32,21 +32,23 @@ keeps_same None = tt
 keeps_same (Some _) = refl
 
 -- A sink that received bytes and is unchanged after that has received these bytes.
-pub all_kept : (a b c : Option (List ℕ)) (bs : List ℕ) → Appends a b bs → Keeps b c → Appends a c bs
-all_kept None b c _ _ _ = tt
-all_kept (Some x) None c _ all _ = absurd all
-all_kept (Some x) (Some y) None _ _ kept = absurd kept
-all_kept (Some x) (Some y) (Some z) _ all kept = kept ∙ all
+pub received_and_kept : (a b c : Option (List ℕ)) (bs : List ℕ) → Appends a b bs → Keeps b c → Appends a c bs
+received_and_kept None b c _ _ _ = tt
+received_and_kept (Some x) None c _ all _ = absurd all
+received_and_kept (Some x) (Some y) None _ _ kept = absurd kept
+received_and_kept (Some x) (Some y) (Some z) _ all kept = kept ∙ all
 
 -- If a was read so far and b is read next, then a followed by b was read.
-pub given_more : (old new : Option (List ℕ)) (a b : List ℕ) → KnownBytesAre old a → new ≡ append_known old b
+pub known_bytes_append : (old new : Option (List ℕ)) (a b : List ℕ) → KnownBytesAre old a
+    → new ≡ append_known old b
     → KnownBytesAre new (a ++ b)
-given_more None _ a b _ more = subst (λ known. KnownBytesAre known (a ++ b)) (sym more) tt
-given_more (Some _) _ a b given more = subst (λ known. KnownBytesAre known (a ++ b)) (sym more)
+known_bytes_append None _ a b _ more = subst (λ known. KnownBytesAre known (a ++ b)) (sym more) tt
+known_bytes_append (Some _) _ a b given more = subst (λ known. KnownBytesAre known (a ++ b)) (sym more)
     (ap (λ (l : List ℕ). l ++ b) given)
 
 -- If the bytes read so far are unchanged, or are not known any more, what is known of them still holds.
-pub given_still : (old new : Option (List ℕ)) (a : List ℕ) → KnownBytesAre old a → EqualIfSecondKnown old new
+pub known_bytes_kept : (old new : Option (List ℕ)) (a : List ℕ) → KnownBytesAre old a
+    → EqualIfSecondKnown old new
     → KnownBytesAre new a
-given_still _ None a _ _ = tt
-given_still _ (Some _) a given kept = rw kept at given
+known_bytes_kept _ None a _ _ = tt
+known_bytes_kept _ (Some _) a given kept = rw kept at given

@@ -18,7 +18,7 @@ pub mod Conversations
 pub mod WrittenKeys
 pub mod SignatureTexts
 pub mod CommentPlaces
-pub mod Passes
+pub mod VerifyingStages
 pub mod Verdicts
 pub mod Laws
 pub mod VouchedTexts

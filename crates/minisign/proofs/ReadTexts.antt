@@ -1,7 +1,7 @@
 -- Lemmas about the results of parsing.
 use Rattle.std.proofs.Common.{◌≡◌, Bool, true, false, refl, sym, inl, inr, Result, Ok, Err}
 use Rattle.minisign.proofs.Common.{Fault, without_value, NamedFault}
-use Rattle.minisign.specs.Texts.{IsGivenOrNoMemory, and_then, require}
+use Rattle.minisign.specs.Texts.{IsValueOrNoMemory, and_then, require}
 
 -- If a value was parsed after a check, the check holds.
 pub passed : {V : Type 0} (holds : Bool) (fault : NamedFault) (more : Result V Fault) (v : V)
@@ -24,6 +24,6 @@ same_end (Ok v) e h = cc h
 same_end (Err f) e h = cc h
 
 -- If a result is a value, and is either out of memory or that of a function, the function gives the value.
-pub read_value : {V : Type 0} (v : V) (read : Result V Fault) → IsGivenOrNoMemory (Ok v) read → read ≡ Ok v
+pub read_value : {V : Type 0} (v : V) (read : Result V Fault) → IsValueOrNoMemory (Ok v) read → read ≡ Ok v
 read_value v _ (inl is) = sym is
 read_value v read (inr memory) = cc memory

@@ -12,7 +12,7 @@ use Rattle.minisign.specs.KeyTexts.{read_public_key}
 use Rattle.minisign.specs.Records.{CommentsRecord, PublicKeyRecord, SignatureBoxRecord, SignatureRecord}
 use Rattle.minisign.specs.Records.{is_prehashed, prehashed_algorithm}
 use Rattle.minisign.specs.SignatureText.{SignatureTextRecord, box_of, read_signature, read_signature_box}
-use Rattle.minisign.specs.Texts.{IsGivenOrNoMemory, IsReading, and_then, map_ok, require}
+use Rattle.minisign.specs.Texts.{IsValueOrNoMemory, IsReading, and_then, map_ok, require}
 use Rattle.minisign.specs.Verifying.{read_texts}
 use Rattle.minisign.proofs.ReadTexts.{passed, read_before, read_value}
 
@@ -72,23 +72,23 @@ module _ (accepts : Verifier) (pk : PublicKeyRecord) (x : SignatureBoxRecord) (m
   judge_decided = (judged_vouches tt, vouches_judged)
 
   -- A box that is accepted by a check that may also run out of memory is valid.
-  pub judged_or_not : (u : ⊤) → IsGivenOrNoMemory (Ok u) (judge accepts pk x message legacy)
+  pub judged_or_not : (u : ⊤) → IsValueOrNoMemory (Ok u) (judge accepts pk x message legacy)
       → Vouches accepts pk x message legacy
   judged_or_not u judged = judged_vouches u (read_value u _ judged)
 
   -- Checking the bytes that an allowed signature signs has the same result as checking the message.
   pub judged_held : (bytes : List ℕ) → AreSigned bytes x legacy message → (r : Result ⊤ Fault)
-      → IsGivenOrNoMemory r (and_then (judge_key pk.keynum x.signature legacy)
+      → IsValueOrNoMemory r (and_then (judge_key pk.keynum x.signature legacy)
       (λ _. judge_answers (accepts bytes pk.key x.signature.signature) (accepts_comments accepts pk x)))
-      → IsGivenOrNoMemory r (judge accepts pk x message legacy)
+      → IsValueOrNoMemory r (judge accepts pk x message legacy)
   judged_held _ held r =
-      subst (IsGivenOrNoMemory r)
+      subst (IsValueOrNoMemory r)
       (judged_alike _ _ _ _ _ _ (λ allowed. ap (λ b. judge_answers (accepts b pk.key x.signature.signature)
       (accepts_comments accepts pk x)) (held allowed)))
 
 -- map_ok does not change an error.
-pub kept_refusal : {V W : Type 0} (f : V → W) (e : Fault) (r : Result V Fault) → IsGivenOrNoMemory (Err e) r
-    → IsGivenOrNoMemory (Err e) (map_ok f r)
+pub kept_refusal : {V W : Type 0} (f : V → W) (e : Fault) (r : Result V Fault) → IsValueOrNoMemory (Err e) r
+    → IsValueOrNoMemory (Err e) (map_ok f r)
 kept_refusal f e r (inl is) = inl (ap (map_ok f) is)
 kept_refusal f e r (inr memory) = inr (cc memory)
 
@@ -164,8 +164,8 @@ module _ (accepts : Verifier) (pk_text sig_text message : List ℕ) (legacy : Bo
 
   -- If an error is that of parsing the texts or out of memory, it is the error of the verdict or out of
   -- memory.
-  pub text_refused : (e : Fault) → IsGivenOrNoMemory (Err e) (read_texts pk_text sig_text)
-      → IsGivenOrNoMemory (Err e) answer
+  pub text_refused : (e : Fault) → IsValueOrNoMemory (Err e) (read_texts pk_text sig_text)
+      → IsValueOrNoMemory (Err e) answer
   text_refused e (inl refused) = inl (sym (of_texts _ (sym refused)))
   text_refused e (inr memory) = inr (cc memory)
 
@@ -181,16 +181,16 @@ module _ (accepts : Verifier) (pk_text sig_text message : List ℕ) (legacy : Bo
     without_comment (Err e) = refl
 
     pub verdict_without_comment : (r : Result ⊤ Fault)
-        → IsGivenOrNoMemory r (judge accepts key box message legacy)
-        → IsGivenOrNoMemory r (map_ok (λ _. tt) answer)
+        → IsValueOrNoMemory r (judge accepts key box message legacy)
+        → IsValueOrNoMemory r (map_ok (λ _. tt) answer)
     verdict_without_comment r (inl judged) = inl (sym (ap (map_ok (λ _. tt)) (judged_verdict r (sym judged))
         ∙ without_comment r))
     verdict_without_comment r (inr memory) = inr memory
 
     pub verdict_of_success : (comment : List ℕ) → map_ok trusted_of (read_signature sig_text) ≡ Ok comment
         → (u : ⊤)
-        → IsGivenOrNoMemory (Ok u) (judge accepts key box message legacy)
-        → IsGivenOrNoMemory (Ok comment) answer
+        → IsValueOrNoMemory (Ok u) (judge accepts key box message legacy)
+        → IsValueOrNoMemory (Ok comment) answer
     verdict_of_success comment said u judged =
         let (t, signature_read, same) = mapped_of _ _ _ (both_read _ _ _ box read).1 in
         let same_comment : t.comments.trusted ≡ comment = let is = sym (ap (map_ok trusted_of) signature_read)
@@ -198,9 +198,9 @@ module _ (accepts : Verifier) (pk_text sig_text message : List ℕ) (legacy : Bo
         inl (sym (judged_verdict (Ok u) (read_value u _ judged) ∙ ap Ok (ap comment_of (sym same)
         ∙ same_comment)))
 
-    pub verdict_of_error : (e : Fault) → IsGivenOrNoMemory {V = ⊤} (Err e) (judge accepts key box message
+    pub verdict_of_error : (e : Fault) → IsValueOrNoMemory {V = ⊤} (Err e) (judge accepts key box message
         legacy)
-        → IsGivenOrNoMemory (Err e) answer
+        → IsValueOrNoMemory (Err e) answer
     verdict_of_error e (inl judged) = inl (sym (judged_verdict _ (sym judged)))
     verdict_of_error e (inr memory) = inr (cc memory)
 
@@ -227,14 +227,14 @@ module _ (accepts : Verifier) (pk_text sig_text message : List ℕ) (legacy : Bo
           vouches = judged_vouches _ _ _ _ _ u judged;
         };
         comments = signed.comments;
-        both = refl;
+        has_comments = refl;
         trusted = cc said;
       }
 
   pub vouched_verdict : (comment : List ℕ) → TextsVouchWith accepts pk_text sig_text message legacy comment
       → answer ≡ Ok comment
   vouched_verdict _ v = vouching_verdict v.vouched
-      ∙ ap Ok (ap (λ c. option_map_or (λ c. c.trusted) c []) v.both ∙ v.trusted)
+      ∙ ap Ok (ap (λ c. option_map_or (λ c. c.trusted) c []) v.has_comments ∙ v.trusted)
 
   pub verdict_decided : IsReading (TextsVouchWith accepts pk_text sig_text message legacy) answer
   verdict_decided = record { value = λ comment. (vouched _, vouched_verdict _) }
@@ -248,7 +248,7 @@ module _ (accepts : Verifier) (pk_text sig_text message : List ℕ) (legacy : Bo
       record {
         vouched = v;
         comments = t.comments;
-        both = ap (λ x. x.comments) (sym same);
+        has_comments = ap (λ x. x.comments) (sym same);
         trusted = let same_comment = sym (ap (map_ok trusted_of) signature_read) ∙ said in cc same_comment;
       }
 

@@ -6,7 +6,7 @@ use Rattle.std.proofs.Common.{Err, true≢false, IsSome, Bool}
 use Rattle.minisign.proofs.Common.{⊤, blake2b_digest, RereaderCall, SinkCall, no_sink, Fault, Named}
 use Rattle.minisign.proofs.Common.{IfErr-weaker, IsSteady, SinkFails, SourceFails, bytes_eq-Decides}
 use Rattle.minisign.proofs.Common.{OutOfMemory}
-use Rattle.minisign.specs.Texts.{IsGivenOrNoMemory, map_ok}
+use Rattle.minisign.specs.Texts.{IsValueOrNoMemory, map_ok}
 use Rattle.minisign.specs.Records.{PublicKeyRecord, SignatureBoxRecord, is_prehashed, prehashed_algorithm}
 use Rattle.minisign.specs.Acceptance.{Verifier, Vouches, judge, options_of}
 use Rattle.minisign.specs.declared.options.VerifyOptions.{VerifyOptions}
@@ -16,7 +16,7 @@ use Rattle.minisign.specs.Verifying.{VerifyingFails, VerifyingSucceeds, Verifyin
 use Rattle.minisign.specs.Verifying.{VerifyingTextsSucceeds, read_texts}
 use Rattle.minisign.specs.Headline.{CopyIsVouchedFor, IfNothingFails, verdict, CopyIsVouchedWith}
 use Rattle.minisign.specs.Headline.{TextsVouchWith, TextsVouchFor}
-use Rattle.minisign.proofs.Passes.{IsReason, why_it_fails, fails_without_sinks, fails_without_status}
+use Rattle.minisign.proofs.VerifyingStages.{IsReason, why_it_fails, fails_without_sinks, fails_without_status}
 use Rattle.minisign.proofs.Verdicts.{both_read, vouches_judged, judged_verdict, signed_comment, text_refused}
 use Rattle.minisign.proofs.Verdicts.{trusted_of, vouched_verdict}
 use Rattle.minisign.specs.SignatureText.{read_signature}
@@ -40,7 +40,7 @@ copy_vouched _ _ _ _ _ _ _ (Ok v) h is_requested =
     let copied = h.verified.copied is_requested in
     record {
       copy = copied.copy;
-      taken = copied.received;
+      copy_received = copied.received;
       flushed = copied.flushed;
       vouched = both_vouch _ _ _ h copied.vouched;
     }
@@ -77,7 +77,7 @@ module _ {R W O : Type 0} (accepts : Verifier) (key : PublicKeyRecord) (box : Si
       (out_no_new_fault : ¬ (SinkFails out)) (again : options.output ≡ true → IsSteady reader) where
     refused_for : (e : Fault) → IsReason accepts key box options.quiet options.output options.allow_legacy
         reader status out e
-        → IsGivenOrNoMemory {V = ⊤} (Err e) (judge accepts key box message options.allow_legacy)
+        → IsValueOrNoMemory {V = ⊤} (Err e) (judge accepts key box message options.allow_legacy)
     refused_for e (inl is) = inr (ap Err is)
     refused_for e (inr (inl (_, rose))) = absurd (no_new_fault rose)
     refused_for e (inr (inr (inl failed))) = absurd (no_new_fault failed.rose)
@@ -86,7 +86,7 @@ module _ {R W O : Type 0} (accepts : Verifier) (key : PublicKeyRecord) (box : Si
     refused_for e (inr (inr (inr (inr (inl (_, rose)))))) = absurd (status_no_new_fault rose)
     refused_for e (inr (inr (inr (inr (inr (inl (_, rose))))))) = absurd (out_no_new_fault rose)
     refused_for e (inr (inr (inr (inr (inr (inr (is_requested, (m, given, other)))))))) =
-        let same = rw known_data at (other.same (again is_requested)) in
+        let same = rw known_data at (other.second_is_data (again is_requested)) in
         absurd (other.changed (ap (blake2b_digest 64) (same ∙ sym (the_message m _ known_data given))))
 
   -- If no device fails, the result is that of the function judge.
@@ -96,7 +96,7 @@ module _ {R W O : Type 0} (accepts : Verifier) (key : PublicKeyRecord) (box : Si
       → IfNothingFails options.output reader status out r
       (λ message. judge accepts key box message options.allow_legacy)
   judged_exactly (Ok u) ok _ _ known_data _ _ _ _ =
-      inl (sym (vouches_judged _ _ _ _ _ (rw (the_message _ _ known_data ok.given) at ok.vouches)))
+      inl (sym (vouches_judged _ _ _ _ _ (rw (the_message _ _ known_data ok.known_bytes) at ok.vouches)))
   judged_exactly (Err e) _ err message known_data no_new_fault status_no_new_fault out_no_new_fault again =
       refused_for message known_data no_new_fault status_no_new_fault out_no_new_fault again e
       (why_it_fails accepts key box options.quiet options.output options.allow_legacy reader status out e err)
@@ -189,7 +189,7 @@ module _ {R W O : Type 0} (accepts : Verifier) (pk sig : List ℕ) (reader : Rer
   ahead_vouched bytes (Ok t) ok said = (
     ok.verified.message,
     record {
-      given = ok.verified.given;
+      known_bytes = ok.verified.known_bytes;
       end = ok.verified.end;
       mark = ok.verified.mark refl;
       no_new_fault =
@@ -233,13 +233,13 @@ module _ {R W O : Type 0} (accepts : Verifier) (pk sig : List ℕ) (reader : Rer
       let copied = ok.verified.copied refl in
       record {
         copy = copied.copy;
-        taken = copied.received;
+        copy_received = copied.received;
         flushed = copied.flushed;
         message = ok.verified.message;
         read_twice = copied.read_twice (prehashed _ _ _ _ ok.verified.vouches);
         vouched = signed_comment _ _ _ _ _ _ (both_vouch _ _ _ ok copied.vouched) said;
-        same = λ steady. same_ahead (reader.source.ahead reader.old) ok.verified.message copied.copy
-            ok.verified.given (copied.steady_same steady);
+        copy_is_data = λ steady. same_ahead (reader.source.ahead reader.old) ok.verified.message copied.copy
+            ok.verified.known_bytes (copied.steady_same steady);
       }
   copied_with _ (Err e) _ _ = tt
 

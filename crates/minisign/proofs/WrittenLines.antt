@@ -177,8 +177,8 @@ unfolding key_id_text digits
 graphic_key_id id = graphic_padded _ (graphic_digits 64 (from_le_bytes w64 id) [] tt)
 
 -- A graphic character is not white space, so trimming leaves graphic characters unchanged.
-dark : (c : ℕ) → IsGraphic c → is_whitespace c ≡ false
-dark c h = grind (arith, common_steps, tests)
+not_white_space : (c : ℕ) → IsGraphic c → is_whitespace c ≡ false
+not_white_space c h = grind (arith, common_steps, tests)
 
 all_ascii : (xs : List ℕ) → AllGraphic xs → IsAscii xs
 all_ascii [] h i = omega arith
@@ -200,11 +200,11 @@ spelled (x ∷ xs) h =
 
 front_stays : (xs : List ℕ) → AllGraphic xs → skip_leading_whitespace xs ≡ xs
 front_stays [] h = refl
-front_stays (x ∷ _) h = rw (dark x h.0) refl
+front_stays (x ∷ _) h = rw (not_white_space x h.0) refl
 
 back_stays : (xs : List ℕ) → AllGraphic xs → drop_trailing_whitespace xs ≡ xs
 back_stays [] h = refl
-back_stays (x ∷ xs) h = rw (dark x h.0) (ap (λ l. x ∷ l) (back_stays xs h.1))
+back_stays (x ∷ xs) h = rw (not_white_space x h.0) (ap (λ l. x ∷ l) (back_stays xs h.1))
 
 pub trim_graphic : (xs : List ℕ) → AllGraphic xs → trim xs ≡ xs
 unfolding trim_start trim_end
@@ -329,17 +329,18 @@ strip_none x other = ap (λ t. cond t (take (length x - 1) x) x) (ne_eqb _ 13 ot
 -- A trimmed text does not end in a carriage return.
 last_of_letter : (c : ℕ) → is_whitespace c ≡ false
     → slice_index (encode_utf8 c) (length (encode_utf8 c) - 1) ≢ 13
-last_of_letter c dark e =
+last_of_letter c not_white_space e =
     let some : 0 < length (encode_utf8 c) = omega (arith, length-encode c, (len_utf8_bounds c).0) in
     let same : c ≡ slice_index (encode_utf8 c) (length (encode_utf8 c) - 1) = inside_one c []
     (encode_utf8 c) _ (sym (append-nil _)) (omega arith) (omega (arith, e)) in
-    let no = sym dark ∙ ap is_whitespace (same ∙ e) in
+    let no = sym not_white_space ∙ ap is_whitespace (same ∙ e) in
     cc no
 
-last_dark : (cs : List ℕ) → slice_index (encode_utf8_all (drop_trailing_whitespace cs))
+last_not_white_space : (cs : List ℕ) → slice_index (encode_utf8_all (drop_trailing_whitespace cs))
     (length (encode_utf8_all (drop_trailing_whitespace cs)) - 1) ≢ 13
-last_dark [] = λ e. absurd (omega arith)
-last_dark (c ∷ cs) = step (drop_trailing_whitespace cs) (is_whitespace c) refl (last_dark cs)
+last_not_white_space [] = λ e. absurd (omega arith)
+last_not_white_space (c ∷ cs) =
+    step (drop_trailing_whitespace cs) (is_whitespace c) refl (last_not_white_space cs)
   where
     step : (ds : List ℕ) (white : Bool) → is_whitespace c ≡ white
         → slice_index (encode_utf8_all ds) (length (encode_utf8_all ds) - 1) ≢ 13
@@ -356,4 +357,4 @@ last_dark (c ∷ cs) = step (drop_trailing_whitespace cs) (is_whitespace c) refl
 
 pub trimmed_end : (t : List ℕ) → trim t ≡ t → slice_index t (length t - 1) ≢ 13
 unfolding trim_end
-trimmed_end t same = rw same at (last_dark (chars (trim_start t)))
+trimmed_end t same = rw same at (last_not_white_space (chars (trim_start t)))

@@ -8,7 +8,7 @@ use Rattle.minisign.specs.Records.{PublicKeyRecord, SignatureBoxRecord, Comments
 use Rattle.minisign.specs.Acceptance.{Verifier, Vouches, judge}
 use Rattle.minisign.specs.KeyTexts.{read_public_key}
 use Rattle.minisign.specs.SignatureText.{box_of, read_signature, read_signature_box}
-use Rattle.minisign.specs.Texts.{IsGivenOrNoMemory, and_then}
+use Rattle.minisign.specs.Texts.{IsValueOrNoMemory, and_then}
 use Rattle.minisign.specs.declared.options.VerifyOptions.{VerifyOptions}
 use Rattle.minisign.specs.Verifying.{ReadsTwice}
 
@@ -38,7 +38,7 @@ pub record TextsVouchWith (accepts : Verifier) (pk_text sig_text message : List 
     (comment : List ℕ) : Type 0 where
   pub vouched : TextsVouchFor accepts pk_text sig_text message legacy
   pub comments : CommentsRecord
-  pub both : vouched.box.comments ≡ Some comments
+  pub has_comments : vouched.box.comments ≡ Some comments
   pub trusted : comments.trusted ≡ comment
 
 -- Provided that the data is known, that no device fails and, if the data is copied, that the source is
@@ -48,7 +48,7 @@ abbrev pub IfNothingFails : {R W O V : Type 0} → Bool → RereaderCall R → S
 IfNothingFails output reader status out answer of_data =
     (message : List ℕ) → reader.source.ahead reader.old ≡ Some message
     → ¬ (SourceFails reader) → ¬ (SinkFails status) → ¬ (SinkFails out)
-    → (output ≡ true → IsSteady reader) → IsGivenOrNoMemory answer (of_data message)
+    → (output ≡ true → IsSteady reader) → IsValueOrNoMemory answer (of_data message)
 
 -- IfNothingFails for the verdict on two texts, with these options.
 abbrev pub IsVerdictIfNothingFails : {R W O : Type 0} → Verifier → List ℕ → List ℕ → VerifyOptions
@@ -62,7 +62,7 @@ IsVerdictIfNothingFails accepts pk_text sig_text options reader status out answe
 pub record CopyIsVouchedFor {O : Type 0} (accepts : Verifier) (pk_text sig_text : List ℕ) (legacy : Bool)
     (out : SinkCall O) : Type 0 where
   pub copy : List ℕ
-  pub taken : SinkReceives out copy
+  pub copy_received : SinkReceives out copy
   pub flushed : IsFlushed out
   pub vouched : TextsVouchFor accepts pk_text sig_text copy legacy
 
@@ -73,9 +73,9 @@ pub record CopyIsVouchedWith {R O : Type 0} (accepts : Verifier) (pk_text sig_te
     (reader : RereaderCall R)
     (out : SinkCall O) (comment : List ℕ) : Type 0 where
   pub copy : List ℕ
-  pub taken : SinkReceives out copy
+  pub copy_received : SinkReceives out copy
   pub flushed : IsFlushed out
   pub vouched : TextsVouchWith accepts pk_text sig_text copy false comment
   pub message : List ℕ
   pub read_twice : ReadsTwice reader out message copy
-  pub same : IsSteady reader → IfSome (reader.source.ahead reader.old) (λ xs. copy ≡ xs)
+  pub copy_is_data : IsSteady reader → IfSome (reader.source.ahead reader.old) (λ xs. copy ≡ xs)

@@ -19,7 +19,7 @@ KnownBytesAre ahead bytes = IfSome ahead (λ xs. xs ≡ bytes)
 -- The source was read to its end without an error, and the bytes read are the message. The mark is
 -- unchanged.
 pub record ReadsWhole {R : Type 0} (source : SourceOf R) (old new : R) (message : List ℕ) : Type 0 where
-  pub given : KnownBytesAre (source.ahead old) message
+  pub known_bytes : KnownBytesAre (source.ahead old) message
   pub end : IsAtEnd (source.ahead new)
   pub mark : source.behind new ≡ source.behind old
   pub no_new_fault : source.faults new ≡ source.faults old
@@ -53,7 +53,7 @@ pub record Copies {R O : Type 0} (reader : RereaderCall R) (out : SinkCall O) (s
   pub ahead : OnErr answer (KnownBytesAre (reader.source.ahead reader.old) second)
   pub left : OnErr answer (SourceReturnsPrefix reader)
   pub front : OnErr answer (SinkReceivesPrefix out second)
-  pub given_front : OnErr answer ((given : List ℕ)
+  pub prefix_read : OnErr answer ((given : List ℕ)
       × KnownBytesAre (reader.source.since reader.new) given × SinkReceivesPrefix out given)
   pub marked : reader.source.is_marked reader.new ≡ reader.source.is_marked reader.old
   pub unflushed : FlushesNothing out

@@ -163,4 +163,4 @@ comment_offset text =
 -- The bytes are in the text, at this offset.
 pub record IsAtOffset (bytes text : List ℕ) (offset : ℕ) : Type 0 where
   pub within : offset + length bytes ≤ length text
-  pub same : take (length bytes) (drop offset text) ≡ bytes
+  pub bytes_at_offset : take (length bytes) (drop offset text) ≡ bytes

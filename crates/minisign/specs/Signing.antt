@@ -28,7 +28,7 @@ default_untrusted_comment = codes "signature from rsign secret key"
 
 -- The default trusted comment: "timestamp:" and the time in decimal.
 unfoldable pub default_trusted_comment : ℕ → List ℕ
-default_trusted_comment moment = codes "timestamp:" ++ decimal moment
+default_trusted_comment unix_time = codes "timestamp:" ++ decimal unix_time
 
 -- The trusted and the untrusted comment of a signature box.
 pub record ChosenComments : Type 0 where
@@ -41,8 +41,8 @@ comments_of trusted untrusted = record { trusted = trusted; untrusted = untruste
 
 -- The comments that the caller gives, or else the defaults.
 abbrev pub given_comments : Option (Bor (List ℕ)) → Option (Bor (List ℕ)) → ℕ → ChosenComments
-given_comments trusted untrusted moment = comments_of
-    (unwrap_or (option_copied trusted) (default_trusted_comment moment))
+given_comments trusted untrusted unix_time = comments_of
+    (unwrap_or (option_copied trusted) (default_trusted_comment unix_time))
     (unwrap_or (option_copied untrusted) default_untrusted_comment)
 
 -- The signature box that signing makes: a signature of the message's digest with the random bytes
@@ -158,7 +158,7 @@ pub record IsSignedText {Z : Type 0} (sign : Signer) (sk : SecretKeyRecord) (mes
   pub box : SignatureBoxRecord
   pub comments : CommentsRecord
   pub signed : IsSigned sign sk message chosen z box
-  pub both : box.comments ≡ Some comments
+  pub has_comments : box.comments ≡ Some comments
   pub written : text ≡ signature_text box.signature comments
 
 module _ {S Z : Type 0} (s : SchemeOf S) (scheme : S) (sk : SecretKeyRecord) where

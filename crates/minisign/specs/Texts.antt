@@ -51,8 +51,8 @@ map_ok f (Ok v) = Ok (f v)
 map_ok f (Err e) = Err e
 
 -- The answer is the given result, or it is out of memory.
-abbrev pub IsGivenOrNoMemory : {V : Type 0} → Result V Fault → Result V Fault → Type 0
-IsGivenOrNoMemory answer given = (answer ≡ given) ⊎ (answer ≡ Err (Named OutOfMemory))
+abbrev pub IsValueOrNoMemory : {V : Type 0} → Result V Fault → Result V Fault → Type 0
+IsValueOrNoMemory answer given = (answer ≡ given) ⊎ (answer ≡ Err (Named OutOfMemory))
 
 -- The function agrees with the relation: its result is a value exactly if the relation holds for
 -- the value. So the relation holds for at most one value, and for none if there is an error.

@@ -13,7 +13,7 @@ use Rattle.minisign_base.specs.Steps.{EndsWith, StepsEnd}
 use Rattle.minisign.specs.Acceptance.{Verifier, judge, status_lines, Vouches, signed_bytes}
 use Rattle.minisign.specs.Reading.{Copies, IsReadFault, ReadsWhole, KnownBytesAre}
 use Rattle.minisign.specs.Records.{PublicKeyRecord, SignatureBoxRecord, is_prehashed}
-use Rattle.minisign.specs.Texts.{IsGivenOrNoMemory, and_then, map_ok}
+use Rattle.minisign.specs.Texts.{IsValueOrNoMemory, and_then, map_ok}
 use Rattle.minisign.specs.declared.options.VerifyOptions.{VerifyOptions}
 use Rattle.minisign.specs.declared.signed_data.SignedData.{SignedData}
 use Rattle.minisign.specs.declared.signed_data.SignedData.TheVariants.{Digest, Message, NoData}
@@ -65,7 +65,7 @@ module _ {R W O : Type 0} (reader : RereaderCall R) (status : SinkCall W) (out :
       (λ e. IsReadFault reader.source reader.old reader.new e × SourceReturnsPrefix reader)
       × (reader.source.is_marked reader.new ≡ reader.source.is_marked reader.old))
       × StatusUnchanged × OutputUnchanged
-  StageEnds (Judge accepts pk x legacy message) answer = IsGivenOrNoMemory answer
+  StageEnds (Judge accepts pk x legacy message) answer = IsValueOrNoMemory answer
       (judge accepts pk x message legacy)
       × ReaderUnchanged × StatusUnchanged × OutputUnchanged
   StageEnds (Report text) answer =
@@ -188,7 +188,7 @@ pub record VerifyingSucceeds {R W O : Type 0} (accepts : Verifier) (pk : PublicK
     (options : VerifyOptions) (reader : RereaderCall R) (status : SinkCall W) (out : SinkCall O)
     : Type 0 where
   pub message : List ℕ
-  pub given : KnownBytesAre (reader.source.ahead reader.old) message
+  pub known_bytes : KnownBytesAre (reader.source.ahead reader.old) message
   pub vouches : Vouches accepts pk x message options.allow_legacy
   pub end : IsAtEnd (reader.source.ahead reader.new)
   pub no_new_fault : SourceHasNoNewFault reader
@@ -227,7 +227,7 @@ pub record VerifyingTextsSucceeds {R W O : Type 0} (accepts : Verifier) (pk_text
 abbrev pub VerifyingTextsFails : {R W O : Type 0} → Verifier → List ℕ → List ℕ → VerifyOptions
     → RereaderCall R → SinkCall W → SinkCall O → Fault → Type 0
 VerifyingTextsFails accepts pk_text sig_text options reader status out e =
-    (IsGivenOrNoMemory (Err e) (read_texts pk_text sig_text)
+    (IsValueOrNoMemory (Err e) (read_texts pk_text sig_text)
     × (reader.new ≡ reader.old) × (status.new ≡ status.old) × (out.new ≡ out.old))
     ⊎ ((key : PublicKeyRecord) × (box : SignatureBoxRecord) × (read_texts pk_text sig_text ≡ Ok (key, box))
     × VerifyingFails accepts key box options reader status out e)

@@ -11,7 +11,7 @@ ghost use Rattle.minisign.specs.Acceptance.{options_of};
 ghost use Rattle.minisign.specs.Headline.{CopyIsVouchedWith, TextsVouchWith, verdict};
 ghost use Rattle.minisign.specs.Headline.{IsVerdictIfNothingFails};
 ghost use Rattle.minisign.specs.Reading.{HasFailed, KnownBytesAre, IsReadFromFile, ReadsWhole};
-ghost use Rattle.minisign.specs.Texts.{IsGivenOrNoMemory, map_ok};
+ghost use Rattle.minisign.specs.Texts.{IsValueOrNoMemory, map_ok};
 ghost use Rattle.minisign.specs.Records.{PublicKeyRecord, SignatureBoxRecord};
 ghost use Rattle.minisign.specs.SignatureText.{read_signature};
 ghost use Rattle.minisign.specs.Verifying.{VerifyingTextsFails, VerifyingTextsSucceeds, read_texts};
@@ -69,12 +69,12 @@ pub fn verify_with<S: Scheme, R: Rereader, W: Sink, O: Sink>(
         (sink_call W.Sink status.old status.new) (sink_call O.Sink out.old out.new)) }
 
     // With `quiet`, `status` is unchanged. Without `output`, `out` is unchanged.
-    ensures quiet { options.quiet ≡ true → status.new ≡ status.old }
-    ensures out { options.output ≡ false → out.new ≡ out.old }
+    ensures status_unchanged { options.quiet ≡ true → status.new ≡ status.old }
+    ensures out_unchanged { options.output ≡ false → out.new ≡ out.old }
 
     // Without `output`, the unread bytes of `data_reader` are a suffix of those before the call,
     // whatever the result.
-    ensures given { options.output ≡ false → PrefixIsRemoved (R.ahead data_reader.old)
+    ensures prefix_removed { options.output ≡ false → PrefixIsRemoved (R.ahead data_reader.old)
         (R.ahead data_reader.new) }
 {
     let (pk, signature_box, comment) = read_with_comment(alloc, pk_text, sig_text)?;
@@ -99,7 +99,7 @@ fn read_with_comment(
     pk_text: &str,
     sig_text: &str,
 ) -> Result<(PublicKey, SignatureBox, String)>
-    ensures read { IsGivenOrNoMemory {V = PublicKeyRecord × SignatureBoxRecord}
+    ensures read { IsValueOrNoMemory {V = PublicKeyRecord × SignatureBoxRecord}
         (map_ok (λ all. (all.0, all.1)) result)
         (read_texts pk_text.now sig_text.now) }
     ensures comment { IfOk result
@@ -129,7 +129,7 @@ pub fn verify_bytes<S: Scheme>(
 ) -> Result<String>
     // The result is out of memory or exactly the verdict on the two texts and the message: the trusted
     // comment if the signature is valid, and otherwise the first check that fails.
-    ensures { IsGivenOrNoMemory (map_ok string_bytes result)
+    ensures { IsValueOrNoMemory (map_ok string_bytes result)
         (verdict (S.accepts scheme.now) pk_text.now sig_text.now message.now false) }
 {
     let mut room = zeros(alloc, sig_text.len())?;
@@ -261,7 +261,7 @@ pub fn verify_reader<S: Scheme, R: Rereader>(
         (rereader_call R.Source R.steady data_reader.old data_reader.new) no_sink no_sink) }
 
     // The unread bytes of `data_reader` are a suffix of those before the call, whatever the result.
-    ensures given { PrefixIsRemoved (R.ahead data_reader.old) (R.ahead data_reader.new) }
+    ensures prefix_removed { PrefixIsRemoved (R.ahead data_reader.old) (R.ahead data_reader.new) }
 {
     let silent = VerifyOptions::SILENT;
     verify_with(

@@ -29,7 +29,7 @@ pub fn trusted_comment_place(text: &str) -> (usize, usize)
 
 // Returns the text after the first line feed, or nothing if there is none.
 fn behind_line(text: &str) -> &str
-    ensures same { result.now ≡ behind_line text.now }
+    ensures value { result.now ≡ behind_line text.now }
     ensures size { length result.now ≤ length text.now }
 {
     match text.split_once('\n') {
@@ -40,7 +40,7 @@ fn behind_line(text: &str) -> &str
 
 // Returns the first line without its line ending.
 fn first_line(text: &str) -> &str
-    ensures same { result.now ≡ slice_index_or (lines text.now) 0 [] }
+    ensures value { result.now ≡ slice_index_or (lines text.now) 0 [] }
     ensures size { length result.now ≤ length text.now }
 {
     let mut lines = text.lines();

@@ -104,7 +104,7 @@ fn copy_pieces<R: Rereader, O: Sink>(
     hasher: &mut Blake2b,
     out: &mut O,
 ) -> Result<()>
-    requires some { 0 < length buf.old }
+    requires not_empty { 0 < length buf.old }
     requires open { has_finalized hasher.old ≡ false }
     requires anew { IsEmptyIfKnown (R.since data_reader.old) }
     ensures copied { OnOk result ((message : List ℕ) × ((m : List ℕ) → IsFed hasher.old m

@@ -18,7 +18,7 @@ pub(crate) fn draw<const N: usize, Z: RandomSource>(random: &mut Z) -> Result<[u
     ensures no_new_fault { OnOk result (Z.random_faults random.new ≡ Z.random_faults random.old) }
     ensures refused { IfErr result
         (HasFailed RandomSourceFailed Z.random_faults random.old random.new) }
-    ensures given { PrefixIsRemoved (Z.random_ahead random.old) (Z.random_ahead random.new) }
+    ensures prefix_removed { PrefixIsRemoved (Z.random_ahead random.old) (Z.random_ahead random.new) }
 {
     let mut bytes = [0u8; N];
     random
@@ -28,7 +28,7 @@ pub(crate) fn draw<const N: usize, Z: RandomSource>(random: &mut Z) -> Result<[u
 }
 
 // Returns the next `N` random bytes and the `M` after them.
-#[tactic(auto, using(crate::proofs::Beginnings::given_behind))]
+#[tactic(auto, using(crate::proofs::Beginnings::removed_after_consumed))]
 pub(crate) fn draw_two<const N: usize, const M: usize, Z: RandomSource>(
     random: &mut Z,
 ) -> Result<([u8; N], [u8; M])>
@@ -39,7 +39,7 @@ pub(crate) fn draw_two<const N: usize, const M: usize, Z: RandomSource>(
     ensures no_new_fault { OnOk result (Z.random_faults random.new ≡ Z.random_faults random.old) }
     ensures refused { IfErr result
         (HasFailed RandomSourceFailed Z.random_faults random.old random.new) }
-    ensures given { PrefixIsRemoved (Z.random_ahead random.old) (Z.random_ahead random.new) }
+    ensures prefix_removed { PrefixIsRemoved (Z.random_ahead random.old) (Z.random_ahead random.new) }
 {
     let first = draw(random)?;
     let second = draw(random)?;

@@ -14,7 +14,8 @@ pub(crate) fn split_three<const A: usize, const B: usize, const C: usize>(
     ensures first { IfOk result (λ fields. length fields.0 ≡ A) }
     ensures second { IfOk result (λ fields. length fields.1 ≡ B) }
     ensures third { IfOk result (λ fields. length fields.2 ≡ C) }
-    ensures short { IfErr result (λ e. (e ≡ Named RecordTooShort) × (length bytes.now < A + B + C)) }
+    ensures fails_if_too_short { IfErr result (λ e. (e ≡ Named RecordTooShort)
+        × (length bytes.now < A + B + C)) }
 {
     let Some((first, rest)) = bytes.split_first_chunk() else {
         return Err(NamedFault::RecordTooShort.into());

@@ -69,7 +69,7 @@ impl KeyPair {
     ) -> Result<KeyPair>
         // On success, the pair is computed as `specs/Generation` defines it from bytes that were read from
         // the random source, and the secret key is encrypted under the password.
-        ensures made { IfOk result (λ pair. IsSealedPair (S.public_of scheme.now) password.now
+        ensures is_new_pair { IfOk result (λ pair. IsSealedPair (S.public_of scheme.now) password.now
             (random_call Z.RandomSource random.old random.new) pair.pk pair.sk) }
 
         // On success, the secret key decrypts under the password to the key that belongs to the public key.
@@ -78,7 +78,7 @@ impl KeyPair {
             (λ pair. OpensToPair (S.public_of scheme.now) password.now pair.pk pair.sk) }
 
         // On success, the password has at most 1024 bytes, and the random source did not fail.
-        ensures typed { OnOk result (length password.now ≤ 1024) }
+        ensures password_fits { OnOk result (length password.now ≤ 1024) }
         ensures no_new_fault { OnOk result (Z.random_faults random.new ≡ Z.random_faults random.old) }
 
         // An error is one of these: the password has more than 1024 bytes, and no random bytes were taken;
@@ -88,7 +88,7 @@ impl KeyPair {
 
         // The unread bytes of the random source are a suffix of those before the call, whatever the
         // result.
-        ensures given { PrefixIsRemoved (Z.random_ahead random.old) (Z.random_ahead random.new) }
+        ensures prefix_removed { PrefixIsRemoved (Z.random_ahead random.old) (Z.random_ahead random.new) }
     {
         if password.len() > PASSWORD_BYTES {
             return Err(NamedFault::PasswordTooLong.into());
@@ -99,7 +99,7 @@ impl KeyPair {
 }
 
 /// Signs the message and returns the signature text. Without a trusted comment, `timestamp:` and the
-/// `moment`, in seconds since 1970, become the trusted comment. The untrusted comment is `signature from
+/// `unix_time`, in seconds since 1970, become the trusted comment. The untrusted comment is `signature from
 /// rsign secret key`. Takes 64 random bytes twice.
 ///
 /// Errors come in this order: an encrypted key, `EncryptedKeyRefused`, with no random bytes taken; a
@@ -108,7 +108,7 @@ impl KeyPair {
 /// or be read with a different comment.
 ///
 /// ```
-/// let sig_text = sign_bytes(alloc, &scheme, &sk, update, Some("update-1.2.tar"), &mut random, moment)?;
+/// let sig_text = sign_bytes(alloc, &scheme, &sk, update, Some("update-1.2.tar"), &mut random, unix_time)?;
 /// ```
 pub fn sign_bytes<S: Scheme, Z: RandomSource>(
     alloc: Global,
@@ -117,19 +117,19 @@ pub fn sign_bytes<S: Scheme, Z: RandomSource>(
     message: &[u8],
     trusted_comment: Option<&str>,
     random: &mut Z,
-    moment: u64,
+    unix_time: u64,
 ) -> Result<String>
     // On success with a genuine key, the signature text parses to a signature box that is valid for the
     // message under every public key with the same key bytes and key ID, if neither comment has a line feed
     // and the trusted comment is trimmed.
     ensures headline { IfOk result
         (λ t. SigningHeadline (S.accepts scheme.now) (S.public_of scheme.now) sk.now message.now
-        (given_comments trusted_comment.entry None moment) (string_bytes t)) }
+        (given_comments trusted_comment.entry None unix_time) (string_bytes t)) }
 
     // On success, the secret key is not encrypted, and the result is the text of the signature box that
     // signing makes from the key, the message, the comments and bytes of the random source.
     ensures signed { IfOk result (λ t. IsSignedText (S.signature_of scheme.now) sk.now message.now
-        (given_comments trusted_comment.entry None moment)
+        (given_comments trusted_comment.entry None unix_time)
         (random_call Z.RandomSource random.old random.new) (string_bytes t)) }
     ensures opened { OnOk result (is_encrypted sk.now ≡ false) }
 
@@ -138,7 +138,7 @@ pub fn sign_bytes<S: Scheme, Z: RandomSource>(
 
     // The unread bytes of the random source are a suffix of those before the call, whatever the
     // result.
-    ensures drawn { PrefixIsRemoved (Z.random_ahead random.old) (Z.random_ahead random.new) }
+    ensures random_prefix_removed { PrefixIsRemoved (Z.random_ahead random.old) (Z.random_ahead random.new) }
 
     // If the key is encrypted, it is rejected, and no random bytes were taken. Otherwise an error is out of
     // memory, and the random source did not fail; or the random source failed.
@@ -153,7 +153,7 @@ pub fn sign_bytes<S: Scheme, Z: RandomSource>(
         &mut data,
         trusted_comment,
         random,
-        moment,
+        unix_time,
     )
 }
 
@@ -166,7 +166,8 @@ pub fn sign_bytes<S: Scheme, Z: RandomSource>(
 /// trusted comment of `sign_bytes` applies here too.
 ///
 /// ```
-/// let sig_text = sign_reader(alloc, &scheme, &sk, &mut data_reader, Some("update-1.2.tar"), &mut random, moment)?;
+/// let name = Some("update-1.2.tar");
+/// let sig_text = sign_reader(alloc, &scheme, &sk, &mut data_reader, name, &mut random, unix_time)?;
 /// ```
 pub fn sign_reader<S: Scheme, R: Source, Z: RandomSource>(
     alloc: Global,
@@ -175,7 +176,7 @@ pub fn sign_reader<S: Scheme, R: Source, Z: RandomSource>(
     data_reader: &mut R,
     trusted_comment: Option<&str>,
     random: &mut Z,
-    moment: u64,
+    unix_time: u64,
 ) -> Result<String>
     // On success, the result is the text of the signature box that signing makes for all the unread
     // data, and with a genuine key it parses to a signature box that is valid for this data, if
@@ -183,7 +184,7 @@ pub fn sign_reader<S: Scheme, R: Source, Z: RandomSource>(
     // encrypted.
     ensures signed { IfOk result (λ t. HasSignedDataText S.Scheme scheme.now sk.now
         (source_call R.Source data_reader.old data_reader.new) (given_comments trusted_comment.entry None
-        moment) (random_call Z.RandomSource random.old random.new) (string_bytes t)) }
+        unix_time) (random_call Z.RandomSource random.old random.new) (string_bytes t)) }
     ensures opened { OnOk result (is_encrypted sk.now ≡ false) }
 
     // On success, the random source did not fail.
@@ -193,13 +194,13 @@ pub fn sign_reader<S: Scheme, R: Source, Z: RandomSource>(
     // is out of memory, and neither source failed; or the reader failed, and no random bytes were taken; or
     // the random source failed after all the data was read.
     ensures refused { IfErr result (SigningFails S.Scheme scheme.now None
-        sk.now (given_comments trusted_comment.entry None moment) (source_call R.Source data_reader.old
+        sk.now (given_comments trusted_comment.entry None unix_time) (source_call R.Source data_reader.old
         data_reader.new) (random_call Z.RandomSource random.old random.new)) }
 
     // The unread bytes of the reader and of the random source are suffixes of those before the
     // call, whatever the result.
-    ensures given { PrefixIsRemoved (R.ahead data_reader.old) (R.ahead data_reader.new) }
-    ensures drawn { PrefixIsRemoved (Z.random_ahead random.old) (Z.random_ahead random.new) }
+    ensures prefix_removed { PrefixIsRemoved (R.ahead data_reader.old) (R.ahead data_reader.new) }
+    ensures random_prefix_removed { PrefixIsRemoved (Z.random_ahead random.old) (Z.random_ahead random.new) }
 {
     if sk.is_encrypted() {
         return Err(NamedFault::EncryptedKeyRefused.into());
@@ -207,7 +208,7 @@ pub fn sign_reader<S: Scheme, R: Source, Z: RandomSource>(
     let comments = GivenComments {
         trusted: trusted_comment,
         untrusted: None,
-        moment,
+        unix_time,
     };
     sign_opened(alloc, scheme, sk, data_reader, comments, random)
 }
@@ -222,7 +223,8 @@ pub fn sign_reader<S: Scheme, R: Source, Z: RandomSource>(
 /// The note on the trusted comment of `sign_bytes` applies here too.
 ///
 /// ```
-/// let sig_text = sign_file(&rt, rt.alloc(), &scheme, &sk, "update.tar", Some("update-1.2.tar"), &mut random, moment)?;
+/// let name = Some("update-1.2.tar");
+/// let sig_text = sign_file(&rt, rt.alloc(), &scheme, &sk, "update.tar", name, &mut random, unix_time)?;
 /// ```
 pub fn sign_file<F: Files, S: Scheme, Z: RandomSource>(
     files: &F,
@@ -232,14 +234,15 @@ pub fn sign_file<F: Files, S: Scheme, Z: RandomSource>(
     data_path: &str,
     trusted_comment: Option<&str>,
     random: &mut Z,
-    moment: u64,
+    unix_time: u64,
 ) -> Result<String>
     // On success, the result is the text of the signature box that signing makes for some data, and with a
     // genuine key it parses to a signature box that is valid for this data, if neither comment has a line
     // feed and the trusted comment is trimmed. The secret key is not encrypted. The contract does not say
     // that the data comes from the named file; only the code and tests show this.
     ensures signed { IfOk result (λ t. (message : List ℕ) × HasSignedText S.Scheme scheme.now sk.now message
-        (given_comments trusted_comment.entry None moment) (random_call Z.RandomSource random.old random.new)
+        (given_comments trusted_comment.entry None unix_time)
+        (random_call Z.RandomSource random.old random.new)
         (string_bytes t)) }
     ensures opened { OnOk result (is_encrypted sk.now ≡ false) }
 
@@ -255,7 +258,7 @@ pub fn sign_file<F: Files, S: Scheme, Z: RandomSource>(
 
     // The unread bytes of the random source are a suffix of those before the call, whatever the
     // result.
-    ensures drawn { PrefixIsRemoved (Z.random_ahead random.old) (Z.random_ahead random.new) }
+    ensures random_prefix_removed { PrefixIsRemoved (Z.random_ahead random.old) (Z.random_ahead random.new) }
 {
     if sk.is_encrypted() {
         return Err(NamedFault::EncryptedKeyRefused.into());
@@ -263,7 +266,7 @@ pub fn sign_file<F: Files, S: Scheme, Z: RandomSource>(
     let comments = GivenComments {
         trusted: trusted_comment,
         untrusted: None,
-        moment,
+        unix_time,
     };
     match fs::open(files, data_path) {
         Ok(file) => sign_opened_file(
@@ -290,13 +293,13 @@ fn sign_opened_file<S: Scheme, R: Source, Z: RandomSource>(
 ) -> Result<String>
     requires { is_encrypted sk.now ≡ false }
     ensures signed { IfOk result (λ t. (message : List ℕ) × HasSignedText S.Scheme scheme.now sk.now message
-        (given_comments comments.entry.trusted comments.entry.untrusted comments.entry.moment)
+        (given_comments comments.entry.trusted comments.entry.untrusted comments.entry.unix_time)
         (random_call Z.RandomSource random.old random.new) (string_bytes t)) }
     ensures random_no_new_fault { OnOk result (Z.random_faults random.new ≡ Z.random_faults random.old) }
     ensures refused { IfErr result (λ e. BytesSigningFails sk.now (random_call Z.RandomSource random.old
         random.new) e ⊎ ((is_encrypted sk.now ≡ false) × (e ≡ Named ReadingFailed)
         × (random.new ≡ random.old))) }
-    ensures drawn { PrefixIsRemoved (Z.random_ahead random.old) (Z.random_ahead random.new) }
+    ensures random_prefix_removed { PrefixIsRemoved (Z.random_ahead random.old) (Z.random_ahead random.new) }
 {
     sign_opened(alloc, scheme, sk, file, comments, random)
 }

@@ -68,7 +68,7 @@ impl KeyPair {
     ) -> Result<KeyPair>
         // On success, the pair is computed as `specs/Generation` defines it from bytes that were read from
         // the random source: 32 for the seed and 8 for the key ID.
-        ensures made { IfOk result
+        ensures is_new_pair { IfOk result
             (λ pair. IsUnsealedPair (S.public_of scheme.now)
             (random_call Z.RandomSource random.old random.new) pair.pk pair.sk) }
 
@@ -93,7 +93,7 @@ impl KeyPair {
 
         // The unread bytes of the random source are a suffix of those before the call, whatever the
         // result.
-        ensures given { PrefixIsRemoved (Z.random_ahead random.old) (Z.random_ahead random.new) }
+        ensures prefix_removed { PrefixIsRemoved (Z.random_ahead random.old) (Z.random_ahead random.new) }
     {
         let (seed, keynum) = draw_two(random)?;
         Ok(make_pair(scheme, &seed, keynum))
@@ -114,7 +114,7 @@ impl KeyPair {
         sk_sink: &mut K,
     ) -> Result<KeyPair>
         // On success, the pair is made as `KeyPair::generate_unencrypted_keypair` promises.
-        ensures made { IfOk result
+        ensures is_new_pair { IfOk result
             (λ pair. IsUnsealedPair (S.public_of scheme.now)
             (random_call Z.RandomSource random.old random.new) pair.pk pair.sk) }
         ensures genuine { IfOk result
@@ -142,7 +142,7 @@ impl KeyPair {
 
         // The unread bytes of the random source are a suffix of those before the call, whatever the
         // result.
-        ensures given { PrefixIsRemoved (Z.random_ahead random.old) (Z.random_ahead random.new) }
+        ensures prefix_removed { PrefixIsRemoved (Z.random_ahead random.old) (Z.random_ahead random.new) }
     {
         let pair = KeyPair::generate_unencrypted_keypair(scheme, random)?;
         write_bytes(alloc, pk_sink, sk_sink, &pair)?;
@@ -174,7 +174,7 @@ impl KeyPair {
         // genuine. Each text that parses to the secret key decrypts under this password to the same key and
         // to no other. If a password is given, the prompt is unchanged; otherwise the prompts, the answers
         // and everything that was written are as docs/FORMATS.md says.
-        ensures made { IfOk result (λ pair. HasSealed (S.public_of scheme.now)
+        ensures is_new_pair { IfOk result (λ pair. HasSealed (S.public_of scheme.now)
             (random_call Z.RandomSource random.old random.new) (prompt_call R.Source W.Sink prompt.old
             prompt.new) (option_map string_bytes password) pair.pk pair.sk) }
 
@@ -189,7 +189,7 @@ impl KeyPair {
 
         // The unread bytes of the random source are a suffix of those before the call, whatever the
         // result.
-        ensures given { PrefixIsRemoved (Z.random_ahead random.old) (Z.random_ahead random.new) }
+        ensures prefix_removed { PrefixIsRemoved (Z.random_ahead random.old) (Z.random_ahead random.new) }
     {
         let drawn = draw_with_salt(random)?;
         seal_pair(alloc, scheme, &drawn, password, prompt)
@@ -221,7 +221,7 @@ impl KeyPair {
         prompt: &mut Prompt<R, W>,
     ) -> Result<KeyPair>
         // On success, the pair is made as `KeyPair::generate_encrypted_keypair` promises.
-        ensures made { IfOk result (λ pair. HasSealed (S.public_of scheme.now)
+        ensures is_new_pair { IfOk result (λ pair. HasSealed (S.public_of scheme.now)
             (random_call Z.RandomSource random.old random.new) (prompt_call R.Source W.Sink prompt.old
             prompt.new) (option_map string_bytes password) pair.pk pair.sk) }
 
@@ -253,7 +253,7 @@ impl KeyPair {
 
         // The unread bytes of the random source are a suffix of those before the call, whatever the
         // result.
-        ensures given { PrefixIsRemoved (Z.random_ahead random.old) (Z.random_ahead random.new) }
+        ensures prefix_removed { PrefixIsRemoved (Z.random_ahead random.old) (Z.random_ahead random.new) }
     {
         let pair = KeyPair::generate_encrypted_keypair(alloc, scheme, random, password, prompt)?;
         write_texts(alloc, pk_sink, sk_sink, &pair, comment)?;
@@ -328,7 +328,7 @@ fn seal_with_reports<S: Scheme, R: Source, W: Sink>(
     password: &[u8],
     prompt: &mut Prompt<R, W>,
 ) -> Result<KeyPair>
-    ensures reported { OnOk result
+    ensures conversation_ends { OnOk result
         (ConversationEnds (prompt_call R.Source W.Sink prompt.old prompt.new) sealing_steps (Ok tt)) }
     ensures sealed { IfOk result
         (λ pair. IsSealedOf (S.public_of scheme.now) drawn.now.seed drawn.now.keynum drawn.now.salt
@@ -407,7 +407,7 @@ fn write_parts<P: Sink, K: Sink>(
 }
 
 fn write_part<W: Sink>(sink: &mut W, part: &[u8]) -> Result<()>
-    ensures taken { OnOk result (SinkCompletesPart (sink_call W.Sink sink.old sink.new) part.now) }
+    ensures part_received { OnOk result (SinkCompletesPart (sink_call W.Sink sink.old sink.new) part.now) }
     ensures failed { OnErr result (SinkFailsAtPart (sink_call W.Sink sink.old sink.new) part.now) }
     ensures refused { IfErr result (λ e. e ≡ Named WritingFailed) }
 {
@@ -424,7 +424,7 @@ pub(crate) fn make_sealed_pair<S: Scheme>(
     ensures sealed { IfOk result
         (λ pair. IsSealedOf (S.public_of scheme.now) drawn.now.seed drawn.now.keynum drawn.now.salt
         password.now pair.pk pair.sk) }
-    ensures refused { IfErr result (λ e. e ≡ Named OutOfMemory) }
+    ensures only_out_of_memory { IfErr result (λ e. e ≡ Named OutOfMemory) }
 {
     let KeyPair { pk, sk } = make_pair(scheme, &drawn.seed, drawn.keynum);
     let sealing = Sealing {
@@ -437,7 +437,7 @@ pub(crate) fn make_sealed_pair<S: Scheme>(
 }
 
 // Generates the random bytes for an encrypted key pair: the seed, the key ID and the salt.
-#[tactic(auto, using(crate::proofs::Beginnings::given_behind))]
+#[tactic(auto, using(crate::proofs::Beginnings::removed_after_consumed))]
 pub(crate) fn draw_with_salt<Z: RandomSource>(random: &mut Z) -> Result<Drawn>
     ensures drawn { IfOk result
         (λ z. HasDrawn (random_call Z.RandomSource random.old random.new)
@@ -447,7 +447,7 @@ pub(crate) fn draw_with_salt<Z: RandomSource>(random: &mut Z) -> Result<Drawn>
     ensures no_new_fault { OnOk result (Z.random_faults random.new ≡ Z.random_faults random.old) }
     ensures refused { IfErr result
         (HasFailed RandomSourceFailed Z.random_faults random.old random.new) }
-    ensures given { PrefixIsRemoved (Z.random_ahead random.old) (Z.random_ahead random.new) }
+    ensures prefix_removed { PrefixIsRemoved (Z.random_ahead random.old) (Z.random_ahead random.new) }
 {
     let (seed, keynum) = draw_two(random)?;
     let salt = draw(random)?;

@@ -115,7 +115,7 @@ pub fn make_public_key(
     ensures reads { LacksByte 10 comment.now
         → IfOk result (λ t. read_public_key t ≡ Ok (own_public_key (unsealed_key key_id secret))) }
     ensures size { IfOk result (λ t. length t ≡ length comment.now + 77) }
-    ensures refused { IfErr result (λ e. e ≡ Named OutOfMemory) }
+    ensures only_out_of_memory { IfErr result (λ e. e ≡ Named OutOfMemory) }
 {
     let sk = SecretKey::from_parts(key_id, secret);
     let pk = PublicKey::from_secret_key(&sk)?;

@@ -422,7 +422,7 @@ impl SecretKey {
     ) -> Result<SecretKey>
         requires { 1 ≤ derivation.k }
         ensures opened { IfOk result (λ v. open_sealed self password.now derivation.bound ≡ Ok v) }
-        ensures ended { ConversationEnds (prompt_call R.Source W.Sink prompt.old prompt.new)
+        ensures conversation_ends { ConversationEnds (prompt_call R.Source W.Sink prompt.old prompt.new)
             (decrypting_steps self password.now derivation.bound) (without_value result) }
     {
         say_deriving(prompt)?;
@@ -434,7 +434,7 @@ impl SecretKey {
 
     // Reports the end of the derivation, and only then checks the decrypted checksum.
     fn finish_with_reports<R: Source, W: Sink>(&self, prompt: &mut Prompt<R, W>) -> Result<()>
-        ensures ended { ConversationEnds (prompt_call R.Source W.Sink prompt.old prompt.new)
+        ensures conversation_ends { ConversationEnds (prompt_call R.Source W.Sink prompt.old prompt.new)
             (Say done_text ∷ Test (result_err (restored_key self.now)) ∷ []) result }
         ensures restored { OnOk result (restored_key self.now ≡ Ok self.now) }
     {
@@ -510,7 +510,7 @@ impl SecretKey {
         ensures refused { IfErr result (λ e.
             ((e ≡ Named OutOfMemory) × IsOk (allowed_work self.old derivation.bound))
             ⊎ (allowed_work self.old derivation.bound ≡ Err e)) }
-        ensures same { OnErr result (self.new ≡ self.old) }
+        ensures unchanged { OnErr result (self.new ≡ self.old) }
     {
         let stream = derive_stream(alloc, self, password, derivation)?;
         self.xor_keynum(&stream);
@@ -592,7 +592,7 @@ fn ask_password<R: Source, W: Sink>(alloc: Global, prompt: &mut Prompt<R, W>) ->
 
 #[tactic(auto, unfolding(crate::specs::Sealing::deriving_text))]
 fn say_deriving<R: Source, W: Sink>(prompt: &mut Prompt<R, W>) -> Result<()>
-    ensures ended { StepEnds (prompt_call R.Source W.Sink prompt.old prompt.new)
+    ensures step_ends { StepEnds (prompt_call R.Source W.Sink prompt.old prompt.new)
         (Say deriving_text) result }
 {
     prompt.say("Deriving a key from the password and decrypting the secret key... ")
@@ -600,7 +600,7 @@ fn say_deriving<R: Source, W: Sink>(prompt: &mut Prompt<R, W>) -> Result<()>
 
 #[tactic(auto, unfolding(crate::specs::Sealing::done_text))]
 fn say_done<R: Source, W: Sink>(prompt: &mut Prompt<R, W>) -> Result<()>
-    ensures ended { StepEnds (prompt_call R.Source W.Sink prompt.old prompt.new)
+    ensures step_ends { StepEnds (prompt_call R.Source W.Sink prompt.old prompt.new)
         (Say done_text) result }
 {
     prompt.say("done\n")

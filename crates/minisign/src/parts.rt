@@ -40,7 +40,8 @@ pub fn write_comment_message(signature: &[u8; 64], trusted: &[u8], message: &mut
     // message are unchanged.
     ensures size { length message.new ≡ length message.old }
     ensures written { take (64 + length trusted.now) message.new ≡ signature.now ++ trusted.now }
-    ensures rest { drop (64 + length trusted.now) message.new ≡ drop (64 + length trusted.now) message.old }
+    ensures rest_unchanged { drop (64 + length trusted.now) message.new ≡ drop
+        (64 + length trusted.now) message.old }
 {
     let (whole, _) = message.split_at_mut(64 + trusted.len());
     fill(whole, signature, trusted);
@@ -72,7 +73,7 @@ impl SignatureBox {
         ensures parts { IfOk result (λ x. x ≡ box_of (with_comments
             (prehashed_signature key_id.now signature.now) untrusted_comment.now
             trusted_comment.now comment_signature.now)) }
-        ensures refused { IfErr result (λ e. e ≡ Named OutOfMemory) }
+        ensures only_out_of_memory { IfErr result (λ e. e ≡ Named OutOfMemory) }
     {
         let comments = Comments {
             untrusted_comment: String::from_str(alloc, untrusted_comment)?,

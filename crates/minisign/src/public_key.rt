@@ -138,7 +138,7 @@ impl PublicKey {
         // parses to this key. The only error is out of memory.
         ensures text { IfOk result (λ b. b ≡ public_key_text self.now) }
         ensures reads_back { IfOk result (λ b. read_public_key b ≡ Ok self.now) }
-        ensures refused { IfErr result (λ e. e ≡ Named OutOfMemory) }
+        ensures only_out_of_memory { IfErr result (λ e. e ≡ Named OutOfMemory) }
     {
         let encoded = self.to_base64(alloc)?;
         let text = format!(in alloc;
@@ -160,7 +160,7 @@ impl PublicKey {
         ensures text { IfOk result (λ b. b ≡ commented_public_key_text comment.now self.now) }
         ensures reads_back { LacksByte 10 comment.now → IfOk result (λ b. read_public_key b ≡ Ok self.now) }
         ensures size { IfOk result (λ b. length b ≡ length comment.now + 77) }
-        ensures refused { IfErr result (λ e. e ≡ Named OutOfMemory) }
+        ensures only_out_of_memory { IfErr result (λ e. e ≡ Named OutOfMemory) }
     {
         let encoded = self.to_base64(alloc)?;
         let mut text = String::new(alloc);
@@ -175,7 +175,7 @@ impl PublicKey {
         // is out of memory.
         ensures text { IfOk result (λ t. string_bytes t ≡ base64_of (public_key_bytes self.now)) }
         ensures reads_back { IfOk result (λ t. read_bare_public_key (string_bytes t) ≡ Ok self.now) }
-        ensures refused { IfErr result (λ e. e ≡ Named OutOfMemory) }
+        ensures only_out_of_memory { IfErr result (λ e. e ≡ Named OutOfMemory) }
     {
         let bytes = self.to_bytes(alloc)?;
         let text = encode(alloc, &bytes)?;
@@ -188,7 +188,7 @@ impl PublicKey {
         // `texts_are_decided`, to no other. The only error is out of memory.
         ensures bytes { IfOk result (λ v. v.items ≡ public_key_bytes self.now) }
         ensures reads_back { IfOk result (λ v. ReadsPublicKey v.items self.now) }
-        ensures refused { IfErr result (λ e. e ≡ Named OutOfMemory) }
+        ensures only_out_of_memory { IfErr result (λ e. e ≡ Named OutOfMemory) }
     {
         let mut bytes = Vec::with_capacity(alloc, 42)?;
         let KeynumPK { keynum, pk } = &self.keynum_pk;

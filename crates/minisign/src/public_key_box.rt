@@ -28,7 +28,7 @@ impl PublicKeyBox {
     /// Returns a box that holds a copy of the text. The only error is `OutOfMemory`.
     pub fn from_string(alloc: Global, text: &str) -> Result<PublicKeyBox>
         ensures text { IfOk result (λ b. b ≡ text.now) }
-        ensures refused { IfErr result (λ e. e ≡ Named OutOfMemory) }
+        ensures only_out_of_memory { IfErr result (λ e. e ≡ Named OutOfMemory) }
     {
         Ok(PublicKeyBox::from(String::from_str(alloc, text)?))
     }
@@ -44,7 +44,7 @@ impl PublicKeyBox {
     /// Returns the bytes of the text. The only error is `OutOfMemory`.
     pub fn to_bytes(&self, alloc: Global) -> Result<Vec<u8>>
         ensures bytes { IfOk result (λ v. v.items ≡ self.now) }
-        ensures refused { IfErr result (λ e. e ≡ Named OutOfMemory) }
+        ensures only_out_of_memory { IfErr result (λ e. e ≡ Named OutOfMemory) }
     {
         Ok(Vec::from_slice(alloc, self.as_str().as_bytes())?)
     }
@@ -52,7 +52,7 @@ impl PublicKeyBox {
     /// Returns a box with the same text. The only error is `OutOfMemory`.
     pub fn try_clone(&self, alloc: Global) -> Result<PublicKeyBox>
         ensures text { IfOk result (λ b. b ≡ self.now) }
-        ensures refused { IfErr result (λ e. e ≡ Named OutOfMemory) }
+        ensures only_out_of_memory { IfErr result (λ e. e ≡ Named OutOfMemory) }
     {
         PublicKeyBox::from_string(alloc, self.as_str())
     }

@@ -38,7 +38,7 @@ pub fn read_text<S: Source>(alloc: Global, source: &mut S) -> Result<String>
     // UTF-8.
     ensures text { IfOk result (λ t. ReadsWhole S.Source source.old source.new (string_bytes t)) }
     ensures refused { IfErr result (IsTextFault S.Source source.old source.new) }
-    ensures given { PrefixIsRemoved (S.ahead source.old) (S.ahead source.new) }
+    ensures prefix_removed { PrefixIsRemoved (S.ahead source.old) (S.ahead source.new) }
 {
     let bytes = read_to_end(alloc, source)?;
     match String::from_utf8(bytes) {
@@ -56,8 +56,8 @@ pub fn read_to_end<S: Source>(alloc: Global, source: &mut S) -> Result<Vec<u8>>
     // count rose. A place that was marked is still marked.
     ensures bytes { IfOk result (λ v. ReadsWhole S.Source source.old source.new v.items) }
     ensures refused { IfErr result (IsReadFault S.Source source.old source.new) }
-    ensures given { PrefixIsRemoved (S.ahead source.old) (S.ahead source.new) }
-    ensures marked { S.is_marked source.new ≡ S.is_marked source.old }
+    ensures prefix_removed { PrefixIsRemoved (S.ahead source.old) (S.ahead source.new) }
+    ensures is_marked_unchanged { S.is_marked source.new ≡ S.is_marked source.old }
 {
     let mut buf = piece_buffer(alloc)?;
     let mut received = Vec::new(alloc);
@@ -71,8 +71,8 @@ pub(crate) fn prehash<S: Source>(alloc: Global, source: &mut S) -> Result<[u8; 6
     ensures digest { IfOk result (λ d. (message : List ℕ) × ReadsWhole S.Source source.old source.new message
         × (d ≡ blake2b_digest 64 message)) }
     ensures refused { IfErr result (IsReadFault S.Source source.old source.new) }
-    ensures given { PrefixIsRemoved (S.ahead source.old) (S.ahead source.new) }
-    ensures marked { S.is_marked source.new ≡ S.is_marked source.old }
+    ensures prefix_removed { PrefixIsRemoved (S.ahead source.old) (S.ahead source.new) }
+    ensures is_marked_unchanged { S.is_marked source.new ≡ S.is_marked source.old }
 {
     let mut buf = piece_buffer(alloc)?;
     let mut hasher = Blake2b::new(64);
@@ -98,14 +98,14 @@ fn feed<S: Source>(
     buf: &mut [u8],
     hasher: &mut Blake2b,
 ) -> std::result::Result<(), DeviceFault>
-    requires some { 0 < length buf.old }
+    requires not_empty { 0 < length buf.old }
     requires open { has_finalized hasher.old ≡ false }
     ensures fed { MatchResult result (λ _. (message : List ℕ) × ReadsWhole S.Source source.old source.new
         message × ((m : List ℕ) → IsFed hasher.old m → IsFed hasher.new (m ++ message)))
         (λ _. ErrorCountRises (S.faults source.old) (S.faults source.new)) }
     ensures length { output_length hasher.new ≡ output_length hasher.old }
-    ensures given { PrefixIsRemoved (S.ahead source.old) (S.ahead source.new) }
-    ensures marked { S.is_marked source.new ≡ S.is_marked source.old }
+    ensures prefix_removed { PrefixIsRemoved (S.ahead source.old) (S.ahead source.new) }
+    ensures is_marked_unchanged { S.is_marked source.new ≡ S.is_marked source.old }
 {
     'pieces: loop {
         let n = source.read(buf)?;
@@ -122,8 +122,8 @@ fn append_all<S: Source>(source: &mut S, buf: &mut [u8], received: &mut Vec<u8>)
     ensures data { MatchResult result (λ _. (message : List ℕ) × ReadsWhole S.Source source.old source.new
         message × (received.new.items ≡ received.old.items ++ message)) (IsReadFault S.Source source.old
         source.new) }
-    ensures given { PrefixIsRemoved (S.ahead source.old) (S.ahead source.new) }
-    ensures marked { S.is_marked source.new ≡ S.is_marked source.old }
+    ensures prefix_removed { PrefixIsRemoved (S.ahead source.old) (S.ahead source.new) }
+    ensures is_marked_unchanged { S.is_marked source.new ≡ S.is_marked source.old }
 {
     'pieces: loop {
         match source.read(buf) {
@@ -140,14 +140,14 @@ fn append_all<S: Source>(source: &mut S, buf: &mut [u8], received: &mut Vec<u8>)
 
 pub(crate) fn piece_buffer(alloc: Global) -> Result<Vec<u8>>
     ensures len { IfOk result (λ v. vec_len v ≡ PIECE_BYTES) }
-    ensures refused { IfErr result (λ e. e ≡ Named OutOfMemory) }
+    ensures only_out_of_memory { IfErr result (λ e. e ≡ Named OutOfMemory) }
 {
     zeros(alloc, PIECE_BYTES)
 }
 
 pub(crate) fn zeros(alloc: Global, len: usize) -> Result<Vec<u8>>
     ensures len { IfOk result (λ v. vec_len v ≡ len) }
-    ensures refused { IfErr result (λ e. e ≡ Named OutOfMemory) }
+    ensures only_out_of_memory { IfErr result (λ e. e ≡ Named OutOfMemory) }
 {
     Ok(vec![in alloc; 0u8; len]?)
 }

@@ -190,7 +190,7 @@ impl SecretKey {
         // `texts_are_decided`, to no other. The only error is out of memory.
         ensures bytes { IfOk result (λ v. v.items ≡ secret_key_bytes self.now) }
         ensures reads_back { IfOk result (λ v. read_secret_key_bytes v.items ≡ Ok self.now) }
-        ensures refused { IfErr result (λ e. e ≡ Named OutOfMemory) }
+        ensures only_out_of_memory { IfErr result (λ e. e ≡ Named OutOfMemory) }
     {
         let mut bytes = Vec::with_capacity(alloc, 158)?;
         push_three(&mut bytes, &self.sig_alg, &self.kdf_alg, &self.chk_alg)?;
@@ -236,7 +236,7 @@ impl SecretKey {
             → IfOk result (λ b. read_secret_key b ≡ Ok self.now) }
         ensures size { IfSome comment.entry
             (λ s. IfOk result (λ b. length b ≡ length s.now + 233)) }
-        ensures refused { IfErr result (λ e. e ≡ Named OutOfMemory) }
+        ensures only_out_of_memory { IfErr result (λ e. e ≡ Named OutOfMemory) }
     {
         match comment {
             Some(comment) => self.write_box(alloc, comment),
@@ -250,7 +250,7 @@ impl SecretKey {
         ensures reads_back { LacksByte 10 comment.now
             → IfOk result (λ b. read_secret_key b ≡ Ok self.now) }
         ensures size { IfOk result (λ b. length b ≡ length comment.now + 233) }
-        ensures refused { IfErr result (λ e. e ≡ Named OutOfMemory) }
+        ensures only_out_of_memory { IfErr result (λ e. e ≡ Named OutOfMemory) }
     {
         let bytes = self.to_bytes(alloc)?;
         let encoded = encode(alloc, &bytes)?;

@@ -27,7 +27,7 @@ impl SecretKeyBox {
     /// Returns a box that holds a copy of the text. The only error is `OutOfMemory`.
     pub fn from_string(alloc: Global, s: &str) -> Result<SecretKeyBox>
         ensures text { IfOk result (λ b. b ≡ s.now) }
-        ensures refused { IfErr result (λ e. e ≡ Named OutOfMemory) }
+        ensures only_out_of_memory { IfErr result (λ e. e ≡ Named OutOfMemory) }
     {
         Ok(SecretKeyBox::from(String::from_str(alloc, s)?))
     }
@@ -43,15 +43,15 @@ impl SecretKeyBox {
     /// Returns the bytes of the text. The only error is `OutOfMemory`.
     pub fn to_bytes(&self, alloc: Global) -> Result<Vec<u8>>
         ensures bytes { IfOk result (λ v. v.items ≡ self.now) }
-        ensures refused { IfErr result (λ e. e ≡ Named OutOfMemory) }
+        ensures only_out_of_memory { IfErr result (λ e. e ≡ Named OutOfMemory) }
     {
         Ok(Vec::from_slice(alloc, self.as_str().as_bytes())?)
     }
 
     /// Returns a box with the same text. The only error is `OutOfMemory`.
     pub fn try_clone(&self, alloc: Global) -> Result<SecretKeyBox>
-        ensures same { IfOk result (λ b. b ≡ self.now) }
-        ensures refused { IfErr result (λ e. e ≡ Named OutOfMemory) }
+        ensures copy_is_equal { IfOk result (λ b. b ≡ self.now) }
+        ensures only_out_of_memory { IfErr result (λ e. e ≡ Named OutOfMemory) }
     {
         SecretKeyBox::from_string(alloc, self.as_str())
     }

@@ -48,7 +48,7 @@ impl Signature {
         ensures bytes { IfOk result (λ v. v.items ≡ signature_bytes self.now) }
         ensures reads_back { IfOk result (λ v. ReadsSignature v.items self.now) }
         ensures len { IfOk result (λ v. vec_len v ≡ Self.BYTES) }
-        ensures refused { IfErr result (λ e. e ≡ Named OutOfMemory) }
+        ensures only_out_of_memory { IfErr result (λ e. e ≡ Named OutOfMemory) }
     {
         let mut bytes = Vec::with_capacity(alloc, Self::BYTES)?;
         push_three(&mut bytes, &self.sig_alg, &self.keynum, &self.sig)?;
@@ -90,8 +90,8 @@ impl Signature {
     // trusted comment.
     pub(crate) fn with_comment(&self, alloc: Global, trusted_comment: &str) -> Result<Vec<u8>>
         ensures bytes { IfOk result (λ v. v.items ≡ self.now.signature ++ trusted_comment.now) }
-        ensures each { IfOk result (λ v. IsBytes v.items) }
-        ensures refused { IfErr result (λ e. e ≡ Named OutOfMemory) }
+        ensures are_bytes { IfOk result (λ v. IsBytes v.items) }
+        ensures only_out_of_memory { IfErr result (λ e. e ≡ Named OutOfMemory) }
     {
         joined(alloc, &self.sig, trusted_comment.as_bytes())
     }
@@ -99,8 +99,8 @@ impl Signature {
 
 fn joined(alloc: Global, front: &[u8], back: &[u8]) -> Result<Vec<u8>>
     ensures bytes { IfOk result (λ v. v.items ≡ front.now ++ back.now) }
-    ensures each { IfOk result (λ v. IsBytes v.items) }
-    ensures refused { IfErr result (λ e. e ≡ Named OutOfMemory) }
+    ensures are_bytes { IfOk result (λ v. IsBytes v.items) }
+    ensures only_out_of_memory { IfErr result (λ e. e ≡ Named OutOfMemory) }
 {
     let mut bytes = Vec::new(alloc);
     bytes.extend_from_slice(front)?;

@@ -16,7 +16,7 @@ ghost use Rattle.minisign.specs.SignatureText.{AreOneLine, AreReadBack, box_read
 ghost use Rattle.minisign.specs.SignatureText.{read_signature, read_signature_box, signature_in_lines};
 ghost use Rattle.minisign.specs.SignatureText.{signature_text, trusted_comment_label};
 ghost use Rattle.minisign.specs.Reading.{IsReadFromFile};
-ghost use Rattle.minisign.specs.Texts.{IsGivenOrNoMemory, untrusted_comment_label};
+ghost use Rattle.minisign.specs.Texts.{IsValueOrNoMemory, untrusted_comment_label};
 
 use crate::constants::{SIGALG, SIGALG_PREHASHED};
 use crate::in_place::read_parts;
@@ -94,7 +94,7 @@ impl SignatureBox {
     pub fn from_string(alloc: Global, text: &str) -> Result<SignatureBox>
         // The result is out of memory, or it depends only on the text: it is the signature box in the text,
         // as the grammar defines it, or the first check that fails.
-        ensures { IsGivenOrNoMemory result (read_signature_box text.now) }
+        ensures { IsValueOrNoMemory result (read_signature_box text.now) }
     {
         read_text(alloc, text)
     }
@@ -102,7 +102,7 @@ impl SignatureBox {
     /// Parses a signature text as `from_string` does, and takes ownership of it.
     pub fn try_from_string(alloc: Global, text: String) -> Result<SignatureBox>
         // The text is parsed, or rejected, as `SignatureBox::from_string` promises.
-        ensures { IsGivenOrNoMemory result (read_signature_box (string_bytes text)) }
+        ensures { IsValueOrNoMemory result (read_signature_box (string_bytes text)) }
     {
         read_text(alloc, text.as_str())
     }
@@ -179,8 +179,8 @@ impl SignatureBox {
 
     /// Returns a copy of the box. The only error is `OutOfMemory`.
     pub fn try_clone(&self, alloc: Global) -> Result<SignatureBox>
-        ensures same { IfOk result (λ b. b ≡ self.now) }
-        ensures refused { IfErr result (λ e. e ≡ Named OutOfMemory) }
+        ensures copy_is_equal { IfOk result (λ b. b ≡ self.now) }
+        ensures only_out_of_memory { IfErr result (λ e. e ≡ Named OutOfMemory) }
     {
         match &self.comments {
             Some(comments) => Ok(SignatureBox {
@@ -208,7 +208,7 @@ impl SignatureBox {
         // error is out of memory.
         ensures comment { IfOk result
             (λ t. string_bytes t ≡ option_map_or (λ c. c.untrusted) self.now.comments []) }
-        ensures refused { IfErr result (λ e. e ≡ Named OutOfMemory) }
+        ensures only_out_of_memory { IfErr result (λ e. e ≡ Named OutOfMemory) }
     {
         match &self.comments {
             Some(comments) => Ok(String::from_str(alloc, comments.untrusted_comment.as_str())?),
@@ -240,8 +240,8 @@ impl SignatureBox {
 
 impl Comments {
     fn try_clone(&self, alloc: Global) -> Result<Comments>
-        ensures same { IfOk result (λ c. c ≡ self.now) }
-        ensures refused { IfErr result (λ e. e ≡ Named OutOfMemory) }
+        ensures copy_is_equal { IfOk result (λ c. c ≡ self.now) }
+        ensures only_out_of_memory { IfErr result (λ e. e ≡ Named OutOfMemory) }
     {
         Ok(Comments {
             untrusted_comment: String::from_str(alloc, self.untrusted_comment.as_str())?,
@@ -260,7 +260,7 @@ fn written(alloc: Global, signature: &Signature, comments: &Comments) -> Result<
     ensures reads { AreOneLine comments.now.untrusted comments.now.trusted
         → IsKnownAlgorithm signature.now.algorithm → IfOk result (λ t. read_signature_box (string_bytes t)
         ≡ Ok (record { signature = signature.now; comments = Some (comments_read_back comments.now) })) }
-    ensures refused { IfErr result (λ e. e ≡ Named OutOfMemory) }
+    ensures only_out_of_memory { IfErr result (λ e. e ≡ Named OutOfMemory) }
 {
     let bytes = signature.to_bytes(alloc)?;
     let encoded = encode(alloc, &bytes)?;
@@ -283,7 +283,7 @@ pub(crate) struct TextLines<'a> {
 
 // Parses a signature text. Nothing is allocated for a text that is rejected.
 fn read_text(alloc: Global, text: &str) -> Result<SignatureBox>
-    ensures { IsGivenOrNoMemory result (read_signature_box text.now) }
+    ensures { IsValueOrNoMemory result (read_signature_box text.now) }
 {
     let parts = read_parts(text)?;
     let Some(global_sig) = decode(alloc, parts.comment_signature)? else {

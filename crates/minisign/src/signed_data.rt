@@ -49,8 +49,8 @@ pub(crate) fn read_signed_data<R: Source>(
     ensures held { MatchResult result (λ d. (message : List ℕ) × ReadsWhole R.Source data_reader.old
         data_reader.new message × HoldsSigned d signature_box.now allow_legacy message)
         (IsReadFault R.Source data_reader.old data_reader.new) }
-    ensures given { PrefixIsRemoved (R.ahead data_reader.old) (R.ahead data_reader.new) }
-    ensures marked { R.is_marked data_reader.new ≡ R.is_marked data_reader.old }
+    ensures prefix_removed { PrefixIsRemoved (R.ahead data_reader.old) (R.ahead data_reader.new) }
+    ensures is_marked_unchanged { R.is_marked data_reader.new ≡ R.is_marked data_reader.old }
 {
     if !signature_box.is_prehashed() && allow_legacy {
         return Ok(SignedData::Message(read_to_end(alloc, data_reader)?));

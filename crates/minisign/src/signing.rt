@@ -33,19 +33,19 @@ use std::alloc::Global;
 /// The comments of a signature as the caller gives them, and the time for the default trusted comment.
 #[derive(Clone, Copy)]
 pub(crate) struct GivenComments<'a> {
-    /// The trusted comment, which is signed. The default is `timestamp:` and `moment`.
+    /// The trusted comment, which is signed. The default is `timestamp:` and `unix_time`.
     pub(crate) trusted: Option<&'a str>,
     /// The untrusted comment, which is not signed. The default is `signature from rsign secret key`.
     pub(crate) untrusted: Option<&'a str>,
     /// The time in seconds since 1970.
-    pub(crate) moment: u64,
+    pub(crate) unix_time: u64,
 }
 
 /// Signs all the unread data of `data_reader` with `sk`, and returns a signature box with both
 /// comments.
 ///
 /// The data is hashed in pieces of 64 KiB, so memory use does not grow with its size. The default trusted
-/// comment is `timestamp:` and the `moment`, in seconds since 1970. The default untrusted comment is
+/// comment is `timestamp:` and the `unix_time`, in seconds since 1970. The default untrusted comment is
 /// `signature from rsign secret key`. Takes 64 random bytes twice.
 ///
 /// Errors come in this order: an encrypted key, with nothing read from `data_reader` or `random`; a failing
@@ -61,14 +61,14 @@ pub fn sign<S: Scheme, R: Source, Z: RandomSource>(
     trusted_comment: Option<&str>,
     untrusted_comment: Option<&str>,
     random: &mut Z,
-    moment: u64,
+    unix_time: u64,
 ) -> Result<SignatureBox>
     // On success, the signature box is made from all the unread bytes of the source, the comments or their
     // defaults, and twice 64 random bytes; and if the key is genuine, the box is valid for the unread bytes
     // of the source under the key's own public key with the same key ID. This holds for all comments.
     ensures signed { IfOk result (HasSignedData S.Scheme scheme.now sk.now
         (source_call R.Source data_reader.old data_reader.new) (given_comments trusted_comment.entry
-        untrusted_comment.entry moment) (random_call Z.RandomSource random.old random.new)) }
+        untrusted_comment.entry unix_time) (random_call Z.RandomSource random.old random.new)) }
 
     // On success, the secret key is not encrypted.
     ensures opened { OnOk result (is_encrypted sk.now ≡ false) }
@@ -87,13 +87,13 @@ pub fn sign<S: Scheme, R: Source, Z: RandomSource>(
     // after all the data was read. Out of memory is returned only if neither count rose. The given public
     // key is rejected exactly if its 32 bytes do not accept the comment signature.
     ensures refused { IfErr result (SigningFails S.Scheme scheme.now (option_copied pk.entry) sk.now
-        (given_comments trusted_comment.entry untrusted_comment.entry moment) (source_call R.Source
+        (given_comments trusted_comment.entry untrusted_comment.entry unix_time) (source_call R.Source
         data_reader.old data_reader.new) (random_call Z.RandomSource random.old random.new)) }
 
     // The unread bytes of the source and of the random source are suffixes of those before the
     // call, whatever the result.
-    ensures given { PrefixIsRemoved (R.ahead data_reader.old) (R.ahead data_reader.new) }
-    ensures drawn { PrefixIsRemoved (Z.random_ahead random.old) (Z.random_ahead random.new) }
+    ensures prefix_removed { PrefixIsRemoved (R.ahead data_reader.old) (R.ahead data_reader.new) }
+    ensures random_prefix_removed { PrefixIsRemoved (Z.random_ahead random.old) (Z.random_ahead random.new) }
 {
     if sk.is_encrypted() {
         return Err(NamedFault::EncryptedKeyRefused.into());
@@ -101,7 +101,7 @@ pub fn sign<S: Scheme, R: Source, Z: RandomSource>(
     let comments = GivenComments {
         trusted: trusted_comment,
         untrusted: untrusted_comment,
-        moment,
+        unix_time,
     };
     let signature_box = sign_data(alloc, scheme, sk, data_reader, comments, random)?;
     check_given_key(alloc, scheme, pk, &signature_box)?;
@@ -110,11 +110,11 @@ pub fn sign<S: Scheme, R: Source, Z: RandomSource>(
 
 /// States that the default comments are read back unchanged from a signature text, whatever the time is.
 /// This function is a law: it does nothing, and exists only for its contract.
-pub fn default_comments_are_read_back(moment: u64)
+pub fn default_comments_are_read_back(unix_time: u64)
     // If no comments are given, the default comments are read back from the signature text exactly as they
     // were written: neither has a line feed, the trusted comment is trimmed, and the untrusted comment does
     // not end in a carriage return.
-    ensures { AreChosenReadBack (given_comments None None moment) }
+    ensures { AreChosenReadBack (given_comments None None unix_time) }
 {}
 
 // Signs all unread data with a decrypted key.
@@ -128,16 +128,17 @@ pub(crate) fn sign_data<S: Scheme, R: Source, Z: RandomSource>(
 ) -> Result<SignatureBox>
     ensures signed { IfOk result (HasSignedData S.Scheme scheme.now sk.now
         (source_call R.Source data_reader.old data_reader.new) (given_comments comments.entry.trusted
-        comments.entry.untrusted comments.entry.moment) (random_call Z.RandomSource random.old random.new)) }
+        comments.entry.untrusted comments.entry.unix_time)
+        (random_call Z.RandomSource random.old random.new)) }
     ensures no_new_fault { OnOk result (Z.random_faults random.new ≡ Z.random_faults random.old) }
     ensures refused { IfErr result
         (OpenedSigningFails (source_call R.Source data_reader.old data_reader.new)
         (random_call Z.RandomSource random.old random.new)) }
-    ensures given { PrefixIsRemoved (R.ahead data_reader.old) (R.ahead data_reader.new) }
-    ensures drawn { PrefixIsRemoved (Z.random_ahead random.old) (Z.random_ahead random.new) }
+    ensures prefix_removed { PrefixIsRemoved (R.ahead data_reader.old) (R.ahead data_reader.new) }
+    ensures random_prefix_removed { PrefixIsRemoved (Z.random_ahead random.old) (Z.random_ahead random.new) }
 {
     let digest = prehash(alloc, data_reader)?;
-    let trusted = trusted_or_default(alloc, comments.trusted, comments.moment)?;
+    let trusted = trusted_or_default(alloc, comments.trusted, comments.unix_time)?;
     let untrusted = untrusted_or_default(alloc, comments.untrusted)?;
     make_box(alloc, scheme, sk, &digest, trusted, untrusted, random)
 }
@@ -185,7 +186,7 @@ fn make_box<S: Scheme, Z: RandomSource>(
     ensures refused { IfErr result
         (λ e. ((e ≡ Named OutOfMemory) × (Z.random_faults random.new ≡ Z.random_faults random.old))
         ⊎ HasFailed RandomSourceFailed Z.random_faults random.old random.new e) }
-    ensures given { PrefixIsRemoved (Z.random_ahead random.old) (Z.random_ahead random.new) }
+    ensures prefix_removed { PrefixIsRemoved (Z.random_ahead random.old) (Z.random_ahead random.new) }
 {
     let secret = sk.keynum_sk.sk;
     let keynum = sk.keynum_sk.keynum;
@@ -211,11 +212,11 @@ fn make_box<S: Scheme, Z: RandomSource>(
 
 // Returns the given comment, or else `timestamp:` and the time in decimal.
 #[tactic(auto, unfolding(crate::specs::Signing::default_trusted_comment))]
-fn trusted_or_default(alloc: Global, comment: Option<&str>, moment: u64) -> Result<String>
+fn trusted_or_default(alloc: Global, comment: Option<&str>, unix_time: u64) -> Result<String>
     ensures comment { IfOk result
         (λ t. string_bytes t ≡ unwrap_or (option_copied comment.entry)
-        (default_trusted_comment moment)) }
-    ensures refused { IfErr result (λ e. e ≡ Named OutOfMemory) }
+        (default_trusted_comment unix_time)) }
+    ensures only_out_of_memory { IfErr result (λ e. e ≡ Named OutOfMemory) }
 {
     match comment {
         Some(trusted) => Ok(String::from_str(alloc, trusted)?),
@@ -228,7 +229,7 @@ fn untrusted_or_default(alloc: Global, comment: Option<&str>) -> Result<String>
     ensures comment { IfOk result
         (λ t. string_bytes t
         ≡ unwrap_or (option_copied comment.entry) default_untrusted_comment) }
-    ensures refused { IfErr result (λ e. e ≡ Named OutOfMemory) }
+    ensures only_out_of_memory { IfErr result (λ e. e ≡ Named OutOfMemory) }
 {
     match comment {
         Some(untrusted) => Ok(String::from_str(alloc, untrusted)?),

@@ -43,7 +43,7 @@ pub fn sign_texts<S: Scheme, P: Source, Q: Sink, R: Source, Z: RandomSource>(
     trusted_comment: Option<&str>,
     untrusted_comment: Option<&str>,
     random: &mut Z,
-    moment: u64,
+    unix_time: u64,
 ) -> Result<String>
     // On success, the signing key is the key in the secret key text, decrypted under some password if it is
     // encrypted. If that key is genuine, neither comment has a line feed and the trusted comment is
@@ -51,7 +51,7 @@ pub fn sign_texts<S: Scheme, P: Source, Q: Sink, R: Source, Z: RandomSource>(
     // key of the key's seed and key ID.
     ensures headline { IfOk result (λ t. TextSigningHeadline (S.accepts scheme.now)
         (S.public_of scheme.now) sk_text.now (R.ahead data_reader.old) (given_comments
-        trusted_comment.entry untrusted_comment.entry moment) (string_bytes t)) }
+        trusted_comment.entry untrusted_comment.entry unix_time) (string_bytes t)) }
 
     // On success, the text contains a key: either a key that was never encrypted and whose checksum
     // matches, with the prompt unchanged, or an encrypted key that was decrypted with the password that was
@@ -60,7 +60,8 @@ pub fn sign_texts<S: Scheme, P: Source, Q: Sink, R: Source, Z: RandomSource>(
     ensures signed { IfOk result (λ t. HasSignedWithText S.Scheme scheme.now
         (prompt_call P.Source Q.Sink prompt.old prompt.new) (option_map string_bytes password) sk_text.now
         (source_call R.Source data_reader.old data_reader.new) (given_comments trusted_comment.entry
-        untrusted_comment.entry moment) (random_call Z.RandomSource random.old random.new) (string_bytes t)) }
+        untrusted_comment.entry unix_time) (random_call Z.RandomSource random.old random.new)
+        (string_bytes t)) }
 
     // On success, the random source did not fail.
     ensures random_no_new_fault { OnOk result (Z.random_faults random.new ≡ Z.random_faults random.old) }
@@ -78,14 +79,14 @@ pub fn sign_texts<S: Scheme, P: Source, Q: Sink, R: Source, Z: RandomSource>(
 
     // The unread bytes of the source and of the random source are suffixes of those before the
     // call, whatever the result.
-    ensures given { PrefixIsRemoved (R.ahead data_reader.old) (R.ahead data_reader.new) }
-    ensures drawn { PrefixIsRemoved (Z.random_ahead random.old) (Z.random_ahead random.new) }
+    ensures prefix_removed { PrefixIsRemoved (R.ahead data_reader.old) (R.ahead data_reader.new) }
+    ensures random_prefix_removed { PrefixIsRemoved (Z.random_ahead random.old) (Z.random_ahead random.new) }
 {
     let sk = key_of_text(alloc, sk_text, password.as_deref(), prompt)?;
     let comments = GivenComments {
         trusted: trusted_comment,
         untrusted: untrusted_comment,
-        moment,
+        unix_time,
     };
     sign_opened(alloc, scheme, &sk, data_reader, comments, random)
 }
@@ -102,13 +103,13 @@ pub(crate) fn sign_opened<S: Scheme, R: Source, Z: RandomSource>(
     requires { is_encrypted sk.now ≡ false }
     ensures signed { IfOk result (λ t. HasSignedDataText S.Scheme scheme.now sk.now (source_call R.Source
         data_reader.old data_reader.new) (given_comments comments.entry.trusted comments.entry.untrusted
-        comments.entry.moment) (random_call Z.RandomSource random.old random.new) (string_bytes t)) }
+        comments.entry.unix_time) (random_call Z.RandomSource random.old random.new) (string_bytes t)) }
     ensures random_no_new_fault { OnOk result (Z.random_faults random.new ≡ Z.random_faults random.old) }
     ensures refused { IfErr result
         (OpenedSigningFails (source_call R.Source data_reader.old data_reader.new)
         (random_call Z.RandomSource random.old random.new)) }
-    ensures given { PrefixIsRemoved (R.ahead data_reader.old) (R.ahead data_reader.new) }
-    ensures drawn { PrefixIsRemoved (Z.random_ahead random.old) (Z.random_ahead random.new) }
+    ensures prefix_removed { PrefixIsRemoved (R.ahead data_reader.old) (R.ahead data_reader.new) }
+    ensures random_prefix_removed { PrefixIsRemoved (Z.random_ahead random.old) (Z.random_ahead random.new) }
 {
     let signature_box = sign_data(alloc, scheme, sk, data_reader, comments, random)?;
     signature_box.to_string(alloc)

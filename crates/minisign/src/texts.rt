@@ -75,7 +75,7 @@ pub(crate) fn next_line<'a>(rest: &mut Lines<'a>) -> Option<&'a str>
 pub(crate) fn decode(alloc: Global, text: &str) -> Result<Option<Vec<u8>>>
     ensures bytes { IfOk result (λ o. IfSome o (λ v. IsBase64Of text.now v.items)) }
     ensures none { IfOk result (λ o. IfNone o (is_base64 text.now ≡ false)) }
-    ensures refused { IfErr result (λ e. e ≡ Named OutOfMemory) }
+    ensures only_out_of_memory { IfErr result (λ e. e ≡ Named OutOfMemory) }
 {
     match STANDARD.decode(alloc, text.as_bytes()) {
         Ok(bytes) => Ok(Some(bytes)),
@@ -88,7 +88,7 @@ pub(crate) fn decode(alloc: Global, text: &str) -> Result<Option<Vec<u8>>>
 pub(crate) fn encode(alloc: Global, bytes: &[u8]) -> Result<String>
     ensures text { IfOk result (λ t. string_bytes t ≡ base64_of bytes.now) }
     ensures base64 { IfOk result (λ t. IsBase64Of (string_bytes t) bytes.now) }
-    ensures refused { IfErr result (λ e. e ≡ Named OutOfMemory) }
+    ensures only_out_of_memory { IfErr result (λ e. e ≡ Named OutOfMemory) }
 {
     Ok(STANDARD.encode(alloc, bytes)?)
 }
@@ -97,7 +97,7 @@ pub(crate) fn encode(alloc: Global, bytes: &[u8]) -> Result<String>
 pub(crate) fn push_line(lines: &mut String, label: &str, text: &str) -> Result<()>
     ensures line { OnOk result
         (string_bytes lines.new ≡ string_bytes lines.old ++ line (label.now ++ text.now)) }
-    ensures refused { IfErr result (λ e. e ≡ Named OutOfMemory) }
+    ensures only_out_of_memory { IfErr result (λ e. e ≡ Named OutOfMemory) }
 {
     lines.push_str(label)?;
     lines.push_str(text)?;

@@ -12,7 +12,7 @@ ghost use Rattle.minisign.specs.Records.{PublicKeyRecord, SignatureBoxRecord};
 ghost use Rattle.minisign.specs.Acceptance.{Verifier, Vouches, accepts_comments, options_of, judge};
 ghost use Rattle.minisign.specs.Acceptance.{judge_key, judged_parts, status_lines, judge_answers};
 ghost use Rattle.minisign.specs.Headline.{TextsVouchWith, IfNothingFails, verdict};
-ghost use Rattle.minisign.specs.Texts.{IsGivenOrNoMemory, IsReading, and_then};
+ghost use Rattle.minisign.specs.Texts.{IsValueOrNoMemory, IsReading, and_then};
 ghost use Rattle.minisign.specs.Verifying.{HoldsSigned, StagesEnd, is_reread, reading_stages, VerifyingFails};
 ghost use Rattle.minisign.specs.Verifying.{VerifyingSucceeds, status_unless_quiet};
 
@@ -132,20 +132,20 @@ pub fn verify<S: Scheme, R: Rereader, W: Sink, O: Sink>(
         data_reader.new) (sink_call W.Sink status.old status.new) (sink_call O.Sink out.old out.new)) }
 
     // After an error, `status` has received a prefix of the status lines, which may be empty.
-    ensures said_front { OnErr result
+    ensures status_prefix_received { OnErr result
         (SinkReceivesPrefix (sink_call W.Sink status.old status.new)
         (status_unless_quiet quiet signature_box.now)) }
 
     // Except with `output` for a prehashed signature, the unread bytes of `data_reader` are a suffix
     // of those before the call, whatever the result.
-    ensures given { is_reread output signature_box.now ≡ false
+    ensures prefix_removed { is_reread output signature_box.now ≡ false
         → PrefixIsRemoved (R.ahead data_reader.old) (R.ahead data_reader.new) }
 
     // With `quiet`, `status` is unchanged.
-    ensures quiet { quiet ≡ true → status.new ≡ status.old }
+    ensures status_unchanged { quiet ≡ true → status.new ≡ status.old }
 
     // Without `output`, `out` is unchanged.
-    ensures out { output ≡ false → out.new ≡ out.old }
+    ensures out_unchanged { output ≡ false → out.new ≡ out.old }
 {
     let signed = read_data(alloc, signature_box, data_reader, output, allow_legacy)?;
     judge(
@@ -203,7 +203,7 @@ fn read_data<R: Rereader>(
     ensures refused { IfErr result (λ e. (message : List ℕ)
         × StagesEnd (rereader_call R.Source R.steady data_reader.old data_reader.new) no_sink no_sink
         (reading_stages (is_reread output signature_box.now) message) (Err e)) }
-    ensures given { PrefixIsRemoved (R.ahead data_reader.old) (R.ahead data_reader.new) }
+    ensures prefix_removed { PrefixIsRemoved (R.ahead data_reader.old) (R.ahead data_reader.new) }
 {
     mark_place(data_reader, reads_again(signature_box, output))?;
     read_signed_data(alloc, signature_box, data_reader, allow_legacy)
@@ -243,7 +243,7 @@ fn judge<S: Scheme>(
     signed: &[u8],
     allow_legacy: bool,
 ) -> Result<()>
-    ensures { IsGivenOrNoMemory result
+    ensures { IsValueOrNoMemory result
         (and_then (judge_key pk.now.keynum signature_box.now.signature allow_legacy) (λ _.
         judge_answers (S.accepts scheme.now signed.now pk.now.key signature_box.now.signature.signature)
         (accepts_comments (S.accepts scheme.now) pk.now signature_box.now))) }
@@ -266,15 +266,15 @@ fn say<W: Sink>(
     signature_box: &SignatureBox,
     quiet: bool,
 ) -> Result<()>
-    ensures said { OnOk result (SinkReceives (sink_call W.Sink status.old status.new)
+    ensures status_received { OnOk result (SinkReceives (sink_call W.Sink status.old status.new)
         (status_unless_quiet quiet signature_box.now)) }
     ensures no_new_fault { OnOk result (W.sink_faults status.new ≡ W.sink_faults status.old) }
-    ensures quiet { quiet ≡ true → status.new ≡ status.old }
+    ensures status_unchanged { quiet ≡ true → status.new ≡ status.old }
     ensures refused { IfErr result
         (λ e. (quiet ≡ false) × (((e ≡ Named OutOfMemory) × (status.new ≡ status.old))
         ⊎ IsWritingFault (sink_call W.Sink status.old status.new) e)) }
     ensures unflushed { W.flushed status.new ≡ W.flushed status.old }
-    ensures front { OnErr result
+    ensures prefix_received { OnErr result
         (SinkReceivesPrefix (sink_call W.Sink status.old status.new)
         (status_unless_quiet quiet signature_box.now)) }
 {
@@ -287,13 +287,13 @@ fn say<W: Sink>(
 // Writes the status lines in one write.
 #[tactic(auto, unfolding(crate::specs::Acceptance::verified_text, crate::specs::Acceptance::trusted_comment_text))]
 fn say_lines<W: Sink>(alloc: Global, status: &mut W, signature_box: &SignatureBox) -> Result<()>
-    ensures said { OnOk result (SinkReceives (sink_call W.Sink status.old status.new)
+    ensures status_received { OnOk result (SinkReceives (sink_call W.Sink status.old status.new)
         (status_lines signature_box.now)) }
     ensures no_new_fault { OnOk result (W.sink_faults status.new ≡ W.sink_faults status.old) }
     ensures refused { IfErr result (λ e. ((e ≡ Named OutOfMemory) × (status.new ≡ status.old))
         ⊎ IsWritingFault (sink_call W.Sink status.old status.new) e) }
     ensures unflushed { W.flushed status.new ≡ W.flushed status.old }
-    ensures front { OnErr result
+    ensures prefix_received { OnErr result
         (SinkReceivesPrefix (sink_call W.Sink status.old status.new) (status_lines signature_box.now)) }
 {
     match &signature_box.comments {

@@ -7,7 +7,7 @@ ghost use Rattle.minisign.specs.Acceptance.{options_of};
 ghost use Rattle.minisign.specs.Records.{PublicKeyRecord, SignatureBoxRecord};
 ghost use Rattle.minisign.specs.Verifying.{status_unless_quiet, VerifyingTextsFails, VerifyingTextsSucceeds};
 ghost use Rattle.minisign.specs.Verifying.{read_texts};
-ghost use Rattle.minisign.specs.Texts.{IsGivenOrNoMemory, map_ok};
+ghost use Rattle.minisign.specs.Texts.{IsValueOrNoMemory, map_ok};
 ghost use Rattle.minisign.specs.Headline.{CopyIsVouchedFor, IfNothingFails, verdict};
 
 use crate::in_place::read_public_key;
@@ -69,20 +69,21 @@ pub fn verify_texts<S: Scheme, R: Rereader, W: Sink, O: Sink>(
         data_reader.new) (sink_call W.Sink status.old status.new) (sink_call O.Sink out.old out.new)) }
 
     // After an error, `status` is unchanged or has received a prefix of the status lines.
-    ensures said_front { OnErr result ((status.new ≡ status.old) ⊎
+    ensures status_prefix_received { OnErr result ((status.new ≡ status.old) ⊎
         ((key : PublicKeyRecord) × (box : SignatureBoxRecord) × (read_texts pk_text.now sig_text.now
         ≡ Ok (key, box)) × SinkReceivesPrefix (sink_call W.Sink status.old status.new)
         (status_unless_quiet quiet
         box))) }
 
     // Without `output`, the unread bytes of `data_reader` are a suffix of those before the call.
-    ensures given { output ≡ false → PrefixIsRemoved (R.ahead data_reader.old) (R.ahead data_reader.new) }
+    ensures prefix_removed { output ≡ false
+        → PrefixIsRemoved (R.ahead data_reader.old) (R.ahead data_reader.new) }
 
     // With `quiet`, `status` is unchanged.
-    ensures quiet { quiet ≡ true → status.new ≡ status.old }
+    ensures status_unchanged { quiet ≡ true → status.new ≡ status.old }
 
     // Without `output`, `out` is unchanged.
-    ensures out { output ≡ false → out.new ≡ out.old }
+    ensures out_unchanged { output ≡ false → out.new ≡ out.old }
 {
     let (pk, signature_box) = read_texts(alloc, pk_text, sig_text)?;
     verify(
@@ -105,7 +106,7 @@ pub(crate) fn read_texts(
     pk_text: &str,
     sig_text: &str,
 ) -> Result<(PublicKey, SignatureBox)>
-    ensures { IsGivenOrNoMemory result (read_texts pk_text.now sig_text.now) }
+    ensures { IsValueOrNoMemory result (read_texts pk_text.now sig_text.now) }
 {
     let pk = read_public_key(pk_text)?;
     let signature_box = SignatureBox::from_string(alloc, sig_text)?;

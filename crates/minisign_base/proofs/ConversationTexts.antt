@@ -9,31 +9,34 @@ use Rattle.minisign_base.specs.Prompts.{Allocate, ConversationEnds, ReadLine, Sa
 use Rattle.minisign_base.proofs.SinkLaws.{AppendsPrefix-after, AppendsPrefix-keeps, AppendsPrefix-more}
 
 -- An unchanged writer received a prefix of any text, namely nothing.
-nothing_taken : {R W : Type 0} (p : PromptCall R W) (bytes : List ℕ) → p.new.writer ≡ p.old.writer
+unchanged_writer_received_prefix : {R W : Type 0} (p : PromptCall R W) (bytes : List ℕ)
+    → p.new.writer ≡ p.old.writer
     → AppendsPrefix (p.sink.taken p.old.writer) (p.sink.taken p.new.writer) bytes
-nothing_taken p bytes same =
+unchanged_writer_received_prefix p bytes same =
     subst (λ w. AppendsPrefix (p.sink.taken p.old.writer) (p.sink.taken w) bytes) (sym same)
     (AppendsPrefix-keeps (p.sink.taken p.old.writer) (p.sink.taken p.old.writer) bytes
     (Keeps-refl (p.sink.taken p.old.writer)))
 
 -- The writer received all that the conversation writes, without an error.
-pub held_taken : {R W : Type 0} (p : PromptCall R W) (steps : List Step) → ConversationEnds p steps (Ok tt)
+pub writer_received_all : {R W : Type 0} (p : PromptCall R W) (steps : List Step)
+    → ConversationEnds p steps (Ok tt)
     → Appends (p.sink.taken p.old.writer) (p.sink.taken p.new.writer) (written steps)
-held_taken p [] same = subst (λ d. Appends (p.sink.taken p.old.writer) (p.sink.taken d.writer) []) (sym same)
+writer_received_all p [] same =
+    subst (λ d. Appends (p.sink.taken p.old.writer) (p.sink.taken d.writer) []) (sym same)
     (Appends-nil (p.sink.taken p.old.writer))
-held_taken p (Allocate ∷ later) (between, (done, same), held) =
+writer_received_all p (Allocate ∷ later) (between, (done, same), held) =
     subst (λ d. Appends (p.sink.taken d.writer) (p.sink.taken p.new.writer) (written later)) same
-    (held_taken (record p { old = between }) later held)
-held_taken p (Say text ∷ later) (between, (said, same), held) =
+    (writer_received_all (record p { old = between }) later held)
+writer_received_all p (Say text ∷ later) (between, (said, same), held) =
     Appends-trans (p.sink.taken p.old.writer) (p.sink.taken between.writer) (p.sink.taken p.new.writer) text
     (written later) said.bytes
-    (held_taken (record p { old = between }) later held)
-held_taken p (ReadLine bytes ∷ later) (between, (read, same), held) =
+    (writer_received_all (record p { old = between }) later held)
+writer_received_all p (ReadLine bytes ∷ later) (between, (read, same), held) =
     subst (λ w. Appends (p.sink.taken w) (p.sink.taken p.new.writer) (written later)) same
-    (held_taken (record p { old = between }) later held)
-held_taken p (Test refusal ∷ later) (between, (none, same), held) =
+    (writer_received_all (record p { old = between }) later held)
+writer_received_all p (Test refusal ∷ later) (between, (none, same), held) =
     subst (λ d. Appends (p.sink.taken d.writer) (p.sink.taken p.new.writer) (written later)) same
-    (held_taken (record p { old = between }) later held)
+    (writer_received_all (record p { old = between }) later held)
 
 pub held_no_new_fault : {R W : Type 0} (p : PromptCall R W) (steps : List Step)
     → ConversationEnds p steps (Ok tt)
@@ -54,7 +57,7 @@ pub stopped_taken : {R W : Type 0} (p : PromptCall R W) (steps : List Step) (e :
     → AppendsPrefix (p.sink.taken p.old.writer) (p.sink.taken p.new.writer) (written steps)
 stopped_taken p [] e stopped = absurd stopped
 stopped_taken p (Allocate ∷ later) e (inl (is, same)) =
-    nothing_taken p (written later) (ap (λ d. d.writer) same)
+    unchanged_writer_received_prefix p (written later) (ap (λ d. d.writer) same)
 stopped_taken p (Allocate ∷ later) e (inr (between, (done, same), stopped)) =
     subst (λ d. AppendsPrefix (p.sink.taken d.writer) (p.sink.taken p.new.writer) (written later)) same
     (stopped_taken (record p { old = between }) later e stopped)
@@ -65,12 +68,13 @@ stopped_taken p (Say text ∷ later) e (inr (between, (said, same), stopped)) =
     AppendsPrefix-after (p.sink.taken p.old.writer) (p.sink.taken between.writer) (p.sink.taken p.new.writer)
     text (written later) said.bytes
     (stopped_taken (record p { old = between }) later e stopped)
-stopped_taken p (ReadLine bytes ∷ later) e (inl (failed, same)) = nothing_taken p (written later) same
+stopped_taken p (ReadLine bytes ∷ later) e (inl (failed, same)) =
+    unchanged_writer_received_prefix p (written later) same
 stopped_taken p (ReadLine bytes ∷ later) e (inr (between, (read, same), stopped)) =
     subst (λ w. AppendsPrefix (p.sink.taken w) (p.sink.taken p.new.writer) (written later)) same
     (stopped_taken (record p { old = between }) later e stopped)
 stopped_taken p (Test refusal ∷ later) e (inl (is, same)) =
-    nothing_taken p (written later) (ap (λ d. d.writer) same)
+    unchanged_writer_received_prefix p (written later) (ap (λ d. d.writer) same)
 stopped_taken p (Test refusal ∷ later) e (inr (between, (none, same), stopped)) =
     subst (λ d. AppendsPrefix (p.sink.taken d.writer) (p.sink.taken p.new.writer) (written later)) same
     (stopped_taken (record p { old = between }) later e stopped)

@@ -2,7 +2,7 @@
 mod Digits
 mod Filled
 mod Folding
-mod GivenParts
+mod ReadParts
 mod HandedOn
 pub mod LeastCost
 pub mod Facts

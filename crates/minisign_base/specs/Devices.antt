@@ -80,14 +80,14 @@ pub record HasFilled {S A E : Type 0} (ahead_of : S → Option (List ℕ)) (faul
   pub bytes : OnOk answer (Consumes (ahead_of old) (ahead_of new) buffer)
   pub no_new_fault : OnOk answer (faults_of new ≡ faults_of old)
   pub fault : OnErr answer (ErrorCountRises (faults_of old) (faults_of new))
-  pub given : OnErr answer (PrefixIsRemoved (ahead_of old) (ahead_of new))
+  pub prefix_removed : OnErr answer (PrefixIsRemoved (ahead_of old) (ahead_of new))
 
 -- A write: the sink received the first n of the bytes, at least one unless there are none; after an
 -- error it received none. Nothing was flushed.
 pub record HasWritten {S E : Type 0} (taken_of flushed_of : S → Option (List ℕ)) (faults_of : S → ℕ)
     (old new : S) (due : List ℕ) (answer : Result ℕ E) : Type 0 where
   pub bound : IfOk answer (λ n. n ≤ length due)
-  pub some : IfOk answer (λ n. 0 < length due → 0 < n)
+  pub at_least_one : IfOk answer (λ n. 0 < length due → 0 < n)
   pub bytes : IfOk answer (λ n. Appends (taken_of old) (taken_of new) (take n due))
   pub no_new_fault : OnOk answer (faults_of new ≡ faults_of old)
   pub fault : OnErr answer (ErrorCountRises (faults_of old) (faults_of new))
@@ -99,7 +99,7 @@ pub record HasWritten {S E : Type 0} (taken_of flushed_of : S → Option (List �
 pub record HasFlushed {S A E : Type 0} (taken_of flushed_of : S → Option (List ℕ)) (faults_of : S → ℕ)
     (old new : S) (answer : Result A E) : Type 0 where
   pub bytes : Keeps (taken_of old) (taken_of new)
-  pub all : OnOk answer (EqualIfSecondKnown (taken_of new) (flushed_of new))
+  pub all_flushed : OnOk answer (EqualIfSecondKnown (taken_of new) (flushed_of new))
   pub err_flushed : OnErr answer (EqualIfSecondKnown (flushed_of old) (flushed_of new))
   pub no_new_fault : OnOk answer (faults_of new ≡ faults_of old)
   pub fault : OnErr answer (ErrorCountRises (faults_of old) (faults_of new))

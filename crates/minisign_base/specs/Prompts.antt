@@ -31,7 +31,7 @@ pub record HasReadLine {R : Type 0} (r : SourceCall R) (bytes : List ℕ) : Type
 -- known.
 pub record HasFailedInLine {R : Type 0} (r : SourceCall R) : Type 0 where
   pub fault : ErrorCountRises (r.source.faults r.old) (r.source.faults r.new)
-  pub given : IfSome (r.source.ahead r.new) (λ ys. IfSome (r.source.ahead r.old) (λ xs.
+  pub prefix_removed : IfSome (r.source.ahead r.new) (λ ys. IfSome (r.source.ahead r.old) (λ xs.
       (front : List ℕ) × (xs ≡ front ++ ys) × (length front < 1026)))
 
 -- A step of a conversation: memory is allocated; a text is written; the first line of these unread

@@ -109,7 +109,7 @@ pub fn get_password<R: Source, W: Sink>(
 // Allocates the buffer for a line.
 fn line_buffer(alloc: Global) -> Result<Vec<u8>>
     ensures length { IfOk result (λ v. length v.items ≡ 1026) }
-    ensures refused { IfErr result (λ e. e ≡ Named OutOfMemory) }
+    ensures only_out_of_memory { IfErr result (λ e. e ≡ Named OutOfMemory) }
 {
     Ok(vec![in alloc; 0u8; LINE_BYTES]?)
 }

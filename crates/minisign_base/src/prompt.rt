@@ -56,7 +56,7 @@ impl<R: Source, W: Sink> Prompt<R, W> {
     pub fn say(&mut self, text: &str) -> Result<()>
         // On success, the text was written and flushed. The only error is `writing failed`, after which the
         // writer has received a prefix of the text. The reader is unchanged.
-        ensures ended { StepEnds (prompt_call R.Source W.Sink self.old self.new) (Say text.now) result }
+        ensures step_ends { StepEnds (prompt_call R.Source W.Sink self.old self.new) (Say text.now) result }
     {
         match put_text(&mut self.writer, text) {
             Ok(()) => Ok(()),
@@ -66,7 +66,7 @@ impl<R: Source, W: Sink> Prompt<R, W> {
 
     // Writes `<empty>` and a line feed if the password is empty.
     pub(crate) fn mark_empty(&mut self, password: &str) -> Result<()>
-        ensures ended { ConversationEnds (prompt_call R.Source W.Sink self.old self.new)
+        ensures conversation_ends { ConversationEnds (prompt_call R.Source W.Sink self.old self.new)
             (marking_steps password.now) result }
     {
         if !password.is_empty() {
@@ -108,7 +108,8 @@ impl Prompt<NoSource, NoSink> {
 }
 
 fn put_text<W: Sink>(writer: &mut W, text: &str) -> Result<()>
-    ensures taken { OnOk result (SinkCompletesPart (sink_call W.Sink writer.old writer.new) text.now) }
+    ensures part_received { OnOk result (SinkCompletesPart
+        (sink_call W.Sink writer.old writer.new) text.now) }
     ensures failed { IfErr result (λ e. (e ≡ Named WritingFailed)
         × SinkFailsAtPart (sink_call W.Sink writer.old writer.new) text.now) }
 {
@@ -167,13 +168,13 @@ pub fn conversations_are_written<R: Source, W: Sink>()
     // If all steps of a conversation succeeded, the writer received exactly the texts of these steps, without
     // an error. If the conversation stopped with an error, the writer received a prefix of the texts of all
     // steps.
-    ensures taken { (old new : Prompt R W) (steps : List Step)
+    ensures all_received { (old new : Prompt R W) (steps : List Step)
         → ConversationEnds (prompt_call R.Source W.Sink old new) steps (Ok tt)
         → Appends (W.taken old.writer) (W.taken new.writer) (written steps) }
     ensures no_new_fault { (old new : Prompt R W) (steps : List Step)
         → ConversationEnds (prompt_call R.Source W.Sink old new) steps (Ok tt)
         → W.sink_faults new.writer ≡ W.sink_faults old.writer }
-    ensures front { (old new : Prompt R W) (steps : List Step) (e : Fault)
+    ensures prefix_received { (old new : Prompt R W) (steps : List Step) (e : Fault)
         → ConversationEnds (prompt_call R.Source W.Sink old new) steps (Err e)
         → AppendsPrefix (W.taken old.writer) (W.taken new.writer) (written steps) }
 {}

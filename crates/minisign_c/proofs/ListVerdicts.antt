@@ -1,5 +1,5 @@
 -- Lemmas about the error number of checking a file against a signed list with several calls
--- (`check_listed_in_a_row`).
+-- (`check_listed_in_sequence`).
 use Rattle.std.proofs.Common.{◌≡◌, ◌∙◌, ◌<◌, ◌≤◌, ◌+◌, ◌==◌, ◌&&◌, ℕ, Bool, true, false, if◌then◌else◌, List}
 use Rattle.std.proofs.Common.{[]}
 use Rattle.std.proofs.Common.{Option, Some, None, Result, Ok, Err, length, take, ap, sym, refl, arith, subst}
@@ -26,7 +26,7 @@ use Rattle.minisign_external.specs.declared.state.Misuse.TheVariants.{PublicKeyN
 use Rattle.minisign_external.specs.declared.state.Questions.{Questions}
 use Rattle.minisign_external.specs.declared.state.Refusal.{Refusal}
 use Rattle.minisign_external.specs.declared.state.Refusal.TheVariants.{Refused, WrongUse}
-use Rattle.minisign_external.proofs.Laws.{given}
+use Rattle.minisign_external.proofs.Laws.{results_of_questions}
 use Rattle.minisign_lists.specs.Digests.{has_digest}
 use Rattle.minisign_lists.specs.declared.faults.ListFault.{ListFault}
 use Rattle.minisign_lists.specs.declared.faults.ListFault.TheVariants.{BadName, DigestMismatch, Library}
@@ -44,10 +44,11 @@ use Rattle.minisign_lists.specs.declared.values.EntryValue.{EntryValue}
 use Rattle.minisign_lists.specs.declared.values.ListValue.{ListValue}
 use Rattle.minisign_c.specs.ListCalls.{asking_list_number, finding_number, list_refusal, list_verdict_number}
 use Rattle.minisign_c.specs.ListCalls.{numbered_list, entry_outcome_number, list_outcome_number}
-use Rattle.minisign_c.specs.ListsInARow.{Lookup, data_number, listed_number, listed_under, listed_with}
-use Rattle.minisign_c.specs.ListsInARow.{looked_up, meaning_of, strict_listed_number}
+use Rattle.minisign_c.specs.ListSequences.{Lookup, data_number, listed_number, listed_under, listed_with}
+use Rattle.minisign_c.specs.ListSequences.{looked_up, meaning_of, strict_listed_number}
 use Rattle.minisign_c.proofs.Positive.{positive}
-use Rattle.minisign_c.proofs.StrictVerdicts.{chosen, not_accepted, of_strict, opened, roomy, some_number}
+use Rattle.minisign_c.proofs.StrictVerdicts.{chosen, not_accepted, weak_number_if_positive, opened}
+use Rattle.minisign_c.proofs.StrictVerdicts.{room_is_enough, some_number}
 use Rattle.minisign_c.proofs.StrictVerdicts.{strict_same}
 
 -- == Error numbers are not 0 ==
@@ -77,33 +78,35 @@ module _ (accepts : Verifier) (v : PublicKeyValue) (sig_text text : List ℕ) (n
 
   module _ (room : ℕ) (t : SignatureTextRecord) (read : read_utf8 read_signature sig_text ≡ Ok t)
       (fits : 64 + length t.comments.trusted ≤ room) where
-    of_asked : (r : Result SignatureTextRecord Fault) → read_under v false sig_text ≡ r
+    number_of_failed_ask : (r : Result SignatureTextRecord Fault) → read_under v false sig_text ≡ r
         → 0 < asked_number (asked_strictly (is_strict_text v t) (asked_under r room))
         → asked_number (asked_strictly (is_strict_text v t) (asked_under r room))
         ≡ strict_read v r (list_verdict_number strict_list)
-    of_asked (Ok u) is some =
+    number_of_failed_ask (Ok u) is some =
         let both = sym read ∙ opened v sig_text u is in
         let same : t ≡ u = cc both in
         let none : asked_number (asked_strictly (is_strict_text v t) (asked_under (Ok u) room))
         ≡ (if is_strict_text v u then 0 else weak_number) =
-        rw same (roomy (is_strict_text v u) (nat_le (64 + length u.comments.trusted) room)
+        rw same (room_is_enough (is_strict_text v u) (nat_le (64 + length u.comments.trusted) room)
         (le-leb _ _ (subst (λ (x : SignatureTextRecord). 64 + length x.comments.trusted ≤ room) same fits)))
         in
-        none ∙ of_strict (is_strict_text v u) _ (subst (λ (k : ℕ). 0 < k) none some)
-    of_asked (Err e) is some = rw is refl
+        none ∙ weak_number_if_positive (is_strict_text v u) _ (subst (λ (k : ℕ). 0 < k) none some)
+    number_of_failed_ask (Err e) is some = rw is refl
 
     -- If `minisign_list_ask_any` fails for another reason than misuse, so that Ed25519 is not called, the
     -- verdict on the list under the strict scheme (which rejects weak keys and signatures) has the same error
     -- number.
-    pub unasked_list : (n : ℕ) → is_public_key v ≡ true → n ≡ asking_list_number v sig_text t room → 0 < n
+    pub failed_ask_number : (n : ℕ) → is_public_key v ≡ true → n ≡ asking_list_number v sig_text t room
+        → 0 < n
         → n ≡ strict_read v (read_under v false sig_text) (list_verdict_number strict_list)
-    unasked_list n public is some =
+    failed_ask_number n public is some =
         let returned : n ≡ asked_number (asked_strictly (is_strict_text v t)
         (asked_under (read_under v false sig_text) room)) =
         is ∙ ap (λ (b : Bool). asked_number (asked_strictly (is_strict_text v t)
         (if b then asked_under (read_under v false sig_text) room else Err
         (WrongUse PublicKeyNotRead)))) public in
-        returned ∙ of_asked (read_under v false sig_text) refl (subst (λ (k : ℕ). 0 < k) returned some)
+        returned
+        ∙ number_of_failed_ask (read_under v false sig_text) refl (subst (λ (k : ℕ). 0 < k) returned some)
 
   -- If neither the key nor a signature is weak, the verdict on the list under the strict scheme has the same
   -- number as the verdict under the scheme itself.
@@ -129,7 +132,7 @@ list_answered accepts v sig_text text room t q opens are returned first second t
     let p : Questions = questions_of v t in
     let len : q.message_len ≡ p.message_len = ap (λ (x : Questions). x.message_len) are.questions in
     let holds = subst (λ (n : ℕ). HoldsMessage t.signature t.comments.trusted room n) len are.message in
-    given accepts v sig_text text room q.digest t p opens (refl, holds) returned first second
+    results_of_questions accepts v sig_text text room q.digest t p opens (refl, holds) returned first second
     (to_first ∙ ap (λ (x : Questions). accepts q.digest x.public_key x.signature) are.questions)
     (to_second ∙ ap (λ (x : Questions). accepts (take x.message_len room) x.public_key x.comment_signature)
     are.questions)
@@ -194,14 +197,15 @@ of_entry : (e : Result Entry (Refusal ListFault)) (m comment : List ℕ)
 of_entry (Ok e) m comment = digest_of_entry (has_digest e.digest m) comment
 of_entry (Err r) m comment = refl
 
-passed : (s : Bool) (n m : ℕ) → 0 ≡ (if s then n else weak_number) → m ≡ (if s then m else weak_number)
-passed true n m none = refl
-passed false n m none = absurd (omega (arith, none))
+number_if_strict : (s : Bool) (n m : ℕ) → 0 ≡ (if s then n else weak_number)
+    → m ≡ (if s then m else weak_number)
+number_if_strict true n m none = refl
+number_if_strict false n m none = absurd (omega (arith, none))
 
-no_number : (s : Bool) (n m : ℕ) → 0 < n → 0 ≡ (if s then n else weak_number)
+contradiction_if_positive : (s : Bool) (n m : ℕ) → 0 < n → 0 ≡ (if s then n else weak_number)
     → m ≡ (if s then n else weak_number)
-no_number true n m some none = absurd (omega (arith, some, none))
-no_number false n m some none = absurd (omega (arith, none))
+contradiction_if_positive true n m some none = absurd (omega (arith, some, none))
+contradiction_if_positive false n m some none = absurd (omega (arith, none))
 
 -- If the list is verified, the number of the whole check is that of checking the data against its entry.
 pub passed_list : (v : PublicKeyValue) (r : Result SignatureTextRecord Fault) (l : Result (List ℕ) ListFault)
@@ -209,10 +213,10 @@ pub passed_list : (v : PublicKeyValue) (r : Result SignatureTextRecord Fault) (l
     → data_number e m ≡ strict_read v r (listed_number (go_on (of_lists l) (λ comment. go_on e (λ entry.
     go_on (of_lists (check_digest entry.digest m)) (λ _. Ok comment)))))
 passed_list v (Ok t) (Ok c) e m none =
-    passed (is_strict_text v t) 0 (data_number e m) none
+    number_if_strict (is_strict_text v t) 0 (data_number e m) none
     ∙ ap (λ (k : ℕ). if is_strict_text v t then k else weak_number) (of_entry e m c)
 passed_list v (Err f) (Ok c) e m none = of_entry e m c
-passed_list v (Ok t) (Err x) e m none = no_number (is_strict_text v t) _ (data_number e m)
+passed_list v (Ok t) (Err x) e m none = contradiction_if_positive (is_strict_text v t) _ (data_number e m)
     (list_positive x) none
 passed_list v (Err f) (Err x) e m none = absurd (omega (arith, none, list_positive x))
 
@@ -235,15 +239,15 @@ error_of (Ok e) text old new n line m returned some =
 error_of (Err r) text old new n line m returned some = ap (λ p. p.0) returned
 
 -- If finding the entry fails, checking the data fails with the same error number.
-pub unfound : (l : ListValue) (x : Lookup) → text_check l x.text ≡ Ok tt → (long : Option LongDigest)
+pub not_found_number : (l : ListValue) (x : Lookup) → text_check l x.text ≡ Ok tt → (long : Option LongDigest)
     → x.long ≡ long → (old new : EntryValue) (n line : ℕ) (m : List ℕ)
     → ◌≡◌ {A = ℕ × (EntryValue × ℕ)} (n, (new, line)) (finding_number long l x.text x.name old) → 0 < n
     → n ≡ data_number (looked_up x) m
-unfound l x verified None is old new n line m returned some =
+not_found_number l x verified None is old new n line m returned some =
     ap (λ p. p.0) returned
     ∙ sym (ap (λ (o : Option LongDigest). data_number (go_on (meaning_of o) (λ long. go_on (utf8_text x.text)
     (λ list. go_on (utf8_text x.name) (λ name. of_lists (listed_entry long list name))))) m) is)
-unfound l x verified (Some long) is old new n line m returned some =
+not_found_number l x verified (Some long) is old new n line m returned some =
     error_of (found_entry l x.text long x.name) x.text old new n line m returned some
     ∙ ap (λ r. data_number r m) (found_as l x verified long)
     ∙ sym (ap (λ (o : Option LongDigest). data_number (go_on (meaning_of o) (λ long. go_on (utf8_text x.text)
@@ -252,7 +256,7 @@ unfound l x verified (Some long) is old new n line m returned some =
 -- The entry that a successful lookup has found.
 pub record Found (l : ListValue) (x : Lookup) : Type 0 where
   pub long : LongDigest
-  pub meant : x.long ≡ Some long
+  pub has_long : x.long ≡ Some long
   pub entry : Entry
   pub found : found_entry l x.text long x.name ≡ Ok entry
 
@@ -265,15 +269,15 @@ entry_found (Err r) text old new n line returned none =
     let is : n ≡ list_refusal r = ap (λ p. p.0) returned in absurd (omega
     (arith, is, none, refusal_positive r))
 
-pub found : (l : ListValue) (x : Lookup) (long : Option LongDigest) → x.long ≡ long
+pub found_by_lookup : (l : ListValue) (x : Lookup) (long : Option LongDigest) → x.long ≡ long
     → (old new : EntryValue) (n line : ℕ)
     → ◌≡◌ {A = ℕ × (EntryValue × ℕ)} (n, (new, line)) (finding_number long l x.text x.name old) → n ≡ 0
     → Found l x
-found l x None is old new n line returned none =
+found_by_lookup l x None is old new n line returned none =
     let number : n ≡ misuse_number BadHash = ap (λ p. p.0) returned in absurd (omega (arith, number, none))
-found l x (Some long) is old new n line returned none =
+found_by_lookup l x (Some long) is old new n line returned none =
     let (e, same) = entry_found (found_entry l x.text long x.name) x.text old new n line returned none in
-    record { long = long; meant = is; entry = e; found = same }
+    record { long = long; has_long = is; entry = e; found = same }
 
 number_of_digest : (b : Bool) → (if b then 0 else list_number DigestMismatch)
     ≡ listed_number (go_on (of_lists (matched b)) (λ _. Ok []))
@@ -289,7 +293,7 @@ data_of_found l x m verified f =
     number_of_digest (has_digest f.entry.digest m)
     ∙ ap (λ r. data_number r m) entry
     ∙ sym (ap (λ (o : Option LongDigest). data_number (go_on (meaning_of o) (λ long. go_on (utf8_text x.text)
-    (λ list. go_on (utf8_text x.name) (λ name. of_lists (listed_entry long list name))))) m) f.meant)
+    (λ list. go_on (utf8_text x.name) (λ name. of_lists (listed_entry long list name))))) m) f.has_long)
 
 -- == Success has the number 0 ==
 

@@ -20,7 +20,7 @@ use Rattle.minisign_lists.specs.Lines.{Entry}
 use Rattle.minisign_lists.specs.Lists.{listed_entry}
 use Rattle.minisign_lists.specs.Values.{go_on, of_lists}
 use Rattle.minisign_lists.specs.Verdicts.{check_digest, check_list_name, listed_verdict}
-use Rattle.minisign_c.specs.ListsInARow.{AreUtf8, Lookup, listed_with, strict_listed_number}
+use Rattle.minisign_c.specs.ListSequences.{AreUtf8, Lookup, listed_with, strict_listed_number}
 use Rattle.minisign_c.proofs.ListVerdicts.{accepted_listed}
 
 -- == The order of the checks ==

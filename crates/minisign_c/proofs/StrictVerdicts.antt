@@ -140,33 +140,33 @@ accepted_with accepts text message (Err e) = some_number (fault_number e) (posit
 
 -- == Errors of asking ==
 
-pub roomy : (s b : Bool) → b ≡ true
+pub room_is_enough : (s b : Bool) → b ≡ true
     → asked_number (asked_strictly s (if b then Ok tt else Err (WrongUse NoRoom)))
     ≡ (if s then 0 else weak_number)
-roomy s true h = refl
-roomy s false h = cc h
+room_is_enough s true h = refl
+room_is_enough s false h = cc h
 
-pub of_strict : (s : Bool) (n : ℕ) → 0 < (if s then 0 else weak_number)
+pub weak_number_if_positive : (s : Bool) (n : ℕ) → 0 < (if s then 0 else weak_number)
     → (if s then 0 else weak_number) ≡ (if s then n else weak_number)
-of_strict true n h = absurd (omega arith)
-of_strict false n h = refl
+weak_number_if_positive true n h = absurd (omega arith)
+weak_number_if_positive false n h = refl
 
 module _ (accepts : Verifier) (v : PublicKeyValue) (text message : List ℕ) (room : ℕ)
     (t : SignatureTextRecord) (read : read_utf8 read_signature text ≡ Ok t)
     (fits : 64 + length t.comments.trusted ≤ room) where
-  of_asked : (r : Result SignatureTextRecord Fault) → read_under v false text ≡ r
+  number_of_failed_ask : (r : Result SignatureTextRecord Fault) → read_under v false text ≡ r
       → 0 < asked_number (asked_strictly (is_strict_text v t) (asked_under r room))
       → asked_number (asked_strictly (is_strict_text v t) (asked_under r room))
       ≡ strict_read v r (verdict_number (verdict_under (strict accepts) v text message false))
-  of_asked (Ok u) is some =
+  number_of_failed_ask (Ok u) is some =
       let both = sym read ∙ opened v text u is in
       let same : t ≡ u = cc both in
       let none : asked_number (asked_strictly (is_strict_text v t) (asked_under (Ok u) room))
       ≡ (if is_strict_text v u then 0 else weak_number) =
-      rw same (roomy (is_strict_text v u) (nat_le (64 + length u.comments.trusted) room)
+      rw same (room_is_enough (is_strict_text v u) (nat_le (64 + length u.comments.trusted) room)
       (le-leb _ _ (subst (λ (x : SignatureTextRecord). 64 + length x.comments.trusted ≤ room) same fits))) in
-      none ∙ of_strict (is_strict_text v u) _ (subst (λ (k : ℕ). 0 < k) none some)
-  of_asked (Err e) is some = rw is refl
+      none ∙ weak_number_if_positive (is_strict_text v u) _ (subst (λ (k : ℕ). 0 < k) none some)
+  number_of_failed_ask (Err e) is some = rw is refl
 
   -- If asking a new state fails, the verdict has the same number.
   pub unasked : (s : State) (n : ℕ) → is_public_key v ≡ true → IsFedState s [] → IsBlank s
@@ -181,4 +181,4 @@ module _ (accepts : Verifier) (v : PublicKeyValue) (text message : List ℕ) (ro
       Err (WrongUse (asking_misuse s))))) may
       ∙ ap (λ (b : Bool). asked_number (asked_strictly (is_strict_text v t)
       (if b then asked_under (read_under v false text) room else Err (WrongUse PublicKeyNotRead)))) public in
-      returned ∙ of_asked (read_under v false text) refl (subst (λ (k : ℕ). 0 < k) returned some)
+      returned ∙ number_of_failed_ask (read_under v false text) refl (subst (λ (k : ℕ). 0 < k) returned some)

@@ -2,5 +2,5 @@
 pub mod InstallCalls
 pub mod KeyTexts
 pub mod ListCalls
-pub mod ListsInARow
+pub mod ListSequences
 pub mod StateCalls

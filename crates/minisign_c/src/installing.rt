@@ -276,7 +276,7 @@ pub extern "C" fn minisign_install_answer(installation: &mut Installation, answe
     ensures steps { is_answer answer ≡ true
         → NumberSteps (Answered (answer == answer_yes)) installation.old installation.new result }
     // Any other number is rejected, and the installation is unchanged.
-    ensures bad { is_answer answer ≡ false
+    ensures rejects_bad_answer { is_answer answer ≡ false
         → (result ≡ misuse_number BadAnswer) × (installation.new ≡ installation.old) }
     // After `NotDue` the installation is unchanged.
     ensures misuse { result ≡ misuse_number NotDue → installation.new ≡ installation.old }
@@ -333,7 +333,7 @@ pub extern "C" fn minisign_install_record_text(
     ensures reads_back { (s : State) → Represents installation.now s → 0 < result
         → IsNewRecord s (take result text.new) }
     // The rest of the buffer is unchanged, in every case.
-    ensures rest { drop result text.new ≡ drop result text.old }
+    ensures rest_unchanged { drop result text.new ≡ drop result text.old }
 {
     installation.record_text(text)
 }

@@ -32,7 +32,7 @@ ghost use Rattle.minisign_external.specs.SecretKeys.{is_read, checked_sealed_key
 ghost use Rattle.minisign_external.specs.SecretKeys.{public_key_outcome, value_memory};
 ghost use Rattle.minisign_external.specs.Signatures.{IsReadFrom, read_signature_value, signature_outcome};
 ghost use Rattle.minisign_external.specs.Signatures.{signature_of_value};
-ghost use Rattle.minisign_external.specs.Signing.{AreReadByMinisign, HoldsText, IsWritingNumber};
+ghost use Rattle.minisign_external.specs.Signing.{AreReadByMinisign, HoldsSignatureFile, IsWritingNumber};
 ghost use Rattle.minisign_external.specs.declared.public_keys.PublicKeyValue.{PublicKeyValue};
 ghost use Rattle.minisign_external.specs.declared.state.Refusal.{Refusal};
 ghost use Rattle.minisign_external.specs.declared.state.Refusal.TheVariants.{Refused};
@@ -77,9 +77,9 @@ ghost use Rattle.minisign_lists.specs.declared.faults.ListFault.TheVariants.{Dig
 ghost use Rattle.minisign_c.specs.KeyTexts.{IsMakingNumber, is_weak, password_misuse, sealing_misuse};
 ghost use Rattle.minisign_c.specs.StateCalls.{CommentIsAnswered};
 
-pub mod in_a_row;
 pub mod installing;
-pub mod lists_in_a_row;
+pub mod list_sequences;
+pub mod sequences;
 
 use minisign::Sealing;
 use minisign_external::making::{
@@ -133,7 +133,7 @@ pub extern "C" fn minisign_error_text(error: u32, text: &mut [u8]) -> usize
     // text.
     ensures written { (meaning : List ℕ) × IsCallMeaning error meaning × (result ≡ length meaning)
         × WritesCut meaning text.old text.new }
-    ensures room { result < 128 }
+    ensures below_128_bytes { result < 128 }
 {
     match ListFault::of_number(error) {
         Some(fault) => write_list_error(&fault, text),
@@ -146,7 +146,7 @@ fn write_list_error(fault: &ListFault, text: &mut [u8]) -> usize
     requires { is_list_error fault.now ≡ true }
     ensures written { (result ≡ length (list_row fault.now).summary)
         × WritesCut (list_row fault.now).summary text.old text.new }
-    ensures room { result < 128 }
+    ensures below_128_bytes { result < 128 }
 {
     match fault.row() {
         Ok((_, _, meaning)) => write_cut(meaning, text),
@@ -186,8 +186,8 @@ pub extern "C" fn minisign_update(state: &mut State, piece: &[u8]) -> u32
     // state is unchanged.
     ensures fed { (m : List ℕ) → IsFedState state.old m → (result ≡ 0)
         × IsFedState state.new (m ++ piece.now) }
-    ensures asked { KeepsQuestions state.old state.new }
-    ensures begun { result ≡ 0 → IsMarkedFed state.old }
+    ensures questions_kept { KeepsQuestions state.old state.new }
+    ensures was_begun { result ≡ 0 → IsMarkedFed state.old }
     ensures refused { 0 < result → (result ≡ misuse_number (feeding_misuse state.old))
         × (state.new ≡ state.old) }
 {
@@ -203,7 +203,7 @@ pub extern "C" fn minisign_digest(state: &mut State, digest: &mut [u8; 64]) -> u
     // verdict. Then the result is the number of that error, and the state and the digest are unchanged.
     ensures digest { (m : List ℕ) → IsFedState state.old m
         → (result ≡ 0) × (digest.new ≡ blake2b_digest 64 m) × HasReturnedDigest state.new m }
-    ensures asked { KeepsQuestions state.old state.new }
+    ensures questions_kept { KeepsQuestions state.old state.new }
     ensures finalized { result ≡ 0 → IsMarkedFed state.old × IsMarkedFinalized state.new }
     ensures refused { 0 < result → (result ≡ misuse_number (feeding_misuse state.old))
         × (state.new ≡ state.old) × (digest.new ≡ digest.old) }
@@ -343,7 +343,7 @@ pub extern "C" fn minisign_ask(
 
     // On success, the buffer after the message is unchanged. After an error, the state, the questions and the
     // buffer are unchanged.
-    ensures rest { result ≡ 0 → drop questions.new.message_len message.new
+    ensures rest_unchanged { result ≡ 0 → drop questions.new.message_len message.new
         ≡ drop questions.new.message_len message.old }
     ensures unchanged { 0 < result → (state.new ≡ state.old) × (questions.new ≡ questions.old)
         × (message.new ≡ message.old) }
@@ -401,7 +401,7 @@ pub extern "C" fn minisign_verdict(state: &mut State, first: u32, second: u32) -
     // **So for every public key file that contains this key: the result is 0 exactly if the signature file is
     // a valid signature of the message under that public key. Otherwise it is the number of the first check
     // that fails.**
-    ensures texts { (v : PublicKeyValue) (pk_text sig_text message : List ℕ) (legacy : Bool)
+    ensures same_verdict_as_texts { (v : PublicKeyValue) (pk_text sig_text message : List ℕ) (legacy : Bool)
         (accepts : Verifier) → IsAnswered state.old accepts v sig_text message legacy first second
         → IsKeyText pk_text v → GivesNumber accepts pk_text sig_text message legacy result }
 
@@ -519,8 +519,8 @@ pub extern "C" fn minisign_encode_unopened_key(
     ensures read { result ≡ 0 → is_read unopened.now ≡ true }
     ensures text { result ≡ 0
         → HoldsReadSecretKey (unopened_record unopened.now) comment.now text.new text_len.new }
-    ensures readable { result ≡ 0 → IsKeyComment comment.now }
-    ensures rest { result ≡ 0 → drop text_len.new text.new ≡ drop text_len.new text.old }
+    ensures read_by_minisign { result ≡ 0 → IsKeyComment comment.now }
+    ensures rest_unchanged { result ≡ 0 → drop text_len.new text.new ≡ drop text_len.new text.old }
 
     // The errors are, in this order: the key was not read; the comment is not UTF-8; it has a line feed;
     // Minisign does not read all of it; the buffer is too short; out of memory. After an error the buffer
@@ -759,10 +759,10 @@ pub extern "C" fn minisign_secret_key_text(
         × (is_opened key.now ≡ true) }
 
     // On success, Minisign reads the whole comment in the first line of the file.
-    ensures readable { result ≡ 0 → IsKeyComment comment.now }
+    ensures read_by_minisign { result ≡ 0 → IsKeyComment comment.now }
 
     // The rest of the buffer is unchanged, so no byte of a secret is left there.
-    ensures rest { result ≡ 0 → drop text_len.new text.new ≡ drop text_len.new text.old }
+    ensures rest_unchanged { result ≡ 0 → drop text_len.new text.new ≡ drop text_len.new text.old }
 
     // The errors are, in this order: `with_password` is not 0, 1 or 2; it is 1 and the password is empty;
     // with a password, the salt is all zeros or a limit is below the minimum of Minisign; the key is not
@@ -803,8 +803,8 @@ pub extern "C" fn minisign_secret_key_text_with_any_limits(
         (passed_password with_password password.now) sealing.now comment.now text.new text_len.new }
     ensures number { result ≡ 0 → (password_misuse with_password password.now ≡ None)
         × (is_opened key.now ≡ true) }
-    ensures readable { result ≡ 0 → IsKeyComment comment.now }
-    ensures rest { result ≡ 0 → drop text_len.new text.new ≡ drop text_len.new text.old }
+    ensures read_by_minisign { result ≡ 0 → IsKeyComment comment.now }
+    ensures rest_unchanged { result ≡ 0 → drop text_len.new text.new ≡ drop text_len.new text.old }
     ensures refused { 0 < result → IsMakingNumber (password_misuse with_password password.now) key.now
         (passed_password with_password password.now) sealing.now comment.now text.old result }
     ensures unchanged { 0 < result → (text.new ≡ text.old) × (text_len.new ≡ text_len.old) }
@@ -832,8 +832,8 @@ fn secret_key_text(
     ensures text { result ≡ 0 → HoldsSecretKey key.now.key_id key.now.secret
         (option_copied password.entry) sealing.now comment.now text.new text_len.new }
     ensures opened { result ≡ 0 → is_opened key.now ≡ true }
-    ensures readable { result ≡ 0 → IsKeyComment comment.now }
-    ensures rest { result ≡ 0 → drop text_len.new text.new ≡ drop text_len.new text.old }
+    ensures read_by_minisign { result ≡ 0 → IsKeyComment comment.now }
+    ensures rest_unchanged { result ≡ 0 → drop text_len.new text.new ≡ drop text_len.new text.old }
     ensures refused { 0 < result → (r : Refusal Fault) × (result ≡ refusal_number fault_number r)
         × IsMakingRefusal key.now (option_copied password.entry) sealing.now comment.now text.old r }
     ensures unchanged { 0 < result → (text.new ≡ text.old) × (text_len.new ≡ text_len.old) }
@@ -860,10 +860,10 @@ pub extern "C" fn minisign_public_key_text(
     // parses to the public key of this secret key, and Minisign reads the whole comment. The rest of the
     // buffer is unchanged.
     ensures opened { result ≡ 0 → is_opened key.now ≡ true }
-    ensures rest { result ≡ 0 → drop text_len.new text.new ≡ drop text_len.new text.old }
+    ensures rest_unchanged { result ≡ 0 → drop text_len.new text.new ≡ drop text_len.new text.old }
     ensures text { result ≡ 0
         → HoldsPublicKey key.now.key_id key.now.secret comment.now text.new text_len.new }
-    ensures readable { result ≡ 0 → IsKeyComment comment.now }
+    ensures read_by_minisign { result ≡ 0 → IsKeyComment comment.now }
 
     // The errors are those of `minisign_secret_key_text` that do not concern a password, in the same order.
     // After an error the buffer and the length are unchanged.
@@ -894,8 +894,8 @@ pub extern "C" fn minisign_encode_public_key(
     ensures read { result ≡ 0 → is_public_key key.now ≡ true }
     ensures text { result ≡ 0
         → HoldsReadPublicKey (written_public_key key.now) comment.now text.new text_len.new }
-    ensures readable { result ≡ 0 → IsKeyComment comment.now }
-    ensures rest { result ≡ 0 → drop text_len.new text.new ≡ drop text_len.new text.old }
+    ensures read_by_minisign { result ≡ 0 → IsKeyComment comment.now }
+    ensures rest_unchanged { result ≡ 0 → drop text_len.new text.new ≡ drop text_len.new text.old }
 
     // The errors are, in this order: the key was not read; the comment is not UTF-8; it has a line feed;
     // Minisign does not read all of it; the buffer is too short; out of memory. After an error the buffer
@@ -924,7 +924,7 @@ pub extern "C" fn minisign_comment_message(
     // rest of the buffer is unchanged. The only error is a buffer that is too short; then it is unchanged.
     ensures message { result ≡ 0 → (64 + length trusted.now ≤ length message.new)
         × (take (64 + length trusted.now) message.new ≡ first.now ++ trusted.now) }
-    ensures rest { result ≡ 0
+    ensures rest_unchanged { result ≡ 0
         → drop (64 + length trusted.now) message.new ≡ drop (64 + length trusted.now) message.old }
     ensures refused { 0 < result → (result ≡ misuse_number NoRoom)
         × (length message.old < 64 + length trusted.now) × (message.new ≡ message.old) }
@@ -954,12 +954,13 @@ pub extern "C" fn minisign_signed_text(
     // signatures are valid. If the key is genuine, everything that the headline of docs/PROMISES.md says
     // about signing holds for the file.**
     ensures text { result ≡ 0 → (is_public_key key.now ≡ true)
-        × HoldsText key.now.key_id (comments_of trusted.now untrusted.now) first.now second.now text.new
+        × HoldsSignatureFile key.now.key_id
+        (comments_of trusted.now untrusted.now) first.now second.now text.new
         text_len.new }
-    ensures readable { result ≡ 0 → AreReadByMinisign (comments_of trusted.now untrusted.now) }
+    ensures read_by_minisign { result ≡ 0 → AreReadByMinisign (comments_of trusted.now untrusted.now) }
 
     // The rest of the buffer is unchanged.
-    ensures rest { result ≡ 0 → drop text_len.new text.new ≡ drop text_len.new text.old }
+    ensures rest_unchanged { result ≡ 0 → drop text_len.new text.new ≡ drop text_len.new text.old }
 
     // The errors are, in this order: the public key was not read; a comment is not UTF-8; a comment would
     // change when it is read back; Minisign 0.11 would not read a comment back; the buffer is too short. Out
@@ -1027,7 +1028,7 @@ pub extern "C" fn minisign_list_ask(
 
     // On success, the buffer after the message is unchanged. After an error, the list, the questions and the
     // buffer are unchanged.
-    ensures rest { result ≡ 0 → drop questions.new.message_len message.new
+    ensures rest_unchanged { result ≡ 0 → drop questions.new.message_len message.new
         ≡ drop questions.new.message_len message.old }
     ensures unchanged { 0 < result → (list.new ≡ list.old) × (questions.new ≡ questions.old)
         × (message.new ≡ message.old) }
@@ -1066,7 +1067,7 @@ pub extern "C" fn minisign_list_ask_any(
         × (list.new ≡ asked_list key.now signature.now None text.now t.comments.trusted) }
     ensures strict { result ≡ 0 → (t : SignatureTextRecord) → IsReadFrom signature.now sig_text.now t
         → is_strict_text key.now t ≡ true }
-    ensures rest { result ≡ 0 → drop questions.new.message_len message.new
+    ensures rest_unchanged { result ≡ 0 → drop questions.new.message_len message.new
         ≡ drop questions.new.message_len message.old }
     ensures unchanged { 0 < result → (list.new ≡ list.old) × (questions.new ≡ questions.old)
         × (message.new ≡ message.old) }
@@ -1201,7 +1202,7 @@ pub extern "C" fn minisign_list_update(file: &mut FileValue, piece: &[u8]) -> u3
     // was begun. Then the result is the number of that error, and the state is unchanged.
     ensures fed { (d : ListedDigest) (m : List ℕ) → IsFedValue file.old d m
         → (result ≡ 0) × IsFedValue file.new d (m ++ piece.now) }
-    ensures begun { result ≡ 0 → file.old.mark ≡ file_mark }
+    ensures was_begun { result ≡ 0 → file.old.mark ≡ file_mark }
     ensures refused { 0 < result → (result ≡ misuse_number NotBegun) × (file.new ≡ file.old) }
 {
     number_of!(file.update(piece))

@@ -83,7 +83,7 @@ fn show_digests(
     bytes: &[u8],
     fields: &mut Fields,
 ) -> Result<(), Refusal>
-    requires some { 1 ≤ length room.old }
+    requires not_empty { 1 ≤ length room.old }
     requires fits { length room.old ≤ 64 }
 {
     let mut state = Blake2b::new(room.len());
@@ -185,7 +185,7 @@ impl Clock for Shows {
 
     fn since_1970(&self) -> io::Result<Duration> {
         match self.0 {
-            Some(moment) => Ok(moment),
+            Some(unix_time) => Ok(unix_time),
             None => Err(io::Error::from(io::ErrorKind::Other)),
         }
     }
@@ -203,7 +203,7 @@ fn clock_of(word: &str) -> Result<Shows, Refusal> {
 fn answer_timestamp(line: &str, reply: &mut Reply) -> Result<(), Refusal> {
     let clock = clock_of(word(line, 1))?;
     match unix_timestamp(&clock) {
-        Ok(moment) => reply.fields.number("out", moment),
+        Ok(unix_time) => reply.fields.number("out", unix_time),
         Err(fault) => reply.keep(fault),
     }
     Ok(())

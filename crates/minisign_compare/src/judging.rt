@@ -34,11 +34,11 @@ fn sign_with_comments(
     given: (&DataWord, &[u8]),
     reply: &mut Reply,
 ) -> Result<(), Refusal> {
-    let moment = number_of(word(line, 7))?;
+    let unix_time = number_of(word(line, 7))?;
     let trusted = text_or_none_of(alloc, word(line, 4))?;
     let untrusted = text_or_none_of(alloc, word(line, 5))?;
     let comments = (trusted.as_deref(), untrusted.as_deref());
-    sign_with_keys(alloc, table, line, given, comments, moment, reply)
+    sign_with_keys(alloc, table, line, given, comments, unix_time, reply)
 }
 
 // Parses the keys, and signs.
@@ -48,14 +48,14 @@ fn sign_with_keys(
     line: &str,
     given: (&DataWord, &[u8]),
     comments: (Option<&str>, Option<&str>),
-    moment: u64,
+    unix_time: u64,
     reply: &mut Reply,
 ) -> Result<(), Refusal> {
     let sk = secret_keys::key_of(alloc, word(line, 2))?;
     let pk = key_or_none(alloc, word(line, 1))?;
     let triples = table.triples(alloc)?;
     let keys = (pk.as_ref(), &sk);
-    sign_data(alloc, &triples, keys, given, comments, moment, reply);
+    sign_data(alloc, &triples, keys, given, comments, unix_time, reply);
     Ok(())
 }
 
@@ -66,7 +66,7 @@ fn sign_data(
     keys: (Option<&PublicKey>, &SecretKey),
     (data, bytes): (&DataWord, &[u8]),
     comments: (Option<&str>, Option<&str>),
-    moment: u64,
+    unix_time: u64,
     reply: &mut Reply,
 ) {
     let mut source = data.source();
@@ -78,7 +78,7 @@ fn sign_data(
         &mut source,
         comments,
         &mut random,
-        moment,
+        unix_time,
     );
     reply.tail.number("drawn", random.drawn());
     show_reads(&source, reply);
@@ -93,7 +93,7 @@ fn signed(
     source: &mut CountedSource<'_>,
     (trusted_comment, untrusted_comment): (Option<&str>, Option<&str>),
     random: &mut CountedRandom<'_>,
-    moment: u64,
+    unix_time: u64,
 ) -> minisign::Result<SignatureBox> {
     sign(
         alloc,
@@ -104,7 +104,7 @@ fn signed(
         trusted_comment,
         untrusted_comment,
         random,
-        moment,
+        unix_time,
     )
 }
 

@@ -3,7 +3,7 @@ use Rattle.std.specs.Prelude.{◌≡◌, ◌⊎◌, Result, Ok, Err, IfErr, IsEr
 use Rattle.std.proofs.Common.{subst, sym, inl, inr}
 use Rattle.minisign.specs.Fault.{Fault, Named}
 use Rattle.minisign.specs.NamedFaults.{OutOfMemory}
-use Rattle.minisign.specs.Texts.{IsGivenOrNoMemory}
+use Rattle.minisign.specs.Texts.{IsValueOrNoMemory}
 
 -- If a statement holds for an error, it holds for the result that passes this error on.
 pub passed_up : {T E : Type 0} (r : Result T E) (e : E) (P : E → Type 0) → IsErrAnd r (λ y. y ≡ e) → P e
@@ -13,13 +13,13 @@ passed_up (Err y) e P is p = subst P (sym is) p
 
 -- The error that a call returned is the error in `value`, its specified result, or an allocation
 -- failed.
-pub function_refused : {V : Type 0} (e : Fault) (value : Result V Fault) → IsGivenOrNoMemory (Err e) value
+pub function_refused : {V : Type 0} (e : Fault) (value : Result V Fault) → IsValueOrNoMemory (Err e) value
     → (e ≡ Named OutOfMemory) ⊎ (value ≡ Err e)
 function_refused e value (inl is) = inr (sym is)
 function_refused e value (inr memory) = inl (cc memory)
 
 -- The value that a call returned is the value in `value`, its specified result.
-pub function_given : {V : Type 0} (v : V) (value : Result V Fault) → IsGivenOrNoMemory (Ok v) value
+pub function_given : {V : Type 0} (v : V) (value : Result V Fault) → IsValueOrNoMemory (Ok v) value
     → value ≡ Ok v
 function_given v value (inl is) = sym is
 function_given v value (inr memory) = cc memory

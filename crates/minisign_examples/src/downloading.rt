@@ -38,7 +38,7 @@ pub fn verify_download<'a, S: Scheme, R: Source>(
     download: &mut R,
     buf: &mut [u8],
 ) -> Result<&'a str>
-    requires some { 0 < length buf.old }
+    requires not_empty { 0 < length buf.old }
     requires room { length list.sig_text.now ≤ length buf.old }
     // Unless reading fails, the result is the verdict on the whole download under its name in the list: the
     // trusted comment, or the first check that fails.
@@ -68,7 +68,7 @@ fn read_all<R: Source>(
     buf: &mut [u8],
     file: &mut ListedFile<'_>,
 ) -> std::result::Result<(), DeviceFault>
-    requires some { 0 < length buf.old }
+    requires not_empty { 0 < length buf.old }
     requires open { IsOpen file.old }
     ensures fed { MatchResult result (λ _. (message : List ℕ) × ReadsWhole R.Source source.old source.new
         message × ((verdict : List ℕ → Result (List ℕ) ListFault) (m : List ℕ) → IsFedFile file.old verdict m

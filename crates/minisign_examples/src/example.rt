@@ -27,11 +27,11 @@ pub fn sign_and_verify<S: Scheme, Z: RandomSource>(
     public_key: &PublicKey,
     message: &[u8],
     random: &mut Z,
-    moment: u64,
+    unix_time: u64,
 ) -> Result<String>
     // On success, the result is the text of the signature box that signing makes for the message.
     ensures signed { IfOk result (λ t. IsSignedText (S.signature_of scheme.now) secret_key.now message.now
-        (given_comments None None moment) (random_call Z.RandomSource random.old random.new)
+        (given_comments None None unix_time) (random_call Z.RandomSource random.old random.new)
         (string_bytes t)) }
 
     // On success, the text is valid for the message under the public key.
@@ -45,8 +45,8 @@ pub fn sign_and_verify<S: Scheme, Z: RandomSource>(
         → public_key.now.key ≡ S.public_of scheme.now seed → public_key.now.keynum ≡ secret_key.now.keynum
         → IfErr result (λ e. (e ≡ Named OutOfMemory) ⊎ (e ≡ Named RandomSourceFailed)) }
 {
-    default_comments_are_read_back(moment);
-    let sig_text = sign_bytes(alloc, scheme, secret_key, message, None, random, moment)?;
+    default_comments_are_read_back(unix_time);
+    let sig_text = sign_bytes(alloc, scheme, secret_key, message, None, random, unix_time)?;
     let pk_text = public_key.to_box(alloc)?.into_string();
     verify_bytes(alloc, scheme, pk_text.as_str(), sig_text.as_str(), message)?;
     Ok(sig_text)

@@ -43,7 +43,7 @@ pub fn sign_release<S: Scheme, Z: RandomSource>(
     password: &str,
     update: &[u8],
     random: &mut Z,
-    moment: u64,
+    unix_time: u64,
 ) -> Result<Release>
     // On success, the published texts are valid for the update, whatever the scheme, the password, the
     // update and the random bytes are.
@@ -57,7 +57,7 @@ pub fn sign_release<S: Scheme, Z: RandomSource>(
 {
     let KeyTexts { pk_text, sk_text } = make_keys(alloc, scheme, password, random)?;
     let sk = open_with_password(alloc, sk_text.as_str(), password)?;
-    let sig_text = sign_update(alloc, scheme, &sk, update, random, moment)?;
+    let sig_text = sign_update(alloc, scheme, &sk, update, random, unix_time)?;
     verify_bytes(alloc, scheme, pk_text.as_str(), sig_text.as_str(), update)?;
     Ok(Release { pk_text, sig_text })
 }
@@ -70,7 +70,7 @@ pub fn make_keys<S: Scheme, Z: RandomSource>(
     random: &mut Z,
 ) -> Result<KeyTexts>
     // On success, the texts are those of a key pair whose secret key is encrypted under the password.
-    ensures made { IfOk result (λ t. (pk : PublicKeyRecord) × (sk : SecretKeyRecord)
+    ensures are_pair_texts { IfOk result (λ t. (pk : PublicKeyRecord) × (sk : SecretKeyRecord)
         × ArePairTexts (S.public_of scheme.now) password.now (string_bytes t.pk_text)
         (string_bytes t.sk_text) pk sk) }
 
@@ -92,7 +92,7 @@ pub fn sign_update<S: Scheme, Z: RandomSource>(
     sk: &SecretKey,
     update: &[u8],
     random: &mut Z,
-    moment: u64,
+    unix_time: u64,
 ) -> Result<String>
     // With the secret key of a genuine pair, the returned text is valid for the update under the pair's
     // public key. The only errors then are a failed allocation and a failing random source.
@@ -100,6 +100,6 @@ pub fn sign_update<S: Scheme, Z: RandomSource>(
         (λ t. (x : SignatureBoxRecord) × (read_signature_box (string_bytes t) ≡ Ok x)
         × Vouches (S.accepts scheme.now) pk x update.now false) IsMemoryOrRandomFault }
 {
-    default_comments_are_read_back(moment);
-    sign_bytes(alloc, scheme, sk, update, None, random, moment)
+    default_comments_are_read_back(unix_time);
+    sign_bytes(alloc, scheme, sk, update, None, random, unix_time)
 }

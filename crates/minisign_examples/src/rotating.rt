@@ -1,6 +1,6 @@
 //! A caller that knows an old public key and learns a new one, whose text is signed with the old key.
 
-ghost use Rattle.minisign.specs.Texts.{IsGivenOrNoMemory, map_ok};
+ghost use Rattle.minisign.specs.Texts.{IsValueOrNoMemory, map_ok};
 ghost use Rattle.minisign_examples.specs.NewKeys.{verdict_by_new_key};
 
 use minisign::{Result, Scheme, verify_bytes};
@@ -26,7 +26,7 @@ pub fn check_with_new_key<S: Scheme>(
     sig_text: &str,
     update: &[u8],
 ) -> Result<()>
-    ensures { IsGivenOrNoMemory result (map_ok (λ _. tt) (verdict_by_new_key (S.accepts scheme.now)
+    ensures { IsValueOrNoMemory result (map_ok (λ _. tt) (verdict_by_new_key (S.accepts scheme.now)
         old_text.now new_key.entry.sig_text.now new_key.entry.pk_text.now sig_text.now update.now)) }
 {
     verify_bytes(

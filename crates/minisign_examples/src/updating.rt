@@ -1,7 +1,7 @@
 //! A caller that accepts an update only if its signature is valid and its trusted comment is the
 //! expected name.
 
-ghost use Rattle.minisign.specs.Texts.{IsGivenOrNoMemory};
+ghost use Rattle.minisign.specs.Texts.{IsValueOrNoMemory};
 ghost use Rattle.minisign_examples.specs.Updating.{named_verdict};
 
 use minisign::{ErrorKind, PError, Result, Scheme, verify_bytes};
@@ -19,7 +19,7 @@ pub fn check_update<S: Scheme>(
     update: &[u8],
     name: &str,
 ) -> Result<()>
-    ensures { IsGivenOrNoMemory result (named_verdict (S.accepts scheme.now) pk_text.now sig_text.now
+    ensures { IsValueOrNoMemory result (named_verdict (S.accepts scheme.now) pk_text.now sig_text.now
         update.now name.now) }
 {
     let comment = verify_bytes(alloc, scheme, pk_text, sig_text, update)?;

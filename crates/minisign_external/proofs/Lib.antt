@@ -1,10 +1,10 @@
 mod Words
-pub mod AnsweredBoxes
+pub mod BoxesOfSignatures
 pub mod Facts
-pub mod GivenAnswers
+pub mod ResultsOfQuestions
 pub mod Laws
 pub mod OpenedKeys
-pub mod OwnTexts
+pub mod SignedFiles
 pub mod PublicHalves
 pub mod ReadValues
 pub mod Strictness

@@ -96,7 +96,7 @@ module _ (s : SignatureValue) (text : List ℕ) (t : SignatureTextRecord) (from 
   len_is = ap (λ (x : SignatureValue). x.comment_len) from.value
 
   bytes_are : comment_bytes s text ≡ t.comments.trusted
-  bytes_are = ap (λ (n : ℕ). take n (drop s.comment_offset text)) len_is ∙ from.comment.same
+  bytes_are = ap (λ (n : ℕ). take n (drop s.comment_offset text)) len_is ∙ from.comment.bytes_at_offset
 
   text_is : is_text_of s text ≡ true
   text_is =

@@ -40,14 +40,14 @@ required : {V : Type 0} (b : Bool) (f : NamedFault) (r : Result V Fault) (v : V)
 required true f r v h = (refl, h)
 required false f r v h = cc h
 
-then_same : {T : Type 0} (j : Result ⊤ Fault) (s t : T) → and_then j (λ _. Ok s) ≡ Ok t → s ≡ t
-then_same (Ok _) s t h = cc h
-then_same (Err e) s t h = cc h
+and_then_value : {T : Type 0} (j : Result ⊤ Fault) (s t : T) → and_then j (λ _. Ok s) ≡ Ok t → s ≡ t
+and_then_value (Ok _) s t h = cc h
+and_then_value (Err e) s t h = cc h
 
 opened_of : (r : Result SignatureTextRecord Fault) (v : PublicKeyValue) (legacy : Bool)
     (t : SignatureTextRecord)
     → and_then r (λ s. and_then (judge_key v.key_id s.signature legacy) (λ _. Ok s)) ≡ Ok t → r ≡ Ok t
-opened_of (Ok s) v legacy t h = ap (λ x. Ok x) (then_same (judge_key v.key_id s.signature legacy) s t h)
+opened_of (Ok s) v legacy t h = ap (λ x. Ok x) (and_then_value (judge_key v.key_id s.signature legacy) s t h)
 opened_of (Err e) v legacy t h = cc h
 
 -- A text that parses and passes the checks under a key is UTF-8 and parses to the same signature.
@@ -199,14 +199,14 @@ module _ (accepts : Verifier) (pk_text sig_text message : List ℕ) (legacy : Bo
   vouch w h =
       vouch_of accepts pk_text sig_text message legacy keyed.key keyed.read utf8 (read_signature sig_text) w
       refl
-      (subst (λ u. verdict_under accepts u sig_text message legacy ≡ Ok w) keyed.same h)
+      (subst (λ u. verdict_under accepts u sig_text message legacy ≡ Ok w) keyed.value_of_key h)
 
   pub refuse : (e : Fault) → verdict_under accepts v sig_text message legacy ≡ Err e
       → verdict accepts pk_text sig_text message legacy ≡ Err e
   refuse e h =
       refuse_of accepts pk_text sig_text message legacy keyed.key keyed.read utf8 (read_signature sig_text) e
       refl
-      (subst (λ u. verdict_under accepts u sig_text message legacy ≡ Err e) keyed.same h)
+      (subst (λ u. verdict_under accepts u sig_text message legacy ≡ Err e) keyed.value_of_key h)
 
 -- == The results of the two checks ==
 
@@ -235,9 +235,9 @@ decided accepts v sig_text message legacy t whole first second opens is answers 
     let (utf8, read) = opened_text v legacy sig_text t opens in
     rw opens
     (ap (λ (x : Bool). and_then (judge_answers x (accepts_comments accepts (key_of v) (box_of t)))
-    (λ _. Ok t.comments.trusted)) (answers.to_first t read)
+    (λ _. Ok t.comments.trusted)) (answers.data_signature t read)
     ∙ ap (λ (x : Bool). and_then (judge_answers first x) (λ _. Ok t.comments.trusted))
-    (comment_answer accepts v t whole second is (answers.to_second t read)))
+    (comment_answer accepts v t whole second is (answers.comment_signature t read)))
 
 -- == Errors of asking ==
 
@@ -268,14 +268,17 @@ opening_refusal v sig_text legacy room (Refused e) h = λ utf8 pk_text message a
 
 -- If asking fails after the checks of the state, with the check that the public key was read first, the same
 -- holds.
-under_of : (b : Bool) (v : PublicKeyValue) (sig_text : List ℕ) (legacy : Bool) (room : ℕ) (r : Refusal Fault)
+refusal_of_asking : (b : Bool) (v : PublicKeyValue) (sig_text : List ℕ) (legacy : Bool) (room : ℕ)
+    (r : Refusal Fault)
     → (if b then asked_under (read_under v legacy sig_text) room else Err (WrongUse PublicKeyNotRead)) ≡ Err r
     → IsTextRefusal v sig_text legacy r
-under_of b v sig_text legacy room (WrongUse m) h = tt
-under_of true v sig_text legacy room (Refused e) h = opening_refusal v sig_text legacy room (Refused e) h
-under_of false v sig_text legacy room (Refused e) h = cc h
+refusal_of_asking b v sig_text legacy room (WrongUse m) h = tt
+refusal_of_asking true v sig_text legacy room (Refused e) h =
+    opening_refusal v sig_text legacy room (Refused e) h
+refusal_of_asking false v sig_text legacy room (Refused e) h = cc h
 
 pub opening_refusal_under : (v : PublicKeyValue) (sig_text : List ℕ) (legacy : Bool) (room : ℕ)
     (r : Refusal Fault) → with_public_key v (asked_under (read_under v legacy sig_text) room) ≡ Err r
     → IsTextRefusal v sig_text legacy r
-opening_refusal_under v sig_text legacy room r h = under_of (is_public_key v) v sig_text legacy room r h
+opening_refusal_under v sig_text legacy room r h =
+    refusal_of_asking (is_public_key v) v sig_text legacy room r h

@@ -66,9 +66,9 @@ AnswersSecond accepts v t second =
 -- `first` and `second` are the results of both checks for the key and the signature file.
 pub record Answers (accepts : Verifier) (v : PublicKeyValue) (sig_text message : List ℕ)
     (first second : Bool) : Type 0 where
-  pub to_first : (t : SignatureTextRecord) → read_signature sig_text ≡ Ok t
+  pub data_signature : (t : SignatureTextRecord) → read_signature sig_text ≡ Ok t
       → AnswersFirst accepts v t message first
-  pub to_second : (t : SignatureTextRecord) → read_signature sig_text ≡ Ok t
+  pub comment_signature : (t : SignatureTextRecord) → read_signature sig_text ≡ Ok t
       → AnswersSecond accepts v t second
 
 -- `second` is the result of the second check for the key and the signature file.
@@ -87,7 +87,7 @@ pub record HoldsMessage (s : SignatureRecord) (trusted : List ℕ) (bytes : List
 pub record IsKeyText (pk_text : List ℕ) (v : PublicKeyValue) : Type 0 where
   pub key : PublicKeyRecord
   pub read : read_public_key pk_text ≡ Ok key
-  pub same : v ≡ value_of key
+  pub value_of_key : v ≡ value_of key
 
 -- `first` and `second` are the results of both checks for the public key file and the signature file.
 abbrev pub AnswersTexts : Verifier → List ℕ → List ℕ → List ℕ → Bool → Bool → Type 0

@@ -33,33 +33,37 @@ use Rattle.minisign_external.specs.declared.state.Refusal.{Refusal}
 use Rattle.minisign_external.specs.declared.state.Refusal.TheVariants.{WrongUse, Refused}
 
 -- The signature of the data, as the caller's scheme made it, with the key ID.
-abbrev pub answered_signature : List ℕ → List ℕ → SignatureRecord
-answered_signature key_id first =
+abbrev pub signature_with_key_id : List ℕ → List ℕ → SignatureRecord
+signature_with_key_id key_id first =
     record { algorithm = prehashed_algorithm; keynum = key_id; signature = first }
 
 -- The comments, with the signature that the caller's scheme made of the trusted comment.
-abbrev pub answered_comments : ChosenComments → List ℕ → CommentsRecord
-answered_comments chosen second =
+abbrev pub comments_with_signature : ChosenComments → List ℕ → CommentsRecord
+comments_with_signature chosen second =
     record { untrusted = chosen.untrusted; trusted = chosen.trusted; signature = second }
 
 -- The signature file that consists of these two.
-abbrev pub answered_box : List ℕ → ChosenComments → List ℕ → List ℕ → SignatureBoxRecord
-answered_box key_id chosen first second =
-    record { signature = answered_signature key_id first; comments = Some (answered_comments chosen second) }
+abbrev pub box_of_signatures : List ℕ → ChosenComments → List ℕ → List ℕ → SignatureBoxRecord
+box_of_signatures key_id chosen first second =
+    record {
+      signature = signature_with_key_id key_id first;
+      comments = Some (comments_with_signature chosen second);
+    }
 
 -- The scheme makes these two signatures with the key's secret and the random bytes z1 and z2: the first of
 -- the digest of the message, the second of the first signature followed by the trusted comment.
 pub record SchemeMakesSignatures (sign : Signer) (key : SecretKeyRecord)
     (message trusted z1 z2 first second : List ℕ)
     : Type 0 where
-  pub to_first : sign (blake2b_digest 64 message) key.secret (Some z1) ≡ first
-  pub to_second : sign (first ++ trusted) key.secret (Some z2) ≡ second
+  pub data_signature : sign (blake2b_digest 64 message) key.secret (Some z1) ≡ first
+  pub comment_signature : sign (first ++ trusted) key.secret (Some z2) ≡ second
 
 -- Under this public key (32 bytes), the scheme accepts `first` as a signature of the digest of the message,
 -- and `second` as a signature of `first` followed by the trusted comment.
-pub record AcceptsAnswers (accepts : Verifier) (public message trusted first second : List ℕ) : Type 0 where
-  pub to_first : accepts (blake2b_digest 64 message) public first ≡ true
-  pub to_second : accepts (first ++ trusted) public second ≡ true
+pub record AcceptsSignatures (accepts : Verifier)
+    (public message trusted first second : List ℕ) : Type 0 where
+  pub data_signature : accepts (blake2b_digest 64 message) public first ≡ true
+  pub comment_signature : accepts (first ++ trusted) public second ≡ true
 
 -- The two signatures that a scheme makes with a secret of 64 bytes and without random bytes: of the digest of
 -- a message, and of that signature followed by the trusted comment.
@@ -80,22 +84,23 @@ pub record IsPairOf (public_of : List ℕ → List ℕ) (seed : List ℕ) (v : S
 -- that made the two signatures, this is the box that signing makes. If a scheme accepts them under a public
 -- key, the box is a valid signature of the message under that key. So the promises on signature files that
 -- the library writes also hold for this file.
-pub record IsAnsweredText (key_id : List ℕ) (chosen : ChosenComments) (first second text : List ℕ)
+pub record IsSignatureFileOf (key_id : List ℕ) (chosen : ChosenComments) (first second text : List ℕ)
     : Type 0 where
-  pub written : text ≡ signature_text (answered_signature key_id first) (answered_comments chosen second)
+  pub written : text ≡ signature_text (signature_with_key_id key_id first)
+      (comments_with_signature chosen second)
   pub utf8 : IsUtf8 text
-  pub read_back : read_signature_box text ≡ Ok (answered_box key_id chosen first second)
+  pub read_back : read_signature_box text ≡ Ok (box_of_signatures key_id chosen first second)
   pub signed : (sign : Signer) (key : SecretKeyRecord) (message z1 z2 : List ℕ) → key_id ≡ key.keynum
       → SchemeMakesSignatures sign key message chosen.trusted z1 z2 first second
       → read_signature_box text ≡ Ok (signed_box sign key message chosen z1 z2)
   pub vouched : (accepts : Verifier) (public message : List ℕ)
-      → AcceptsAnswers accepts public message chosen.trusted first second
+      → AcceptsSignatures accepts public message chosen.trusted first second
       → (x : SignatureBoxRecord) × (read_signature_box text ≡ Ok x)
       × VouchesUnderEachKey accepts public key_id message x
   pub headline : (accepts : Verifier) (public_of : List ℕ → List ℕ) (key : SecretKeyRecord) (message : List ℕ)
       → key_id ≡ key.keynum
       → ((seed : List ℕ) → IsGenuine public_of key seed
-      → AcceptsAnswers accepts (public_of seed) message chosen.trusted first second)
+      → AcceptsSignatures accepts (public_of seed) message chosen.trusted first second)
       → SigningHeadline accepts public_of key message chosen text
 
 -- Minisign 0.11 reads the comments back unchanged: each line fits its buffer, which has 1,024 bytes for the
@@ -121,15 +126,17 @@ abbrev pub AreUtf8 : ChosenComments → Type 0
 AreUtf8 chosen = IsUtf8 chosen.trusted × IsUtf8 chosen.untrusted
 
 -- The first len bytes of the buffer are the signature file of the two signatures.
-pub record HoldsText (key_id : List ℕ) (chosen : ChosenComments) (first second bytes : List ℕ) (len : ℕ)
+pub record HoldsSignatureFile (key_id : List ℕ) (chosen : ChosenComments) (first second bytes : List ℕ)
+    (len : ℕ)
     : Type 0 where
   pub fits : len ≤ length bytes
-  pub text : IsAnsweredText key_id chosen first second (take len bytes)
+  pub text : IsSignatureFileOf key_id chosen first second (take len bytes)
 
 -- The buffer is too short for the signature file.
 abbrev pub BufferIsTooSmall : List ℕ → ChosenComments → List ℕ → List ℕ → List ℕ → Type 0
 BufferIsTooSmall key_id chosen first second bytes =
-    length bytes < length (signature_text (answered_signature key_id first) (answered_comments chosen second))
+    length bytes < length (signature_text (signature_with_key_id key_id first)
+    (comments_with_signature chosen second))
 
 -- The error if no signature file is written, which is the first one that applies: the public key was not
 -- read; a comment is not UTF-8; a comment is rejected; the buffer is too short. Out of memory is possible
@@ -160,37 +167,38 @@ joined pieces = flat_map (λ piece. piece.now) pieces
 
 -- The first len bytes of the buffer are the signature file of the message that the library makes itself, with
 -- an open key: it calls the scheme for both signatures.
-abbrev pub HoldsOwnText : {S : Type 0} → SchemeOf S → S → SecretKeyValue → ChosenComments → List ℕ → List ℕ
+abbrev pub HoldsSignedFile : {S : Type 0} → SchemeOf S → S → SecretKeyValue → ChosenComments → List ℕ → List ℕ
     → ℕ
     → Type 0
-HoldsOwnText s scheme v chosen message bytes len = (is_opened v ≡ true)
-    × HoldsText v.key_id chosen (first_signature (s.signature_of scheme) v.secret message)
+HoldsSignedFile s scheme v chosen message bytes len = (is_opened v ≡ true)
+    × HoldsSignatureFile v.key_id chosen (first_signature (s.signature_of scheme) v.secret message)
     (second_signature (s.signature_of scheme) v.secret message chosen.trusted) bytes len
 
--- The error if the signature file of HoldsOwnText is not written: the key is not open, or else an error of
+-- The error if the signature file of HoldsSignedFile is not written: the key is not open, or else an error of
 -- IsWritingRefusal for its public key.
-abbrev pub IsOwnRefusal : {S : Type 0} → SchemeOf S → S → SecretKeyValue → ChosenComments → List ℕ → List ℕ
+abbrev pub IsSigningRefusal : {S : Type 0} → SchemeOf S → S → SecretKeyValue → ChosenComments → List ℕ
+    → List ℕ
     → Refusal Fault → Type 0
-IsOwnRefusal s scheme v chosen message bytes r =
+IsSigningRefusal s scheme v chosen message bytes r =
     ((r ≡ WrongUse KeyNotOpened) × (is_opened v ≡ false))
     ⊎ ((w : PublicKeyValue) × (public_value_of v ≡ Ok w)
     × IsWritingRefusal w chosen (first_signature (s.signature_of scheme) v.secret message)
     (second_signature (s.signature_of scheme) v.secret message chosen.trusted) bytes r)
 
 -- The error if no signature file is written with the key of a secret key file: an error of opening this key,
--- or else an error of IsOwnRefusal.
+-- or else an error of IsSigningRefusal.
 abbrev pub IsTextSigningRefusal : {S : Type 0} → SchemeOf S → S → List ℕ → Option (List ℕ) → ℕ
     → ChosenComments → List ℕ → List ℕ → Refusal Fault → Type 0
 IsTextSigningRefusal s scheme text password most_rows chosen message bytes r =
     IsTextOpeningRefusal text password most_rows r
     ⊎ ((k : SecretKeyRecord) × (opened_text text password most_rows ≡ Ok k)
-    × IsOwnRefusal s scheme (opened_key_value k.keynum k.secret) chosen message bytes r)
+    × IsSigningRefusal s scheme (opened_key_value k.keynum k.secret) chosen message bytes r)
 
 -- If the key consists of a seed and the seed's public key, the verdict on the signature file and the message
 -- under this public key is the trusted comment.
-abbrev pub OwnTextVerifies : {S : Type 0} → SchemeOf S → S → SecretKeyRecord → List ℕ → List ℕ → List ℕ
+abbrev pub SignedFileVerifies : {S : Type 0} → SchemeOf S → S → SecretKeyRecord → List ℕ → List ℕ → List ℕ
     → Type 0
-OwnTextVerifies s scheme k message trusted text = (seed : List ℕ)
+SignedFileVerifies s scheme k message trusted text = (seed : List ℕ)
     → IsPairOf (s.public_of scheme) seed (opened_key_value k.keynum k.secret)
     → verdict_under (s.accepts scheme)
     (record { mark = public_mark; key = drop 32 k.secret; key_id = k.keynum }) text message false

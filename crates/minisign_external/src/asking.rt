@@ -71,12 +71,12 @@ impl State {
         // If the signature was read from this text, and the result is an error of the library and not API
         // misuse, then verification with this key and text fails with the same error, for every scheme and
         // every message.
-        ensures texts { (t : SignatureTextRecord) → IsReadFrom signature.now sig_text.now t
+        ensures same_error_as_texts { (t : SignatureTextRecord) → IsReadFrom signature.now sig_text.now t
             → IfErr result (IsTextRefusal key.now sig_text.now allow_legacy) }
 
         // On success, the buffer after the message is unchanged. After an error, the state, the questions and
         // the buffer are unchanged.
-        ensures rest { OnOk result
+        ensures rest_unchanged { OnOk result
             (drop questions.new.message_len message.new ≡ drop questions.new.message_len message.old) }
         ensures unchanged { OnErr result
             ((self.new ≡ self.old) × (questions.new ≡ questions.old) × (message.new ≡ message.old)) }
@@ -124,7 +124,7 @@ impl State {
 
         // If the result is true, the buffer after the message is unchanged. Otherwise the state, the
         // questions and the buffer are unchanged.
-        ensures rest { result ≡ Ok true
+        ensures rest_unchanged { result ≡ Ok true
             → drop questions.new.message_len message.new ≡ drop questions.new.message_len message.old }
         ensures unchanged { result ≢ Ok true
             → (self.new ≡ self.old) × (questions.new ≡ questions.old) × (message.new ≡ message.old) }
@@ -186,7 +186,7 @@ impl State {
 
         // On success, the key and the signature were read, the signature was read from this text, and the
         // key, the signature, the text and the buffer size cause none of the errors of `ask`.
-        ensures taken { OnOk result
+        ensures checks_passed { OnOk result
             (asking_checks key.now signature.now sig_text.now allow_legacy (length message.old) ≡ Ok tt) }
 
         // Errors are checked in this order: the state accepts no data; then those of `ask` about the key, the
@@ -194,11 +194,11 @@ impl State {
         // are unchanged. On success, the buffer after the message is unchanged.
         ensures refused { IfErr result
             (IsAskFedRefusal self.old key.now signature.now sig_text.now allow_legacy (length message.old)) }
-        ensures texts { (t : SignatureTextRecord) → IsReadFrom signature.now sig_text.now t
+        ensures same_error_as_texts { (t : SignatureTextRecord) → IsReadFrom signature.now sig_text.now t
             → IfErr result (IsTextRefusal key.now sig_text.now allow_legacy) }
         ensures unchanged { OnErr result
             ((self.new ≡ self.old) × (questions.new ≡ questions.old) × (message.new ≡ message.old)) }
-        ensures rest { OnOk result
+        ensures rest_unchanged { OnOk result
             (drop questions.new.message_len message.new ≡ drop questions.new.message_len message.old) }
     {
         let mut finalized_state = *self;
@@ -239,7 +239,7 @@ impl State {
         ensures asked { OnOk result (self.new ≡ asked_about self.old signature.now) }
         ensures unchanged { OnErr result
             ((self.new ≡ self.old) × (questions.new ≡ questions.old) × (message.new ≡ message.old)) }
-        ensures rest { OnOk result
+        ensures rest_unchanged { OnOk result
             (drop questions.new.message_len message.new ≡ drop questions.new.message_len message.old) }
     {
         if !key.is_public_key() {
@@ -299,7 +299,8 @@ impl State {
         // So for every public key file that contains this key: the call succeeds exactly if the signature
         // file is a valid signature of the message under that public key. Otherwise the error is the first
         // check that fails.
-        ensures texts { (v : PublicKeyValue) (pk sig message : List ℕ) (legacy : Bool) (accepts : Verifier)
+        ensures same_verdict_as_texts { (v : PublicKeyValue) (pk sig message : List ℕ) (legacy : Bool)
+            (accepts : Verifier)
             → HasAsked self.old v sig legacy → IsMarkedFinalized self.old → IsKeyText pk v
             → Answers accepts v sig message first second → GivesVerdict accepts pk sig message legacy result }
 

@@ -61,10 +61,10 @@ pub fn write_secret_key(
         (option_copied password.entry) sealing.now comment.now to.new) }
 
     // On success, Minisign reads the whole comment in the first line of the file.
-    ensures readable { OnOk result (IsKeyComment comment.now) }
+    ensures read_by_minisign { OnOk result (IsKeyComment comment.now) }
 
     // The rest of the buffer is unchanged, so no byte of a secret is left there.
-    ensures rest { IfOk result (λ len. drop len to.new ≡ drop len to.old) }
+    ensures rest_unchanged { IfOk result (λ len. drop len to.new ≡ drop len to.old) }
 
     // The errors are, in this order: the key is not open; the comment or the password is not UTF-8; the
     // comment has a line feed; Minisign does not read all of it, because it has a carriage return, a zero
@@ -113,8 +113,8 @@ fn write_made(
 ) -> std::result::Result<usize, Refusal>
     ensures text { IfOk result (HoldsSecretKey key_id secret (option_copied password.entry)
         sealing.now comment.now to.new) }
-    ensures readable { OnOk result (IsKeyComment comment.now) }
-    ensures rest { IfOk result (λ len. drop len to.new ≡ drop len to.old) }
+    ensures read_by_minisign { OnOk result (IsKeyComment comment.now) }
+    ensures rest_unchanged { IfOk result (λ len. drop len to.new ≡ drop len to.old) }
     ensures refused { IfErr result
         (IsMadeRefusal (option_copied password.entry) sealing.now comment.now to.old) }
     ensures unchanged { OnErr result (to.new ≡ to.old) }
@@ -141,8 +141,8 @@ pub fn write_public_key(
     // reads the whole comment. The rest of the buffer is unchanged.
     ensures opened { OnOk result (is_opened key.now ≡ true) }
     ensures text { IfOk result (HoldsPublicKey key.now.key_id key.now.secret comment.now to.new) }
-    ensures readable { OnOk result (IsKeyComment comment.now) }
-    ensures rest { IfOk result (λ len. drop len to.new ≡ drop len to.old) }
+    ensures read_by_minisign { OnOk result (IsKeyComment comment.now) }
+    ensures rest_unchanged { IfOk result (λ len. drop len to.new ≡ drop len to.old) }
 
     // The errors are those of `write_secret_key` that do not concern a password, in the same order. After an
     // error the buffer is unchanged.
@@ -177,8 +177,8 @@ pub fn encode_public_key(
     // rest of the buffer is unchanged.
     ensures read { OnOk result (is_public_key key.now ≡ true) }
     ensures text { IfOk result (HoldsReadPublicKey (written_public_key key.now) comment.now to.new) }
-    ensures readable { OnOk result (IsKeyComment comment.now) }
-    ensures rest { IfOk result (λ len. drop len to.new ≡ drop len to.old) }
+    ensures read_by_minisign { OnOk result (IsKeyComment comment.now) }
+    ensures rest_unchanged { IfOk result (λ len. drop len to.new ≡ drop len to.old) }
 
     // The errors are, in this order: the key was not read; the comment is not UTF-8; the comment has a line
     // feed; Minisign does not read all of it; the buffer is too short; out of memory. After an error the
@@ -210,7 +210,7 @@ fn public_key_text(alloc: Global, key: &PublicKeyValue, comment: &str) -> minisi
     ensures reads { LacksByte 10 comment.now → IfOk result (λ t. read_public_key (string_bytes t)
         ≡ Ok (written_public_key key.now)) }
     ensures size { IfOk result (λ t. length (string_bytes t) ≡ length comment.now + 77) }
-    ensures refused { IfErr result (λ e. e ≡ Named OutOfMemory) }
+    ensures only_out_of_memory { IfErr result (λ e. e ≡ Named OutOfMemory) }
 {
     let pk = public_key_of(key)?;
     let text = pk.to_box_with_comment(alloc, comment)?;
@@ -258,8 +258,8 @@ pub fn encode_unopened_key(
     // buffer is unchanged.
     ensures read { OnOk result (is_read key.now ≡ true) }
     ensures text { IfOk result (HoldsReadSecretKey (unopened_record key.now) comment.now to.new) }
-    ensures readable { OnOk result (IsKeyComment comment.now) }
-    ensures rest { IfOk result (λ len. drop len to.new ≡ drop len to.old) }
+    ensures read_by_minisign { OnOk result (IsKeyComment comment.now) }
+    ensures rest_unchanged { IfOk result (λ len. drop len to.new ≡ drop len to.old) }
 
     // The errors are, in this order: the key was not read; the comment is not UTF-8; the comment has a line
     // feed; Minisign does not read all of it; the buffer is too short; out of memory. After an error the
@@ -293,7 +293,7 @@ fn unopened_key_text(
     ensures reads { LacksByte 10 comment.now → IfOk result (λ t. read_secret_key (string_bytes t)
         ≡ Ok (unopened_record key.now)) }
     ensures size { IfOk result (λ t. length (string_bytes t) ≡ length comment.now + 233) }
-    ensures refused { IfErr result (λ e. e ≡ Named OutOfMemory) }
+    ensures only_out_of_memory { IfErr result (λ e. e ≡ Named OutOfMemory) }
 {
     let sk = key_of(&key.bytes)?;
     let text = sk.to_box(alloc, Some(comment))?;

@@ -197,7 +197,7 @@ pub fn write_error_text(number: u32, to: &mut [u8]) -> usize
     // result is the length of the whole text.
     ensures written { (text : List ℕ) × IsMeaning number text × (result ≡ length text)
         × WritesCut text to.old to.new }
-    ensures room { result < 128 }
+    ensures below_128_bytes { result < 128 }
 {
     write_cut(error_text(number), to)
 }
@@ -225,7 +225,7 @@ pub fn write_cut(text: &str, to: &mut [u8]) -> usize
 /// number without a meaning. It has fewer than 128 bytes.
 pub fn error_text(number: u32) -> &'static str
     ensures meaning { IsMeaning number result.now }
-    ensures room { length result.now < 128 }
+    ensures below_128_bytes { length result.now < 128 }
 {
     if number == 0 {
         return "no error";
@@ -245,7 +245,7 @@ pub fn error_text(number: u32) -> &'static str
 // Returns the API misuse that has this number.
 fn misuse_of(number: u32) -> Option<Misuse>
     ensures found { IfSome result (λ m. number ≡ misuse_number m) }
-    ensures first { result ≡ find (λ m. misuse_number m == number) Misuse.ALL }
+    ensures first_with_number { result ≡ find (λ m. misuse_number m == number) Misuse.ALL }
 {
     Misuse::ALL
         .iter()
@@ -256,7 +256,7 @@ fn misuse_of(number: u32) -> Option<Misuse>
 // Returns the named error that has this number, with zeros as its key IDs.
 fn fault_of(number: u32) -> Option<NamedFault>
     ensures found { IfSome result (λ f. number ≡ (fault_row f).number) }
-    ensures first { result ≡ find (λ f. (fault_row f).number == number) NamedFault.ALL }
+    ensures first_with_number { result ≡ find (λ f. (fault_row f).number == number) NamedFault.ALL }
 {
     NamedFault::ALL
         .iter()

@@ -12,8 +12,8 @@ ghost use Rattle.minisign_external.specs.SecretKeys.{public_value_of};
 ghost use Rattle.minisign.specs.Records.{SecretKeyRecord};
 ghost use Rattle.std.specs.Option.{option_copied};
 ghost use Rattle.minisign_external.specs.Signatures.{IsReadFrom};
-ghost use Rattle.minisign_external.specs.Signing.{HoldsText, IsPairOf, comments_of, HoldsOwnText};
-ghost use Rattle.minisign_external.specs.Signing.{IsOwnRefusal, OwnTextVerifies, joined};
+ghost use Rattle.minisign_external.specs.Signing.{HoldsSignatureFile, IsPairOf, comments_of, HoldsSignedFile};
+ghost use Rattle.minisign_external.specs.Signing.{IsSigningRefusal, SignedFileVerifies, joined};
 ghost use Rattle.minisign_external.specs.Signing.{IsTextSigningRefusal};
 ghost use Rattle.minisign_external.specs.PublicKeys.{is_public_key};
 ghost use Rattle.minisign_external.specs.States.{AreQuestionsWithoutDigest, HasAsked, IsFedState};
@@ -89,13 +89,13 @@ pub fn sign_pieces<S: Scheme>(
     // On success, the signature file contains the two signatures that the scheme makes with the key: the
     // signature of the digest of the concatenated data, and the signature of the first signature followed by
     // the trusted comment. The rest of the buffer is unchanged.
-    ensures text { IfOk result (HoldsOwnText S.Scheme scheme.now key.now
+    ensures text { IfOk result (HoldsSignedFile S.Scheme scheme.now key.now
         (comments_of trusted.now untrusted.now) (joined pieces.now) to.new) }
-    ensures rest { IfOk result (λ len. drop len to.new ≡ drop len to.old) }
+    ensures rest_unchanged { IfOk result (λ len. drop len to.new ≡ drop len to.old) }
 
     // The errors are, in this order: the key is not open; those of `write_signed_text` for its public key,
     // these comments and this buffer. After an error the buffer is unchanged.
-    ensures refused { IfErr result (IsOwnRefusal S.Scheme scheme.now key.now
+    ensures refused { IfErr result (IsSigningRefusal S.Scheme scheme.now key.now
         (comments_of trusted.now untrusted.now) (joined pieces.now) to.old) }
     ensures unchanged { OnErr result (to.new ≡ to.old) }
 {
@@ -125,7 +125,8 @@ pub fn sign_pieces_by_text<S: Scheme>(
     // split.**
     ensures verifies { IfOk result (λ len. (k : SecretKeyRecord) ×
         (opened_text key_text.now.text.now (option_copied key_text.now.password) key_text.now.most_rows
-        ≡ Ok k) × OwnTextVerifies S.Scheme scheme.now k (joined pieces.now) trusted.now (take len to.new)) }
+        ≡ Ok k)
+        × SignedFileVerifies S.Scheme scheme.now k (joined pieces.now) trusted.now (take len to.new)) }
 
     // The errors are, in this order: those of opening the key file; those of `sign_pieces` with that key.
     // After an error the buffer is unchanged. On success, the rest of the buffer is unchanged.
@@ -133,7 +134,7 @@ pub fn sign_pieces_by_text<S: Scheme>(
         (option_copied key_text.now.password) key_text.now.most_rows
         (comments_of trusted.now untrusted.now) (joined pieces.now) to.old) }
     ensures unchanged { OnErr result (to.new ≡ to.old) }
-    ensures rest { IfOk result (λ len. drop len to.new ≡ drop len to.old) }
+    ensures rest_unchanged { IfOk result (λ len. drop len to.new ≡ drop len to.old) }
 {
     match key_text.open(alloc) {
         Ok(key) => sign_pieces(alloc, scheme, &key, pieces, trusted, untrusted, room, to),
@@ -183,7 +184,7 @@ fn feed(state: &mut State, pieces: &[&[u8]]) -> Result<(), Misuse>
     requires { IsFedState state.old [] }
     ensures fed { MatchResult result (λ _. IsFedState state.new (joined pieces.now))
         (λ _. ⊥) }
-    ensures asked { KeepsQuestions state.old state.new }
+    ensures questions_kept { KeepsQuestions state.old state.new }
 {
     'pieces: for piece in pieces {
         state.update(*piece)?;
@@ -237,7 +238,7 @@ fn sign_both<S: Scheme>(
     room: &mut [u8],
 ) -> Result<([u8; 64], [u8; 64]), Misuse>
     requires { 64 + length trusted.now ≤ length room.old }
-    ensures made { MatchResult result
+    ensures signed_by_scheme { MatchResult result
         (λ both. (both.0 ≡ S.signature_of scheme.now digest.now key.now.secret None)
         × (both.1 ≡ S.signature_of scheme.now (both.0 ++ trusted.now) key.now.secret None)) (λ _. ⊥) }
     ensures accepted { IfOk result (λ both. (seed : List ℕ) → IsPairOf (S.public_of scheme.now) seed key.now
@@ -252,12 +253,12 @@ fn sign_both<S: Scheme>(
 
 /// States that the results of a scheme for the two questions are the results that decide the verdict. This
 /// function is a law: it does nothing, and exists only for its contract.
-#[tactic(auto, using(crate::proofs::GivenAnswers::given, crate::proofs::OwnTexts::own_verdict))]
-pub fn answers_decide()
+#[tactic(auto, using(crate::proofs::ResultsOfQuestions::results_of_questions, crate::proofs::SignedFiles::own_verdict))]
+pub fn results_decide_verdict()
     // If the application asks its scheme the two questions, with the digest of a message in the first, then
     // the scheme's results are the results of the two checks for the key, the signature text and that
     // message. The promise of `State::verdict` needs this.
-    ensures given { (accepts : Verifier) (v : PublicKeyValue) (text message room digest : List ℕ)
+    ensures results_are_checks { (accepts : Verifier) (v : PublicKeyValue) (text message room digest : List ℕ)
         (t : SignatureTextRecord) (q : Questions) → read_under v false text ≡ Ok t
         → AreQuestionsWithoutDigest q room v t
         → digest ≡ blake2b_digest 64 message → (first second : Bool) → first ≡ accepts digest q.public_key
@@ -268,10 +269,12 @@ pub fn answers_decide()
     // signature followed by the trusted comment, under the public key of a seed, then the file verifies under
     // that public key: the verdict on the file and the message is the trusted comment. The file must have
     // been written for the key that consists of the seed and this public key.
-    ensures own { (accepts : Verifier) (public_of : List ℕ → List ℕ) (seed : List ℕ) (v : SecretKeyValue)
+    ensures signed_file_verifies { (accepts : Verifier) (public_of : List ℕ
+        → List ℕ) (seed : List ℕ) (v : SecretKeyValue)
         (w : PublicKeyValue) → IsPairOf public_of seed v → is_opened v ≡ true → public_value_of v ≡ Ok w
         → (message digest trusted untrusted first second bytes : List ℕ) (len : ℕ) → digest ≡ blake2b_digest
-        64 message → length second ≡ 64 → HoldsText v.key_id (comments_of trusted untrusted) first second
+        64 message → length second ≡ 64
+        → HoldsSignatureFile v.key_id (comments_of trusted untrusted) first second
         bytes len → (accepts digest (public_of seed) first ≡ true) × (accepts (first ++ trusted) (public_of
         seed) second ≡ true) → verdict_under accepts w (take len bytes) message false ≡ Ok trusted }
 {}

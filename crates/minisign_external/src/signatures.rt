@@ -71,7 +71,7 @@ impl SignatureValue {
 
         // If the text is UTF-8 and does not parse, verification with it fails with the same error, under
         // every public key, for every scheme and every message.
-        ensures texts { (v : PublicKeyValue) (legacy : Bool)
+        ensures same_error_as_texts { (v : PublicKeyValue) (legacy : Bool)
             → IfErr result (λ e. IsTextRefusal v sig_text.now legacy (Refused e)) }
     {
         match str::from_utf8(sig_text) {
@@ -136,7 +136,7 @@ impl SignatureValue {
         if self.mark != READ {
             return Err(Misuse::SignatureNotRead);
         }
-        match self.comment_of_same(sig_text) {
+        match self.comment_in_same_text(sig_text) {
             Some(comment) => Ok(comment),
             None => Err(Misuse::OtherSignatureText),
         }
@@ -151,7 +151,7 @@ impl SignatureValue {
 
     // Returns the trusted comment, if the text has the recorded digest and UTF-8 at the position of the
     // comment.
-    fn comment_of_same<'a>(&self, sig_text: &'a [u8]) -> Option<&'a str>
+    fn comment_in_same_text<'a>(&self, sig_text: &'a [u8]) -> Option<&'a str>
         ensures { MatchOption result (is_text_of self.now sig_text.now ≡ false)
             (λ c. (is_text_of self.now sig_text.now ≡ true) × (c.now ≡ comment_bytes self.now sig_text.now)) }
     {

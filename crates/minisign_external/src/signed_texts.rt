@@ -7,9 +7,10 @@ ghost use Rattle.minisign_base.specs.Fault.{Named};
 ghost use Rattle.minisign_base.specs.declared.faults.NamedFault.TheVariants.{OutOfMemory};
 ghost use Rattle.minisign.specs.Signing.{AreChosenReadBack};
 ghost use Rattle.minisign.specs.SignatureText.{read_signature_box, signature_text};
-ghost use Rattle.minisign_external.specs.Signing.{AreReadByMinisign, HoldsText, IsAnsweredText};
-ghost use Rattle.minisign_external.specs.Signing.{IsCommentMisuse, IsWritingRefusal, answered_box};
-ghost use Rattle.minisign_external.specs.Signing.{answered_comments, answered_signature, comments_of};
+ghost use Rattle.minisign_external.specs.Signing.{AreReadByMinisign, HoldsSignatureFile, IsSignatureFileOf};
+ghost use Rattle.minisign_external.specs.Signing.{IsCommentMisuse, IsWritingRefusal, box_of_signatures};
+ghost use Rattle.minisign_external.specs.Signing.{comments_with_signature, signature_with_key_id};
+ghost use Rattle.minisign_external.specs.Signing.{comments_of};
 ghost use Rattle.minisign_external.specs.PublicKeys.{is_public_key};
 ghost use Rattle.minisign_external.specs.declared.state.Misuse.{Misuse};
 ghost use Rattle.minisign_external.specs.declared.state.Misuse.TheVariants.{NoRoom};
@@ -38,7 +39,7 @@ pub fn signed_text(
     // this key ID and under which both signatures are valid. If the key is genuine, everything that the
     // headline of docs/PROMISES.md says about signing holds for the result.
     ensures text { IfOk result (λ t.
-        IsAnsweredText key_id.now (comments_of trusted.now untrusted.now) first.now second.now
+        IsSignatureFileOf key_id.now (comments_of trusted.now untrusted.now) first.now second.now
         (string_bytes t)) }
 
     // The errors are, in this order: `BadComment`, if a comment would change when it is read back, because it
@@ -70,9 +71,10 @@ pub fn write_signed_text(
     // On success, the public key was read, and the signature file that `signed_text` promises for its key ID
     // is at the start of the buffer. The rest of the buffer is unchanged.
     ensures text { IfOk result (λ len. (is_public_key key.now ≡ true)
-        × HoldsText key.now.key_id (comments_of trusted.now untrusted.now) first.now second.now to.new len) }
-    ensures rest { IfOk result (λ len. drop len to.new ≡ drop len to.old) }
-    ensures readable { OnOk result (AreReadByMinisign (comments_of trusted.now untrusted.now)) }
+        × HoldsSignatureFile key.now.key_id
+        (comments_of trusted.now untrusted.now) first.now second.now to.new len) }
+    ensures rest_unchanged { IfOk result (λ len. drop len to.new ≡ drop len to.old) }
+    ensures read_by_minisign { OnOk result (AreReadByMinisign (comments_of trusted.now untrusted.now)) }
 
     // The errors are, in this order: the public key was not read; a comment is not UTF-8; those of
     // `signed_text`; the buffer is too short. After an error the buffer is unchanged.
@@ -101,7 +103,7 @@ pub(crate) fn write_front(bytes: &[u8], to: &mut [u8]) -> Option<usize>
     ensures written { MatchOption result (length to.old < length bytes.now)
         (λ n. (n ≤ length to.new) × (take n to.new ≡ bytes.now)) }
     ensures count { IfSome result (λ n. n ≡ length bytes.now) }
-    ensures rest { IfSome result (λ n. drop n to.new ≡ drop n to.old) }
+    ensures rest_unchanged { IfSome result (λ n. drop n to.new ≡ drop n to.old) }
     ensures unwritten { IfNone result (to.new ≡ to.old) }
 {
     if to.len() < bytes.len() {
@@ -124,8 +126,8 @@ pub fn write_comment_message(
     // rest of the buffer is unchanged. The only error is a buffer that is too short; then it is unchanged.
     ensures message { IfOk result (λ n. (n ≡ 64 + length trusted.now) × (n ≤ length message.new)
         × (take n message.new ≡ first.now ++ trusted.now)) }
-    ensures rest { IfOk result (λ n. drop n message.new ≡ drop n message.old) }
-    ensures room { OnOk result (64 + length trusted.now ≤ length message.old) }
+    ensures rest_unchanged { IfOk result (λ n. drop n message.new ≡ drop n message.old) }
+    ensures message_fits { OnOk result (64 + length trusted.now ≤ length message.old) }
     ensures refused { IfErr result
         (λ m. (m ≡ NoRoom) × (length message.old < 64 + length trusted.now) × (message.new ≡ message.old)) }
 {
@@ -184,12 +186,13 @@ fn written(
     trusted: &str,
     untrusted: &str,
 ) -> minisign::Result<String>
-    ensures text { IfOk result (λ t. string_bytes t ≡ signature_text (answered_signature key_id.now first.now)
-        (answered_comments (comments_of trusted.now untrusted.now) second.now)) }
+    ensures text { IfOk result (λ t. string_bytes t ≡ signature_text
+        (signature_with_key_id key_id.now first.now)
+        (comments_with_signature (comments_of trusted.now untrusted.now) second.now)) }
     ensures reads_back { AreChosenReadBack (comments_of trusted.now untrusted.now)
         → IfOk result (λ t. read_signature_box (string_bytes t)
-        ≡ Ok (answered_box key_id.now (comments_of trusted.now untrusted.now) first.now second.now)) }
-    ensures refused { IfErr result (λ e. e ≡ Named OutOfMemory) }
+        ≡ Ok (box_of_signatures key_id.now (comments_of trusted.now untrusted.now) first.now second.now)) }
+    ensures only_out_of_memory { IfErr result (λ e. e ≡ Named OutOfMemory) }
 {
     let signature_box = SignatureBox::from_parts(alloc, key_id, first, untrusted, trusted, second)?;
     signature_box.into_string(alloc)

@@ -203,9 +203,9 @@ impl State {
         // state was never initialized or was finished by a verdict. After an error, the state is unchanged.
         ensures fed { (m : List ℕ) → IsFedState self.old m
             → MatchResult result (λ _. IsFedState self.new (m ++ piece.now)) (λ _. ⊥) }
-        ensures asked { KeepsQuestions self.old self.new }
-        ensures begun { OnOk result (IsMarkedFed self.old) }
-        ensures rest { OnOk result (self.new ≡ record self.old { hash = self.new.hash }) }
+        ensures questions_kept { KeepsQuestions self.old self.new }
+        ensures was_begun { OnOk result (IsMarkedFed self.old) }
+        ensures other_fields_unchanged { OnOk result (self.new ≡ record self.old { hash = self.new.hash }) }
         ensures refused { IfErr result (λ e. IsNotFed self.old e × (self.new ≡ self.old)) }
     {
         let mut hasher = self.hasher()?;
@@ -224,9 +224,9 @@ impl State {
         ensures digest { (m : List ℕ) → IsFedState self.old m
             → MatchResult result (λ _. (digest.new ≡ blake2b_digest 64 m) × HasReturnedDigest self.new m)
             (λ _. ⊥) }
-        ensures asked { KeepsQuestions self.old self.new }
+        ensures questions_kept { KeepsQuestions self.old self.new }
         ensures finalized { OnOk result (IsMarkedFed self.old × IsMarkedFinalized self.new) }
-        ensures rest { OnOk result (self.new ≡ record self.old { mark = self.new.mark }) }
+        ensures other_fields_unchanged { OnOk result (self.new ≡ record self.old { mark = self.new.mark }) }
         ensures refused { IfErr result
             (λ e. IsNotFed self.old e × (self.new ≡ self.old) × (digest.new ≡ digest.old)) }
     {

@@ -35,14 +35,14 @@ block_rest m b i used e len fits =
     rw (part, len) refl
 
 -- The first state, with an empty buffer, holds the empty message.
-pub held_none : (n : ℕ) (h buffer : List ℕ) → h ≡ state_after n [] 0 → HeldAfter n h 0 buffer 0 [] 0
-held_none n h buffer e = record { len = refl; state = e; rest = refl; counted = refl }
+pub holds_empty : (n : ℕ) (h buffer : List ℕ) → h ≡ state_after n [] 0 → HeldAfter n h 0 buffer 0 [] 0
+holds_empty n h buffer e = record { len = refl; state = e; rest = refl; counted = refl }
 
 -- Appending bytes to the buffer appends them to the message that the state holds.
-pub held_more : (n : ℕ) (h : List ℕ) (count : ℕ) (b c : List ℕ) (used : ℕ) (m d : List ℕ) (i : ℕ)
+pub holds_appended : (n : ℕ) (h : List ℕ) (count : ℕ) (b c : List ℕ) (used : ℕ) (m d : List ℕ) (i : ℕ)
     → HeldAfter n h count b used m i
     → take (used + length d) c ≡ take used b ++ d → HeldAfter n h count c (used + length d) (m ++ d) i
-held_more n h count b c used m d i held e = record {
+holds_appended n h count b c used m d i held e = record {
   len = length-append m d ∙ omega (arith, held.len);
   state = held.state ∙ sym (state_after-append n m d i (omega (arith, held.len)));
   rest = e ∙ rw (held.rest, drop-append-le (128 * i) m d (omega (arith, held.len))) refl;
@@ -80,11 +80,12 @@ state_next n m blocks behind i k h g t ahead fits eh et eg =
 
 -- After the remaining s bytes, which are whole blocks, have been compressed, the state holds the
 -- message with an empty buffer.
-pub held_taken : (n : ℕ) (g : List ℕ) (count k : ℕ) (b : List ℕ) (used : ℕ) (m : List ℕ) (i s : ℕ) → used ≡ 0
+pub holds_after_blocks : (n : ℕ) (g : List ℕ) (count k : ℕ) (b : List ℕ) (used : ℕ) (m : List ℕ) (i s : ℕ)
+    → used ≡ 0
     → length m ≡ 128 * i + s → s % 128 ≡ 0
     → count ≡ 128 * i % 2 ^ 128 → k ≡ (count + s) % 2 ^ 128 → g ≡ state_after n m (i + s / 128)
     → HeldAfter n g k b used m (i + s / 128)
-held_taken n g count k b used m i s none len whole ec ek eg =
+holds_after_blocks n g count k b used m i s none len whole ec ek eg =
     let taken : take used b ≡ [] = rw none refl in
     record {
       len = omega (arith, len, whole, none);
@@ -94,7 +95,7 @@ held_taken n g count k b used m i s none len whole ec ek eg =
     }
 
 -- Compressing the bytes after the whole blocks as the last block gives the digest.
-pub last_taken : (n : ℕ) (h m blocks last : List ℕ) (i k : ℕ) → drop (128 * i) m ≡ blocks ++ last
+pub last_block_gives_digest : (n : ℕ) (h m blocks last : List ℕ) (i k : ℕ) → drop (128 * i) m ≡ blocks ++ last
     → length m ≡ 128 * i + length (blocks ++ last)
     → length blocks % 128 ≡ 0 → length last ≤ 128 → (0 < length m → 0 < length last)
     → h ≡ state_after n m (i + length blocks / 128)
@@ -102,7 +103,7 @@ pub last_taken : (n : ℕ) (h m blocks last : List ℕ) (i k : ℕ) → drop (12
     → take n (bytes_of_words64 (compress h (words64_of (last ++ replicate (128 - length last) 0)) k true))
     ≡ blake2b_digest n m
 unfolding blake2b_digest
-last_taken n h m blocks last i k ahead len whole fits some eh ek =
+last_block_gives_digest n h m blocks last i k ahead len whole fits some eh ek =
     let j : ℕ = i + length blocks / 128 in
     let both : length (blocks ++ last) ≡ length blocks + length last = length-append blocks last in
     let number : (length m - 1) / 128 ≡ j = grind (arith, len, both, whole, some, fits) in

@@ -5,7 +5,7 @@ use Rattle.minisign_install.specs.Applications.{Applies, Call, Snapshot}
 use Rattle.minisign_install.specs.Applications.{Others, Performs}
 use Rattle.minisign_install.specs.Decisions.{Options}
 use Rattle.minisign_install.specs.Faults.{InstallFault}
-use Rattle.minisign_install.specs.StepRuns.{IsAtOneOf, IsReason, total}
+use Rattle.minisign_install.specs.StepRuns.{IsAtTimeIn, IsReason, total}
 use Rattle.minisign_install.specs.Step.{after}
 use Rattle.std.specs.Prelude.{⊤, Bool, Err, Option, is_some}
 use Rattle.minisign_external.specs.declared.state.Refusal.TheVariants.{Refused}
@@ -23,12 +23,12 @@ use Rattle.minisign_install.specs.Histories.{list_calls}
 abbrev pub event_of : Call → Event
 event_of c = c.event
 
-both : (w : World) (P : Event → Type 0) (n : ℕ) (s : State) (calls : List Call) (t : State)
+run_with_property : (w : World) (P : Event → Type 0) (n : ℕ) (s : State) (calls : List Call) (t : State)
     → IsRun (IsLawfulEvent w) n s (map event_of calls) t → AllEvents P calls
     → IsRun (λ n s e. IsLawfulEvent w n s e × P e) n s (map event_of calls) t
-both w P n s [] t run each = run
-both w P n s (c ∷ more) t (is, run) (holds, each) =
-    ((is, holds), both w P (count n c.event) (step s c.event).1 more t run each)
+run_with_property w P n s [] t run each = run
+run_with_property w P n s (c ∷ more) t (is, run) (holds, each) =
+    ((is, holds), run_with_property w P (count n c.event) (step s c.event).1 more t run each)
 
 -- If the update is good and no event is a failure, a run that has ended has installed the update.
 pub good_update_is_installed : (w : World) (o : Options) (g : IsGoodUpdate w o) (m : Snapshot)
@@ -36,15 +36,15 @@ pub good_update_is_installed : (w : World) (o : Options) (g : IsGoodUpdate w o) 
     → AllEvents (IsAcceptable g) calls → has_ended t.due ≡ true → t.due ≡ Installed
 good_update_is_installed w o g m calls t end run fine ended =
     good_update_gets_installed w o g (map event_of calls) t
-    (both w (IsAcceptable g) 0 (begin o) calls t (true_run w o m calls t end run) fine) ended
+    (run_with_property w (IsAcceptable g) 0 (begin o) calls t (true_run w o m calls t end run) fine) ended
 
 -- If a run ends as installed, already installed or would install, then IsEnd holds.
 pub reported_ends_are_true : (w : World) (o : Options) (times : Option ℕ → Bool) (m : Snapshot)
     (calls : List Call) (t : State) (end : Snapshot) → Applies w (begin o) m calls t end
-    → AllEvents (IsAtOneOf times) calls → IsEnd w o times t.due
+    → AllEvents (IsAtTimeIn times) calls → IsEnd w o times t.due
 reported_ends_are_true w o times m calls t end run timed =
     ends_are_true w o times (map event_of calls) t
-    (both w (IsAtOneOf times) 0 (begin o) calls t (true_run w o m calls t end run) timed)
+    (run_with_property w (IsAtTimeIn times) 0 (begin o) calls t (true_run w o m calls t end run) timed)
 
 length_map : (calls : List Call) → length (map event_of calls) ≡ length calls
 length_map [] = refl
@@ -53,7 +53,7 @@ length_map (c ∷ more) = ap suc (length_map more)
 -- The length of a run is bounded by the lengths of the data and of the installed file.
 pub application_ends : (w : World) (o : Options) (m : Snapshot) (calls : List Call) (t : State)
     (end : Snapshot) → Applies w (begin o) m calls t end
-    → length calls ≤ 23 + list_calls o + length o.keys + w.most + 2 * length w.update
+    → length calls ≤ 23 + list_calls o + length o.keys + w.max_size + 2 * length w.update
 application_ends w o m calls t end run =
     rw (sym (length_map calls)) (run_ends w o (map event_of calls) t (true_run w o m calls t end run))
 
@@ -70,11 +70,11 @@ last_true w o n s m (d ∷ more) t end c known (others, fits, is, run) later fit
 -- If a call returns an error, its event is a failure, the lock is in use, or the run has found the cause.
 pub reported_errors_are_true : (w : World) (o : Options) (times : Option ℕ → Bool) (m : Snapshot)
     (calls : List Call) (s : State) (end : Snapshot) (c : Call) (fault : InstallFault)
-    → Applies w (begin o) m calls s end → AllEvents (IsAtOneOf times) calls → IsAtOneOf times c.event
+    → Applies w (begin o) m calls s end → AllEvents (IsAtTimeIn times) calls → IsAtTimeIn times c.event
     → Others end c.before → is_some (after s.due c.event s) ≡ true
     → Performs w s s.due c.event c.before c.after → (step s c.event).0 ≡ Err (Refused fault)
     → IsReason w o times s c.event fault
 reported_errors_are_true w o times m calls s end c fault run timed now others fits is refuses =
     errors_are_true w o times (map event_of calls) s c.event fault
-    (both w (IsAtOneOf times) 0 (begin o) calls s (true_run w o m calls s end run) timed)
+    (run_with_property w (IsAtTimeIn times) 0 (begin o) calls s (true_run w o m calls s end run) timed)
     (last_true w o 0 (begin o) m calls s end c (safe_calls.begins w o ⊤ ⊥ m) run others fits is) now refuses

@@ -28,24 +28,25 @@ not_true false is = refl
 
 -- == Numbers ==
 
-both : (a b : Bool) → (a && b) ≡ true → (a ≡ true) × (b ≡ true)
-both true b is = (refl, is)
-both false b is = absurd (true≢false (sym is))
+and_parts : (a b : Bool) → (a && b) ≡ true → (a ≡ true) × (b ≡ true)
+and_parts true b is = (refl, is)
+and_parts false b is = absurd (true≢false (sym is))
 
 digits_are : (text : List ℕ) → are_digits text ≡ true → AllDigits 10 text
 digits_are [] is = tt
 digits_are (c ∷ text) is =
-    let (one, more) = both (nat_lt (digit_value c) 10) (are_digits text) is in
+    let (one, more) = and_parts (nat_lt (digit_value c) 10) (are_digits text) is in
     (ltb-true (digit_value c) 10 one, digits_are text more)
 
-are_all : (text : List ℕ) → AllDigits 10 text → are_digits text ≡ true
-are_all [] is = refl
-are_all (c ∷ text) (one, more) = rw (lt-ltb (digit_value c) 10 one) (are_all text more)
+all_digits : (text : List ℕ) → AllDigits 10 text → are_digits text ≡ true
+all_digits [] is = refl
+all_digits (c ∷ text) (one, more) = rw (lt-ltb (digit_value c) 10 one) (all_digits text more)
 
 is_number_text : (text : List ℕ) → is_number text ≡ true → IsNumberText text (digits_value 10 text)
 is_number_text [] is = absurd (true≢false (sym is))
 is_number_text (c ∷ text) is =
-    let (digits, bound) = both (are_digits (c ∷ text)) (nat_lt (digits_value 10 (c ∷ text)) (2 ^ 64)) is in
+    let (digits, bound) =
+    and_parts (are_digits (c ∷ text)) (nat_lt (digits_value 10 (c ∷ text)) (2 ^ 64)) is in
     record {
       numeral = (omega arith, digits_are (c ∷ text) digits);
       is = refl;
@@ -55,7 +56,7 @@ is_number_text (c ∷ text) is =
 is_a_number : (text : List ℕ) (n : ℕ) → IsNumberText text n → is_number text ≡ true
 is_a_number [] n is = absurd (omega (arith, is.numeral.0))
 is_a_number (c ∷ text) n is =
-    rw (are_all (c ∷ text) is.numeral.1) (lt-ltb (digits_value 10 (c ∷ text)) (2 ^ 64) (omega
+    rw (all_digits (c ∷ text) is.numeral.1) (lt-ltb (digits_value 10 (c ∷ text)) (2 ^ 64) (omega
     (arith, is.is, is.bound)))
 
 picked : {A : Type 0} (b : Bool) (x y : A) → (if b then Some x else None) ≡ Some y → (b ≡ true) × (x ≡ y)
@@ -88,11 +89,11 @@ version_reads numbering comment n is = rw is.numbered (number_reads is.value n i
 
 -- == The checks of a comment ==
 
-none_first : (first : Option InstallFault) (more : List (Option InstallFault))
+none_fails : (first : Option InstallFault) (more : List (Option InstallFault))
     → first_of (first ∷ more) ≡ None
     → (first ≡ None) × (first_of more ≡ None)
-none_first None more is = (refl, is)
-none_first (Some f) more is = absurd (none-some f (sym is))
+none_fails None more is = (refl, is)
+none_fails (Some f) more is = absurd (none-some f (sym is))
 
 holds_if : (holds : Bool) (fault : InstallFault) → unless holds fault ≡ None → holds ≡ true
 holds_if true fault is = refl
@@ -106,10 +107,10 @@ some_number : (number : Option ℕ) → is_some number ≡ true → (n : ℕ) ×
 some_number None is = absurd (true≢false (sym is))
 some_number (Some n) is = (n, refl)
 
-before : (time : Option ℕ) (until : ℕ) → is_below time (Some until) ≡ true
+before_expiry : (time : Option ℕ) (until : ℕ) → is_below time (Some until) ≡ true
     → unwrap_or time (2 ^ 64 - 1) < until
-before None until is = absurd (true≢false (sym is))
-before (Some now) until is = ltb-true now until is
+before_expiry None until is = absurd (true≢false (sym is))
+before_expiry (Some now) until is = ltb-true now until is
 
 unexpired : (must : Bool) (time : Option ℕ) (comment : List ℕ) (fields : List (List ℕ)) (until : Option ℕ)
     → expiries must comment ≡ fields → number_of (value_of expiry_label comment) ≡ until
@@ -121,8 +122,8 @@ unexpired must time comment (field ∷ []) (Some until) are is none =
     let (value, present, number) = value_read (value_of expiry_label comment) until is in
     inr (
       until,
-      record { value = value; once = ap length are; labelled = present; number = number },
-      before time until (holds_if _ _ none),
+      record { value = value; single_value = ap length are; labelled = present; number = number },
+      before_expiry time until (holds_if _ _ none),
     )
 unexpired must time comment (field ∷ other ∷ more) until are is none = absurd (none-some BadExpiry
     (sym none))
@@ -132,7 +133,7 @@ sized : (comment : List ℕ) (fields : List (List ℕ)) → values_of size_label
 sized comment [] are none = (None, are)
 sized comment (field ∷ []) are none =
     let (n, is) = some_number (number_in field) (holds_if _ _ none) in
-    (Some n, record { value = field; once = are; number = reads_number field n is })
+    (Some n, record { value = field; single_value = are; number = reads_number field n is })
 sized comment (field ∷ other ∷ more) are none = absurd (none-some BadSize (sym none))
 
 says_of : (o : Options) (time : Option ℕ) (comment : List ℕ)
@@ -165,19 +166,19 @@ pub comment_says : (o : Options) (recorded time : Option ℕ) (comment : List �
     → (n : ℕ) × (version_in o.numbering comment ≡ Some n) × CommentSays o time comment n
     × (is_too_old o recorded (Some n) ≡ false)
 comment_says o recorded time comment none =
-    let (file, rest) = none_first _ _ none in
-    let (number, rest) = none_first _ _ rest in
-    let (expiry, rest) = none_first _ _ rest in
-    let (size, rest) = none_first _ _ rest in
+    let (file, rest) = none_fails _ _ none in
+    let (number, rest) = none_fails _ _ rest in
+    let (expiry, rest) = none_fails _ _ rest in
+    let (size, rest) = none_fails _ _ rest in
     let young : unless (not (is_too_old o recorded (version_in o.numbering comment))) OlderUpdate ≡ None =
-    (none_first _ _ rest).0 in
+    (none_fails _ _ rest).0 in
     let (n, is, says) = says_of o time comment file number expiry size in
     (n, is, says, not_true _ (holds_if _ _ (rw is at young)))
 
-some_first : (first : Option InstallFault) (more : List (Option InstallFault)) (e : InstallFault)
+first_or_later_fails : (first : Option InstallFault) (more : List (Option InstallFault)) (e : InstallFault)
     → first_of (first ∷ more) ≡ Some e → (first ≡ Some e) ⊎ ((first ≡ None) × (first_of more ≡ Some e))
-some_first None more e is = inr (refl, is)
-some_first (Some f) more e is = inl is
+first_or_later_fails None more e is = inr (refl, is)
+first_or_later_fails (Some f) more e is = inl is
 
 fails_if : (holds : Bool) (fault e : InstallFault) → unless holds fault ≡ Some e → (holds ≡ false)
     × (e ≡ fault)
@@ -221,7 +222,7 @@ expiry_refused must time comment (field ∷ []) (Some until) e are is some =
       fault,
       (
         until,
-        record { value = value; once = ap length are; labelled = present; number = number },
+        record { value = value; single_value = ap length are; labelled = present; number = number },
         past time until number.bound late,
       ),
     )
@@ -230,7 +231,7 @@ expiry_refused must time comment (field ∷ other ∷ more) until e are is some 
       sym (same_Some BadExpiry e some),
       λ none. cc (sym none ∙ are),
       λ u expires.
-          absurd (omega (arith, sym (ap length are) ∙ expires.once)),
+          absurd (omega (arith, sym (ap length are) ∙ expires.single_value)),
     ))
 
 badly_sized : (comment : List ℕ) (fields : List (List ℕ)) (e : InstallFault)
@@ -243,7 +244,7 @@ badly_sized comment (field ∷ []) e are some =
       (
         λ no. cc (sym no ∙ are),
         λ size sized.
-            let same : field ∷ [] ≡ sized.value ∷ [] = sym are ∙ sized.once in
+            let same : field ∷ [] ≡ sized.value ∷ [] = sym are ∙ sized.single_value in
             let is : field ≡ sized.value = cc same in
             true≢false (sym (ap is_some (ap number_in is ∙ number_reads sized.value size sized.number))
             ∙ none),
@@ -254,7 +255,7 @@ badly_sized comment (field ∷ other ∷ more) e are some = (
   (
     λ no. cc (sym no ∙ are),
     λ size sized.
-        let same : field ∷ other ∷ more ≡ sized.value ∷ [] = sym are ∙ sized.once in
+        let same : field ∷ other ∷ more ≡ sized.value ∷ [] = sym are ∙ sized.single_value in
         absurd (omega (arith, ap length same)),
   ),
 )
@@ -262,26 +263,26 @@ badly_sized comment (field ∷ other ∷ more) e are some = (
 older : (o : Options) (recorded : Option ℕ) (n : ℕ) → is_too_old o recorded (Some n) ≡ true
     → (k : ℕ) × (recorded ≡ Some k) × (n < k)
 older o None n is = absurd (true≢false (sym is))
-older o (Some k) n is = (k, refl, ltb-true n k (both (nat_lt n k) (not o.roll_back) is).0)
+older o (Some k) n is = (k, refl, ltb-true n k (and_parts (nat_lt n k) (not o.roll_back) is).0)
 
 was_false : (b : Bool) → not b ≡ false → b ≡ true
 was_false true is = refl
 was_false false is = absurd (true≢false is)
 
-last_first : (first : Option InstallFault) (e : InstallFault) → first_of (first ∷ []) ≡ Some e
+single_fails : (first : Option InstallFault) (e : InstallFault) → first_of (first ∷ []) ≡ Some e
     → first ≡ Some e
-last_first None e is = absurd (none-some e is)
-last_first (Some f) e is = is
+single_fails None e is = absurd (none-some e is)
+single_fails (Some f) e is = is
 
 -- If a comment is rejected, it fails the check that belongs to the error, and has passed all checks before
 -- it.
 pub comment_refused : (o : Options) (recorded time : Option ℕ) (comment : List ℕ) (e : InstallFault)
     → comment_fault o recorded time comment ≡ Some e
     → IsCommentRefused o recorded time comment e
-comment_refused o recorded time comment e some = elim (some_first _ _ e some) [
+comment_refused o recorded time comment e some = elim (first_or_later_fails _ _ e some) [
   | inl file ↦
       let (not, fault) = fails_if _ _ e file in inl (fault, not_named o.file _ not)
-  | inr (file, rest) ↦ elim (some_first _ _ e rest) [
+  | inr (file, rest) ↦ elim (first_or_later_fails _ _ e rest) [
     | inl number ↦
         let (not, fault) = fails_if _ _ e number in
         inr (inl (fault, named o.file _ (holds_if _ _ file), no_number o.numbering comment not))
@@ -289,7 +290,7 @@ comment_refused o recorded time comment e some = elim (some_first _ _ e some) [
         let (n, is) = some_number (version_in o.numbering comment) (holds_if _ _ number) in
         let has : (m : ℕ) × HasNumber comment o.numbering m = (n, reads_version o.numbering comment n is) in
         let is_named = named o.file _ (holds_if _ _ file) in
-        elim (some_first _ _ e rest) [
+        elim (first_or_later_fails _ _ e rest) [
           | inl expiry ↦
               inr (inr (inl (
                 is_named,
@@ -299,14 +300,14 @@ comment_refused o recorded time comment e some = elim (some_first _ _ e some) [
               )))
           | inr (expiry, rest) ↦
               let fresh = unexpired o.must_expire time comment _ _ refl refl expiry in
-              elim (some_first _ _ e rest) [
+              elim (first_or_later_fails _ _ e rest) [
                 | inl size ↦
                     let (fault, badly) = badly_sized comment _ e refl size in
                     inr (inr (inr (inl (fault, is_named, has, fresh, badly))))
                 | inr (size, rest) ↦
                     let old : unless (not (is_too_old o recorded
                     (version_in o.numbering comment))) OlderUpdate
-                    ≡ Some e = last_first _ e rest in
+                    ≡ Some e = single_fails _ e rest in
                     let (not, fault) = fails_if _ _ e old in
                     let says = says_of o time comment file number expiry size in
                     let (k, present, below) = older o recorded says.0 (was_false _ (rw says.1 at not)) in

@@ -16,7 +16,7 @@ use Rattle.minisign_base.specs.declared.faults.NamedFault.TheVariants as named
 use Rattle.minisign_install.specs.Faults.{Fault, InstallFault, Library, Named, OtherSize, SameNumber}
 use Rattle.minisign_install.specs.Faults.{TargetInUse}
 use Rattle.minisign_install.specs.Step.{Event, Operation, State, after, answer, step}
-use Rattle.minisign_install.specs.Step as due
+use Rattle.minisign_install.specs.Step as fsm
 use Rattle.minisign_install.specs.StepRuns.{IsAnswer, World, says_yes}
 use Rattle.minisign_install.specs.Installations.{IsTooLong, comment_message, judged_text, signature_read}
 use Rattle.minisign_install.specs.Decisions.{Options}
@@ -49,12 +49,12 @@ use Rattle.minisign_lists.specs.declared.digests.ListedDigest.{ListedDigest}
 use Rattle.minisign_install.specs.Faults.{DigestMismatch}
 use Rattle.minisign_install.specs.Step.{signed_digest}
 
-pub are_same : (one other : List ℕ) → one ≡ other → bytes_eq one other ≡ true
-are_same one other is = (bytes_eq-Decides one other).1 is
+pub equal_bytes : (one other : List ℕ) → one ≡ other → bytes_eq one other ≡ true
+equal_bytes one other is = (bytes_eq-Decides one other).1 is
 
-both_are : (a b : Bool) → a ≡ true → b ≡ true → (a && b) ≡ true
-both_are true b one other = other
-both_are false b one other = absurd (true≢false (sym one))
+and_true : (a b : Bool) → a ≡ true → b ≡ true → (a && b) ≡ true
+and_true true b one other = other
+and_true false b one other = absurd (true≢false (sym one))
 
 -- If the bytes begin with `front` and `piece`, then both can be cut out of them at these lengths.
 pub piece_cut : (whole front piece : List ℕ) → IsPieceOf whole front piece
@@ -80,10 +80,10 @@ read_found : (place : Option File) (v : Option FileView) (number : ℕ) (read : 
 read_found (Some found) (Some v) number read file is at holds one =
     let same = same_Some (seen found) (seen_as v) is in
     let present : found ≡ file = same_Some found file at in
-    both_are (v.number == number) (bytes_eq v.bytes.now read)
+    and_true (v.number == number) (bytes_eq v.bytes.now read)
     (eq-eqb v.number number (sym (ap (λ (x : Seen). x.number) same) ∙ ap (λ (x : File). x.number) present
     ∙ sym one))
-    (are_same v.bytes.now read (sym (ap (λ (x : Seen). x.bytes) same) ∙ ap (λ (x : File). x.bytes) present
+    (equal_bytes v.bytes.now read (sym (ap (λ (x : Seen). x.bytes) same) ∙ ap (λ (x : File). x.bytes) present
     ∙ holds))
 read_found (Some found) None number read file is at holds one = absurd (none-some (seen found) (sym is))
 read_found None v number read file is at holds one = absurd (none-some file at)
@@ -106,79 +106,79 @@ none_seen None None is at = refl
 
 pub done_found : (w : World) (s : State) (op : Operation) (did : Effect) (f : Files) (m : Snapshot)
     (read update : List ℕ) → AreFilesOf f m → read ≡ s.read → w.update ≡ update
-    → Performs w s op due.Done m (affected did m) → is_effect op did ≡ true
+    → Performs w s op fsm.Done m (affected did m) → is_effect op did ≡ true
     → is_done op did f read update ≡ true
-done_found w s due.Lock effect.Locked f m read update present same offered done is =
+done_found w s fsm.Lock effect.Locked f m read update present same offered done is =
     ap not (sym present.busy ∙ done.0)
-done_found w s due.ReadTarget (effect.TargetOpened number) f m read update present same offered
+done_found w s fsm.ReadTarget (effect.TargetOpened number) f m read update present same offered
     (file, at, holds, one) is =
     read_found m.target f.target number read file present.target at (holds ∙ sym same)
     (same_Some number file.number (ap (λ (x : Snapshot). x.opened) one))
-done_found w s due.CopyData effect.Nothing f m read update present same offered done is =
-    are_same _ update (sym (bytes_are m.data_file f.data_file present.data_file) ∙ done.0 ∙ offered)
-done_found w s due.ReadBack effect.Nothing f m read update present same offered done is =
-    are_same read _ (same ∙ done.0 ∙ bytes_are m.data_file f.data_file present.data_file)
+done_found w s fsm.CopyData effect.Nothing f m read update present same offered done is =
+    equal_bytes _ update (sym (bytes_are m.data_file f.data_file present.data_file) ∙ done.0 ∙ offered)
+done_found w s fsm.ReadBack effect.Nothing f m read update present same offered done is =
+    equal_bytes read _ (same ∙ done.0 ∙ bytes_are m.data_file f.data_file present.data_file)
 done_found w s op did f m read update present same offered done is = is
 
-pub done_as : (s : State) (op : Operation) (did : Effect) → (op ≡ due.WriteRecord → ⊥) → IsDoneAs s op did
+pub done_as : (s : State) (op : Operation) (did : Effect) → (op ≡ fsm.WriteRecord → ⊥) → IsDoneAs s op did
     → is_effect op did ≡ true
-done_as s due.WriteRecord did other is = absurd (other refl)
+done_as s fsm.WriteRecord did other is = absurd (other refl)
 done_as s op did other is = is
 
 pub in_use_found : (w : World) (s : State) (op : Operation) (old new : Snapshot)
-    → Performs w s op due.InUse old new → (op ≡ due.Lock) × (old.busy ≡ true)
-in_use_found w s due.Lock old new is = (refl, is.0)
+    → Performs w s op fsm.InUse old new → (op ≡ fsm.Lock) × (old.busy ≡ true)
+in_use_found w s fsm.Lock old new is = (refl, is.0)
 in_use_found w s op old new is = absurd is
 
 pub record_found : (w : World) (s : State) (op : Operation) (found : Option (List ℕ)) (old new : Snapshot)
-    → Performs w s op (due.RecordRead found) old new
-    → (op ≡ due.ReadRecord) × (found ≡ w.found_record) × (found ≡ content old.recorded)
-record_found w s due.ReadRecord found old new is = (refl, is.0, is.1)
+    → Performs w s op (fsm.RecordRead found) old new
+    → (op ≡ fsm.ReadRecord) × (found ≡ w.found_record) × (found ≡ content old.recorded)
+record_found w s fsm.ReadRecord found old new is = (refl, is.0, is.1)
 record_found w s op found old new is = absurd is
 
 pub target_missed : (w : World) (s : State) (op : Operation) (old new : Snapshot)
-    → Performs w s op due.TargetMissing old new → (op ≡ due.ReadTarget) × (old.target ≡ None)
-target_missed w s due.ReadTarget old new is = (refl, is.0)
+    → Performs w s op fsm.TargetMissing old new → (op ≡ fsm.ReadTarget) × (old.target ≡ None)
+target_missed w s fsm.ReadTarget old new is = (refl, is.0)
 target_missed w s op old new is = absurd is
 
 pub copy_found : (w : World) (s : State) (op : Operation) (n : ℕ) (old new : Snapshot)
-    → Performs w s op (due.PieceCopied n) old new → op ≡ due.CopyData
-copy_found w s due.CopyData n old new is = refl
+    → Performs w s op (fsm.PieceCopied n) old new → op ≡ fsm.CopyData
+copy_found w s fsm.CopyData n old new is = refl
 copy_found w s op n old new is = absurd is
 
 pub answer_found : (w : World) (s : State) (op : Operation) (accepted : Bool) (old new : Snapshot)
-    → Performs w s op (due.Answered accepted) old new → IsAnswer w s op accepted
-answer_found w s due.CheckComment accepted old new is = is.0
+    → Performs w s op (fsm.Answered accepted) old new → IsAnswer w s op accepted
+answer_found w s fsm.CheckComment accepted old new is = is.0
 answer_found w s op accepted old new is = is.0
 
 pub answer_leaves : (w : World) (s : State) (op : Operation) (accepted : Bool) (old new : Snapshot)
-    → Performs w s op (due.Answered accepted) old new → Performs w s op (due.Answered accepted) old old
-answer_leaves w s due.CheckComment accepted old new is = (is.0, refl)
+    → Performs w s op (fsm.Answered accepted) old new → Performs w s op (fsm.Answered accepted) old old
+answer_leaves w s fsm.CheckComment accepted old new is = (is.0, refl)
 answer_leaves w s op accepted old new is = (is.0, refl)
 
 pub piece_some : (w : World) (s : State) (op : Operation) (bytes : List ℕ) (old new : Snapshot)
-    → Performs w s op (due.PieceRead bytes) old new → 0 < length bytes
-piece_some w s due.ReadTarget bytes old new is = is.0
-piece_some w s due.ReadBack bytes old new is = is.0
+    → Performs w s op (fsm.PieceRead bytes) old new → 0 < length bytes
+piece_some w s fsm.ReadTarget bytes old new is = is.0
+piece_some w s fsm.ReadBack bytes old new is = is.0
 piece_some w s op bytes old new is = absurd is
 
 pub piece_leaves : (w : World) (s : State) (op : Operation) (bytes : List ℕ) (old new : Snapshot)
-    → Performs w s op (due.PieceRead bytes) old new → Performs w s op (due.PieceRead bytes) old old
-piece_leaves w s due.ReadTarget bytes old new is = (is.0, is.1, refl)
-piece_leaves w s due.ReadBack bytes old new is = (is.0, is.1, refl)
+    → Performs w s op (fsm.PieceRead bytes) old new → Performs w s op (fsm.PieceRead bytes) old old
+piece_leaves w s fsm.ReadTarget bytes old new is = (is.0, is.1, refl)
+piece_leaves w s fsm.ReadBack bytes old new is = (is.0, is.1, refl)
 piece_leaves w s op bytes old new is = absurd is
 
 pub piece_due : (w : World) (s : State) (op : Operation) (bytes : List ℕ) (old new : Snapshot)
-    → Performs w s op (due.PieceRead bytes) old new → (op ≡ due.ReadTarget) ⊎ (op ≡ due.ReadBack)
-piece_due w s due.ReadTarget bytes old new is = inl refl
-piece_due w s due.ReadBack bytes old new is = inr refl
+    → Performs w s op (fsm.PieceRead bytes) old new → (op ≡ fsm.ReadTarget) ⊎ (op ≡ fsm.ReadBack)
+piece_due w s fsm.ReadTarget bytes old new is = inl refl
+piece_due w s fsm.ReadBack bytes old new is = inr refl
 piece_due w s op bytes old new is = absurd is
 
 -- == Events ==
 
 -- The event is that the signature file was read.
 abbrev pub is_text : Event → Bool
-is_text (due.SignatureRead text time) = true
+is_text (fsm.SignatureRead text time) = true
 is_text e = false
 
 pub other_text : (reported : Report)
@@ -202,12 +202,12 @@ other_reported w s reported old new other is = refl
 
 not_grown : {P : Type 0} (s : State) (op : Operation) (piece : Bor (List ℕ))
     → IsDoneAs s op (effect.DataGrown piece) → P
-not_grown s due.WriteRecord piece is = absurd is
+not_grown s fsm.WriteRecord piece is = absurd is
 not_grown s op piece is = absurd (true≢false (sym is))
 
 not_failed : {P : Type 0} (op : Operation) (piece : Bor (List ℕ))
     → has_failed op (effect.DataGrown piece) ≡ true → P
-not_failed due.RenameRecord piece is = absurd (true≢false (sym is))
+not_failed fsm.RenameRecord piece is = absurd (true≢false (sym is))
 not_failed op piece is = absurd (true≢false (sym is))
 
 no : {P : Type 0} → false ≡ true → P
@@ -244,170 +244,170 @@ read_from g s m source reported did is = tt
 
 -- == The question about the comment ==
 
-pub not_at_first : (check : Bool) → (if check then due.ReadRecord else due.Lock) ≡ due.CheckComment → ⊥
+pub not_at_first : (check : Bool) → (if check then fsm.ReadRecord else fsm.Lock) ≡ fsm.CheckComment → ⊥
 not_at_first true = λ at. cc at
 not_at_first false = λ at. cc at
 
 abbrev Not : Operation → Type 0
-Not op = op ≡ due.CheckComment → ⊥
+Not op = op ≡ fsm.CheckComment → ⊥
 
-rejected : (is : Bool) → Not (if is then due.RemoveFiles else due.Rejected)
+rejected : (is : Bool) → Not (if is then fsm.RemoveFiles else fsm.Rejected)
 rejected true = λ at. cc at
 rejected false = λ at. cc at
 
-reject : (fault : InstallFault) (s : State) → Not (due.reject fault s).due
-reject fault s = rejected (due.has_files s.due)
+reject : (fault : InstallFault) (s : State) → Not (fsm.reject fault s).due
+reject fault s = rejected (fsm.has_files s.due)
 
-begins : (check : Bool) → Not (if check then due.WouldInstall else due.RemoveLeftovers)
+begins : (check : Bool) → Not (if check then fsm.WouldInstall else fsm.RemoveLeftovers)
 begins true = λ at. cc at
 begins false = λ at. cc at
 
-install : (s : State) → Not (due.install s).due
+install : (s : State) → Not (fsm.install s).due
 install s = begins s.options.check
 
 either : (is : Bool) (x y : State) → Not x.due → Not y.due → Not (if is then x else y).due
 either true x y one other = one
 either false x y one other = other
 
-after_record : (r : Result Recorded InstallFault) (s : State) → Not (due.after_record r s).due
+after_record : (r : Result Recorded InstallFault) (s : State) → Not (fsm.after_record r s).due
 after_record (Ok r) s = λ at. cc at
 after_record (Err fault) s = reject fault s
 
-compare : (s : State) → Not (due.compare s).due
+compare : (s : State) → Not (fsm.compare s).due
 compare s =
-    either (due.is_newer s) (due.install s) _ (install s)
-    (either (is_some s.recorded.digest) (due.go due.CheckRecord s) _ (λ at. cc at)
-    (either (due.is_rolling_back s) (due.install s) (due.go due.ReadTarget s) (install s) (λ at. cc at)))
+    either (fsm.is_newer s) (fsm.install s) _ (install s)
+    (either (is_some s.recorded.digest) (fsm.go fsm.CheckRecord s) _ (λ at. cc at)
+    (either (fsm.is_rolling_back s) (fsm.install s) (fsm.go fsm.ReadTarget s) (install s) (λ at. cc at)))
 
-after_listing : (listed : Result ListedDigest InstallFault) (s : State) → Not (due.after_listing listed s).due
+after_listing : (listed : Result ListedDigest InstallFault) (s : State) → Not (fsm.after_listing listed s).due
 after_listing (Ok digest) s = compare s
 after_listing (Err fault) s = reject fault s
 
-after_data : (listed : Bool) (s : State) → Not (due.after_data listed s).due
+after_data : (listed : Bool) (s : State) → Not (fsm.after_data listed s).due
 after_data true s = λ at. cc at
 after_data false s = reject DigestMismatch s
 
-after_digest : (accepted : Bool) (s : State) → Not (due.after_digest accepted s).due
+after_digest : (accepted : Bool) (s : State) → Not (fsm.after_digest accepted s).due
 after_digest accepted s =
-    either (not accepted && due.is_rolling_back s) (due.install s)
-    (record s { due = due.ReadTarget; is_recorded = accepted }) (install s) (λ at. cc at)
+    either (not accepted && fsm.is_rolling_back s) (fsm.install s)
+    (record s { due = fsm.ReadTarget; is_recorded = accepted }) (install s) (λ at. cc at)
 
-target_is_update : (check : Bool) → Not (if check then due.AlreadyInstalled else due.SyncTarget)
+target_is_update : (check : Bool) → Not (if check then fsm.AlreadyInstalled else fsm.SyncTarget)
 target_is_update true = λ at. cc at
 target_is_update false = λ at. cc at
 
-after_target : (accepted : Bool) (s : State) → Not (due.after_target accepted s).due
+after_target : (accepted : Bool) (s : State) → Not (fsm.after_target accepted s).due
 after_target true s = target_is_update s.options.check
 after_target false s =
-    either (s.is_recorded || s.options.again) (due.install s) (due.reject SameNumber s) (install s)
+    either (s.is_recorded || s.options.again) (fsm.install s) (fsm.reject SameNumber s) (install s)
     (reject SameNumber s)
 
-after_piece : (n : ℕ) (left : Option ℕ) (s : State) → s.due ≡ due.CopyData
-    → Not (due.after_piece n left s).due
+after_piece : (n : ℕ) (left : Option ℕ) (s : State) → s.due ≡ fsm.CopyData
+    → Not (fsm.after_piece n left s).due
 after_piece n None s at = λ is. cc (at, is)
 after_piece n (Some left) s at =
-    either (nat_le n left) (record s { left = Some (left - n) }) (due.reject OtherSize s)
+    either (nat_le n left) (record s { left = Some (left - n) }) (fsm.reject OtherSize s)
     (λ is. cc (at, is)) (reject OtherSize s)
 
-after_copy : (left : Option ℕ) (s : State) → Not (due.after_copy left s).due
+after_copy : (left : Option ℕ) (s : State) → Not (fsm.after_copy left s).due
 after_copy None s = λ at. cc at
 after_copy (Some left) s =
-    either (left == 0) (due.go due.ReadBack s) (due.reject OtherSize s) (λ at. cc at) (reject OtherSize s)
+    either (left == 0) (fsm.go fsm.ReadBack s) (fsm.reject OtherSize s) (λ at. cc at) (reject OtherSize s)
 
 abbrev Stays : Operation → State → Type 0
-Stays op t = t.due ≡ due.CheckComment → op ≡ due.CheckComment
+Stays op t = t.due ≡ fsm.CheckComment → op ≡ fsm.CheckComment
 
 never : (op : Operation) (t : State) → Not t.due → Stays op t
 never op t other = λ is. absurd (other is)
 
-maybe : (op : Operation) (is : Bool) (t : State) → Stays op t
+holds_if_some : (op : Operation) (is : Bool) (t : State) → Stays op t
     → IfSome (if is then Some t else None) (Stays op)
-maybe op true t holds = holds
-maybe op false t holds = tt
+holds_if_some op true t holds = holds
+holds_if_some op false t holds = tt
 
-always : (r : Option State) → IfSome r (Stays due.CheckComment)
+always : (r : Option State) → IfSome r (Stays fsm.CheckComment)
 always (Some t) = λ is. refl
 always None = tt
 
 stays : (op : Operation) (e : Event) (s : State) → s.due ≡ op → is_text e ≡ false
     → IfSome (after op e s) (Stays op)
-stays due.CheckComment e s at other = always (after due.CheckComment e s)
-stays due.Nothing (due.Failed f) s at other = tt
-stays due.Installed (due.Failed f) s at other = tt
-stays due.AlreadyInstalled (due.Failed f) s at other = tt
-stays due.WouldInstall (due.Failed f) s at other = tt
-stays due.Rejected (due.Failed f) s at other = tt
-stays due.RemoveFiles (due.Failed f) s at other =
-    maybe due.RemoveFiles (due.is_failure f) (due.go due.Rejected s) (λ is. cc is)
-stays op (due.Failed f) s at other =
-    maybe op (due.is_failure f) (due.reject (due.failure s.due f) s)
-    (never op (due.reject (due.failure s.due f) s) (reject (due.failure s.due f) s))
-stays due.ReadSignature (due.SignatureRead text time) s at other = absurd (true≢false other)
-stays due.Lock due.InUse s at other = λ is. absurd (reject TargetInUse s is)
-stays due.ReadRecord (due.RecordRead found) s at other =
+stays fsm.CheckComment e s at other = always (after fsm.CheckComment e s)
+stays fsm.Nothing (fsm.Failed f) s at other = tt
+stays fsm.Installed (fsm.Failed f) s at other = tt
+stays fsm.AlreadyInstalled (fsm.Failed f) s at other = tt
+stays fsm.WouldInstall (fsm.Failed f) s at other = tt
+stays fsm.Rejected (fsm.Failed f) s at other = tt
+stays fsm.RemoveFiles (fsm.Failed f) s at other =
+    holds_if_some fsm.RemoveFiles (fsm.is_failure f) (fsm.go fsm.Rejected s) (λ is. cc is)
+stays op (fsm.Failed f) s at other =
+    holds_if_some op (fsm.is_failure f) (fsm.reject (fsm.failure s.due f) s)
+    (never op (fsm.reject (fsm.failure s.due f) s) (reject (fsm.failure s.due f) s))
+stays fsm.ReadSignature (fsm.SignatureRead text time) s at other = absurd (true≢false other)
+stays fsm.Lock fsm.InUse s at other = λ is. absurd (reject TargetInUse s is)
+stays fsm.ReadRecord (fsm.RecordRead found) s at other =
     λ is. absurd (after_record (judge_record s.options found) s is)
-stays due.ReadList (due.ListRead list name) s at other = λ is. cc is
-stays due.CheckList (due.Answered true) s at other =
+stays fsm.ReadList (fsm.ListRead list name) s at other = λ is. cc is
+stays fsm.CheckList (fsm.Answered true) s at other =
     λ is. absurd (after_listing s.listing.listed (record s { is_list_signed = true }) is)
-stays due.CheckList (due.Answered false) s at other =
+stays fsm.CheckList (fsm.Answered false) s at other =
     λ is. absurd (reject (Library (Named named.SignatureRefused)) s is)
-stays due.CheckRecord (due.Answered accepted) s at other = λ is. absurd (after_digest accepted s is)
-stays due.ReadTarget (due.PieceRead bytes) s at other = λ is. cc (at, is)
-stays due.ReadTarget due.TargetMissing s at other = λ is. absurd (install s is)
-stays due.CheckTarget (due.Answered accepted) s at other =
-    λ is. absurd (after_target (accepted && due.is_listed s) s is)
-stays due.CopyData (due.PieceCopied n) s at other = λ is. absurd (after_piece n s.left s at is)
-stays due.CopyData due.Done s at other = λ is. absurd (after_copy s.left s is)
-stays due.ReadBack (due.PieceRead bytes) s at other = λ is. cc (at, is)
-stays due.CheckData (due.Answered true) s at other = λ is. absurd (after_data (due.is_listed s) s is)
-stays due.CheckData (due.Answered false) s at other =
+stays fsm.CheckRecord (fsm.Answered accepted) s at other = λ is. absurd (after_digest accepted s is)
+stays fsm.ReadTarget (fsm.PieceRead bytes) s at other = λ is. cc (at, is)
+stays fsm.ReadTarget fsm.TargetMissing s at other = λ is. absurd (install s is)
+stays fsm.CheckTarget (fsm.Answered accepted) s at other =
+    λ is. absurd (after_target (accepted && fsm.is_listed s) s is)
+stays fsm.CopyData (fsm.PieceCopied n) s at other = λ is. absurd (after_piece n s.left s at is)
+stays fsm.CopyData fsm.Done s at other = λ is. absurd (after_copy s.left s is)
+stays fsm.ReadBack (fsm.PieceRead bytes) s at other = λ is. cc (at, is)
+stays fsm.CheckData (fsm.Answered true) s at other = λ is. absurd (after_data (fsm.is_listed s) s is)
+stays fsm.CheckData (fsm.Answered false) s at other =
     λ is. absurd (reject (Library (Named named.SignatureRefused)) s is)
-stays due.Lock due.Done s at other = λ is. cc is
-stays due.ReadTarget due.Done s at other = λ is. cc is
-stays due.SyncTarget due.Done s at other = λ is. cc is
-stays due.SyncTargetName due.Done s at other = λ is. cc is
-stays due.RemoveLeftovers due.Done s at other = λ is. cc is
-stays due.CreateFile due.Done s at other = λ is. cc is
-stays due.ReadBack due.Done s at other = λ is. cc is
-stays due.SetPermissions due.Done s at other = λ is. cc is
-stays due.SyncFile due.Done s at other = λ is. cc is
-stays due.CreateRecord due.Done s at other = λ is. cc is
-stays due.WriteRecord due.Done s at other = λ is. cc is
-stays due.SyncRecord due.Done s at other = λ is. cc is
-stays due.RenameRecord due.Done s at other = λ is. cc is
-stays due.SyncRecordName due.Done s at other = λ is. cc is
-stays due.RenameFile due.Done s at other = λ is. cc is
-stays due.SyncFileName due.Done s at other = λ is. cc is
-stays due.RemoveFiles due.Done s at other = λ is. cc is
+stays fsm.Lock fsm.Done s at other = λ is. cc is
+stays fsm.ReadTarget fsm.Done s at other = λ is. cc is
+stays fsm.SyncTarget fsm.Done s at other = λ is. cc is
+stays fsm.SyncTargetName fsm.Done s at other = λ is. cc is
+stays fsm.RemoveLeftovers fsm.Done s at other = λ is. cc is
+stays fsm.CreateFile fsm.Done s at other = λ is. cc is
+stays fsm.ReadBack fsm.Done s at other = λ is. cc is
+stays fsm.SetPermissions fsm.Done s at other = λ is. cc is
+stays fsm.SyncFile fsm.Done s at other = λ is. cc is
+stays fsm.CreateRecord fsm.Done s at other = λ is. cc is
+stays fsm.WriteRecord fsm.Done s at other = λ is. cc is
+stays fsm.SyncRecord fsm.Done s at other = λ is. cc is
+stays fsm.RenameRecord fsm.Done s at other = λ is. cc is
+stays fsm.SyncRecordName fsm.Done s at other = λ is. cc is
+stays fsm.RenameFile fsm.Done s at other = λ is. cc is
+stays fsm.SyncFileName fsm.Done s at other = λ is. cc is
+stays fsm.RemoveFiles fsm.Done s at other = λ is. cc is
 stays op e s at other = tt
 
 moved : (s : State) (next : Option State) → is_some next ≡ true → IfSome next (Stays s.due)
-    → (answer s next).1.due ≡ due.CheckComment → s.due ≡ due.CheckComment
+    → (answer s next).1.due ≡ fsm.CheckComment → s.due ≡ fsm.CheckComment
 moved s (Some t) is holds = holds
 moved s None is holds = absurd (true≢false (sym is))
 
 -- If the question about the comment is due after an event, it was due before it, unless the event is that the
 -- signature file was read.
 pub stays_asked : (s : State) (e : Event) → is_some (after s.due e s) ≡ true → is_text e ≡ false
-    → (step s e).1.due ≡ due.CheckComment → s.due ≡ due.CheckComment
+    → (step s e).1.due ≡ fsm.CheckComment → s.due ≡ fsm.CheckComment
 stays_asked s e fits other is = moved s (after s.due e s) fits (stays s.due e s refl other) is
 
 -- == Results ==
 
 result_proper : (before now : Option InstallFault) (m : Misuse)
-    → due.result_of before now ≡ Err (WrongUse m) → ⊥
+    → fsm.result_of before now ≡ Err (WrongUse m) → ⊥
 result_proper None (Some fault) m is = cc is
 result_proper before now m is = cc is
 
-taken_at : (s : State) (next : Option State) (r : Result Unit (Refusal InstallFault))
+event_is_not_misuse : (s : State) (next : Option State) (r : Result Unit (Refusal InstallFault))
     → r ≡ (answer s next).0 → is_some next ≡ true → (m : Misuse) → r ≡ Err (WrongUse m) → ⊥
-taken_at s (Some t) r same is m wrong = result_proper s.error t.error m (sym same ∙ wrong)
-taken_at s None r same is m wrong = true≢false (sym is)
+event_is_not_misuse s (Some t) r same is m wrong = result_proper s.error t.error m (sym same ∙ wrong)
+event_is_not_misuse s None r same is m wrong = true≢false (sym is)
 
 -- The result of an event that fits is not an API misuse.
 pub taken_result : (s : State) (e : Event) (r : Result Unit (Refusal InstallFault)) → r ≡ (step s e).0
     → is_some (after s.due e s) ≡ true → (m : Misuse) → r ≡ Err (WrongUse m) → ⊥
-taken_result s e r same is m wrong = taken_at s (after s.due e s) r same is m wrong
+taken_result s e r same is m wrong = event_is_not_misuse s (after s.due e s) r same is m wrong
 
 taken_fits : (s : State) (next : Option State) (r : Result Unit (Refusal InstallFault))
     → r ≡ (answer s next).0 → (r ≡ Err (WrongUse NotDue) → ⊥) → is_some next ≡ true
@@ -415,25 +415,25 @@ taken_fits s (Some t) r same proper = refl
 taken_fits s None r same proper = absurd (proper same)
 
 text_due : (op : Operation) (text : Result SignatureTextRecord Fault) (time : Option ℕ) (s : State)
-    → is_some (after op (due.SignatureRead text time) s) ≡ true → op ≡ due.ReadSignature
-text_due due.ReadSignature text time s is = refl
+    → is_some (after op (fsm.SignatureRead text time) s) ≡ true → op ≡ fsm.ReadSignature
+text_due fsm.ReadSignature text time s is = refl
 text_due op text time s is = absurd (true≢false (sym is))
 
-no_change : (e : Option InstallFault) (r : Refusal InstallFault) → due.result_of e e ≡ Err r → ⊥
+no_change : (e : Option InstallFault) (r : Refusal InstallFault) → fsm.result_of e e ≡ Err r → ⊥
 no_change None r is = cc is
 no_change (Some fault) r is = cc is
 
 not_whole : (judged : Passed) (time : Option ℕ) (s : State) (r : Refusal InstallFault)
-    → due.result_of s.error (due.after_signature judged time s).error ≡ Err r
-    → (due.after_signature judged time s).due ≡ due.CheckComment → ⊥
+    → fsm.result_of s.error (fsm.after_signature judged time s).error ≡ Err r
+    → (fsm.after_signature judged time s).due ≡ fsm.CheckComment → ⊥
 not_whole (Ok (t, keys)) time s r is = absurd (no_change s.error r is)
 not_whole (Err fault) time s r is = reject (Library fault) s
 
 not_due : (op : Operation) (text : Result SignatureTextRecord Fault) (time : Option ℕ) (s : State)
-    (r : Refusal InstallFault) → op ≡ due.ReadSignature
-    → (answer s (after op (due.SignatureRead text time) s)).0 ≡ Err r
-    → (answer s (after op (due.SignatureRead text time) s)).1.due ≡ due.CheckComment → ⊥
-not_due due.ReadSignature text time s r at is = not_whole (judge_text s.options text) time s r is
+    (r : Refusal InstallFault) → op ≡ fsm.ReadSignature
+    → (answer s (after op (fsm.SignatureRead text time) s)).0 ≡ Err r
+    → (answer s (after op (fsm.SignatureRead text time) s)).1.due ≡ fsm.CheckComment → ⊥
+not_due fsm.ReadSignature text time s r at is = not_whole (judge_text s.options text) time s r is
 not_due op text time s r at is = cc at
 
 too_long : (w : World) (o : Options) (text : Result SignatureTextRecord Fault) (judged : Passed)
@@ -448,14 +448,14 @@ too_long w o text (Err e) m message is judged room at long = absurd (none-some m
 pub text_taken : (w : World) (s : State) (text : List ℕ) (time : Option ℕ)
     (r : Result Unit (Refusal InstallFault)) → r ≡ (step s (signature_read text time)).0
     → (r ≡ Err (WrongUse NotDue) → ⊥)
-    → (s.due ≡ due.ReadSignature) × (is_some (after s.due (signature_read text time) s) ≡ true)
+    → (s.due ≡ fsm.ReadSignature) × (is_some (after s.due (signature_read text time) s) ≡ true)
 text_taken w s text time r same proper =
     let fits = taken_fits s (after s.due (signature_read text time) s) r same proper in
     (text_due s.due _ time s fits, fits)
 
 -- If the run is rejected at the signature file, no message is needed.
 pub text_refused : (w : World) (s : State) (text : List ℕ) (time : Option ℕ) (r : Refusal InstallFault)
-    (n : ℕ) (message : List ℕ) → s.due ≡ due.ReadSignature
+    (n : ℕ) (message : List ℕ) → s.due ≡ fsm.ReadSignature
     → (step s (signature_read text time)).0 ≡ Err r
     → IsWhole w (step s (signature_read text time)).1.due n message
 text_refused w s text time r n message at is =
@@ -491,34 +491,34 @@ one_or_other n none one = absurd (omega (arith, none, one))
 
 comment_key : (s : State) (op : Operation) (is : Bool) (key : Option (List ℕ)) (q : Question)
     → question_by is key op s ≡ Some q → q.is_comment ≡ 1
-    → (is ≡ true) × (op ≡ due.CheckComment) × (key ≡ Some q.key) × (q.signature ≡ s.comment_signature)
-comment_key s due.CheckComment true (Some k) q is one = (
+    → (is ≡ true) × (op ≡ fsm.CheckComment) × (key ≡ Some q.key) × (q.signature ≡ s.comment_signature)
+comment_key s fsm.CheckComment true (Some k) q is one = (
   refl,
   refl,
   ap (λ (x : Question). Some x.key) (same_Some (question_about k s.comment_signature) q is),
   ap (λ (x : Question). x.signature) (sym (same_Some (question_about k s.comment_signature) q is)),
 )
-comment_key s due.CheckList true (Some k) q is one =
+comment_key s fsm.CheckList true (Some k) q is one =
     one_or_other q.is_comment (about_data k s.signature (Some (signed_digest s)) q is) one
-comment_key s due.CheckRecord true (Some k) q is one =
+comment_key s fsm.CheckRecord true (Some k) q is one =
     one_or_other q.is_comment (about_data k s.signature s.recorded.digest q is) one
-comment_key s due.CheckTarget true (Some k) q is one =
+comment_key s fsm.CheckTarget true (Some k) q is one =
     one_or_other q.is_comment (about_data k s.signature (Some (signed_digest s)) q is) one
-comment_key s due.CheckData true (Some k) q is one =
+comment_key s fsm.CheckData true (Some k) q is one =
     one_or_other q.is_comment (about_data k s.signature (Some (signed_digest s)) q is) one
 comment_key s op true (Some k) q is one = absurd (none-some q is)
 comment_key s op true None q is one = absurd (none-some q is)
 comment_key s op false key q is one = absurd (none-some q is)
 
 key_is : (signers : List PublicKeyValue) (key : List ℕ) → first_key signers ≡ Some key
-    → due.key_of signers ≡ key
+    → fsm.key_of signers ≡ key
 key_is [] key is = absurd (none-some key is)
 key_is (v ∷ more) key is = same_Some v.key key is
 
-answered_at : (w : World) (s : State) (op : Operation) (accepted : Bool) → op ≡ due.CheckComment
+answered_at : (w : World) (s : State) (op : Operation) (accepted : Bool) → op ≡ fsm.CheckComment
     → IsAnswer w s op accepted → (t : SignatureTextRecord) → w.text ≡ Ok t
-    → accepted ≡ says_yes w (due.comment_question s t.comments.trusted)
-answered_at w s due.CheckComment accepted at is = is
+    → accepted ≡ says_yes w (fsm.comment_question s t.comments.trusted)
+answered_at w s fsm.CheckComment accepted at is = is
 answered_at w s op accepted at is = cc at
 
 -- If the question about the comment is due, its message is in the buffer, and the result of Ed25519 is about
@@ -526,7 +526,7 @@ answered_at w s op accepted at is = cc at
 pub comment_asked : (w : World) (file : List ℕ) (s : State) (n : ℕ) (message : List ℕ) (q : Question)
     (accepted : Bool) (old new : Snapshot) → StateKnows w file s → IsWhole w s.due n message
     → IsAsked w n message
-    → question_due s ≡ Some q → q.is_comment ≡ 1 → Performs w s s.due (due.Answered accepted) old new
+    → question_due s ≡ Some q → q.is_comment ≡ 1 → Performs w s s.due (fsm.Answered accepted) old new
     → (0 < n) × (n ≤ length message) × (accepted ≡ w.accepts (take n message) q.key q.signature)
 comment_asked w file s n message q accepted old new knows whole asked is one performs =
     let (full, at, key, signature) =
@@ -545,7 +545,7 @@ comment_asked w file s n message q accepted old new knows whole asked is one per
       some,
       fits,
       answered_at w s s.due accepted at (answer_found w s s.due accepted old new performs) t parsed
-          ∙ ap (λ (l : List ℕ). w.accepts l (due.key_of s.signers) s.comment_signature)
+          ∙ ap (λ (l : List ℕ). w.accepts l (fsm.key_of s.signers) s.comment_signature)
           (ap (λ (l : List ℕ). l ++ t.comments.trusted) same ∙ sym (asked some t parsed))
           ∙ ap (λ (l : List ℕ). w.accepts (take n message) l s.comment_signature) (key_is s.signers q.key key)
           ∙ ap (λ (l : List ℕ). w.accepts (take n message) q.key l) (sym signature),

@@ -17,7 +17,8 @@ use Rattle.minisign_external.specs.declared.state.Refusal.{Refusal}
 use Rattle.minisign_external.specs.declared.state.Refusal.TheVariants.{Refused, WrongUse}
 use Rattle.minisign_install.specs.Comments.{Numbering}
 use Rattle.minisign_install.specs.Decisions.{Recorded, is_below, judge_record}
-use Rattle.minisign_install.specs.Faults.{InstallFault, Library, TargetInUse, install_number, is_own}
+use Rattle.minisign_install.specs.Faults.{InstallFault, Library, TargetInUse, install_number}
+use Rattle.minisign_install.specs.Faults.{is_installer_fault}
 use Rattle.minisign_install.specs.RecordTexts.{record_of}
 use Rattle.minisign_install.specs.Installations.{IsNewRecord, IsWritten}
 use Rattle.hex.specs.Hex.{IsBytes}
@@ -37,7 +38,7 @@ use Rattle.minisign_install.specs.Step.{after_comment, after_digest, after_targe
 use Rattle.minisign_install.specs.Step.{is_newer, is_rolling_back, key_of, new_key, new_record, new_version}
 use Rattle.minisign_install.specs.Step.{next_key}
 use Rattle.minisign_install.specs.Step.{has_files, install, is_failure, next, proceed, reject, result_of}
-use Rattle.minisign_install.specs.Step as due
+use Rattle.minisign_install.specs.Step as fsm
 use Rattle.minisign_install.specs.Installations.{question_by, question_due, question_of}
 use Rattle.minisign_install.specs.declared.installation.Installation.{Installation}
 use Rattle.minisign_install.specs.declared.installation.Question.{Question}
@@ -101,11 +102,11 @@ calm None = refl
 calm (Some f) = refl
 
 pub rejected : (p q : Progress) (s : State) (fault : InstallFault) (op : Operation) → HoldsState p s
-    → op ≡ (if has_files (operation_of p.due) then due.RemoveFiles else due.Rejected)
+    → op ≡ (if has_files (operation_of p.due) then fsm.RemoveFiles else fsm.Rejected)
     → HoldsState q (go op (record s { error = Some fault })) → HoldsState q (reject fault s)
 rejected p q s fault op state_held is after_it =
     subst (λ (d : Operation). HoldsState q (record s { due = d; error = Some fault }))
-    (is ∙ ap (λ (d : Operation). if has_files d then due.RemoveFiles else due.Rejected)
+    (is ∙ ap (λ (d : Operation). if has_files d then fsm.RemoveFiles else fsm.Rejected)
     (sym (due_is p s state_held))) after_it
 
 -- If a step does not change the error, its result is Ok.
@@ -148,15 +149,15 @@ recorded_as p s n b is state_held = record {
 }
 
 pub digest_yes : (q : Progress) (s : State) (a : Bool) → a ≡ true
-    → HoldsState q (go due.ReadTarget (record s { is_recorded = true })) → HoldsState q (after_digest a s)
+    → HoldsState q (go fsm.ReadTarget (record s { is_recorded = true })) → HoldsState q (after_digest a s)
 digest_yes q s a is state_held = subst (λ (b : Bool). HoldsState q (after_digest b s)) (sym is) state_held
 
 pub digest_no : (q : Progress) (s : State) (a : Bool) → a ≡ false → is_rolling_back s ≡ false
-    → HoldsState q (go due.ReadTarget (record s { is_recorded = false })) → HoldsState q (after_digest a s)
+    → HoldsState q (go fsm.ReadTarget (record s { is_recorded = false })) → HoldsState q (after_digest a s)
 digest_no q s a is old state_held =
     subst (λ (b : Bool). HoldsState q (after_digest b s)) (sym is)
     (subst (λ (b : Bool).
-    HoldsState q (if b then install s else record s { due = due.ReadTarget; is_recorded = false }))
+    HoldsState q (if b then install s else record s { due = fsm.ReadTarget; is_recorded = false }))
     (sym old) state_held)
 
 -- The new struct represents the state after the record was read.
@@ -180,17 +181,17 @@ options_are p s state_held = ap (λ (x : State). x.options) state_held.state
 pub record_at : (op : Operation) (found : Option (List ℕ)) (s : State) (r : Result Recorded InstallFault)
     → is_reading_record op ≡ true → judge_record s.options found ≡ r
     → after op (RecordRead found) s ≡ Some (after_record r s)
-record_at due.ReadRecord found s r is judged = ap (λ j. Some (after_record j s)) judged
+record_at fsm.ReadRecord found s r is judged = ap (λ j. Some (after_record j s)) judged
 record_at _ found s r is judged = absurd (true≢false (sym is))
 
 pub no_record_at : (op : Operation) (found : Option (List ℕ)) (s : State) → is_reading_record op ≡ false
     → after op (RecordRead found) s ≡ None
-no_record_at due.ReadRecord found s is = absurd (true≢false is)
+no_record_at fsm.ReadRecord found s is = absurd (true≢false is)
 no_record_at _ found s is = refl
 
 -- == The question ==
 
-pub nothing_asked : (is_read : Bool) (key : Option (List ℕ)) (s : State) → s.due ≡ due.Nothing
+pub nothing_asked : (is_read : Bool) (key : Option (List ℕ)) (s : State) → s.due ≡ fsm.Nothing
     → None ≡ question_by is_read key s.due s
 nothing_asked true (Some key) s at = sym (ap (λ (op : Operation). question_of op key s) at)
 nothing_asked true None s at = refl
@@ -273,7 +274,11 @@ pub written : (text same : List ℕ) (n : ℕ) (old new : List ℕ) → text ≡
     → (0 < n → (n ≤ length new) × (take n new ≡ text)) → drop n new ≡ drop n old
     → (n ≡ 0 → (new ≡ old) × (length old < length text)) → IsWritten same n old new
 written text same n old new is some rest none =
-    subst (λ (t : List ℕ). IsWritten t n old new) is (record { front = some; rest = rest; room = none })
+    subst (λ (t : List ℕ). IsWritten t n old new) is (record {
+      front = some;
+      rest_unchanged = rest;
+      room = none;
+    })
 
 pub new_record_is : (s : State) (numbering : Numbering) (n : ℕ) (key digest : List ℕ) {bytes : List ℕ}
     → s.options.numbering ≡ numbering → new_version s ≡ n → new_key s ≡ key → signed_digest s ≡ digest
@@ -298,8 +303,8 @@ signed p s state_held = record {
 }
 
 pub fault_found : (f : Option InstallFault) (n : ℕ) (r : Option InstallFault) → IsOwnNumber n f
-    → ((e : InstallFault) → is_own e ≡ true → n ≡ install_number e → r ≡ Some e)
-    → IfSome r (λ e. (is_own e ≡ true) × (n ≡ install_number e)) → r ≡ f
+    → ((e : InstallFault) → is_installer_fault e ≡ true → n ≡ install_number e → r ≡ Some e)
+    → IfSome r (λ e. (is_installer_fault e ≡ true) × (n ≡ install_number e)) → r ≡ f
 fault_found None n None none found holds = refl
 fault_found None n (Some e) none found (own, is) = absurd (omega (arith, none, is, positive e))
 fault_found (Some f) n r (is, own) found holds = found f own is
@@ -320,47 +325,47 @@ misfits s e p r state_held is wrong =
     subst (StepsTo e s r p) (sym (ap (λ (op : Operation). after op e s) (due_is p s state_held)
     ∙ is)) (state_held, wrong)
 
-pub comment_yes : (op : Operation) (a : Bool) (s : State) → op ≡ due.CheckComment → a ≡ true
+pub comment_yes : (op : Operation) (a : Bool) (s : State) → op ≡ fsm.CheckComment → a ≡ true
     → after op (Answered a) s ≡ Some (after_comment s.fault (record s { is_signed = true }))
 comment_yes op a s at is = rw (at, is) refl
 
-pub comment_no : (op : Operation) (a : Bool) (s : State) → op ≡ due.CheckComment → a ≡ false
+pub comment_no : (op : Operation) (a : Bool) (s : State) → op ≡ fsm.CheckComment → a ≡ false
     → after op (Answered a) s ≡ Some (next_key s.signers s)
 comment_no op a s at is = rw (at, is) refl
 
-pub record_either : (op : Operation) (a : Bool) (s : State) → op ≡ due.CheckRecord
+pub record_either : (op : Operation) (a : Bool) (s : State) → op ≡ fsm.CheckRecord
     → after op (Answered a) s ≡ Some (after_digest a s)
 record_either op a s at = rw at refl
 
-pub list_yes : (op : Operation) (a : Bool) (s : State) → op ≡ due.CheckList → a ≡ true
+pub list_yes : (op : Operation) (a : Bool) (s : State) → op ≡ fsm.CheckList → a ≡ true
     → after op (Answered a) s
     ≡ Some (after_listing s.listing.listed (record s { is_list_signed = true }))
 list_yes op a s at is = rw (at, is) refl
 
-pub list_no : (op : Operation) (a : Bool) (s : State) → op ≡ due.CheckList → a ≡ false
+pub list_no : (op : Operation) (a : Bool) (s : State) → op ≡ fsm.CheckList → a ≡ false
     → after op (Answered a) s ≡ Some (reject (Library (Named SignatureRefused)) s)
 list_no op a s at is = rw (at, is) refl
 
-pub target_either : (op : Operation) (a b : Bool) (s : State) → op ≡ due.CheckTarget
+pub target_either : (op : Operation) (a b : Bool) (s : State) → op ≡ fsm.CheckTarget
     → (a && is_listed s) ≡ b → after op (Answered a) s ≡ Some (after_target b s)
 target_either op a b s at is = rw (at, is) refl
 
-pub data_yes : (op : Operation) (a : Bool) (s : State) → op ≡ due.CheckData → a ≡ true
+pub data_yes : (op : Operation) (a : Bool) (s : State) → op ≡ fsm.CheckData → a ≡ true
     → after op (Answered a) s ≡ Some (after_data (is_listed s) s)
 data_yes op a s at is = rw (at, is) refl
 
-pub data_no : (op : Operation) (a : Bool) (s : State) → op ≡ due.CheckData → a ≡ false
+pub data_no : (op : Operation) (a : Bool) (s : State) → op ≡ fsm.CheckData → a ≡ false
     → after op (Answered a) s ≡ Some (reject (Library (Named SignatureRefused)) s)
 data_no op a s at is = rw (at, is) refl
 
 -- At an operation without a question for Ed25519, a result of Ed25519 does not fit.
-pub no_answer_at : (op : Operation) (a : Bool) (s : State) → op ≢ due.CheckComment → op ≢ due.CheckList
-    → op ≢ due.CheckRecord → op ≢ due.CheckTarget → op ≢ due.CheckData → after op (Answered a) s ≡ None
-no_answer_at due.CheckComment a s comment list recorded target data_is = absurd (comment refl)
-no_answer_at due.CheckList a s comment list recorded target data_is = absurd (list refl)
-no_answer_at due.CheckRecord a s comment list recorded target data_is = absurd (recorded refl)
-no_answer_at due.CheckTarget a s comment list recorded target data_is = absurd (target refl)
-no_answer_at due.CheckData a s comment list recorded target data_is = absurd (data_is refl)
+pub no_answer_at : (op : Operation) (a : Bool) (s : State) → op ≢ fsm.CheckComment → op ≢ fsm.CheckList
+    → op ≢ fsm.CheckRecord → op ≢ fsm.CheckTarget → op ≢ fsm.CheckData → after op (Answered a) s ≡ None
+no_answer_at fsm.CheckComment a s comment list recorded target data_is = absurd (comment refl)
+no_answer_at fsm.CheckList a s comment list recorded target data_is = absurd (list refl)
+no_answer_at fsm.CheckRecord a s comment list recorded target data_is = absurd (recorded refl)
+no_answer_at fsm.CheckTarget a s comment list recorded target data_is = absurd (target refl)
+no_answer_at fsm.CheckData a s comment list recorded target data_is = absurd (data_is refl)
 no_answer_at _ a s comment list recorded target data_is = refl
 
 -- == An installation ==
@@ -370,7 +375,7 @@ pub stored : (i : Installation) (s : State) → (i.mark == begun_mark) ≡ true 
 stored i s is held = subst (λ (b : Bool). RepresentsIf b i.progress s) is held
 
 pub unbegun : (i : Installation) (s : State) → (i.mark == begun_mark) ≡ false → Represents i s
-    → (s.due ≡ due.Nothing) × (s.is_signed ≡ false) × (s.error ≡ None) × (s.is_list_signed ≡ false)
+    → (s.due ≡ fsm.Nothing) × (s.is_signed ≡ false) × (s.error ≡ None) × (s.is_list_signed ≡ false)
 unbegun i s is held = subst (λ (b : Bool). RepresentsIf b i.progress s) is held
 
 pub begun_steps : (i : Installation) (p : Progress) (s : State) (e : Event)
@@ -379,10 +384,10 @@ pub begun_steps : (i : Installation) (p : Progress) (s : State) (e : Event)
 begun_steps i p s e r is (state_held, result) =
     (subst (λ (b : Bool). RepresentsIf b p (step s e).1) (sym is) state_held, result)
 
-nothing_at : (e : Event) (s : State) → after due.Nothing e s ≡ None
-nothing_at Done s = refl
-nothing_at (Failed f) s = refl
-nothing_at _ s = refl
+nothing_accepts_no_event : (e : Event) (s : State) → after fsm.Nothing e s ≡ None
+nothing_accepts_no_event Done s = refl
+nothing_accepts_no_event (Failed f) s = refl
+nothing_accepts_no_event _ s = refl
 
 pub unbegun_steps : (i : Installation) (s : State) (e : Event) (r : Result Unit (Refusal InstallFault))
     → (i.mark == begun_mark) ≡ false → Represents i s → r ≡ Err (WrongUse NotDue)
@@ -390,96 +395,98 @@ pub unbegun_steps : (i : Installation) (s : State) (e : Event) (r : Result Unit 
 unbegun_steps i s e r is held wrong =
     let at = (unbegun i s is held).0 in
     subst (λ (o : Option State). Represents i (answer s o).1 × (r ≡ (answer s o).0))
-    (sym (ap (λ (op : Operation). after op e s) at ∙ nothing_at e s)) (held, wrong)
+    (sym (ap (λ (op : Operation). after op e s) at ∙ nothing_accepts_no_event e s)) (held, wrong)
 
-pub done_at : (op : Operation) (s : State) → is_copying op ≡ false → after op Done s ≡ proceed (next op) s
-done_at due.CopyData s is = absurd (true≢false is)
-done_at _ s is = refl
+pub done_proceeds : (op : Operation) (s : State) → is_copying op ≡ false
+    → after op Done s ≡ proceed (next op) s
+done_proceeds fsm.CopyData s is = absurd (true≢false is)
+done_proceeds _ s is = refl
 
 pub copied_at : (op : Operation) (s : State) → is_copying op ≡ true
     → after op Done s ≡ Some (after_copy s.left s)
-copied_at due.CopyData s is = refl
+copied_at fsm.CopyData s is = refl
 copied_at _ s is = absurd (true≢false (sym is))
 
 pub piece_at : (op : Operation) (n : ℕ) (s : State) → is_copying op ≡ true
     → after op (PieceCopied n) s ≡ Some (after_piece n s.left s)
-piece_at due.CopyData n s is = refl
+piece_at fsm.CopyData n s is = refl
 piece_at _ n s is = absurd (true≢false (sym is))
 
 pub no_piece_at : (op : Operation) (n : ℕ) (s : State) → is_copying op ≡ false
     → after op (PieceCopied n) s ≡ None
-no_piece_at due.CopyData n s is = absurd (true≢false is)
+no_piece_at fsm.CopyData n s is = absurd (true≢false is)
 no_piece_at _ n s is = refl
 
 pub read_at : (op : Operation) (bytes : List ℕ) (s : State) → is_reading op ≡ true
     → after op (PieceRead bytes) s ≡ Some (record s { read = s.read ++ bytes })
-read_at due.ReadTarget bytes s is = refl
-read_at due.ReadBack bytes s is = refl
+read_at fsm.ReadTarget bytes s is = refl
+read_at fsm.ReadBack bytes s is = refl
 read_at _ bytes s is = absurd (true≢false (sym is))
 
 pub no_read_at : (op : Operation) (bytes : List ℕ) (s : State) → is_reading op ≡ false
     → after op (PieceRead bytes) s ≡ None
-no_read_at due.ReadTarget bytes s is = absurd (true≢false is)
-no_read_at due.ReadBack bytes s is = absurd (true≢false is)
+no_read_at fsm.ReadTarget bytes s is = absurd (true≢false is)
+no_read_at fsm.ReadBack bytes s is = absurd (true≢false is)
 no_read_at _ bytes s is = refl
 
 pub list_at : (op : Operation) (list name : List ℕ) (s : State) → is_reading_list op ≡ true
     → after op (ListRead list name) s ≡ Some (after_list list name s)
-list_at due.ReadList list name s is = refl
+list_at fsm.ReadList list name s is = refl
 list_at _ list name s is = absurd (true≢false (sym is))
 
 pub no_list_at : (op : Operation) (list name : List ℕ) (s : State) → is_reading_list op ≡ false
     → after op (ListRead list name) s ≡ None
-no_list_at due.ReadList list name s is = absurd (true≢false is)
+no_list_at fsm.ReadList list name s is = absurd (true≢false is)
 no_list_at _ list name s is = refl
 
 pub missing_at : (op : Operation) (s : State) → is_reading_target op ≡ true
     → after op TargetMissing s ≡ Some (install s)
-missing_at due.ReadTarget s is = refl
+missing_at fsm.ReadTarget s is = refl
 missing_at _ s is = absurd (true≢false (sym is))
 
 pub no_missing_at : (op : Operation) (s : State) → is_reading_target op ≡ false
     → after op TargetMissing s ≡ None
-no_missing_at due.ReadTarget s is = absurd (true≢false is)
+no_missing_at fsm.ReadTarget s is = absurd (true≢false is)
 no_missing_at _ s is = refl
 
 pub in_use_at : (op : Operation) (s : State) → is_locking op ≡ true
     → after op InUse s ≡ Some (reject TargetInUse s)
-in_use_at due.Lock s is = refl
+in_use_at fsm.Lock s is = refl
 in_use_at _ s is = absurd (true≢false (sym is))
 
 pub no_use_at : (op : Operation) (s : State) → is_locking op ≡ false → after op InUse s ≡ None
-no_use_at due.Lock s is = absurd (true≢false is)
+no_use_at fsm.Lock s is = absurd (true≢false is)
 no_use_at _ s is = refl
 
-pub over_at : (op : Operation) (f : NamedFault) (s : State) → is_over op ≡ true → after op (Failed f) s ≡ None
-over_at due.Nothing f s is = refl
-over_at due.Installed f s is = refl
-over_at due.AlreadyInstalled f s is = refl
-over_at due.WouldInstall f s is = refl
-over_at due.Rejected f s is = refl
-over_at _ f s is = absurd (true≢false (sym is))
+pub ended_accepts_no_failure : (op : Operation) (f : NamedFault) (s : State) → is_over op ≡ true
+    → after op (Failed f) s ≡ None
+ended_accepts_no_failure fsm.Nothing f s is = refl
+ended_accepts_no_failure fsm.Installed f s is = refl
+ended_accepts_no_failure fsm.AlreadyInstalled f s is = refl
+ended_accepts_no_failure fsm.WouldInstall f s is = refl
+ended_accepts_no_failure fsm.Rejected f s is = refl
+ended_accepts_no_failure _ f s is = absurd (true≢false (sym is))
 
 pub removing_at : (op : Operation) (f : NamedFault) (s : State) → is_removing op ≡ true
-    → is_failure f ≡ true → after op (Failed f) s ≡ Some (go due.Rejected s)
-removing_at due.RemoveFiles f s is fault = rw fault refl
+    → is_failure f ≡ true → after op (Failed f) s ≡ Some (go fsm.Rejected s)
+removing_at fsm.RemoveFiles f s is fault = rw fault refl
 removing_at _ f s is fault = absurd (true≢false (sym is))
 
 pub failed_at : (op : Operation) (f : NamedFault) (s : State) → is_over op ≡ false → is_removing op ≡ false
     → is_failure f ≡ true → s.due ≡ op → after op (Failed f) s ≡ Some (reject (failure op f) s)
-failed_at due.RemoveFiles f s over is fault at = absurd (true≢false is)
-failed_at due.Nothing f s over is fault at = absurd (true≢false over)
-failed_at due.Installed f s over is fault at = absurd (true≢false over)
-failed_at due.AlreadyInstalled f s over is fault at = absurd (true≢false over)
-failed_at due.WouldInstall f s over is fault at = absurd (true≢false over)
-failed_at due.Rejected f s over is fault at = absurd (true≢false over)
+failed_at fsm.RemoveFiles f s over is fault at = absurd (true≢false is)
+failed_at fsm.Nothing f s over is fault at = absurd (true≢false over)
+failed_at fsm.Installed f s over is fault at = absurd (true≢false over)
+failed_at fsm.AlreadyInstalled f s over is fault at = absurd (true≢false over)
+failed_at fsm.WouldInstall f s over is fault at = absurd (true≢false over)
+failed_at fsm.Rejected f s over is fault at = absurd (true≢false over)
 failed_at _ f s over is fault at = rw (fault, at) refl
 
 pub no_failure_at : (op : Operation) (f : NamedFault) (s : State) → is_failure f ≡ false
     → after op (Failed f) s ≡ None
-no_failure_at due.Nothing f s is = refl
-no_failure_at due.Installed f s is = refl
-no_failure_at due.AlreadyInstalled f s is = refl
-no_failure_at due.WouldInstall f s is = refl
-no_failure_at due.Rejected f s is = refl
+no_failure_at fsm.Nothing f s is = refl
+no_failure_at fsm.Installed f s is = refl
+no_failure_at fsm.AlreadyInstalled f s is = refl
+no_failure_at fsm.WouldInstall f s is = refl
+no_failure_at fsm.Rejected f s is = refl
 no_failure_at _ f s is = rw is refl

@@ -3,7 +3,7 @@ mod Applying
 mod Checking
 mod Decisions
 mod Fields
-mod Judged
+mod CommentFaults
 mod HeldListings
 mod HeldStates
 mod Leftovers

@@ -18,7 +18,7 @@ use Rattle.minisign_install.specs.Faults.{SameNumber}
 use Rattle.minisign_install.specs.Listings.{digest_found, entry_in, fits_list, has_listed}
 use Rattle.minisign_install.specs.Step.{Answered, Event, Operation, State, after, answer, begin, key_of}
 use Rattle.minisign_install.specs.Step.{step}
-use Rattle.minisign_install.specs.Step as due
+use Rattle.minisign_install.specs.Step as fsm
 use Rattle.minisign_install.specs.StepRuns.{IsUpdate, World}
 use Rattle.minisign_lists.specs.Digests.{has_digest}
 use Rattle.minisign_lists.specs.declared.faults.ListFault.{ListFault}
@@ -75,145 +75,145 @@ either : (is : Bool) (b : Bool) (x y : State) → x.is_list_signed ≡ b → y.i
 either true b x y one other = one
 either false b x y one other = other
 
-compare : (s : State) → (due.compare s).is_list_signed ≡ s.is_list_signed
+compare : (s : State) → (fsm.compare s).is_list_signed ≡ s.is_list_signed
 compare s =
-    either (due.is_newer s) s.is_list_signed (due.install s) _ refl
-    (either (is_some s.recorded.digest) s.is_list_signed (due.go due.CheckRecord s) _ refl
-    (either (due.is_rolling_back s) s.is_list_signed (due.install s) (due.go due.ReadTarget s) refl refl))
+    either (fsm.is_newer s) s.is_list_signed (fsm.install s) _ refl
+    (either (is_some s.recorded.digest) s.is_list_signed (fsm.go fsm.CheckRecord s) _ refl
+    (either (fsm.is_rolling_back s) s.is_list_signed (fsm.install s) (fsm.go fsm.ReadTarget s) refl refl))
 
 after_record : (r : Result Recorded InstallFault) (s : State)
-    → (due.after_record r s).is_list_signed ≡ s.is_list_signed
+    → (fsm.after_record r s).is_list_signed ≡ s.is_list_signed
 after_record (Ok r) s = refl
 after_record (Err fault) s = refl
 
 after_signature : (r : Passed) (time : Option ℕ) (s : State)
-    → (due.after_signature r time s).is_list_signed ≡ s.is_list_signed
+    → (fsm.after_signature r time s).is_list_signed ≡ s.is_list_signed
 after_signature (Ok (t, keys)) time s = refl
 after_signature (Err fault) time s = refl
 
 after_comment : (fault : Option InstallFault) (s : State)
-    → (due.after_comment fault s).is_list_signed ≡ s.is_list_signed
+    → (fsm.after_comment fault s).is_list_signed ≡ s.is_list_signed
 after_comment None s =
-    either (is_some s.options.list) s.is_list_signed (due.go due.ReadList s) _ refl (compare s)
+    either (is_some s.options.list) s.is_list_signed (fsm.go fsm.ReadList s) _ refl (compare s)
 after_comment (Some fault) s = refl
 
 next_key : (signers : List PublicKeyValue) (s : State)
-    → (due.next_key signers s).is_list_signed ≡ s.is_list_signed
+    → (fsm.next_key signers s).is_list_signed ≡ s.is_list_signed
 next_key [] s = refl
 next_key (v ∷ []) s = refl
 next_key (v ∷ u ∷ more) s = refl
 
-after_digest : (accepted : Bool) (s : State) → (due.after_digest accepted s).is_list_signed ≡ s.is_list_signed
+after_digest : (accepted : Bool) (s : State) → (fsm.after_digest accepted s).is_list_signed ≡ s.is_list_signed
 after_digest accepted s =
-    either (not accepted && due.is_rolling_back s) s.is_list_signed (due.install s)
-    (record s { due = due.ReadTarget; is_recorded = accepted }) refl refl
+    either (not accepted && fsm.is_rolling_back s) s.is_list_signed (fsm.install s)
+    (record s { due = fsm.ReadTarget; is_recorded = accepted }) refl refl
 
-after_target : (accepted : Bool) (s : State) → (due.after_target accepted s).is_list_signed ≡ s.is_list_signed
+after_target : (accepted : Bool) (s : State) → (fsm.after_target accepted s).is_list_signed ≡ s.is_list_signed
 after_target true s = refl
 after_target false s =
-    either (s.is_recorded || s.options.again) s.is_list_signed (due.install s) (due.reject SameNumber s)
+    either (s.is_recorded || s.options.again) s.is_list_signed (fsm.install s) (fsm.reject SameNumber s)
     refl refl
 
-after_data : (listed : Bool) (s : State) → (due.after_data listed s).is_list_signed ≡ s.is_list_signed
+after_data : (listed : Bool) (s : State) → (fsm.after_data listed s).is_list_signed ≡ s.is_list_signed
 after_data true s = refl
 after_data false s = refl
 
 after_piece : (n : ℕ) (left : Option ℕ) (s : State)
-    → (due.after_piece n left s).is_list_signed ≡ s.is_list_signed
+    → (fsm.after_piece n left s).is_list_signed ≡ s.is_list_signed
 after_piece n None s = refl
 after_piece n (Some left) s =
-    either (nat_le n left) s.is_list_signed _ (due.reject OtherSize s) refl refl
+    either (nat_le n left) s.is_list_signed _ (fsm.reject OtherSize s) refl refl
 
-after_copy : (left : Option ℕ) (s : State) → (due.after_copy left s).is_list_signed ≡ s.is_list_signed
+after_copy : (left : Option ℕ) (s : State) → (fsm.after_copy left s).is_list_signed ≡ s.is_list_signed
 after_copy None s = refl
 after_copy (Some left) s =
-    either (left == 0) s.is_list_signed (due.go due.ReadBack s) (due.reject OtherSize s) refl refl
+    either (left == 0) s.is_list_signed (fsm.go fsm.ReadBack s) (fsm.reject OtherSize s) refl refl
 
 -- The list is as it was, or Ed25519 has accepted its signature.
 abbrev Kept : State → Event → Option State → Type 0
 Kept s e next =
-    IfSome next (λ t. (t.is_list_signed ≡ s.is_list_signed) ⊎ ((s.due ≡ due.CheckList) × (e ≡ Answered true)))
+    IfSome next (λ t. (t.is_list_signed ≡ s.is_list_signed) ⊎ ((s.due ≡ fsm.CheckList) × (e ≡ Answered true)))
 
-maybe : (is : Bool) (s t : State) (e : Event) → t.is_list_signed ≡ s.is_list_signed
+holds_if_some : (is : Bool) (s t : State) (e : Event) → t.is_list_signed ≡ s.is_list_signed
     → Kept s e (if is then Some t else None)
-maybe true s t e same = inl same
-maybe false s t e same = tt
+holds_if_some true s t e same = inl same
+holds_if_some false s t e same = tt
 
-keeps : (op : Operation) (e : Event) (s : State) → s.due ≡ op → Kept s e (after op e s)
-keeps due.Nothing (due.Failed f) s at = tt
-keeps due.Installed (due.Failed f) s at = tt
-keeps due.AlreadyInstalled (due.Failed f) s at = tt
-keeps due.WouldInstall (due.Failed f) s at = tt
-keeps due.Rejected (due.Failed f) s at = tt
-keeps due.RemoveFiles (due.Failed f) s at =
-    maybe (due.is_failure f) s (due.go due.Rejected s) (due.Failed f) refl
-keeps op (due.Failed f) s at =
-    maybe (due.is_failure f) s (due.reject (due.failure s.due f) s) (due.Failed f) refl
-keeps due.Lock due.InUse s at = inl refl
-keeps due.ReadRecord (due.RecordRead bytes) s at = inl (after_record (judge_record s.options bytes) s)
-keeps due.ReadSignature (due.SignatureRead text time) s at =
+op_keeps : (op : Operation) (e : Event) (s : State) → s.due ≡ op → Kept s e (after op e s)
+op_keeps fsm.Nothing (fsm.Failed f) s at = tt
+op_keeps fsm.Installed (fsm.Failed f) s at = tt
+op_keeps fsm.AlreadyInstalled (fsm.Failed f) s at = tt
+op_keeps fsm.WouldInstall (fsm.Failed f) s at = tt
+op_keeps fsm.Rejected (fsm.Failed f) s at = tt
+op_keeps fsm.RemoveFiles (fsm.Failed f) s at =
+    holds_if_some (fsm.is_failure f) s (fsm.go fsm.Rejected s) (fsm.Failed f) refl
+op_keeps op (fsm.Failed f) s at =
+    holds_if_some (fsm.is_failure f) s (fsm.reject (fsm.failure s.due f) s) (fsm.Failed f) refl
+op_keeps fsm.Lock fsm.InUse s at = inl refl
+op_keeps fsm.ReadRecord (fsm.RecordRead bytes) s at = inl (after_record (judge_record s.options bytes) s)
+op_keeps fsm.ReadSignature (fsm.SignatureRead text time) s at =
     inl (after_signature (judge_text s.options text) time s)
-keeps due.CheckComment (Answered true) s at = inl (after_comment s.fault (record s { is_signed = true }))
-keeps due.CheckComment (Answered false) s at = inl (next_key s.signers s)
-keeps due.ReadList (due.ListRead list name) s at = inl refl
-keeps due.CheckList (Answered true) s at = inr (at, refl)
-keeps due.CheckList (Answered false) s at = inl refl
-keeps due.CheckRecord (Answered accepted) s at = inl (after_digest accepted s)
-keeps due.ReadTarget (due.PieceRead bytes) s at = inl refl
-keeps due.ReadTarget due.TargetMissing s at = inl refl
-keeps due.CheckTarget (Answered accepted) s at = inl (after_target (accepted && due.is_listed s) s)
-keeps due.CopyData (due.PieceCopied n) s at = inl (after_piece n s.left s)
-keeps due.CopyData due.Done s at = inl (after_copy s.left s)
-keeps due.ReadBack (due.PieceRead bytes) s at = inl refl
-keeps due.CheckData (Answered true) s at = inl (after_data (due.is_listed s) s)
-keeps due.CheckData (Answered false) s at = inl refl
-keeps due.Lock due.Done s at = inl refl
-keeps due.ReadTarget due.Done s at = inl refl
-keeps due.SyncTarget due.Done s at = inl refl
-keeps due.SyncTargetName due.Done s at = inl refl
-keeps due.RemoveLeftovers due.Done s at = inl refl
-keeps due.CreateFile due.Done s at = inl refl
-keeps due.ReadBack due.Done s at = inl refl
-keeps due.SetPermissions due.Done s at = inl refl
-keeps due.SyncFile due.Done s at = inl refl
-keeps due.CreateRecord due.Done s at = inl refl
-keeps due.WriteRecord due.Done s at = inl refl
-keeps due.SyncRecord due.Done s at = inl refl
-keeps due.RenameRecord due.Done s at = inl refl
-keeps due.SyncRecordName due.Done s at = inl refl
-keeps due.RenameFile due.Done s at = inl refl
-keeps due.SyncFileName due.Done s at = inl refl
-keeps due.RemoveFiles due.Done s at = inl refl
-keeps op e s at = tt
+op_keeps fsm.CheckComment (Answered true) s at = inl (after_comment s.fault (record s { is_signed = true }))
+op_keeps fsm.CheckComment (Answered false) s at = inl (next_key s.signers s)
+op_keeps fsm.ReadList (fsm.ListRead list name) s at = inl refl
+op_keeps fsm.CheckList (Answered true) s at = inr (at, refl)
+op_keeps fsm.CheckList (Answered false) s at = inl refl
+op_keeps fsm.CheckRecord (Answered accepted) s at = inl (after_digest accepted s)
+op_keeps fsm.ReadTarget (fsm.PieceRead bytes) s at = inl refl
+op_keeps fsm.ReadTarget fsm.TargetMissing s at = inl refl
+op_keeps fsm.CheckTarget (Answered accepted) s at = inl (after_target (accepted && fsm.is_listed s) s)
+op_keeps fsm.CopyData (fsm.PieceCopied n) s at = inl (after_piece n s.left s)
+op_keeps fsm.CopyData fsm.Done s at = inl (after_copy s.left s)
+op_keeps fsm.ReadBack (fsm.PieceRead bytes) s at = inl refl
+op_keeps fsm.CheckData (Answered true) s at = inl (after_data (fsm.is_listed s) s)
+op_keeps fsm.CheckData (Answered false) s at = inl refl
+op_keeps fsm.Lock fsm.Done s at = inl refl
+op_keeps fsm.ReadTarget fsm.Done s at = inl refl
+op_keeps fsm.SyncTarget fsm.Done s at = inl refl
+op_keeps fsm.SyncTargetName fsm.Done s at = inl refl
+op_keeps fsm.RemoveLeftovers fsm.Done s at = inl refl
+op_keeps fsm.CreateFile fsm.Done s at = inl refl
+op_keeps fsm.ReadBack fsm.Done s at = inl refl
+op_keeps fsm.SetPermissions fsm.Done s at = inl refl
+op_keeps fsm.SyncFile fsm.Done s at = inl refl
+op_keeps fsm.CreateRecord fsm.Done s at = inl refl
+op_keeps fsm.WriteRecord fsm.Done s at = inl refl
+op_keeps fsm.SyncRecord fsm.Done s at = inl refl
+op_keeps fsm.RenameRecord fsm.Done s at = inl refl
+op_keeps fsm.SyncRecordName fsm.Done s at = inl refl
+op_keeps fsm.RenameFile fsm.Done s at = inl refl
+op_keeps fsm.SyncFileName fsm.Done s at = inl refl
+op_keeps fsm.RemoveFiles fsm.Done s at = inl refl
+op_keeps op e s at = tt
 
 moved : (s : State) (e : Event) (next : Option State) → Kept s e next
     → ((answer s next).1.is_list_signed ≡ s.is_list_signed)
-    ⊎ ((s.due ≡ due.CheckList) × (e ≡ Answered true))
+    ⊎ ((s.due ≡ fsm.CheckList) × (e ≡ Answered true))
 moved s e (Some t) kept = kept
 moved s e None kept = inl refl
 
 becomes : (s t : State) (e : Event)
-    → (t.is_list_signed ≡ s.is_list_signed) ⊎ ((s.due ≡ due.CheckList) × (e ≡ Answered true))
-    → s.is_list_signed ≡ false → t.is_list_signed ≡ true → (s.due ≡ due.CheckList) × (e ≡ Answered true)
+    → (t.is_list_signed ≡ s.is_list_signed) ⊎ ((s.due ≡ fsm.CheckList) × (e ≡ Answered true))
+    → s.is_list_signed ≡ false → t.is_list_signed ≡ true → (s.due ≡ fsm.CheckList) × (e ≡ Answered true)
 becomes s t e (inl same) not is = absurd (true≢false (sym is ∙ same ∙ not))
 becomes s t e (inr why) not is = why
 
 -- A list is found to be signed only by the answer of Ed25519 to the question about its digest.
 pub list_is_signed : (s : State) (e : Event) → s.is_list_signed ≡ false → (step s e).1.is_list_signed ≡ true
-    → (s.due ≡ due.CheckList) × (e ≡ Answered true)
+    → (s.due ≡ fsm.CheckList) × (e ≡ Answered true)
 list_is_signed s e not is =
-    becomes s (step s e).1 e (moved s e (after s.due e s) (keeps s.due e s refl)) not is
+    becomes s (step s e).1 e (moved s e (after s.due e s) (op_keeps s.due e s refl)) not is
 
 -- Until then, no line is at fault.
-pub no_line : (s : State) → s.is_list_signed ≡ false → due.line_at_fault s ≡ 0
+pub no_line : (s : State) → s.is_list_signed ≡ false → fsm.line_at_fault s ≡ 0
 no_line s not = rw not refl
 
 -- == Without a list ==
 
 no_list_at : (w : World) (o : Options) (op : Operation) (s : State) → Known w o op s → o.list ≡ None
     → is_for_list op ≡ false
-no_list_at w o due.ReadList s known none = absurd (true≢false (sym known.1 ∙ ap is_some none))
-no_list_at w o due.CheckList s known none = absurd (true≢false (sym known.1 ∙ ap is_some none))
+no_list_at w o fsm.ReadList s known none = absurd (true≢false (sym known.1 ∙ ap is_some none))
+no_list_at w o fsm.CheckList s known none = absurd (true≢false (sym known.1 ∙ ap is_some none))
 no_list_at w o op s known none = refl
 
 -- Without a list, no operation for it becomes due.

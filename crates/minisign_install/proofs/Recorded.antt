@@ -45,15 +45,16 @@ recorded_holds numbering bytes n is =
     let number = reads_number _ n is in
     record { utf8 = text_utf8 numbering (record_text bytes) n _ refl number; number = number }
 
-none_at : (numbering : Numbering) (bytes : List ℕ) (o : Option ℕ) → recorded_version numbering bytes ≡ o
+no_number_recorded : (numbering : Numbering) (bytes : List ℕ) (o : Option ℕ)
+    → recorded_version numbering bytes ≡ o
     → HasNoNumber numbering bytes → None ≡ o
-none_at numbering bytes None is none = refl
-none_at numbering bytes (Some n) is none = absurd (none n (recorded_holds numbering bytes n is))
+no_number_recorded numbering bytes None is none = refl
+no_number_recorded numbering bytes (Some n) is none = absurd (none n (recorded_holds numbering bytes n is))
 
 pub version_is : (numbering : Numbering) (bytes : List ℕ) (r : Option ℕ)
     → MatchOption r (HasNoNumber numbering bytes) (IsNumberFor numbering bytes)
     → r ≡ recorded_version numbering bytes
-version_is numbering bytes None none = none_at numbering bytes _ refl none
+version_is numbering bytes None none = no_number_recorded numbering bytes _ refl none
 version_is numbering bytes (Some n) is = sym (number_reads _ n is.number)
 
 pub fault_is : (numbering : Numbering) (bytes : List ℕ) (e : InstallFault)
@@ -64,4 +65,4 @@ fault_is numbering bytes e (inl (is, (n, number))) =
     (number_reads _ n number.number))
 fault_is numbering bytes e (inr (is, none)) =
     is ∙ ap (λ (o : Option ℕ). if is_some o then kept_by (other_field numbering) else DamagedRecord)
-    (none_at (other_field numbering) bytes _ refl none)
+    (no_number_recorded (other_field numbering) bytes _ refl none)

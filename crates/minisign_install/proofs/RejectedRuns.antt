@@ -11,7 +11,7 @@ use Rattle.minisign_install.specs.Step.{Answered, Done, Event, Failed, InUse, Op
 use Rattle.minisign_install.specs.Step.{PieceRead, RecordRead, SignatureRead, State, TargetMissing, begin}
 use Rattle.minisign_install.specs.Step.{step}
 use Rattle.minisign_install.specs.Step.{new_record}
-use Rattle.minisign_install.specs.Step as due
+use Rattle.minisign_install.specs.Step as fsm
 use Rattle.minisign_install.specs.StepRuns.{AllSucceed, Changes, Disk, IsRun, IsLawfulEvent, Runs, Succeeds}
 use Rattle.minisign_install.specs.StepRuns.{World}
 use Rattle.minisign_install.specs.StepRuns.{count}
@@ -22,22 +22,22 @@ use Rattle.minisign_install.specs.Step.{ListRead}
 
 -- A disk without files. In the proof, a run starts with this disk; a rename adds a file to it, and no
 -- operation removes one. So if the disk is empty after the run, no file was renamed.
-abbrev nothing : Disk
-nothing = record { target = None; record_bytes = None }
+abbrev empty_disk : Disk
+empty_disk = record { target = None; record_bytes = None }
 
 abbrev disk_after : Operation → Event → State → Disk → Disk
-disk_after due.RenameRecord Done s d = record d { record_bytes = Some (new_record s) }
-disk_after due.RenameFile Done s d = record d { target = Some s.read }
+disk_after fsm.RenameRecord Done s d = record d { record_bytes = Some (new_record s) }
+disk_after fsm.RenameFile Done s d = record d { target = Some s.read }
 disk_after op e s d = d
 
 changes : (op : Operation) (e : Event) (s : State) (d : Disk) → Succeeds e
     → Changes op s e d (disk_after op e s d)
 changes op (Failed f) s d fine = absurd fine
 changes op InUse s d fine = absurd fine
-changes due.RenameRecord Done s d fine = refl
-changes due.RenameFile Done s d fine = refl
-changes due.RenameRecord e s d fine = refl
-changes due.RenameFile e s d fine = refl
+changes fsm.RenameRecord Done s d fine = refl
+changes fsm.RenameFile Done s d fine = refl
+changes fsm.RenameRecord e s d fine = refl
+changes fsm.RenameFile e s d fine = refl
 changes op e s d fine = refl
 
 same_content : (is : Bool) (file : File)
@@ -56,55 +56,57 @@ unchanged old new is = rw is (refl, refl)
 -- If an operation succeeds and the disk is empty after it, the disk was empty before it, and the operation
 -- leaves the content of the target and of the record unchanged.
 leaves : (w : World) (s : State) (op : Operation) (e : Event) (old new : Snapshot) (d : Disk)
-    → Performs w s op e old new → Succeeds e → disk_after op e s d ≡ nothing
-    → (d ≡ nothing) × LeavesContent old new
+    → Performs w s op e old new → Succeeds e → disk_after op e s d ≡ empty_disk
+    → (d ≡ empty_disk) × LeavesContent old new
 leaves w s op (Failed f) old new d is fine none = absurd fine
 leaves w s op InUse old new d is fine none = absurd fine
-leaves w s due.RenameRecord Done old new d is fine none =
+leaves w s fsm.RenameRecord Done old new d is fine none =
     absurd (none-some (new_record s) (sym (ap (λ (x : Disk). x.record_bytes) none)))
-leaves w s due.RenameFile Done old new d is fine none =
+leaves w s fsm.RenameFile Done old new d is fine none =
     absurd (none-some s.read (sym (ap (λ (x : Disk). x.target) none)))
-leaves w s due.Lock Done old new d is fine none = (none, rw is.1 (refl, refl))
-leaves w s due.ReadRecord (RecordRead found) old new d is fine none = (none, unchanged old new is.2)
-leaves w s due.ReadSignature (SignatureRead text time) old new d is fine none = (none, unchanged old new is.1)
-leaves w s due.ReadList (ListRead list name) old new d is fine none = (none, unchanged old new is.2)
-leaves w s due.ReadTarget (PieceRead bytes) old new d is fine none = (none, unchanged old new is.2)
-leaves w s due.ReadTarget Done old new d (file, at, holds, is) fine none = (none, rw is (refl, refl))
-leaves w s due.ReadTarget TargetMissing old new d is fine none = (none, unchanged old new is.1)
-leaves w s due.SyncTarget Done old new d is fine none =
+leaves w s fsm.Lock Done old new d is fine none = (none, rw is.1 (refl, refl))
+leaves w s fsm.ReadRecord (RecordRead found) old new d is fine none = (none, unchanged old new is.2)
+leaves w s fsm.ReadSignature (SignatureRead text time) old new d is fine none = (none, unchanged old new is.1)
+leaves w s fsm.ReadList (ListRead list name) old new d is fine none = (none, unchanged old new is.2)
+leaves w s fsm.ReadTarget (PieceRead bytes) old new d is fine none = (none, unchanged old new is.2)
+leaves w s fsm.ReadTarget Done old new d (file, at, holds, is) fine none = (none, rw is (refl, refl))
+leaves w s fsm.ReadTarget TargetMissing old new d is fine none = (none, unchanged old new is.1)
+leaves w s fsm.SyncTarget Done old new d is fine none =
     (none, rw is (synced_content old.opened old.target, refl))
-leaves w s due.SyncTargetName Done old new d is fine none = (none, rw is (refl, refl))
-leaves w s due.RemoveLeftovers Done old new d is fine none = (none, rw is (refl, refl))
-leaves w s due.CreateFile Done old new d (number, is) fine none = (none, rw is (refl, refl))
-leaves w s due.CopyData (PieceCopied k) old new d (some, (piece, rest, long, part, is)) fine none =
+leaves w s fsm.SyncTargetName Done old new d is fine none = (none, rw is (refl, refl))
+leaves w s fsm.RemoveLeftovers Done old new d is fine none = (none, rw is (refl, refl))
+leaves w s fsm.CreateFile Done old new d (number, is) fine none = (none, rw is (refl, refl))
+leaves w s fsm.CopyData (PieceCopied k) old new d (some, (piece, rest, long, part, is)) fine none =
     (none, rw is (refl, refl))
-leaves w s due.CopyData Done old new d is fine none = (none, unchanged old new is.1)
-leaves w s due.ReadBack (PieceRead bytes) old new d is fine none = (none, unchanged old new is.2)
-leaves w s due.ReadBack Done old new d is fine none = (none, unchanged old new is.1)
-leaves w s due.SetPermissions Done old new d is fine none = (none, rw is (refl, refl))
-leaves w s due.SyncFile Done old new d is fine none = (none, rw is (refl, refl))
-leaves w s due.CreateRecord Done old new d (number, is) fine none = (none, rw is (refl, refl))
-leaves w s due.WriteRecord Done old new d is fine none = (none, rw is (refl, refl))
-leaves w s due.SyncRecord Done old new d is fine none = (none, rw is (refl, refl))
-leaves w s due.SyncRecordName Done old new d is fine none = (none, rw is (refl, refl))
-leaves w s due.SyncFileName Done old new d is fine none = (none, rw is (refl, refl))
-leaves w s due.RemoveFiles Done old new d is fine none = (none, rw is (refl, refl))
-leaves w s due.CheckComment (Answered accepted) old new d is fine none = (none, unchanged old new is.1)
+leaves w s fsm.CopyData Done old new d is fine none = (none, unchanged old new is.1)
+leaves w s fsm.ReadBack (PieceRead bytes) old new d is fine none = (none, unchanged old new is.2)
+leaves w s fsm.ReadBack Done old new d is fine none = (none, unchanged old new is.1)
+leaves w s fsm.SetPermissions Done old new d is fine none = (none, rw is (refl, refl))
+leaves w s fsm.SyncFile Done old new d is fine none = (none, rw is (refl, refl))
+leaves w s fsm.CreateRecord Done old new d (number, is) fine none = (none, rw is (refl, refl))
+leaves w s fsm.WriteRecord Done old new d is fine none = (none, rw is (refl, refl))
+leaves w s fsm.SyncRecord Done old new d is fine none = (none, rw is (refl, refl))
+leaves w s fsm.SyncRecordName Done old new d is fine none = (none, rw is (refl, refl))
+leaves w s fsm.SyncFileName Done old new d is fine none = (none, rw is (refl, refl))
+leaves w s fsm.RemoveFiles Done old new d is fine none = (none, rw is (refl, refl))
+leaves w s fsm.CheckComment (Answered accepted) old new d is fine none = (none, unchanged old new is.1)
 leaves w s op (Answered accepted) old new d is fine none = (none, unchanged old new is.1)
 leaves w s op e old new d is fine none = absurd is
 
 -- The same for a run: if the disk is empty at its end, each operation leaves the content of the target and of
 -- the record unchanged.
-from : (w : World) (n : ℕ) (s : State) (d : Disk) (m : Snapshot) (calls : List Call) (t : State)
+changes_nothing_from : (w : World) (n : ℕ) (s : State) (d : Disk) (m : Snapshot) (calls : List Call)
+    (t : State)
     (end : Snapshot)
     → IsRun (IsLawfulEvent w) n s (map event_of calls) t → Applies w s m calls t end
     → AllEvents Succeeds calls
     → (events : List (Event × Disk)) × (last : Disk) × Runs w n s d events t last × AllSucceed events
-    × (last ≡ nothing → (d ≡ nothing) × AllCalls LeavesContent calls)
-from w n s d m [] t end held run fine = ([], d, (held, refl), tt, λ none. (none, tt))
-from w n s d m (c ∷ more) t end (holds, later) (others, fits, is, run) (fine, rest) =
+    × (last ≡ empty_disk → (d ≡ empty_disk) × AllCalls LeavesContent calls)
+changes_nothing_from w n s d m [] t end held run fine = ([], d, (held, refl), tt, λ none. (none, tt))
+changes_nothing_from w n s d m (c ∷ more) t end (holds, later) (others, fits, is, run) (fine, rest) =
     let (events, last, runs, succeed, back) =
-    from w (count n c.event) (step s c.event).1 (disk_after s.due c.event s d) c.after more t end later run
+    changes_nothing_from w (count n c.event) (step s c.event).1
+    (disk_after s.due c.event s d) c.after more t end later run
     rest in (
       (c.event, disk_after s.due c.event s d) ∷ events,
       last,
@@ -120,9 +122,9 @@ from w n s d m (c ∷ more) t end (holds, later) (others, fits, is, run) (fine, 
 -- the record unchanged.
 pub rejected_leaves : (w : World) (o : Options) (m : Snapshot) (calls : List Call) (t : State)
     (end : Snapshot)
-    → Applies w (begin o) m calls t end → AllEvents Succeeds calls → t.due ≡ due.Rejected
+    → Applies w (begin o) m calls t end → AllEvents Succeeds calls → t.due ≡ fsm.Rejected
     → AllCalls LeavesContent calls
 rejected_leaves w o m calls t end run fine rejected =
     let (events, last, runs, succeed, back) =
-    from w 0 (begin o) nothing m calls t end (true_run w o m calls t end run) run fine in
-    (back (rejected_changes_nothing w o nothing last events t runs succeed rejected)).1
+    changes_nothing_from w 0 (begin o) empty_disk m calls t end (true_run w o m calls t end run) run fine in
+    (back (rejected_changes_nothing w o empty_disk last events t runs succeed rejected)).1

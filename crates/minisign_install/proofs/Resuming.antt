@@ -14,7 +14,7 @@ use Rattle.minisign_install.specs.Faults.{Fault}
 use Rattle.minisign_install.specs.Step.{Event, Done, InUse, Failed, RecordRead, SignatureRead, Answered}
 use Rattle.minisign_install.specs.Step.{PieceRead, PieceCopied, State, begin, step, Operation, after}
 use Rattle.minisign_install.specs.Step.{answer, has_ended, key_of}
-use Rattle.minisign_install.specs.Step as due
+use Rattle.minisign_install.specs.Step as fsm
 use Rattle.minisign_install.specs.Applications.{Applies, Call, Snapshot}
 use Rattle.minisign_install.specs.Histories.{AllEvents, IsAcceptableFor, IsOldUpdate, IsInstalled}
 use Rattle.minisign_install.specs.StepRuns.{IsTrueEvent, World, count}
@@ -59,40 +59,40 @@ module _ (w : World) (o : Options) (g : IsOldUpdate w o) where
 
   -- Invariant of a run on its way to the installation of the update.
   abbrev OnTrack : ℕ → Operation → State → Type 0
-  OnTrack n due.Lock s = (s.options ≡ o) × (n ≡ 0)
-  OnTrack n due.ReadRecord s = (s.options ≡ o) × (n ≡ 0)
-  OnTrack n due.ReadSignature s = (s.options ≡ o) × (n ≡ 0) × (s.recorded ≡ g.recorded)
-  OnTrack n due.CheckComment s =
+  OnTrack n fsm.Lock s = (s.options ≡ o) × (n ≡ 0)
+  OnTrack n fsm.ReadRecord s = (s.options ≡ o) × (n ≡ 0)
+  OnTrack n fsm.ReadSignature s = (s.options ≡ o) × (n ≡ 0) × (s.recorded ≡ g.recorded)
+  OnTrack n fsm.CheckComment s =
       (s.options ≡ o) × (n ≡ 0) × (s.recorded ≡ g.recorded) × (s.fault ≡ None) × (s.version ≡ g.version)
       × (s.signature ≡ g.text.signature.signature)
       × (s.comment_signature ≡ take 64 g.text.comments.signature)
       × (s.left ≡ signed_size o.list g.text.comments.trusted)
       × (first_signer w g.text s.signers ≡ Some g.key)
-  OnTrack n due.ReadList s = IsAccepted n s × (is_some o.list ≡ true)
-  OnTrack n due.CheckList s = IsAccepted n s × (is_some o.list ≡ true) × HasListing w o s
-  OnTrack n due.CheckRecord s =
+  OnTrack n fsm.ReadList s = IsAccepted n s × (is_some o.list ≡ true)
+  OnTrack n fsm.CheckList s = IsAccepted n s × (is_some o.list ≡ true) × HasListing w o s
+  OnTrack n fsm.CheckRecord s =
       CanInstall n s
-      × ((s.recorded.digest ≡ Some (digest_to_sign o.list w.list w.update)) ⊎ (due.is_rolling_back s ≡ true))
-  OnTrack n due.ReadTarget s = Compares n s
-  OnTrack n due.CheckTarget s = Compares n s
-  OnTrack n due.SyncTarget s = ⊤
-  OnTrack n due.SyncTargetName s = ⊤
-  OnTrack n due.AlreadyInstalled s = ⊤
-  OnTrack n due.RemoveLeftovers s = IsReady n s
-  OnTrack n due.CreateFile s = IsReady n s
-  OnTrack n due.CopyData s = IsReady n s
-  OnTrack n due.ReadBack s = StateKnows s × ((rest : List ℕ) × (s.read ++ rest ≡ w.update))
-  OnTrack n due.CheckData s = StateKnows s × (s.read ≡ w.update)
-  OnTrack n due.SetPermissions s = ⊤
-  OnTrack n due.SyncFile s = ⊤
-  OnTrack n due.CreateRecord s = ⊤
-  OnTrack n due.WriteRecord s = ⊤
-  OnTrack n due.SyncRecord s = ⊤
-  OnTrack n due.RenameRecord s = ⊤
-  OnTrack n due.SyncRecordName s = ⊤
-  OnTrack n due.RenameFile s = ⊤
-  OnTrack n due.SyncFileName s = ⊤
-  OnTrack n due.Installed s = ⊤
+      × ((s.recorded.digest ≡ Some (digest_to_sign o.list w.list w.update)) ⊎ (fsm.is_rolling_back s ≡ true))
+  OnTrack n fsm.ReadTarget s = Compares n s
+  OnTrack n fsm.CheckTarget s = Compares n s
+  OnTrack n fsm.SyncTarget s = ⊤
+  OnTrack n fsm.SyncTargetName s = ⊤
+  OnTrack n fsm.AlreadyInstalled s = ⊤
+  OnTrack n fsm.RemoveLeftovers s = IsReady n s
+  OnTrack n fsm.CreateFile s = IsReady n s
+  OnTrack n fsm.CopyData s = IsReady n s
+  OnTrack n fsm.ReadBack s = StateKnows s × ((rest : List ℕ) × (s.read ++ rest ≡ w.update))
+  OnTrack n fsm.CheckData s = StateKnows s × (s.read ≡ w.update)
+  OnTrack n fsm.SetPermissions s = ⊤
+  OnTrack n fsm.SyncFile s = ⊤
+  OnTrack n fsm.CreateRecord s = ⊤
+  OnTrack n fsm.WriteRecord s = ⊤
+  OnTrack n fsm.SyncRecord s = ⊤
+  OnTrack n fsm.RenameRecord s = ⊤
+  OnTrack n fsm.SyncRecordName s = ⊤
+  OnTrack n fsm.RenameFile s = ⊤
+  OnTrack n fsm.SyncFileName s = ⊤
+  OnTrack n fsm.Installed s = ⊤
   OnTrack n op s = ⊥
 
   -- The invariant holds after this event, if the event fits.
@@ -133,32 +133,32 @@ module _ (w : World) (o : Options) (g : IsOldUpdate w o) where
   rolls_back None v last is less = cc is
   rolls_back (Some k) v last is less = lt-ltb v k (omega (arith, same_Some k last is, less))
 
-  to_install : (n : ℕ) (check : Bool) (s : State) → check ≡ false → IsReady n (due.install s)
-      → OnTrack n (if check then due.WouldInstall else due.RemoveLeftovers) (due.install s)
+  to_install : (n : ℕ) (check : Bool) (s : State) → check ≡ false → IsReady n (fsm.install s)
+      → OnTrack n (if check then fsm.WouldInstall else fsm.RemoveLeftovers) (fsm.install s)
   to_install n true s is ready = absurd (true≢false is)
   to_install n false s is ready = ready
 
-  install : (n : ℕ) (s : State) → CanInstall n s → OnTrack n (due.install s).due (due.install s)
+  install : (n : ℕ) (s : State) → CanInstall n s → OnTrack n (fsm.install s).due (fsm.install s)
   install n s (knows, left, none, installs) =
       to_install n s.options.check s installs (knows, left, refl, omega (arith, none))
 
   after_record : (n : ℕ) (s : State) (found : Option (List ℕ)) → (s.options ≡ o) × (n ≡ 0)
       → found ≡ w.found_record
-      → Stays n due.ReadRecord (RecordRead found) s
+      → Stays n fsm.ReadRecord (RecordRead found) s
   after_record n s found (is_o, none) is = rw (is_o, is, g.record_applies) (refl, none, refl)
 
   after_signature : (n : ℕ) (s : State) (text : Result SignatureTextRecord Fault) (time : Option ℕ)
-      → OnTrack n due.ReadSignature s → IsAcceptableFor g (SignatureRead text time) → text ≡ w.text
-      → Stays n due.ReadSignature (SignatureRead text time) s
+      → OnTrack n fsm.ReadSignature s → IsAcceptableFor g (SignatureRead text time) → text ≡ w.text
+      → Stays n fsm.ReadSignature (SignatureRead text time) s
   after_signature n s text time (is_o, none, recorded) fine is =
       rw (is_o, is ∙ g.parsed, g.passed, recorded)
       (refl, none, refl, fine, ap (λ v. unwrap_or v 0) g.numbered, refl, refl, refl, g.signed_comment)
 
   compare : (n : ℕ) (s : State) → IsAccepted n s → HasListing w o s
-      → OnTrack n (due.compare s).due (due.compare s)
+      → OnTrack n (fsm.compare s).due (fsm.compare s)
   compare n s (is_o, none, recorded, version, signature, key, left) listing =
-      let older = is_not_newer s.recorded.version s.version g.last
-      (ap (λ (r : Recorded). r.version) recorded ∙ g.last_is) (omega (arith, version, g.not_newer)) in
+      let older = is_not_newer s.recorded.version s.version g.last_version
+      (ap (λ (r : Recorded). r.version) recorded ∙ g.last_recorded) (omega (arith, version, g.not_newer)) in
       let installs : s.options.check ≡ false = ap (λ (x : Options). x.check) is_o ∙ g.installs in
       let ready : Left n s.left =
       rw left (left_at n (signed_size o.list g.text.comments.trusted) none g.sized) in
@@ -168,48 +168,48 @@ module _ (w : World) (o : Options) (g : IsOldUpdate w o) where
       (λ own.
       let has : s.recorded.digest ≡ Some (digest_to_sign o.list w.list w.update) =
       ap (λ (r : Recorded). r.digest) recorded ∙ own in
-      second n (due.is_newer s) (is_some s.recorded.digest) (due.install s)
-      (due.go due.CheckRecord s)
-      (if due.is_rolling_back s then due.install s else due.go due.ReadTarget s)
+      second n (fsm.is_newer s) (is_some s.recorded.digest) (fsm.install s)
+      (fsm.go fsm.CheckRecord s)
+      (if fsm.is_rolling_back s then fsm.install s else fsm.go fsm.ReadTarget s)
       older (ap is_some has) (can, inl has))
       (λ less.
-      let back : due.is_rolling_back s ≡ true =
-      rolls_back s.recorded.version s.version g.last
-      (ap (λ (r : Recorded). r.version) recorded ∙ g.last_is) (omega (arith, version, less)) in
-      last_two n (due.is_newer s) (is_some s.recorded.digest) (due.is_rolling_back s)
-      (due.install s) (due.go due.CheckRecord s) (due.install s)
-      (due.go due.ReadTarget s) older back (can, inr back) (install n s can)) g.own
+      let back : fsm.is_rolling_back s ≡ true =
+      rolls_back s.recorded.version s.version g.last_version
+      (ap (λ (r : Recorded). r.version) recorded ∙ g.last_recorded) (omega (arith, version, less)) in
+      last_two n (fsm.is_newer s) (is_some s.recorded.digest) (fsm.is_rolling_back s)
+      (fsm.install s) (fsm.go fsm.CheckRecord s) (fsm.install s)
+      (fsm.go fsm.ReadTarget s) older back (can, inr back) (install n s can)) g.recorded_or_older
 
   list_next : (listed : Bool) (n : ℕ) (s : State) → is_some o.list ≡ listed → IsAccepted n s
-      → OnTrack n (if listed then due.go due.ReadList s else due.compare s).due
-      (if listed then due.go due.ReadList s else due.compare s)
+      → OnTrack n (if listed then fsm.go fsm.ReadList s else fsm.compare s).due
+      (if listed then fsm.go fsm.ReadList s else fsm.compare s)
   list_next true n s some known = (known, some)
   list_next false n s none known = compare n s known (λ some. absurd (true≢false (sym some ∙ none)))
 
-  after_comment : (n : ℕ) (s : State) → OnTrack n due.CheckComment s
-      → IsTrueEvent w n s due.CheckComment (Answered true) → Stays n due.CheckComment (Answered true) s
+  after_comment : (n : ℕ) (s : State) → OnTrack n fsm.CheckComment s
+      → IsTrueEvent w n s fsm.CheckComment (Answered true) → Stays n fsm.CheckComment (Answered true) s
   after_comment n s (is_o, none, recorded, fault, version, signature, also, left, signer) is =
       let accepted = is g.text g.parsed in
       let key = signer_is w g.text g.key s.signers (rw (signature, also) at accepted) signer in
       let signed : State = record s { is_signed = true } in
-      subst (λ f. OnTrack n (due.after_comment f signed).due (due.after_comment f signed)) (sym fault)
+      subst (λ f. OnTrack n (fsm.after_comment f signed).due (fsm.after_comment f signed)) (sym fault)
       (list_next (is_some s.options.list) n signed (ap (λ (x : Options). is_some x.list) (sym is_o))
       (is_o, none, recorded, version, signature, key, left))
 
-  after_listing : (n : ℕ) (s : State) → OnTrack n due.CheckList s
-      → OnTrack n (due.after_listing s.listing.listed (record s { is_list_signed = true })).due
-      (due.after_listing s.listing.listed (record s { is_list_signed = true }))
+  after_listing : (n : ℕ) (s : State) → OnTrack n fsm.CheckList s
+      → OnTrack n (fsm.after_listing s.listing.listed (record s { is_list_signed = true })).due
+      (fsm.after_listing s.listing.listed (record s { is_list_signed = true }))
   after_listing n s (known, some, listing) =
       let (digest, found) = found_is w o s w.update some listing g.listed in
       let signed : State = record s { is_list_signed = true } in
-      subst (λ r. OnTrack n (due.after_listing r signed).due (due.after_listing r signed)) (sym found)
+      subst (λ r. OnTrack n (fsm.after_listing r signed).due (fsm.after_listing r signed)) (sym found)
       (compare n signed known listing)
 
-  next_key : (n : ℕ) (s : State) (signers : List PublicKeyValue) → s.due ≡ due.CheckComment
-      → OnTrack n due.CheckComment (record s { signers = signers })
+  next_key : (n : ℕ) (s : State) (signers : List PublicKeyValue) → s.due ≡ fsm.CheckComment
+      → OnTrack n fsm.CheckComment (record s { signers = signers })
       → false ≡ w.accepts (g.text.signature.signature ++ g.text.comments.trusted) (key_of signers)
       (take 64 g.text.comments.signature)
-      → OnTrack n (due.next_key signers s).due (due.next_key signers s)
+      → OnTrack n (fsm.next_key signers s).due (fsm.next_key signers s)
   next_key n s [] at (is_o, none, recorded, fault, version, signature, also, left, signer) rejected =
       absurd (none-some g.key signer)
   next_key n s (v ∷ []) at (is_o, none, recorded, fault, version, signature, also, left, signer) rejected =
@@ -219,16 +219,16 @@ module _ (w : World) (o : Options) (g : IsOldUpdate w o) where
       let found = rw (sym rejected) at signer in
       rw at (is_o, none, recorded, fault, version, signature, also, left, found)
 
-  after_piece : (n k : ℕ) (s : State) (left : Option ℕ) → s.due ≡ due.CopyData → StateKnows s → Left n left
+  after_piece : (n k : ℕ) (s : State) (left : Option ℕ) → s.due ≡ fsm.CopyData → StateKnows s → Left n left
       → s.left ≡ left → s.read ≡ [] → n + k ≤ length w.update
-      → OnTrack (n + k) (due.after_piece k left s).due (due.after_piece k left s)
+      → OnTrack (n + k) (fsm.after_piece k left s).due (fsm.after_piece k left s)
   after_piece n k s None at knows is none read more = rw (at, none) (knows, tt, read, more)
   after_piece n k s (Some left) at knows is none read more =
       rw (le-leb k left (omega (arith, is, more)), at) (knows, omega (arith, is, more), read, more)
 
   after_copy : (n : ℕ) (s : State) (left : Option ℕ) → StateKnows s → Left n left → s.read ≡ []
       → n ≡ length w.update
-      → OnTrack n (due.after_copy left s).due (due.after_copy left s)
+      → OnTrack n (fsm.after_copy left s).due (fsm.after_copy left s)
   after_copy n s None knows is read all = (knows, (w.update, rw read refl))
   after_copy n s (Some left) knows is read all =
       rw (eq-eqb left 0 (omega (arith, is, all))) (knows, (w.update, rw read refl))
@@ -240,13 +240,13 @@ module _ (w : World) (o : Options) (g : IsOldUpdate w o) where
       absurd (true≢false (sym g.signed_data ∙ sym (rw read at wrong)))
 
   after_data : (n : ℕ) (s : State) → StateKnows s × (s.read ≡ w.update)
-      → OnTrack n (due.after_data (due.is_listed s) s).due (due.after_data (due.is_listed s) s)
+      → OnTrack n (fsm.after_data (fsm.is_listed s) s).due (fsm.after_data (fsm.is_listed s) s)
   after_data n s ((signature, key, same, listing), read) =
-      let fits : due.is_listed s ≡ true =
+      let fits : fsm.is_listed s ≡ true =
       listed_is w o s same listing ∙ ap (fits_list o.list w.list w.name) read ∙ g.listed in
       rw fits tt
 
-  check_list : {P : Type 0} (n : ℕ) (s : State) → OnTrack n due.CheckList s
+  check_list : {P : Type 0} (n : ℕ) (s : State) → OnTrack n fsm.CheckList s
       → false ≡ w.accepts (signed_digest s) (key_of s.signers) s.signature → P
   check_list n s ((same, none, recorded, version, signature, key, left), some, listing) rejected =
       let wrong = rw (
@@ -258,70 +258,71 @@ module _ (w : World) (o : Options) (g : IsOldUpdate w o) where
       at rejected in
       absurd (true≢false (sym g.signed_data ∙ sym wrong))
 
-  digest_known : (n : ℕ) (s : State) (accepted : Bool) → OnTrack n due.CheckRecord s
+  digest_known : (n : ℕ) (s : State) (accepted : Bool) → OnTrack n fsm.CheckRecord s
       → accepted ≡ w.accepts (unwrap_or s.recorded.digest []) (key_of s.signers) s.signature
-      → OnTrack n (due.after_digest accepted s).due (due.after_digest accepted s)
+      → OnTrack n (fsm.after_digest accepted s).due (fsm.after_digest accepted s)
   digest_known n s true (can, own) is = (can, refl)
   digest_known n s false (((signature, key, same, listing), left, none, installs), inl own) is =
       absurd (true≢false (sym g.signed_data ∙ sym (rw (own, key, signature) at is)))
   digest_known n s false (can, inr back) is =
-      first n (due.is_rolling_back s) (due.install s) _ back (install n s can)
+      first n (fsm.is_rolling_back s) (fsm.install s) _ back (install n s can)
 
   target_known : (n : ℕ) (s : State) (accepted : Bool) → Compares n s
-      → OnTrack n (due.after_target accepted s).due (due.after_target accepted s)
+      → OnTrack n (fsm.after_target accepted s).due (fsm.after_target accepted s)
   target_known n s true ((knows, left, none, installs), own) = rw installs tt
   target_known n s false (can, own) =
-      first n (s.is_recorded || s.options.again) (due.install s) _ (ap (λ b. b || s.options.again) own)
+      first n (s.is_recorded || s.options.again) (fsm.install s) _ (ap (λ b. b || s.options.again) own)
       (install n s can)
 
-  keeps : (n : ℕ) (op : Operation) (e : Event) (s : State) → s.due ≡ op → OnTrack n op s → IsAcceptableFor g e
+  op_keeps : (n : ℕ) (op : Operation) (e : Event) (s : State) → s.due ≡ op → OnTrack n op s
+      → IsAcceptableFor g e
       → IsTrueEvent w n s op e → Stays n op e s
-  keeps n op (Failed f) s at on fine is = absurd fine
-  keeps n op InUse s at on fine is = absurd fine
-  keeps n due.Nothing e s at on fine is = absurd on
-  keeps n due.RemoveFiles e s at on fine is = absurd on
-  keeps n due.WouldInstall e s at on fine is = absurd on
-  keeps n due.Rejected e s at on fine is = absurd on
-  keeps n due.ReadRecord (RecordRead found) s at on fine is = after_record n s found on is
-  keeps n due.ReadSignature (SignatureRead text time) s at on fine is =
+  op_keeps n op (Failed f) s at on fine is = absurd fine
+  op_keeps n op InUse s at on fine is = absurd fine
+  op_keeps n fsm.Nothing e s at on fine is = absurd on
+  op_keeps n fsm.RemoveFiles e s at on fine is = absurd on
+  op_keeps n fsm.WouldInstall e s at on fine is = absurd on
+  op_keeps n fsm.Rejected e s at on fine is = absurd on
+  op_keeps n fsm.ReadRecord (RecordRead found) s at on fine is = after_record n s found on is
+  op_keeps n fsm.ReadSignature (SignatureRead text time) s at on fine is =
       after_signature n s text time on fine is
-  keeps n due.CheckComment (Answered true) s at on fine is = after_comment n s on is
-  keeps n due.CheckComment (Answered false) s at on fine is =
+  op_keeps n fsm.CheckComment (Answered true) s at on fine is = after_comment n s on is
+  op_keeps n fsm.CheckComment (Answered false) s at on fine is =
       next_key n s s.signers at on (rw (on.5, on.6) at (is g.text g.parsed))
-  keeps n due.ReadList (ListRead list name) s at (known, some) fine is =
+  op_keeps n fsm.ReadList (ListRead list name) s at (known, some) fine is =
       (known, some, λ listed. rw (ap (λ (x : Options). x.list) known.0, is.0, is.1) refl)
-  keeps n due.CheckList (Answered true) s at on fine is = after_listing n s on
-  keeps n due.CheckList (Answered false) s at on fine is = check_list n s on is
-  keeps n due.ReadList e s at on fine is = tt
-  keeps n due.CheckList e s at on fine is = tt
-  keeps n due.CheckRecord (Answered accepted) s at on fine is = digest_known n s accepted on is
-  keeps n due.ReadTarget (PieceRead bytes) s at on fine is = rw at on
-  keeps n due.ReadTarget due.TargetMissing s at on fine is = install n s on.0
-  keeps n due.ReadTarget Done s at on fine is = on
-  keeps n due.CheckTarget (Answered accepted) s at on fine is =
-      target_known n s (accepted && due.is_listed s) on
-  keeps n due.AlreadyInstalled e s at on fine is = tt
-  keeps n due.CopyData (PieceCopied k) s at (knows, left, read, more) fine is =
+  op_keeps n fsm.CheckList (Answered true) s at on fine is = after_listing n s on
+  op_keeps n fsm.CheckList (Answered false) s at on fine is = check_list n s on is
+  op_keeps n fsm.ReadList e s at on fine is = tt
+  op_keeps n fsm.CheckList e s at on fine is = tt
+  op_keeps n fsm.CheckRecord (Answered accepted) s at on fine is = digest_known n s accepted on is
+  op_keeps n fsm.ReadTarget (PieceRead bytes) s at on fine is = rw at on
+  op_keeps n fsm.ReadTarget fsm.TargetMissing s at on fine is = install n s on.0
+  op_keeps n fsm.ReadTarget Done s at on fine is = on
+  op_keeps n fsm.CheckTarget (Answered accepted) s at on fine is =
+      target_known n s (accepted && fsm.is_listed s) on
+  op_keeps n fsm.AlreadyInstalled e s at on fine is = tt
+  op_keeps n fsm.CopyData (PieceCopied k) s at (knows, left, read, more) fine is =
       after_piece n k s s.left at knows left refl read is.1
-  keeps n due.CopyData Done s at (knows, left, read, more) fine is =
+  op_keeps n fsm.CopyData Done s at (knows, left, read, more) fine is =
       after_copy n s s.left knows left read is
-  keeps n due.ReadBack (PieceRead bytes) s at (knows, rest) fine is = rw at (knows, is.1)
-  keeps n due.ReadBack Done s at (knows, rest) fine is = (knows, is)
-  keeps n due.CheckData (Answered true) s at on fine is = after_data n s on
-  keeps n due.CheckData (Answered false) s at on fine is = check_data s on is
-  keeps n due.Lock Done s at on fine is = on
-  keeps n due.RemoveLeftovers Done s at on fine is = on
-  keeps n due.CreateFile Done s at on fine is = on
-  keeps n op Done s at on fine is = tt
-  keeps n op e s at on fine is = tt
+  op_keeps n fsm.ReadBack (PieceRead bytes) s at (knows, rest) fine is = rw at (knows, is.1)
+  op_keeps n fsm.ReadBack Done s at (knows, rest) fine is = (knows, is)
+  op_keeps n fsm.CheckData (Answered true) s at on fine is = after_data n s on
+  op_keeps n fsm.CheckData (Answered false) s at on fine is = check_data s on is
+  op_keeps n fsm.Lock Done s at on fine is = on
+  op_keeps n fsm.RemoveLeftovers Done s at on fine is = on
+  op_keeps n fsm.CreateFile Done s at on fine is = on
+  op_keeps n op Done s at on fine is = tt
+  op_keeps n op e s at on fine is = tt
 
-  moves : (n : ℕ) (e : Event) (s : State) (next : Option State) → is_some next ≡ true
+  answer_keeps : (n : ℕ) (e : Event) (s : State) (next : Option State) → is_some next ≡ true
       → IfSome next (λ t. OnTrack (count n e) t.due t)
       → OnTrack (count n e) (answer s next).1.due (answer s next).1
-  moves n e s (Some t) fits stays = stays
-  moves n e s None fits stays = absurd (true≢false (sym fits))
+  answer_keeps n e s (Some t) fits stays = stays
+  answer_keeps n e s None fits stays = absurd (true≢false (sym fits))
 
-  begins : (check : Bool) → OnTrack 0 (if check then due.ReadRecord else due.Lock) (begin o)
+  begins : (check : Bool) → OnTrack 0 (if check then fsm.ReadRecord else fsm.Lock) (begin o)
   begins true = (refl, refl)
   begins false = (refl, refl)
 
@@ -332,17 +333,17 @@ module _ (w : World) (o : Options) (g : IsOldUpdate w o) where
   stays_on n s m [] t end on known (is, same) fine = (n, rw is on)
   stays_on n s m (c ∷ more) t end on known (others, fits, is, run) (fine, rest) =
       stays_on (count n c.event) (step s c.event).1 c.after more t end
-      (moves n c.event s (after s.due c.event s) fits
-      (keeps n s.due c.event s refl on fine
+      (answer_keeps n c.event s (after s.due c.event s) fits
+      (op_keeps n s.due c.event s refl on fine
       (true_event w o ⊤ ⊥ n s m c known others (λ q. absurd q) fits is).1))
       (next w o ⊤ ⊥ n s m c known others (λ q. absurd q) fits is (λ found. tt)) run rest
 
   installed_at_end : (n : ℕ) (op : Operation) (s : State) → OnTrack n op s → has_ended op ≡ true
       → IsInstalled op
-  installed_at_end n due.Installed s on ended = inl refl
-  installed_at_end n due.AlreadyInstalled s on ended = inr refl
-  installed_at_end n due.WouldInstall s on ended = absurd on
-  installed_at_end n due.Rejected s on ended = absurd on
+  installed_at_end n fsm.Installed s on ended = inl refl
+  installed_at_end n fsm.AlreadyInstalled s on ended = inr refl
+  installed_at_end n fsm.WouldInstall s on ended = absurd on
+  installed_at_end n fsm.Rejected s on ended = absurd on
   installed_at_end n op s on ended = absurd (true≢false (sym ended))
 
 -- If nothing fails, and the record was written for this update or the update is older, then a run that has

@@ -12,7 +12,7 @@ use Rattle.minisign_install.specs.Histories.{AcceptsWholeKeys, IsLaterRun, IsOth
 use Rattle.minisign_install.specs.Histories.{leads_to_install}
 use Rattle.minisign_install.specs.RecordTexts.{record_key}
 use Rattle.minisign_install.specs.Step.{Event, Operation, State, after, answer, begin, new_record, step}
-use Rattle.minisign_install.specs.Step as due
+use Rattle.minisign_install.specs.Step as fsm
 use Rattle.minisign_install.specs.StepRuns.{IsUpdate, World, count}
 use Rattle.minisign_install.proofs.NewKeys.{version_is_kept}
 use Rattle.minisign_install.proofs.SafeCalls.{Invariant, begins, knows, next}
@@ -43,11 +43,11 @@ module _ (v : World) (p : Options) (k : ℕ) (digest : List ℕ) (r : Recorded)
   version_is : (s : State) → IsJudged v p s → s.version ≡ k
   version_is s judged = judged.10 ∙ ap (λ (x : Option ℕ). unwrap_or x 0) (update.numbered judged.0 judged.6)
 
-  pub not_newer : (s : State) → IsJudged v p s → due.is_newer s ≡ false
+  pub not_newer : (s : State) → IsJudged v p s → fsm.is_newer s ≡ false
   not_newer s judged =
       rw (recorded_is s judged, version, version_is s judged, not_less k) refl
 
-  pub not_older : (s : State) → IsJudged v p s → due.is_rolling_back s ≡ false
+  pub not_older : (s : State) → IsJudged v p s → fsm.is_rolling_back s ≡ false
   not_older s judged =
       rw (recorded_is s judged, version, version_is s judged, not_less k) refl
 
@@ -56,7 +56,7 @@ module _ (v : World) (p : Options) (k : ℕ) (digest : List ℕ) (r : Recorded)
 
   -- The signature is not valid for the recorded digest under the first of the signers.
   pub not_signed : (s : State) (signers : List PublicKeyValue) → s.signers ≡ signers → IsCommented v p s
-      → v.accepts digest (due.key_of signers) s.signature ≡ false
+      → v.accepts digest (fsm.key_of signers) s.signature ≡ false
   not_signed s [] none (judged, fine, comment) =
       absurd (omega (arith, whole _ _ _ (rw none at comment)))
   not_signed s (x ∷ more) some (judged, fine, comment) =
@@ -69,53 +69,53 @@ module _ (v : World) (p : Options) (k : ℕ) (digest : List ℕ) (r : Recorded)
   HasTarget m = is_some m.target ≡ true
 
   abbrev Past : Operation → State → Snapshot → Type 0
-  Past due.Lock s m = HasTarget m
-  Past due.ReadRecord s m = HasTarget m
-  Past due.ReadSignature s m = HasTarget m
-  Past due.CheckComment s m = HasTarget m
-  Past due.ReadList s m = HasTarget m
-  Past due.CheckList s m = HasTarget m
-  Past due.CheckRecord s m = HasTarget m
-  Past due.ReadTarget s m = HasTarget m × (s.is_recorded ≡ false)
-  Past due.CheckTarget s m = s.is_recorded ≡ false
-  Past due.SyncTarget s m = ⊤
-  Past due.SyncTargetName s m = ⊤
-  Past due.AlreadyInstalled s m = ⊤
-  Past due.RemoveFiles s m = ⊤
-  Past due.Rejected s m = ⊤
-  Past due.Nothing s m = ⊤
+  Past fsm.Lock s m = HasTarget m
+  Past fsm.ReadRecord s m = HasTarget m
+  Past fsm.ReadSignature s m = HasTarget m
+  Past fsm.CheckComment s m = HasTarget m
+  Past fsm.ReadList s m = HasTarget m
+  Past fsm.CheckList s m = HasTarget m
+  Past fsm.CheckRecord s m = HasTarget m
+  Past fsm.ReadTarget s m = HasTarget m × (s.is_recorded ≡ false)
+  Past fsm.CheckTarget s m = s.is_recorded ≡ false
+  Past fsm.SyncTarget s m = ⊤
+  Past fsm.SyncTargetName s m = ⊤
+  Past fsm.AlreadyInstalled s m = ⊤
+  Past fsm.RemoveFiles s m = ⊤
+  Past fsm.Rejected s m = ⊤
+  Past fsm.Nothing s m = ⊤
   Past op s m = ⊥
 
   abbrev Holds : Snapshot → State → Type 0
   Holds m s = Past s.due s m
 
   ended : (op : Operation) (s : State) (m : Snapshot) → Past op s m → leads_to_install op ≡ false
-  ended due.Lock s m is = refl
-  ended due.ReadRecord s m is = refl
-  ended due.ReadSignature s m is = refl
-  ended due.CheckComment s m is = refl
-  ended due.ReadList s m is = refl
-  ended due.CheckList s m is = refl
-  ended due.CheckRecord s m is = refl
-  ended due.ReadTarget s m is = refl
-  ended due.CheckTarget s m is = refl
-  ended due.SyncTarget s m is = refl
-  ended due.SyncTargetName s m is = refl
-  ended due.AlreadyInstalled s m is = refl
-  ended due.RemoveFiles s m is = refl
-  ended due.Rejected s m is = refl
-  ended due.Nothing s m is = refl
+  ended fsm.Lock s m is = refl
+  ended fsm.ReadRecord s m is = refl
+  ended fsm.ReadSignature s m is = refl
+  ended fsm.CheckComment s m is = refl
+  ended fsm.ReadList s m is = refl
+  ended fsm.CheckList s m is = refl
+  ended fsm.CheckRecord s m is = refl
+  ended fsm.ReadTarget s m is = refl
+  ended fsm.CheckTarget s m is = refl
+  ended fsm.SyncTarget s m is = refl
+  ended fsm.SyncTargetName s m is = refl
+  ended fsm.AlreadyInstalled s m is = refl
+  ended fsm.RemoveFiles s m is = refl
+  ended fsm.Rejected s m is = refl
+  ended fsm.Nothing s m is = refl
   ended op s m is = absurd is
 
   rejected : (is : Bool) (fault : InstallFault) (s : State) (m : Snapshot)
-      → Holds m (record s { due = if is then due.RemoveFiles else due.Rejected; error = Some fault })
+      → Holds m (record s { due = if is then fsm.RemoveFiles else fsm.Rejected; error = Some fault })
   rejected true fault s m = tt
   rejected false fault s m = tt
 
-  reject : (fault : InstallFault) (s : State) (m : Snapshot) → Holds m (due.reject fault s)
-  reject fault s m = rejected (due.has_files s.due) fault s m
+  reject : (fault : InstallFault) (s : State) (m : Snapshot) → Holds m (fsm.reject fault s)
+  reject fault s m = rejected (fsm.has_files s.due) fault s m
 
-  compare : (s : State) (m : Snapshot) → IsJudged v p s → HasTarget m → Holds m (due.compare s)
+  compare : (s : State) (m : Snapshot) → IsJudged v p s → HasTarget m → Holds m (fsm.compare s)
   compare s m judged has_target = rw (not_newer s judged, has_digest s judged) has_target
 
   either : (is : Bool) (x y : State) (m : Snapshot) → Holds m x → Holds m y → Holds m (if is then x else y)
@@ -123,130 +123,131 @@ module _ (v : World) (p : Options) (k : ℕ) (digest : List ℕ) (r : Recorded)
   either false x y m one other = other
 
   after_listing : (listed : Result ListedDigest InstallFault) (s : State) (m : Snapshot) → IsJudged v p s
-      → HasTarget m → Holds m (due.after_listing listed s)
+      → HasTarget m → Holds m (fsm.after_listing listed s)
   after_listing (Ok digest) s m judged has_target = compare s m judged has_target
   after_listing (Err fault) s m judged has_target = reject fault s m
 
   after_record : (found : Result Recorded InstallFault) (s : State) (m : Snapshot) → HasTarget m
-      → Holds m (due.after_record found s)
+      → Holds m (fsm.after_record found s)
   after_record (Ok recorded) s m has_target = has_target
   after_record (Err fault) s m has_target = reject fault s m
 
   after_signature : (found : Passed) (time : Option ℕ) (s : State) (m : Snapshot) → HasTarget m
-      → Holds m (due.after_signature found time s)
+      → Holds m (fsm.after_signature found time s)
   after_signature (Ok (t, keys)) time s m has_target = has_target
   after_signature (Err fault) time s m has_target = reject _ s m
 
   after_comment : (fault : Option InstallFault) (s : State) (m : Snapshot) → IsJudged v p s → HasTarget m
-      → Holds m (due.after_comment fault (record s { is_signed = true }))
+      → Holds m (fsm.after_comment fault (record s { is_signed = true }))
   after_comment None s m judged has_target =
-      either (is_some s.options.list) (due.go due.ReadList (record s { is_signed = true })) _ m has_target
+      either (is_some s.options.list) (fsm.go fsm.ReadList (record s { is_signed = true })) _ m has_target
       (compare (record s { is_signed = true }) m judged has_target)
   after_comment (Some fault) s m judged has_target = reject fault (record s { is_signed = true }) m
 
-  next_key : (signers : List PublicKeyValue) (s : State) (m : Snapshot) → s.due ≡ due.CheckComment
+  next_key : (signers : List PublicKeyValue) (s : State) (m : Snapshot) → s.due ≡ fsm.CheckComment
       → HasTarget m
-      → Holds m (due.next_key signers s)
+      → Holds m (fsm.next_key signers s)
   next_key [] s m at has_target = reject _ s m
   next_key (x ∷ []) s m at has_target = reject _ s m
   next_key (x ∷ y ∷ more) s m at has_target = rw at has_target
 
   after_digest : (accepted : Bool) (s : State) (m : Snapshot) → accepted ≡ false → IsJudged v p s
       → HasTarget m
-      → Holds m (due.after_digest accepted s)
+      → Holds m (fsm.after_digest accepted s)
   after_digest true s m is judged has_target = absurd (true≢false is)
   after_digest false s m is judged has_target = rw (not_older s judged) (has_target, refl)
 
   target_is_update : (check : Bool) (s : State) (m : Snapshot)
-      → Holds m (due.go (if check then due.AlreadyInstalled else due.SyncTarget) s)
+      → Holds m (fsm.go (if check then fsm.AlreadyInstalled else fsm.SyncTarget) s)
   target_is_update true s m = tt
   target_is_update false s m = tt
 
   otherwise : (recorded again : Bool) (s : State) (m : Snapshot) → recorded ≡ false → again ≡ false
-      → Holds m (if recorded || again then due.install s else due.reject SameNumber s)
+      → Holds m (if recorded || again then fsm.install s else fsm.reject SameNumber s)
   otherwise true again s m none not = absurd (true≢false none)
   otherwise false true s m none not = absurd (true≢false not)
   otherwise false false s m none not = reject SameNumber s m
 
   after_target : (accepted : Bool) (s : State) (m : Snapshot) → s.is_recorded ≡ false → s.options ≡ p
-      → Holds m (due.after_target accepted s)
+      → Holds m (fsm.after_target accepted s)
   after_target true s m is same = target_is_update s.options.check s m
   after_target false s m is same =
       otherwise s.is_recorded s.options.again s m is (ap (λ (x : Options). x.again) same ∙ once)
 
-  maybe : (is : Bool) (t : State) (m : Snapshot) → Holds m t → IfSome (if is then Some t else None) (Holds m)
-  maybe true t m holds = holds
-  maybe false t m holds = tt
+  holds_if_some : (is : Bool) (t : State) (m : Snapshot) → Holds m t
+      → IfSome (if is then Some t else None) (Holds m)
+  holds_if_some true t m holds = holds
+  holds_if_some false t m holds = tt
 
   failed : (s : State) (fault : InstallFault) (is : Bool) (m : Snapshot)
-      → IfSome (if is then Some (due.reject fault s) else None) (Holds m)
-  failed s fault is m = maybe is (due.reject fault s) m (reject fault s m)
+      → IfSome (if is then Some (fsm.reject fault s) else None) (Holds m)
+  failed s fault is m = holds_if_some is (fsm.reject fault s) m (reject fault s m)
 
   same_target : (old new : Snapshot) → new ≡ old → HasTarget old → HasTarget new
   same_target old new is has_target = rw is has_target
 
-  keeps : (op : Operation) (e : Event) (s : State) (old new : Snapshot) → s.due ≡ op → Known v p op s
+  op_keeps : (op : Operation) (e : Event) (s : State) (old new : Snapshot) → s.due ≡ op → Known v p op s
       → Past op s old → Performs v s op e old new → IfSome (after op e s) (Holds new)
-  keeps due.Lock (due.Failed f) s old new at known past is = failed s _ (due.is_failure f) new
-  keeps due.ReadRecord (due.Failed f) s old new at known past is = failed s _ (due.is_failure f) new
-  keeps due.ReadSignature (due.Failed f) s old new at known past is = failed s _ (due.is_failure f) new
-  keeps due.CheckComment (due.Failed f) s old new at known past is = failed s _ (due.is_failure f) new
-  keeps due.ReadList (due.Failed f) s old new at known past is = failed s _ (due.is_failure f) new
-  keeps due.CheckList (due.Failed f) s old new at known past is = failed s _ (due.is_failure f) new
-  keeps due.CheckRecord (due.Failed f) s old new at known past is = failed s _ (due.is_failure f) new
-  keeps due.ReadTarget (due.Failed f) s old new at known past is = failed s _ (due.is_failure f) new
-  keeps due.CheckTarget (due.Failed f) s old new at known past is = failed s _ (due.is_failure f) new
-  keeps due.SyncTarget (due.Failed f) s old new at known past is = failed s _ (due.is_failure f) new
-  keeps due.SyncTargetName (due.Failed f) s old new at known past is = failed s _ (due.is_failure f) new
-  keeps due.RemoveFiles (due.Failed f) s old new at known past is =
-      maybe (due.is_failure f) (due.go due.Rejected s) new tt
-  keeps due.AlreadyInstalled (due.Failed f) s old new at known past is = tt
-  keeps due.Rejected (due.Failed f) s old new at known past is = tt
-  keeps due.Nothing (due.Failed f) s old new at known past is = tt
-  keeps due.Lock due.Done s old new at known past is = rw is.1 past
-  keeps due.Lock due.InUse s old new at known past is = reject _ s new
-  keeps due.ReadRecord (due.RecordRead found) s old new at known past is =
+  op_keeps fsm.Lock (fsm.Failed f) s old new at known past is = failed s _ (fsm.is_failure f) new
+  op_keeps fsm.ReadRecord (fsm.Failed f) s old new at known past is = failed s _ (fsm.is_failure f) new
+  op_keeps fsm.ReadSignature (fsm.Failed f) s old new at known past is = failed s _ (fsm.is_failure f) new
+  op_keeps fsm.CheckComment (fsm.Failed f) s old new at known past is = failed s _ (fsm.is_failure f) new
+  op_keeps fsm.ReadList (fsm.Failed f) s old new at known past is = failed s _ (fsm.is_failure f) new
+  op_keeps fsm.CheckList (fsm.Failed f) s old new at known past is = failed s _ (fsm.is_failure f) new
+  op_keeps fsm.CheckRecord (fsm.Failed f) s old new at known past is = failed s _ (fsm.is_failure f) new
+  op_keeps fsm.ReadTarget (fsm.Failed f) s old new at known past is = failed s _ (fsm.is_failure f) new
+  op_keeps fsm.CheckTarget (fsm.Failed f) s old new at known past is = failed s _ (fsm.is_failure f) new
+  op_keeps fsm.SyncTarget (fsm.Failed f) s old new at known past is = failed s _ (fsm.is_failure f) new
+  op_keeps fsm.SyncTargetName (fsm.Failed f) s old new at known past is = failed s _ (fsm.is_failure f) new
+  op_keeps fsm.RemoveFiles (fsm.Failed f) s old new at known past is =
+      holds_if_some (fsm.is_failure f) (fsm.go fsm.Rejected s) new tt
+  op_keeps fsm.AlreadyInstalled (fsm.Failed f) s old new at known past is = tt
+  op_keeps fsm.Rejected (fsm.Failed f) s old new at known past is = tt
+  op_keeps fsm.Nothing (fsm.Failed f) s old new at known past is = tt
+  op_keeps fsm.Lock fsm.Done s old new at known past is = rw is.1 past
+  op_keeps fsm.Lock fsm.InUse s old new at known past is = reject _ s new
+  op_keeps fsm.ReadRecord (fsm.RecordRead found) s old new at known past is =
       after_record (judge_record s.options found) s new (same_target old new is.2 past)
-  keeps due.ReadSignature (due.SignatureRead text time) s old new at known past is =
+  op_keeps fsm.ReadSignature (fsm.SignatureRead text time) s old new at known past is =
       after_signature (judge_text s.options text) time s new (same_target old new is.1 past)
-  keeps due.CheckComment (due.Answered true) s old new at known past is =
+  op_keeps fsm.CheckComment (fsm.Answered true) s old new at known past is =
       after_comment s.fault s new known (same_target old new is.1 past)
-  keeps due.CheckComment (due.Answered false) s old new at known past is =
+  op_keeps fsm.CheckComment (fsm.Answered false) s old new at known past is =
       next_key s.signers s new at (same_target old new is.1 past)
-  keeps due.ReadList (due.ListRead list name) s old new at known past is = same_target old new is.2 past
-  keeps due.CheckList (due.Answered true) s old new at known past is =
+  op_keeps fsm.ReadList (fsm.ListRead list name) s old new at known past is = same_target old new is.2 past
+  op_keeps fsm.CheckList (fsm.Answered true) s old new at known past is =
       after_listing s.listing.listed (record s { is_list_signed = true }) new known.0.0.0
       (same_target old new is.1 past)
-  keeps due.CheckList (due.Answered false) s old new at known past is = reject _ s new
-  keeps due.CheckRecord (due.Answered accepted) s old new at known past is =
+  op_keeps fsm.CheckList (fsm.Answered false) s old new at known past is = reject _ s new
+  op_keeps fsm.CheckRecord (fsm.Answered accepted) s old new at known past is =
       let none = is.0 ∙ rw (has_digest s known.0.0) (not_signed s s.signers refl known.0) in
       after_digest accepted s new none known.0.0 (same_target old new is.1 past)
-  keeps due.ReadTarget (due.PieceRead bytes) s old new at known past is =
+  op_keeps fsm.ReadTarget (fsm.PieceRead bytes) s old new at known past is =
       rw at (same_target old new is.2 past.0, past.1)
-  keeps due.ReadTarget due.Done s old new at known past is = past.1
-  keeps due.ReadTarget due.TargetMissing s old new at known past is =
+  op_keeps fsm.ReadTarget fsm.Done s old new at known past is = past.1
+  op_keeps fsm.ReadTarget fsm.TargetMissing s old new at known past is =
       absurd (true≢false (sym past.0 ∙ ap is_some is.0))
-  keeps due.CheckTarget (due.Answered accepted) s old new at known past is =
-      after_target (accepted && due.is_listed s) s new past known.0.0.4
-  keeps due.SyncTarget due.Done s old new at known past is = tt
-  keeps due.SyncTargetName due.Done s old new at known past is = tt
-  keeps due.RemoveFiles due.Done s old new at known past is = tt
-  keeps due.Lock e s old new at known past is = tt
-  keeps due.ReadRecord e s old new at known past is = tt
-  keeps due.ReadSignature e s old new at known past is = tt
-  keeps due.CheckComment e s old new at known past is = tt
-  keeps due.ReadList e s old new at known past is = tt
-  keeps due.CheckList e s old new at known past is = tt
-  keeps due.CheckRecord e s old new at known past is = tt
-  keeps due.ReadTarget e s old new at known past is = tt
-  keeps due.CheckTarget e s old new at known past is = tt
-  keeps due.SyncTarget e s old new at known past is = tt
-  keeps due.SyncTargetName e s old new at known past is = tt
-  keeps due.AlreadyInstalled e s old new at known past is = tt
-  keeps due.RemoveFiles e s old new at known past is = tt
-  keeps due.Rejected e s old new at known past is = tt
-  keeps due.Nothing e s old new at known past is = tt
-  keeps op e s old new at known past is = absurd past
+  op_keeps fsm.CheckTarget (fsm.Answered accepted) s old new at known past is =
+      after_target (accepted && fsm.is_listed s) s new past known.0.0.4
+  op_keeps fsm.SyncTarget fsm.Done s old new at known past is = tt
+  op_keeps fsm.SyncTargetName fsm.Done s old new at known past is = tt
+  op_keeps fsm.RemoveFiles fsm.Done s old new at known past is = tt
+  op_keeps fsm.Lock e s old new at known past is = tt
+  op_keeps fsm.ReadRecord e s old new at known past is = tt
+  op_keeps fsm.ReadSignature e s old new at known past is = tt
+  op_keeps fsm.CheckComment e s old new at known past is = tt
+  op_keeps fsm.ReadList e s old new at known past is = tt
+  op_keeps fsm.CheckList e s old new at known past is = tt
+  op_keeps fsm.CheckRecord e s old new at known past is = tt
+  op_keeps fsm.ReadTarget e s old new at known past is = tt
+  op_keeps fsm.CheckTarget e s old new at known past is = tt
+  op_keeps fsm.SyncTarget e s old new at known past is = tt
+  op_keeps fsm.SyncTargetName e s old new at known past is = tt
+  op_keeps fsm.AlreadyInstalled e s old new at known past is = tt
+  op_keeps fsm.RemoveFiles e s old new at known past is = tt
+  op_keeps fsm.Rejected e s old new at known past is = tt
+  op_keeps fsm.Nothing e s old new at known past is = tt
+  op_keeps op e s old new at known past is = absurd past
 
   moved : (s : State) (next : Option State) (m : Snapshot) → is_some next ≡ true → IfSome next (Holds m)
       → Holds m (answer s next).1
@@ -255,21 +256,21 @@ module _ (v : World) (p : Options) (k : ℕ) (digest : List ℕ) (r : Recorded)
 
   stays : (op : Operation) (s : State) (m new : Snapshot) → new.target ≡ m.target → Past op s m
       → Past op s new
-  stays due.Lock s m new is past = rw is past
-  stays due.ReadRecord s m new is past = rw is past
-  stays due.ReadSignature s m new is past = rw is past
-  stays due.CheckComment s m new is past = rw is past
-  stays due.ReadList s m new is past = rw is past
-  stays due.CheckList s m new is past = rw is past
-  stays due.CheckRecord s m new is past = rw is past
-  stays due.ReadTarget s m new is past = (rw is past.0, past.1)
-  stays due.CheckTarget s m new is past = past
-  stays due.SyncTarget s m new is past = tt
-  stays due.SyncTargetName s m new is past = tt
-  stays due.AlreadyInstalled s m new is past = tt
-  stays due.RemoveFiles s m new is past = tt
-  stays due.Rejected s m new is past = tt
-  stays due.Nothing s m new is past = tt
+  stays fsm.Lock s m new is past = rw is past
+  stays fsm.ReadRecord s m new is past = rw is past
+  stays fsm.ReadSignature s m new is past = rw is past
+  stays fsm.CheckComment s m new is past = rw is past
+  stays fsm.ReadList s m new is past = rw is past
+  stays fsm.CheckList s m new is past = rw is past
+  stays fsm.CheckRecord s m new is past = rw is past
+  stays fsm.ReadTarget s m new is past = (rw is past.0, past.1)
+  stays fsm.CheckTarget s m new is past = past
+  stays fsm.SyncTarget s m new is past = tt
+  stays fsm.SyncTargetName s m new is past = tt
+  stays fsm.AlreadyInstalled s m new is past = tt
+  stays fsm.RemoveFiles s m new is past = tt
+  stays fsm.Rejected s m new is past = tt
+  stays fsm.Nothing s m new is past = tt
   stays op s m new is past = absurd past
 
   past_from : (n : ℕ) (s : State) (m : Snapshot) (calls : List Call) (t : State) (end : Snapshot)
@@ -281,10 +282,10 @@ module _ (v : World) (p : Options) (k : ℕ) (digest : List ℕ) (r : Recorded)
       past_from (count n c.event) (step s c.event).1 c.after more t end
       (next v p ⊤ ⊥ n s m c known others (λ q. absurd q) fits is (λ found. tt))
       (moved s (after s.due c.event s) c.after fits
-      (keeps s.due c.event s c.before c.after refl (knows v p ⊤ ⊥ n s m known) before is)) run rest
+      (op_keeps s.due c.event s c.before c.after refl (knows v p ⊤ ⊥ n s m known) before is)) run rest
 
   starts : (check : Bool) (m : Snapshot) → HasTarget m
-      → Past (if check then due.ReadRecord else due.Lock) (begin p) m
+      → Past (if check then fsm.ReadRecord else fsm.Lock) (begin p) m
   starts true m has_target = has_target
   starts false m has_target = has_target
 
@@ -304,8 +305,8 @@ pub version_reads_back : (w : World) (o : Options) → AcceptsWholeKeys w.accept
       digest = Some (signed_digest s);
     })
 version_reads_back w o whole s update k is less v p later =
-    ap (judge_record p) later.finds
-    ∙ later_record w o whole p s update later.field later.later later.same_keys
+    ap (judge_record p) later.reads_record
+    ∙ later_record w o whole p s update later.same_field later.not_first later.not_new_key
     ∙ ap (λ (n : ℕ). ok (record {
       version = Some n;
       key = record_key (new_record s);
@@ -321,4 +322,4 @@ pub roll_back_stays : (w : World) (o : Options) → AcceptsWholeKeys w.accepts �
     → is_some m.target ≡ true → leads_to_install t.due ≡ false
 roll_back_stays w o whole s update k is less v p whole_later later other m calls t end run leaves has_target =
     past v p k (signed_digest s) _ (version_reads_back w o whole s update k is less v p later) refl
-    refl whole_later other later.once m calls t end run leaves has_target
+    refl whole_later other later.not_again m calls t end run leaves has_target

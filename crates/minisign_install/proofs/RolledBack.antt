@@ -13,7 +13,7 @@ use Rattle.minisign_install.specs.Histories.{AcceptsWholeKeys, AllEvents, IsAcce
 use Rattle.minisign_install.specs.Histories.{IsOtherUpdate}
 use Rattle.minisign_install.specs.Histories.{OthersLeaveTarget}
 use Rattle.minisign_install.specs.Step.{Event, Operation, State, after, answer, begin, has_ended, step}
-use Rattle.minisign_install.specs.Step as due
+use Rattle.minisign_install.specs.Step as fsm
 use Rattle.minisign_install.specs.StepRuns.{IsSigned, IsUpdate, World, count, first_signer}
 use Rattle.minisign_install.proofs.RollBacks.{has_digest, not_newer, not_older, not_signed, same_ok}
 use Rattle.minisign_install.proofs.RollBacks.{version_reads_back}
@@ -41,37 +41,37 @@ module _ (v : World) (p : Options) (k : ℕ) (digest : List ℕ) (r : Recorded)
 
   -- The state has the signature of the update, and the key that signed it.
   abbrev IsByKey : State → Type 0
-  IsByKey s = (s.signature ≡ g.text.signature.signature) × (due.key_of s.signers ≡ g.key)
+  IsByKey s = (s.signature ≡ g.text.signature.signature) × (fsm.key_of s.signers ≡ g.key)
 
   -- Invariant of a run that ends with this error or finds the update installed.
   abbrev OnTrack : Operation → State → Snapshot → Type 0
-  OnTrack due.Lock s m = IsInstalled m
-  OnTrack due.ReadRecord s m = IsInstalled m
-  OnTrack due.ReadSignature s m = IsInstalled m
-  OnTrack due.CheckComment s m = IsInstalled m × IsAcceptable s
-  OnTrack due.ReadList s m = IsInstalled m × IsByKey s
-  OnTrack due.CheckList s m = IsInstalled m × IsByKey s
-  OnTrack due.CheckRecord s m = IsInstalled m
-  OnTrack due.ReadTarget s m = IsInstalled m × (s.is_recorded ≡ false)
-  OnTrack due.CheckTarget s m = s.is_recorded ≡ false
-  OnTrack due.SyncTarget s m = ⊤
-  OnTrack due.SyncTargetName s m = ⊤
-  OnTrack due.AlreadyInstalled s m = ⊤
-  OnTrack due.Rejected s m = s.error ≡ Some SameNumber
+  OnTrack fsm.Lock s m = IsInstalled m
+  OnTrack fsm.ReadRecord s m = IsInstalled m
+  OnTrack fsm.ReadSignature s m = IsInstalled m
+  OnTrack fsm.CheckComment s m = IsInstalled m × IsAcceptable s
+  OnTrack fsm.ReadList s m = IsInstalled m × IsByKey s
+  OnTrack fsm.CheckList s m = IsInstalled m × IsByKey s
+  OnTrack fsm.CheckRecord s m = IsInstalled m
+  OnTrack fsm.ReadTarget s m = IsInstalled m × (s.is_recorded ≡ false)
+  OnTrack fsm.CheckTarget s m = s.is_recorded ≡ false
+  OnTrack fsm.SyncTarget s m = ⊤
+  OnTrack fsm.SyncTargetName s m = ⊤
+  OnTrack fsm.AlreadyInstalled s m = ⊤
+  OnTrack fsm.Rejected s m = s.error ≡ Some SameNumber
   OnTrack op s m = ⊥
 
   abbrev Holds : Snapshot → State → Type 0
   Holds m s = OnTrack s.due s m
 
   ended : (op : Operation) (s : State) (m : Snapshot) → OnTrack op s m → has_ended op ≡ true
-      → (op ≡ due.AlreadyInstalled) ⊎ ((op ≡ due.Rejected) × (s.error ≡ Some SameNumber))
-  ended due.AlreadyInstalled s m on is = inl refl
-  ended due.Rejected s m on is = inr (refl, on)
-  ended due.Installed s m on is = absurd on
-  ended due.WouldInstall s m on is = absurd on
+      → (op ≡ fsm.AlreadyInstalled) ⊎ ((op ≡ fsm.Rejected) × (s.error ≡ Some SameNumber))
+  ended fsm.AlreadyInstalled s m on is = inl refl
+  ended fsm.Rejected s m on is = inr (refl, on)
+  ended fsm.Installed s m on is = absurd on
+  ended fsm.WouldInstall s m on is = absurd on
   ended op s m on is = absurd (true≢false (sym is))
 
-  compare : (s : State) (m : Snapshot) → IsJudged v p s → IsInstalled m → Holds m (due.compare s)
+  compare : (s : State) (m : Snapshot) → IsJudged v p s → IsInstalled m → Holds m (fsm.compare s)
   compare s m judged present = rw (
     not_newer v p k digest r record_applies version written whole update once s judged,
     has_digest v p k digest r record_applies version written whole update once s judged,
@@ -80,7 +80,7 @@ module _ (v : World) (p : Options) (k : ℕ) (digest : List ℕ) (r : Recorded)
   after_signature : (time : Option ℕ) (s : State) (m : Snapshot) → s.options ≡ p
       → judge_record p v.found_record ≡ Ok s.recorded
       → comment_fault p (Some k) time g.text.comments.trusted ≡ None → IsInstalled m
-      → Holds m (due.after_signature (Ok (g.text, g.keys)) time s)
+      → Holds m (fsm.after_signature (Ok (g.text, g.keys)) time s)
   after_signature time s m same judged fine present =
       let one = same_ok s.recorded r (sym judged ∙ record_applies) in
       (present, (rw (same, one, version) fine, g.signer, refl, refl))
@@ -88,7 +88,7 @@ module _ (v : World) (p : Options) (k : ℕ) (digest : List ℕ) (r : Recorded)
   after_text : (found : Passed) (time : Option ℕ) (s : State) (m : Snapshot) → found ≡ Ok (g.text, g.keys)
       → s.options ≡ p → judge_record p v.found_record ≡ Ok s.recorded
       → comment_fault p (Some k) time g.text.comments.trusted ≡ None → IsInstalled m
-      → Holds m (due.after_signature found time s)
+      → Holds m (fsm.after_signature found time s)
   after_text found time s m is same judged fine present =
       rw is (after_signature time s m same judged fine present)
 
@@ -97,9 +97,9 @@ module _ (v : World) (p : Options) (k : ℕ) (digest : List ℕ) (r : Recorded)
   either false x y m one other = other
 
   after_comment : (fault : Option InstallFault) (s : State) (m : Snapshot) → fault ≡ None → IsJudged v p s
-      → IsByKey s → IsInstalled m → Holds m (due.after_comment fault (record s { is_signed = true }))
+      → IsByKey s → IsInstalled m → Holds m (fsm.after_comment fault (record s { is_signed = true }))
   after_comment None s m none judged known present =
-      either (is_some s.options.list) (due.go due.ReadList (record s { is_signed = true })) _ m
+      either (is_some s.options.list) (fsm.go fsm.ReadList (record s { is_signed = true })) _ m
       (present, known)
       (compare (record s { is_signed = true }) m judged present)
   after_comment (Some fault) s m none judged known present = absurd (none-some fault (sym none))
@@ -107,25 +107,25 @@ module _ (v : World) (p : Options) (k : ℕ) (digest : List ℕ) (r : Recorded)
   -- The list is signed, and has the name.
   after_listing : (s : State) (m : Snapshot) (mode : Option LongDigest) → p.list ≡ mode → s.options ≡ p
       → HasListing v p s → IsJudged v p s → is_some mode ≡ true → IsInstalled m
-      → Holds m (due.after_listing s.listing.listed s)
+      → Holds m (fsm.after_listing s.listing.listed s)
   after_listing s m None is same listing judged some present = absurd (true≢false (sym some))
   after_listing s m (Some long) is same listing judged some present =
       let (signed, (found, has)) = accepted_list long is in
       let listed : Ok found ≡ s.listing.listed = sym has ∙ listed_as v p s long is listing in
-      subst (λ r. Holds m (due.after_listing r s)) listed (compare s m judged present)
+      subst (λ r. Holds m (fsm.after_listing r s)) listed (compare s m judged present)
 
   not_refused : {P : Type 0} (s : State) (mode : Option LongDigest) → p.list ≡ mode → s.options ≡ p
       → HasListing v p s → IsByKey s → is_some mode ≡ true
-      → false ≡ v.accepts (signed_digest s) (due.key_of s.signers) s.signature → P
+      → false ≡ v.accepts (signed_digest s) (fsm.key_of s.signers) s.signature → P
   not_refused s None is same listing known some wrong = absurd (true≢false (sym some))
   not_refused s (Some long) is same listing (signature, key) some wrong =
       let (signed, found) = accepted_list long is in
       absurd (true≢false (sym signed ∙ sym (rw (digest_is v p s same listing, is, signature, key) at wrong)))
 
-  next_key : (signers : List PublicKeyValue) (s : State) (m : Snapshot) → s.due ≡ due.CheckComment
+  next_key : (signers : List PublicKeyValue) (s : State) (m : Snapshot) → s.due ≡ fsm.CheckComment
       → s.signers ≡ signers → IsAcceptable s
-      → false ≡ v.accepts (s.signature ++ g.text.comments.trusted) (due.key_of signers) s.comment_signature
-      → IsInstalled m → Holds m (due.next_key signers s)
+      → false ≡ v.accepts (s.signature ++ g.text.comments.trusted) (fsm.key_of signers) s.comment_signature
+      → IsInstalled m → Holds m (fsm.next_key signers s)
   next_key [] s m at is (fine, signer, one, two) wrong present = absurd (none-some g.key (rw is at signer))
   next_key (x ∷ []) s m at is (fine, signer, one, two) wrong present =
       let not = rw (one, two) at wrong in
@@ -136,24 +136,24 @@ module _ (v : World) (p : Options) (k : ℕ) (digest : List ℕ) (r : Recorded)
 
   after_digest : (accepted : Bool) (s : State) (m : Snapshot) → accepted ≡ false → IsJudged v p s
       → IsInstalled m
-      → Holds m (due.after_digest accepted s)
+      → Holds m (fsm.after_digest accepted s)
   after_digest true s m is judged present = absurd (true≢false is)
   after_digest false s m is judged present =
       rw (not_older v p k digest r record_applies version written whole update once s judged) (present, refl)
 
   target_is_update : (check : Bool) (s : State) (m : Snapshot)
-      → Holds m (due.go (if check then due.AlreadyInstalled else due.SyncTarget) s)
+      → Holds m (fsm.go (if check then fsm.AlreadyInstalled else fsm.SyncTarget) s)
   target_is_update true s m = tt
   target_is_update false s m = tt
 
-  otherwise : (recorded again : Bool) (s : State) (m : Snapshot) → s.due ≡ due.CheckTarget → recorded ≡ false
-      → again ≡ false → Holds m (if recorded || again then due.install s else due.reject SameNumber s)
+  otherwise : (recorded again : Bool) (s : State) (m : Snapshot) → s.due ≡ fsm.CheckTarget → recorded ≡ false
+      → again ≡ false → Holds m (if recorded || again then fsm.install s else fsm.reject SameNumber s)
   otherwise true again s m at none not = absurd (true≢false none)
   otherwise false true s m at none not = absurd (true≢false not)
   otherwise false false s m at none not = rw at refl
 
-  after_target : (accepted : Bool) (s : State) (m : Snapshot) → s.due ≡ due.CheckTarget
-      → s.is_recorded ≡ false → s.options ≡ p → Holds m (due.after_target accepted s)
+  after_target : (accepted : Bool) (s : State) (m : Snapshot) → s.due ≡ fsm.CheckTarget
+      → s.is_recorded ≡ false → s.options ≡ p → Holds m (fsm.after_target accepted s)
   after_target true s m at is same = target_is_update s.options.check s m
   after_target false s m at is same =
       otherwise s.is_recorded s.options.again s m at is (ap (λ (x : Options). x.again) same ∙ once)
@@ -161,60 +161,60 @@ module _ (v : World) (p : Options) (k : ℕ) (digest : List ℕ) (r : Recorded)
   same_target : (old new : Snapshot) → new ≡ old → IsInstalled old → IsInstalled new
   same_target old new is present = rw is present
 
-  keeps : (op : Operation) (e : Event) (s : State) (old new : Snapshot) → s.due ≡ op → Known v p op s
+  op_keeps : (op : Operation) (e : Event) (s : State) (old new : Snapshot) → s.due ≡ op → Known v p op s
       → OnTrack op s old → Performs v s op e old new → IsAcceptableAt p k g.text e
       → IfSome (after op e s) (Holds new)
-  keeps op (due.Failed f) s old new at known on is fine = absurd fine
-  keeps due.Lock due.InUse s old new at known on is fine = absurd fine
-  keeps due.Lock due.Done s old new at known on is fine = rw is.1 on
-  keeps due.ReadRecord (due.RecordRead found) s old new at known on is fine =
+  op_keeps op (fsm.Failed f) s old new at known on is fine = absurd fine
+  op_keeps fsm.Lock fsm.InUse s old new at known on is fine = absurd fine
+  op_keeps fsm.Lock fsm.Done s old new at known on is fine = rw is.1 on
+  op_keeps fsm.ReadRecord (fsm.RecordRead found) s old new at known on is fine =
       rw (known, is.0, record_applies) (same_target old new is.2 on)
-  keeps due.ReadSignature (due.SignatureRead text time) s old new at known on is fine =
+  op_keeps fsm.ReadSignature (fsm.SignatureRead text time) s old new at known on is fine =
       after_text (judge_text s.options text) time s new (rw (known.0, is.0) g.passed) known.0 known.1 fine
       (same_target old new is.1 on)
-  keeps due.CheckComment (due.Answered true) s old new at known on is fine =
+  op_keeps fsm.CheckComment (fsm.Answered true) s old new at known on is fine =
       let (fine, signer, one, two) = on.1 in
       let accepted = is.0 g.text (text_parsed v p v.text g.text g.keys g.passed) in
       let key = signer_is v g.text g.key s.signers (rw (one, two) at accepted) signer in
       after_comment s.fault s new fine known (one, key) (same_target old new is.1 on.0)
-  keeps due.CheckComment (due.Answered false) s old new at known on is fine =
+  op_keeps fsm.CheckComment (fsm.Answered false) s old new at known on is fine =
       next_key s.signers s new at refl on.1 (is.0 g.text (text_parsed v p v.text g.text g.keys g.passed))
       (same_target old new is.1 on.0)
-  keeps due.ReadList (due.ListRead list name) s old new at known on is fine =
+  op_keeps fsm.ReadList (fsm.ListRead list name) s old new at known on is fine =
       (same_target old new is.2 on.0, on.1)
-  keeps due.CheckList (due.Answered true) s old new at ((known, listing), some) on is fine =
+  op_keeps fsm.CheckList (fsm.Answered true) s old new at ((known, listing), some) on is fine =
       after_listing (record s { is_list_signed = true }) new p.list refl known.0.4 listing known.0 some
       (same_target old new is.1 on.0)
-  keeps due.CheckList (due.Answered false) s old new at ((known, listing), some) on is fine =
+  op_keeps fsm.CheckList (fsm.Answered false) s old new at ((known, listing), some) on is fine =
       not_refused s p.list refl known.0.4 listing on.1 some is.0
-  keeps due.CheckRecord (due.Answered accepted) s old new at known on is fine =
+  op_keeps fsm.CheckRecord (fsm.Answered accepted) s old new at known on is fine =
       let none =
       is.0 ∙ rw (has_digest v p k digest r record_applies version written whole update once s known.0.0)
       (not_signed v p k digest r record_applies version written whole update once s s.signers refl known.0) in
       after_digest accepted s new none known.0.0 (same_target old new is.1 on)
-  keeps due.ReadTarget (due.PieceRead bytes) s old new at known on is fine =
+  op_keeps fsm.ReadTarget (fsm.PieceRead bytes) s old new at known on is fine =
       rw at (same_target old new is.2 on.0, on.1)
-  keeps due.ReadTarget due.Done s old new at known on is fine = on.1
-  keeps due.ReadTarget due.TargetMissing s old new at known on is fine =
+  op_keeps fsm.ReadTarget fsm.Done s old new at known on is fine = on.1
+  op_keeps fsm.ReadTarget fsm.TargetMissing s old new at known on is fine =
       absurd (true≢false (sym on.0 ∙ ap is_some is.0))
-  keeps due.CheckTarget (due.Answered accepted) s old new at known on is fine =
-      after_target (accepted && due.is_listed s) s new at on known.0.0.4
-  keeps due.SyncTarget due.Done s old new at known on is fine = tt
-  keeps due.SyncTargetName due.Done s old new at known on is fine = tt
-  keeps due.Lock e s old new at known on is fine = tt
-  keeps due.ReadRecord e s old new at known on is fine = tt
-  keeps due.ReadSignature e s old new at known on is fine = tt
-  keeps due.CheckComment e s old new at known on is fine = tt
-  keeps due.ReadList e s old new at known on is fine = tt
-  keeps due.CheckList e s old new at known on is fine = tt
-  keeps due.CheckRecord e s old new at known on is fine = tt
-  keeps due.ReadTarget e s old new at known on is fine = tt
-  keeps due.CheckTarget e s old new at known on is fine = tt
-  keeps due.SyncTarget e s old new at known on is fine = tt
-  keeps due.SyncTargetName e s old new at known on is fine = tt
-  keeps due.AlreadyInstalled e s old new at known on is fine = tt
-  keeps due.Rejected e s old new at known on is fine = tt
-  keeps op e s old new at known on is fine = absurd on
+  op_keeps fsm.CheckTarget (fsm.Answered accepted) s old new at known on is fine =
+      after_target (accepted && fsm.is_listed s) s new at on known.0.0.4
+  op_keeps fsm.SyncTarget fsm.Done s old new at known on is fine = tt
+  op_keeps fsm.SyncTargetName fsm.Done s old new at known on is fine = tt
+  op_keeps fsm.Lock e s old new at known on is fine = tt
+  op_keeps fsm.ReadRecord e s old new at known on is fine = tt
+  op_keeps fsm.ReadSignature e s old new at known on is fine = tt
+  op_keeps fsm.CheckComment e s old new at known on is fine = tt
+  op_keeps fsm.ReadList e s old new at known on is fine = tt
+  op_keeps fsm.CheckList e s old new at known on is fine = tt
+  op_keeps fsm.CheckRecord e s old new at known on is fine = tt
+  op_keeps fsm.ReadTarget e s old new at known on is fine = tt
+  op_keeps fsm.CheckTarget e s old new at known on is fine = tt
+  op_keeps fsm.SyncTarget e s old new at known on is fine = tt
+  op_keeps fsm.SyncTargetName e s old new at known on is fine = tt
+  op_keeps fsm.AlreadyInstalled e s old new at known on is fine = tt
+  op_keeps fsm.Rejected e s old new at known on is fine = tt
+  op_keeps op e s old new at known on is fine = absurd on
 
   moved : (s : State) (next : Option State) (m : Snapshot) → is_some next ≡ true → IfSome next (Holds m)
       → Holds m (answer s next).1
@@ -223,19 +223,19 @@ module _ (v : World) (p : Options) (k : ℕ) (digest : List ℕ) (r : Recorded)
 
   stays : (op : Operation) (s : State) (m new : Snapshot) → new.target ≡ m.target → OnTrack op s m
       → OnTrack op s new
-  stays due.Lock s m new is on = rw is on
-  stays due.ReadRecord s m new is on = rw is on
-  stays due.ReadSignature s m new is on = rw is on
-  stays due.CheckComment s m new is on = (rw is on.0, on.1)
-  stays due.ReadList s m new is on = (rw is on.0, on.1)
-  stays due.CheckList s m new is on = (rw is on.0, on.1)
-  stays due.CheckRecord s m new is on = rw is on
-  stays due.ReadTarget s m new is on = (rw is on.0, on.1)
-  stays due.CheckTarget s m new is on = on
-  stays due.SyncTarget s m new is on = tt
-  stays due.SyncTargetName s m new is on = tt
-  stays due.AlreadyInstalled s m new is on = tt
-  stays due.Rejected s m new is on = on
+  stays fsm.Lock s m new is on = rw is on
+  stays fsm.ReadRecord s m new is on = rw is on
+  stays fsm.ReadSignature s m new is on = rw is on
+  stays fsm.CheckComment s m new is on = (rw is on.0, on.1)
+  stays fsm.ReadList s m new is on = (rw is on.0, on.1)
+  stays fsm.CheckList s m new is on = (rw is on.0, on.1)
+  stays fsm.CheckRecord s m new is on = rw is on
+  stays fsm.ReadTarget s m new is on = (rw is on.0, on.1)
+  stays fsm.CheckTarget s m new is on = on
+  stays fsm.SyncTarget s m new is on = tt
+  stays fsm.SyncTargetName s m new is on = tt
+  stays fsm.AlreadyInstalled s m new is on = tt
+  stays fsm.Rejected s m new is on = on
   stays op s m new is on = absurd on
 
   on_from : (n : ℕ) (s : State) (m : Snapshot) (calls : List Call) (t : State) (end : Snapshot)
@@ -247,17 +247,18 @@ module _ (v : World) (p : Options) (k : ℕ) (digest : List ℕ) (r : Recorded)
       on_from (count n c.event) (step s c.event).1 c.after more t end
       (next v p ⊤ ⊥ n s m c known others (λ q. absurd q) fits is (λ found. tt))
       (moved s (after s.due c.event s) c.after fits
-      (keeps s.due c.event s c.before c.after refl (knows v p ⊤ ⊥ n s m known) before is fine)) run rest later
+      (op_keeps s.due c.event s c.before c.after refl
+      (knows v p ⊤ ⊥ n s m known) before is fine)) run rest later
 
   starts : (check : Bool) (m : Snapshot) → IsInstalled m
-      → OnTrack (if check then due.ReadRecord else due.Lock) (begin p) m
+      → OnTrack (if check then fsm.ReadRecord else fsm.Lock) (begin p) m
   starts true m present = present
   starts false m present = present
 
   ends : (m : Snapshot) (calls : List Call) (t : State) (end : Snapshot) → Applies v (begin p) m calls t end
       → OthersLeaveTarget m calls → IsInstalled m → AllEvents (IsAcceptableAt p k g.text) calls
       → has_ended t.due ≡ true
-      → (t.due ≡ due.AlreadyInstalled) ⊎ ((t.due ≡ due.Rejected) × (t.error ≡ Some SameNumber))
+      → (t.due ≡ fsm.AlreadyInstalled) ⊎ ((t.due ≡ fsm.Rejected) × (t.error ≡ Some SameNumber))
   ends m calls t end run leaves present fine over =
       ended t.due t end
       (on_from 0 (begin p) m calls t end (begins v p ⊤ ⊥ m) (starts p.check m present) run leaves fine) over
@@ -270,8 +271,8 @@ pub roll_back_is_named : (w : World) (o : Options) → AcceptsWholeKeys w.accept
     (calls : List Call)
     (t : State) (end : Snapshot) → Applies v (begin p) m calls t end → OthersLeaveTarget m calls
     → is_some m.target ≡ true → AllEvents (IsAcceptableAt p k g.text) calls → has_ended t.due ≡ true
-    → (t.due ≡ due.AlreadyInstalled) ⊎ ((t.due ≡ due.Rejected) × (t.error ≡ Some SameNumber))
+    → (t.due ≡ fsm.AlreadyInstalled) ⊎ ((t.due ≡ fsm.Rejected) × (t.error ≡ Some SameNumber))
 roll_back_is_named w o whole s update k is less v p whole_later later other g listed m calls t end run leaves
     present fine over =
     ends v p k (signed_digest s) _ (version_reads_back w o whole s update k is less v p later) refl
-    refl whole_later other later.once g listed m calls t end run leaves present fine over
+    refl whole_later other later.not_again g listed m calls t end run leaves present fine over

@@ -11,7 +11,7 @@ use Rattle.minisign_install.specs.Decisions.{Options}
 use Rattle.minisign_install.specs.Histories.{EndIsDurable, IsDurable, LeavesTarget, OthersLeaveTarget}
 use Rattle.minisign_install.specs.Histories.{AllCalls, IsRecordedUpdate, IsSafeCall, IsUpdateRecord}
 use Rattle.minisign_install.specs.Step.{Done, Event, Failed, Operation, State, after, begin, new_record, step}
-use Rattle.minisign_install.specs.Step as due
+use Rattle.minisign_install.specs.Step as fsm
 use Rattle.minisign_install.specs.StepRuns.{Changes, Disk, IsLawfulEvent, IsUpdate, IsRun, World, count}
 use Rattle.minisign_install.proofs.Applying.{Has, IsOnDisk, is_true, stays}
 use Rattle.minisign_install.proofs.Applying as applying
@@ -43,17 +43,17 @@ less_remains (Some n) (Some file) found remains = if_synced (file.number == n) f
 less_remains (Some n) None found remains = remains
 less_remains None place found remains = remains
 
-only_one : (place : Option File) (found : Option (List ℕ)) (more : List (Option File))
+found_in_place : (place : Option File) (found : Option (List ℕ)) (more : List (Option File))
     → CrashMayLeaveOneOf (place ∷ []) found → CrashMayLeaveOneOf (place ∷ more) found
-only_one place found more (inl is) = inl is
-only_one place found more (inr none) = absurd none
+found_in_place place found more (inl is) = inl is
+found_in_place place found more (inr none) = absurd none
 
 -- If the file and its name are synced, only these bytes can be found.
-only_this : (place : Option File) (left : List (Option File)) (bytes : List ℕ) (other : Option (List ℕ))
+found_is_synced : (place : Option File) (left : List (Option File)) (bytes : List ℕ) (other : Option (List ℕ))
     → IsOnDisk place bytes → left ≡ [] → CrashMayLeaveOneOf (place ∷ left) other → other ≡ Some bytes
-only_this place [] bytes other is none (inl remains) = remains_whole place bytes other is remains
-only_this place [] bytes other is none (inr remains) = absurd remains
-only_this place (x ∷ more) bytes other is none remains = cc none
+found_is_synced place [] bytes other is none (inl remains) = remains_whole place bytes other is remains
+found_is_synced place [] bytes other is none (inr remains) = absurd remains
+found_is_synced place (x ∷ more) bytes other is none remains = cc none
 
 module _ (w : World) (o : Options) (F Q : Type 0) where
   -- A record that an operation may write, given the record that was read.
@@ -68,8 +68,8 @@ module _ (w : World) (o : Options) (F Q : Type 0) where
 
   names : (old : Snapshot) → Safe old (names_synced old)
   names old = (
-    λ found is. inl (only_one old.target found old.target_left is),
-    λ found is. inl (only_one old.recorded found old.recorded_left is),
+    λ found is. inl (found_in_place old.target found old.target_left is),
+    λ found is. inl (found_in_place old.recorded found old.recorded_left is),
   )
 
   target_kept : (opened : Option ℕ) (place : Option File) (left : List (Option File))
@@ -85,8 +85,8 @@ module _ (w : World) (o : Options) (F Q : Type 0) where
       inr (known, (s, update, remains_whole place (new_record s) found is remains))
   new_found s place rest found known update is (inr remains) = inl remains
 
-  renames_record : (n : ℕ) (s : State) (old : Snapshot) → Known w o due.RenameRecord s
-      → Has w F Q n due.RenameRecord s old → Safe old (record_renamed old)
+  renames_record : (n : ℕ) (s : State) (old : Snapshot) → Known w o fsm.RenameRecord s
+      → Has w F Q n fsm.RenameRecord s old → Safe old (record_renamed old)
   renames_record n s old knows (state_held, whole, is) = (
     λ found is. inl is,
     λ found remains.
@@ -104,12 +104,12 @@ module _ (w : World) (o : Options) (F Q : Type 0) where
         s,
         update,
         remains_whole place s.read found is remains,
-        λ other. only_this m.recorded m.recorded_left (new_record s) other recorded left,
+        λ other. found_is_synced m.recorded m.recorded_left (new_record s) other recorded left,
       )
   new_target s place rest m found update is recorded left (inr remains) = inl remains
 
-  renames_data : (n : ℕ) (s : State) (old : Snapshot) → Known w o due.RenameFile s
-      → Has w F Q n due.RenameFile s old → Safe old (data_renamed old)
+  renames_data : (n : ℕ) (s : State) (old : Snapshot) → Known w o fsm.RenameFile s
+      → Has w F Q n fsm.RenameFile s old → Safe old (data_renamed old)
   renames_data n s old knows (state_held, (file, at, holds, permitted, synced), recorded, left) = (
     λ found remains.
         new_target s old.data_file (old.target ∷ old.target_left) (data_renamed old) found
@@ -119,60 +119,60 @@ module _ (w : World) (o : Options) (F Q : Type 0) where
 
   pub safe_at : (n : ℕ) (op : Operation) (e : Event) (s : State) (old new : Snapshot) → Known w o op s
       → Has w F Q n op s old → Performs w s op e old new → Safe old new
-  safe_at n due.RenameRecord Done s old new knows has is = rw is (renames_record n s old knows has)
-  safe_at n due.RenameRecord (Failed f) s old new knows has (inl is) =
+  safe_at n fsm.RenameRecord Done s old new knows has is = rw is (renames_record n s old knows has)
+  safe_at n fsm.RenameRecord (Failed f) s old new knows has (inl is) =
       rw is (λ found x. inl x, λ found x. inl x)
-  safe_at n due.RenameRecord (Failed f) s old new knows has (inr is) =
+  safe_at n fsm.RenameRecord (Failed f) s old new knows has (inr is) =
       rw is (renames_record n s old knows has)
-  safe_at n due.RenameFile Done s old new knows has is = rw is (renames_data n s old knows has)
-  safe_at n due.RenameFile (Failed f) s old new knows has (inl is) =
+  safe_at n fsm.RenameFile Done s old new knows has is = rw is (renames_data n s old knows has)
+  safe_at n fsm.RenameFile (Failed f) s old new knows has (inl is) =
       rw is (λ found x. inl x, λ found x. inl x)
-  safe_at n due.RenameFile (Failed f) s old new knows has (inr is) = rw is (renames_data n s old knows has)
-  safe_at n due.SyncTarget Done s old new knows has is =
+  safe_at n fsm.RenameFile (Failed f) s old new knows has (inr is) = rw is (renames_data n s old knows has)
+  safe_at n fsm.SyncTarget Done s old new knows has is =
       rw is (
         λ found remains. inl (target_kept old.opened old.target old.target_left found remains),
         λ found remains. inl remains,
       )
-  safe_at n due.SyncTargetName Done s old new knows has is = rw is (names old)
-  safe_at n due.SyncRecordName Done s old new knows has is = rw is (names old)
-  safe_at n due.SyncFileName Done s old new knows has is = rw is (names old)
-  safe_at n due.Lock Done s old new knows has is = rw is.1 (λ found x. inl x, λ found x. inl x)
-  safe_at n due.Lock due.InUse s old new knows has is = rw is.1 (λ found x. inl x, λ found x. inl x)
-  safe_at n due.ReadRecord (due.RecordRead found) s old new knows has is =
+  safe_at n fsm.SyncTargetName Done s old new knows has is = rw is (names old)
+  safe_at n fsm.SyncRecordName Done s old new knows has is = rw is (names old)
+  safe_at n fsm.SyncFileName Done s old new knows has is = rw is (names old)
+  safe_at n fsm.Lock Done s old new knows has is = rw is.1 (λ found x. inl x, λ found x. inl x)
+  safe_at n fsm.Lock fsm.InUse s old new knows has is = rw is.1 (λ found x. inl x, λ found x. inl x)
+  safe_at n fsm.ReadRecord (fsm.RecordRead found) s old new knows has is =
       rw is.2 (λ found x. inl x, λ found x. inl x)
-  safe_at n due.ReadSignature (due.SignatureRead text time) s old new knows has is =
+  safe_at n fsm.ReadSignature (fsm.SignatureRead text time) s old new knows has is =
       rw is.1 (λ found x. inl x, λ found x. inl x)
-  safe_at n due.ReadList (due.ListRead list name) s old new knows has is =
+  safe_at n fsm.ReadList (fsm.ListRead list name) s old new knows has is =
       rw is.2 (λ found x. inl x, λ found x. inl x)
-  safe_at n due.ReadTarget (due.PieceRead bytes) s old new knows has is =
+  safe_at n fsm.ReadTarget (fsm.PieceRead bytes) s old new knows has is =
       rw is.2 (λ found x. inl x, λ found x. inl x)
-  safe_at n due.ReadTarget Done s old new knows has is = rw is.3 (λ found x. inl x, λ found x. inl x)
-  safe_at n due.ReadTarget due.TargetMissing s old new knows has is =
+  safe_at n fsm.ReadTarget Done s old new knows has is = rw is.3 (λ found x. inl x, λ found x. inl x)
+  safe_at n fsm.ReadTarget fsm.TargetMissing s old new knows has is =
       rw is.1 (λ found x. inl x, λ found x. inl x)
-  safe_at n due.RemoveLeftovers Done s old new knows has is = rw is (λ found x. inl x, λ found x. inl x)
-  safe_at n due.CreateFile Done s old new knows has is = rw is.1 (λ found x. inl x, λ found x. inl x)
-  safe_at n due.CopyData (due.PieceCopied k) s old new knows has (some, (piece, rest, long, is, same)) =
+  safe_at n fsm.RemoveLeftovers Done s old new knows has is = rw is (λ found x. inl x, λ found x. inl x)
+  safe_at n fsm.CreateFile Done s old new knows has is = rw is.1 (λ found x. inl x, λ found x. inl x)
+  safe_at n fsm.CopyData (fsm.PieceCopied k) s old new knows has (some, (piece, rest, long, is, same)) =
       rw same (λ found x. inl x, λ found x. inl x)
-  safe_at n due.CopyData Done s old new knows has is = rw is.1 (λ found x. inl x, λ found x. inl x)
-  safe_at n due.ReadBack (due.PieceRead bytes) s old new knows has is =
+  safe_at n fsm.CopyData Done s old new knows has is = rw is.1 (λ found x. inl x, λ found x. inl x)
+  safe_at n fsm.ReadBack (fsm.PieceRead bytes) s old new knows has is =
       rw is.2 (λ found x. inl x, λ found x. inl x)
-  safe_at n due.ReadBack Done s old new knows has is = rw is.1 (λ found x. inl x, λ found x. inl x)
-  safe_at n due.SetPermissions Done s old new knows has is = rw is (λ found x. inl x, λ found x. inl x)
-  safe_at n due.SyncFile Done s old new knows has is = rw is (λ found x. inl x, λ found x. inl x)
-  safe_at n due.CreateRecord Done s old new knows has is = rw is.1 (λ found x. inl x, λ found x. inl x)
-  safe_at n due.WriteRecord Done s old new knows has is = rw is (λ found x. inl x, λ found x. inl x)
-  safe_at n due.SyncRecord Done s old new knows has is = rw is (λ found x. inl x, λ found x. inl x)
-  safe_at n due.RemoveFiles Done s old new knows has is = rw is (λ found x. inl x, λ found x. inl x)
-  safe_at n due.CreateFile (Failed f) s old new knows has is = rw is.1 (λ found x. inl x, λ found x. inl x)
-  safe_at n due.CopyData (Failed f) s old new knows has is = rw is.1 (λ found x. inl x, λ found x. inl x)
-  safe_at n due.SetPermissions (Failed f) s old new knows has is =
+  safe_at n fsm.ReadBack Done s old new knows has is = rw is.1 (λ found x. inl x, λ found x. inl x)
+  safe_at n fsm.SetPermissions Done s old new knows has is = rw is (λ found x. inl x, λ found x. inl x)
+  safe_at n fsm.SyncFile Done s old new knows has is = rw is (λ found x. inl x, λ found x. inl x)
+  safe_at n fsm.CreateRecord Done s old new knows has is = rw is.1 (λ found x. inl x, λ found x. inl x)
+  safe_at n fsm.WriteRecord Done s old new knows has is = rw is (λ found x. inl x, λ found x. inl x)
+  safe_at n fsm.SyncRecord Done s old new knows has is = rw is (λ found x. inl x, λ found x. inl x)
+  safe_at n fsm.RemoveFiles Done s old new knows has is = rw is (λ found x. inl x, λ found x. inl x)
+  safe_at n fsm.CreateFile (Failed f) s old new knows has is = rw is.1 (λ found x. inl x, λ found x. inl x)
+  safe_at n fsm.CopyData (Failed f) s old new knows has is = rw is.1 (λ found x. inl x, λ found x. inl x)
+  safe_at n fsm.SetPermissions (Failed f) s old new knows has is =
       rw is.1 (λ found x. inl x, λ found x. inl x)
-  safe_at n due.SyncFile (Failed f) s old new knows has is = rw is.1 (λ found x. inl x, λ found x. inl x)
-  safe_at n due.CreateRecord (Failed f) s old new knows has is = rw is.1 (λ found x. inl x, λ found x. inl x)
-  safe_at n due.WriteRecord (Failed f) s old new knows has is = rw is.1 (λ found x. inl x, λ found x. inl x)
-  safe_at n due.SyncRecord (Failed f) s old new knows has is = rw is.1 (λ found x. inl x, λ found x. inl x)
-  safe_at n due.RemoveFiles (Failed f) s old new knows has is = rw is.2 (λ found x. inl x, λ found x. inl x)
-  safe_at n op (due.Answered accepted) s old new knows has is = rw is.1 (λ found x. inl x, λ found x. inl x)
+  safe_at n fsm.SyncFile (Failed f) s old new knows has is = rw is.1 (λ found x. inl x, λ found x. inl x)
+  safe_at n fsm.CreateRecord (Failed f) s old new knows has is = rw is.1 (λ found x. inl x, λ found x. inl x)
+  safe_at n fsm.WriteRecord (Failed f) s old new knows has is = rw is.1 (λ found x. inl x, λ found x. inl x)
+  safe_at n fsm.SyncRecord (Failed f) s old new knows has is = rw is.1 (λ found x. inl x, λ found x. inl x)
+  safe_at n fsm.RemoveFiles (Failed f) s old new knows has is = rw is.2 (λ found x. inl x, λ found x. inl x)
+  safe_at n op (fsm.Answered accepted) s old new knows has is = rw is.1 (λ found x. inl x, λ found x. inl x)
   safe_at n op (Failed f) s old new knows has is = rw is (λ found x. inl x, λ found x. inl x)
   safe_at n op e s old new knows has is = absurd is
 
@@ -180,15 +180,15 @@ module _ (w : World) (o : Options) (F Q : Type 0) where
 
   -- The disk as this run changes it, without the changes of other processes.
   abbrev changed : Operation → Event → State → Disk → Disk
-  changed due.RenameRecord Done s d = record d { record_bytes = Some (new_record s) }
-  changed due.RenameFile Done s d = record d { target = Some s.read }
+  changed fsm.RenameRecord Done s d = record d { record_bytes = Some (new_record s) }
+  changed fsm.RenameFile Done s d = record d { target = Some s.read }
   changed op e s d = d
 
   changes : (op : Operation) (e : Event) (s : State) (d : Disk) → Changes op s e d (changed op e s d)
-  changes due.RenameRecord Done s d = refl
-  changes due.RenameRecord (Failed f) s d = inl refl
-  changes due.RenameFile Done s d = refl
-  changes due.RenameFile (Failed f) s d = inl refl
+  changes fsm.RenameRecord Done s d = refl
+  changes fsm.RenameRecord (Failed f) s d = inl refl
+  changes fsm.RenameFile Done s d = refl
+  changes fsm.RenameFile (Failed f) s d = inl refl
   changes op e s d = refl
 
   abbrev nothing : Disk
@@ -222,12 +222,12 @@ module _ (w : World) (o : Options) (F Q : Type 0) where
       let true = is_true w F Q n s.due c.event s c.before c.after before is in (
         (
           changed s.due c.event s d,
-          known.moves w o nothing c.event s (changed s.due c.event s d) (after s.due c.event s) fits
-              (known.keeps w o nothing n s.due c.event s d (changed s.due c.event s d) refl holds
+          known.answer_keeps w o nothing c.event s (changed s.due c.event s d) (after s.due c.event s) fits
+              (known.op_keeps w o nothing n s.due c.event s d (changed s.due c.event s d) refl holds
               (changes s.due c.event s d) true),
         ),
-        applying.moves w F Q (count n c.event) s (after s.due c.event s) c.after fits
-            (applying.keeps w F Q n s.due c.event s c.before c.after refl reads before is),
+        applying.answer_keeps w F Q (count n c.event) s (after s.due c.event s) c.after fits
+            (applying.op_keeps w F Q n s.due c.event s c.before c.after refl reads before is),
       )
 
   pub safe_now : (n : ℕ) (s : State) (m : Snapshot) (c : Call) → Invariant n s m → Others m c.before
@@ -239,14 +239,17 @@ module _ (w : World) (o : Options) (F Q : Type 0) where
 
 -- == Whole runs ==
 
-without : (old : Snapshot) (w : World) (o : Options) (found : Option (List ℕ))
+without_new_record : (old : Snapshot) (w : World) (o : Options) (found : Option (List ℕ))
     → RecordMayBe old found ⊎ IsNewRecord w o ⊤ ⊥ found → RecordMayBe old found ⊎ IsUpdateRecord w o found
-without old w o found (inl is) = inl is
-without old w o found (inr is) = inr is.1
+without_new_record old w o found (inl is) = inl is
+without_new_record old w o found (inr is) = inr is.1
 
 safe_call : (w : World) (o : Options) (old new : Snapshot) → Safe w o ⊤ ⊥ old new → IsSafeCall w o old new
 safe_call w o old new (target, recorded) =
-    record { target_is = target; record_is = λ found is. without old w o found (recorded found is) }
+    record {
+      target_is = target;
+      record_is = λ found is. without_new_record old w o found (recorded found is);
+    }
 
 safe_from : (w : World) (o : Options) (n : ℕ) (s : State) (m : Snapshot) (calls : List Call) (t : State)
     (end : Snapshot) → Invariant w o ⊤ ⊥ n s m → Applies w s m calls t end → AllCalls (IsSafeCall w o) calls
@@ -280,12 +283,13 @@ pub true_run : (w : World) (o : Options) (m : Snapshot) (calls : List Call) (t :
     → IsRun (IsLawfulEvent w) 0 (begin o) (map (λ (c : Call). c.event) calls) t
 true_run w o m calls t end run = true_from w o 0 (begin o) m calls t end (begins w o ⊤ ⊥ m) run
 
-last_from : (w : World) (o : Options) (n : ℕ) (s : State) (m : Snapshot) (calls : List Call) (t : State)
+calls_keep_target : (w : World) (o : Options) (n : ℕ) (s : State) (m : Snapshot) (calls : List Call)
+    (t : State)
     (end : Snapshot) → Invariant w o ⊤ ⊤ n s m → Applies w s m calls t end → OthersLeaveTarget m calls
     → (k : ℕ) × Invariant w o ⊤ ⊤ k t end
-last_from w o n s m [] t end known (is, same) leaves = (n, rw (is, same) known)
-last_from w o n s m (c ∷ more) t end known (others, fits, is, run) (leaves, rest) =
-    last_from w o (count n c.event) (step s c.event).1 c.after more t end
+calls_keep_target w o n s m [] t end known (is, same) leaves = (n, rw (is, same) known)
+calls_keep_target w o n s m (c ∷ more) t end known (others, fits, is, run) (leaves, rest) =
+    calls_keep_target w o (count n c.event) (step s c.event).1 c.after more t end
     (next w o ⊤ ⊤ n s m c known others (λ q. leaves) fits is (λ found. tt)) run rest
 
 on_disk : {place : Option File} {left : List (Option File)} {bytes : List ℕ} → IsOnDisk place bytes
@@ -294,16 +298,16 @@ on_disk (file, present, holds, synced) none = (file, present, holds, synced, non
 
 durable : (w : World) (o : Options) (n : ℕ) (op : Operation) (s : State) (m : Snapshot) → Known w o op s
     → Has w ⊤ ⊤ n op s m → EndIsDurable w o op s m
-durable w o n due.Installed s m knows (state_held, recorded, left, complete) =
+durable w o n fsm.Installed s m knows (state_held, recorded, left, complete) =
     let (present, target_left) = complete tt in (
       update_of w o s knows,
       on_disk recorded left,
       (present.0, present.1, present.2, present.3, present.4, target_left),
       state_held.2,
     )
-durable w o n due.AlreadyInstalled s m knows ((signed, listed), inl check) =
+durable w o n fsm.AlreadyInstalled s m knows ((signed, listed), inl check) =
     (signed, knows.1, sym (listed_is w o s knows.0.0.4 knows.1) ∙ listed, inl check)
-durable w o n due.AlreadyInstalled s m knows ((signed, listed), inr holds) =
+durable w o n fsm.AlreadyInstalled s m knows ((signed, listed), inr holds) =
     let (present, left) = holds tt in
     (signed, knows.1, sym (listed_is w o s knows.0.0.4 knows.1) ∙ listed, inr (on_disk present left))
 durable w o n op s m knows has = tt
@@ -313,5 +317,5 @@ durable w o n op s m knows has = tt
 pub ends_durable : (w : World) (o : Options) (m : Snapshot) (calls : List Call) (t : State) (end : Snapshot)
     → Applies w (begin o) m calls t end → OthersLeaveTarget m calls → EndIsDurable w o t.due t end
 ends_durable w o m calls t end run leaves =
-    let (n, (known, has)) = last_from w o 0 (begin o) m calls t end (begins w o ⊤ ⊤ m) run leaves in
+    let (n, (known, has)) = calls_keep_target w o 0 (begin o) m calls t end (begins w o ⊤ ⊤ m) run leaves in
     durable w o n t.due t end known.1.0 has

@@ -27,10 +27,10 @@ use Rattle.minisign_install.specs.Installations.{operation_of, options_of, plain
 use Rattle.minisign_install.specs.Installations.{signature_read, state_of}
 use Rattle.minisign_install.specs.Step.{Operation, SignatureRead, State, after, after_signature, reject}
 use Rattle.minisign_install.specs.Step.{step}
-use Rattle.minisign_install.specs.Step as due
+use Rattle.minisign_install.specs.Step as fsm
 use Rattle.minisign_install.specs.declared.installation.Installation.{Installation}
 use Rattle.minisign_install.specs.declared.installation.progress.Chosen.{Chosen}
-use Rattle.minisign_install.specs.declared.installation.progress.Judged.{Judged}
+use Rattle.minisign_install.specs.declared.installation.progress.Judgment.{Judgment}
 use Rattle.minisign_install.specs.declared.installation.progress.Progress.{Progress}
 use Rattle.minisign_install.proofs.HeldStates.{due_is, fits, unbegun_steps}
 
@@ -143,24 +143,25 @@ same_text : (s : State) {l m : List PublicKeyValue} {a b c d : List ℕ} {e f : 
 same_text s signers first second fault version size = λ i.
     with_text s (signers i) (first i) (second i) (fault i) (version i) (size i)
 
-pub with_signature : (p : Progress) (s : State) (t : SignatureTextRecord) (second : List ℕ) (j : Judged)
-    (recorded time : Option ℕ) (by_key by_other_key : ℕ) (state_held : HoldsState p s)
+pub with_signature : (p : Progress) (s : State) (t : SignatureTextRecord) (second : List ℕ) (j : Judgment)
+    (recorded time : Option ℕ) (key_matches other_key_matches : ℕ) (state_held : HoldsState p s)
     → recorded ≡ (recorded_of p.recorded).version
     → IsReadAs j (options_of p.chosen state_held.file) t second recorded time
     → second ≡ take 64 t.comments.signature
-    → (by_key == 1) ≡ bytes_eq t.signature.keynum p.chosen.key.key_id
-    → (by_other_key == 1) ≡ bytes_eq t.signature.keynum p.chosen.other.key_id
+    → (key_matches == 1) ≡ bytes_eq t.signature.keynum p.chosen.key.key_id
+    → (other_key_matches == 1) ≡ bytes_eq t.signature.keynum p.chosen.other.key_id
     → HoldsState (record p {
       judged = j;
       left = j.size;
       has_left = j.has_size;
-      by_key = by_key;
-      by_other_key = by_other_key;
+      key_matches = key_matches;
+      other_key_matches = other_key_matches;
     }) (with_text s (given p.chosen t) t.signature.signature (take 64 t.comments.signature)
     (comment_fault s.options s.recorded.version time t.comments.trusted)
     (unwrap_or (version_in s.options.numbering t.comments.trusted) 0)
     (signed_size s.options.list t.comments.trusted))
-with_signature p s t second j recorded time by_key by_other_key state_held version is whole one other =
+with_signature p s t second j recorded time key_matches other_key_matches state_held version is whole one
+    other =
     let o : Options = options_of p.chosen state_held.file in
     record {
       file = state_held.file;
@@ -174,7 +175,7 @@ with_signature p s t second j recorded time by_key by_other_key state_held versi
           (signed_size x.options.list t.comments.trusted))
           state_held.state
           ∙ same_text (state_of p state_held.file state_held.read state_held.fault state_held.error)
-          (signers_same t p.chosen.key p.chosen.other (by_key == 1) (by_other_key == 1) one other)
+          (signers_same t p.chosen.key p.chosen.other (key_matches == 1) (other_key_matches == 1) one other)
           (if_judged j.is_judged t.signature.signature j.signature is.judged is.signature)
           (if_judged j.is_judged (take 64 t.comments.signature) j.comment_signature is.judged
           (is.comment_signature ∙ whole))
@@ -214,14 +215,14 @@ refused fault time s r new m leads none is = record {
   room = λ short. absurd (not_short r (Library fault) is short);
 }
 
-reading_is : (op : Operation) → is_reading_signature op ≡ true → op ≡ due.ReadSignature
-reading_is due.ReadSignature is = refl
+reading_is : (op : Operation) → is_reading_signature op ≡ true → op ≡ fsm.ReadSignature
+reading_is fsm.ReadSignature is = refl
 reading_is _ is = absurd (true≢false (sym is))
 
 signature_at : (op : Operation) (text : Result SignatureTextRecord Fault) (time : Option ℕ) (s : State)
     → is_reading_signature op ≡ true
     → after op (SignatureRead text time) s ≡ Some (after_signature (judge_text s.options text) time s)
-signature_at due.ReadSignature text time s is = refl
+signature_at fsm.ReadSignature text time s is = refl
 signature_at _ text time s is = absurd (true≢false (sym is))
 
 pub signature_steps : (p q : Progress) (s : State) (text : List ℕ) (time : Option ℕ)

@@ -13,7 +13,7 @@ use Rattle.minisign_install.specs.Faults.{Fault}
 use Rattle.minisign_install.specs.Step.{Event, Done, InUse, Failed, RecordRead, SignatureRead, Answered}
 use Rattle.minisign_install.specs.Step.{PieceRead, PieceCopied, State, begin, step, Operation, after}
 use Rattle.minisign_install.specs.Step.{answer, has_ended, key_of, comment_question, data_question}
-use Rattle.minisign_install.specs.Step as due
+use Rattle.minisign_install.specs.Step as fsm
 use Rattle.minisign_install.specs.StepRuns.{IsAcceptable, IsGoodUpdate, IsRun, IsLawfulEvent, IsTrueEvent}
 use Rattle.minisign_install.specs.StepRuns.{World, count}
 use Rattle.minisign_install.specs.StepRuns.{IsGoodRun, says_yes, first_signer}
@@ -48,32 +48,32 @@ module _ (w : World) (o : Options) (g : IsGoodUpdate w o) where
 
   -- Invariant of a run on its way to the installation of the update.
   abbrev OnTrack : ℕ → Operation → State → Type 0
-  OnTrack n due.Lock s = (s.options ≡ o) × (n ≡ 0)
-  OnTrack n due.ReadRecord s = (s.options ≡ o) × (n ≡ 0)
-  OnTrack n due.ReadSignature s = (s.options ≡ o) × (n ≡ 0) × (s.recorded ≡ g.recorded)
-  OnTrack n due.CheckComment s =
+  OnTrack n fsm.Lock s = (s.options ≡ o) × (n ≡ 0)
+  OnTrack n fsm.ReadRecord s = (s.options ≡ o) × (n ≡ 0)
+  OnTrack n fsm.ReadSignature s = (s.options ≡ o) × (n ≡ 0) × (s.recorded ≡ g.recorded)
+  OnTrack n fsm.CheckComment s =
       (s.options ≡ o) × (n ≡ 0) × (s.recorded ≡ g.recorded) × (s.fault ≡ None) × (s.version ≡ g.version)
       × (s.signature ≡ g.text.signature.signature)
       × (s.comment_signature ≡ take 64 g.text.comments.signature)
       × (s.left ≡ signed_size o.list g.text.comments.trusted)
       × (first_signer w g.text s.signers ≡ Some g.key)
-  OnTrack n due.ReadList s = IsAccepted n s × (is_some o.list ≡ true)
-  OnTrack n due.CheckList s = IsAccepted n s × (is_some o.list ≡ true) × HasListing w o s
-  OnTrack n due.RemoveLeftovers s = IsReady n s
-  OnTrack n due.CreateFile s = IsReady n s
-  OnTrack n due.CopyData s = IsReady n s
-  OnTrack n due.ReadBack s = StateKnows s × ((rest : List ℕ) × (s.read ++ rest ≡ w.update))
-  OnTrack n due.CheckData s = StateKnows s × (s.read ≡ w.update)
-  OnTrack n due.SetPermissions s = ⊤
-  OnTrack n due.SyncFile s = ⊤
-  OnTrack n due.CreateRecord s = ⊤
-  OnTrack n due.WriteRecord s = ⊤
-  OnTrack n due.SyncRecord s = ⊤
-  OnTrack n due.RenameRecord s = ⊤
-  OnTrack n due.SyncRecordName s = ⊤
-  OnTrack n due.RenameFile s = ⊤
-  OnTrack n due.SyncFileName s = ⊤
-  OnTrack n due.Installed s = ⊤
+  OnTrack n fsm.ReadList s = IsAccepted n s × (is_some o.list ≡ true)
+  OnTrack n fsm.CheckList s = IsAccepted n s × (is_some o.list ≡ true) × HasListing w o s
+  OnTrack n fsm.RemoveLeftovers s = IsReady n s
+  OnTrack n fsm.CreateFile s = IsReady n s
+  OnTrack n fsm.CopyData s = IsReady n s
+  OnTrack n fsm.ReadBack s = StateKnows s × ((rest : List ℕ) × (s.read ++ rest ≡ w.update))
+  OnTrack n fsm.CheckData s = StateKnows s × (s.read ≡ w.update)
+  OnTrack n fsm.SetPermissions s = ⊤
+  OnTrack n fsm.SyncFile s = ⊤
+  OnTrack n fsm.CreateRecord s = ⊤
+  OnTrack n fsm.WriteRecord s = ⊤
+  OnTrack n fsm.SyncRecord s = ⊤
+  OnTrack n fsm.RenameRecord s = ⊤
+  OnTrack n fsm.SyncRecordName s = ⊤
+  OnTrack n fsm.RenameFile s = ⊤
+  OnTrack n fsm.SyncFileName s = ⊤
+  OnTrack n fsm.Installed s = ⊤
   OnTrack n op s = ⊥
 
   -- The invariant holds after this event, if the event fits.
@@ -91,12 +91,12 @@ module _ (w : World) (o : Options) (g : IsGoodUpdate w o) where
 
   after_record : (n : ℕ) (s : State) (found : Option (List ℕ)) → (s.options ≡ o) × (n ≡ 0)
       → found ≡ w.found_record
-      → Stays n due.ReadRecord (RecordRead found) s
+      → Stays n fsm.ReadRecord (RecordRead found) s
   after_record n s found (is_o, none) is = rw (is_o, is, g.record_applies) (refl, none, refl)
 
   after_signature : (n : ℕ) (s : State) (text : Result SignatureTextRecord Fault) (time : Option ℕ)
-      → OnTrack n due.ReadSignature s → IsAcceptable g (SignatureRead text time) → text ≡ w.text
-      → Stays n due.ReadSignature (SignatureRead text time) s
+      → OnTrack n fsm.ReadSignature s → IsAcceptable g (SignatureRead text time) → text ≡ w.text
+      → Stays n fsm.ReadSignature (SignatureRead text time) s
   after_signature n s text time (is_o, none, recorded) fine is =
       rw (is_o, is ∙ g.parsed, g.passed, recorded)
       (refl, none, refl, fine, ap (λ v. unwrap_or v 0) g.numbered, refl, refl, refl, g.signed_comment)
@@ -106,18 +106,18 @@ module _ (w : World) (o : Options) (g : IsGoodUpdate w o) where
   first n true x y is on = on
   first n false x y is on = absurd (true≢false (sym is))
 
-  to_install : (n : ℕ) (check : Bool) (s : State) → check ≡ false → IsReady n (due.install s)
-      → OnTrack n (if check then due.WouldInstall else due.RemoveLeftovers) (due.install s)
+  to_install : (n : ℕ) (check : Bool) (s : State) → check ≡ false → IsReady n (fsm.install s)
+      → OnTrack n (if check then fsm.WouldInstall else fsm.RemoveLeftovers) (fsm.install s)
   to_install n true s is ready = absurd (true≢false is)
   to_install n false s is ready = ready
 
   compare : (n : ℕ) (s : State) → IsAccepted n s → HasListing w o s
-      → OnTrack n (due.compare s).due (due.compare s)
+      → OnTrack n (fsm.compare s).due (fsm.compare s)
   compare n s (is_o, none, recorded, version, signature, key, left) listing =
-      let newer : due.is_newer s ≡ true =
+      let newer : fsm.is_newer s ≡ true =
       rw (recorded, version) (is_newer g.recorded.version g.version g.newer) in
       let installs : s.options.check ≡ false = ap (λ (x : Options). x.check) is_o ∙ g.installs in
-      first n (due.is_newer s) (due.install s) _ newer
+      first n (fsm.is_newer s) (fsm.install s) _ newer
       (to_install n s.options.check s installs (
         (signature, key, is_o, listing),
         rw left (left_at n (signed_size o.list g.text.comments.trusted) none g.sized),
@@ -126,35 +126,35 @@ module _ (w : World) (o : Options) (g : IsGoodUpdate w o) where
       ))
 
   list_next : (listed : Bool) (n : ℕ) (s : State) → is_some o.list ≡ listed → IsAccepted n s
-      → OnTrack n (if listed then due.go due.ReadList s else due.compare s).due
-      (if listed then due.go due.ReadList s else due.compare s)
+      → OnTrack n (if listed then fsm.go fsm.ReadList s else fsm.compare s).due
+      (if listed then fsm.go fsm.ReadList s else fsm.compare s)
   list_next true n s some known = (known, some)
   list_next false n s none known = compare n s known (λ some. absurd (true≢false (sym some ∙ none)))
 
-  after_comment : (n : ℕ) (s : State) → OnTrack n due.CheckComment s
-      → IsTrueEvent w n s due.CheckComment (Answered true) → Stays n due.CheckComment (Answered true) s
+  after_comment : (n : ℕ) (s : State) → OnTrack n fsm.CheckComment s
+      → IsTrueEvent w n s fsm.CheckComment (Answered true) → Stays n fsm.CheckComment (Answered true) s
   after_comment n s (is_o, none, recorded, fault, version, signature, second, left, signer) is =
       let accepted = is g.text g.parsed in
       let key = signer_is w g.text g.key s.signers (rw (signature, second) at accepted) signer in
       let signed : State = record s { is_signed = true } in
-      subst (λ f. OnTrack n (due.after_comment f signed).due (due.after_comment f signed)) (sym fault)
+      subst (λ f. OnTrack n (fsm.after_comment f signed).due (fsm.after_comment f signed)) (sym fault)
       (list_next (is_some s.options.list) n signed (ap (λ (x : Options). is_some x.list) (sym is_o))
       (is_o, none, recorded, version, signature, key, left))
 
-  after_listing : (n : ℕ) (s : State) → OnTrack n due.CheckList s
-      → OnTrack n (due.after_listing s.listing.listed (record s { is_list_signed = true })).due
-      (due.after_listing s.listing.listed (record s { is_list_signed = true }))
+  after_listing : (n : ℕ) (s : State) → OnTrack n fsm.CheckList s
+      → OnTrack n (fsm.after_listing s.listing.listed (record s { is_list_signed = true })).due
+      (fsm.after_listing s.listing.listed (record s { is_list_signed = true }))
   after_listing n s (known, some, listing) =
       let (digest, found) = found_is w o s w.update some listing g.listed in
       let signed : State = record s { is_list_signed = true } in
-      subst (λ r. OnTrack n (due.after_listing r signed).due (due.after_listing r signed)) (sym found)
+      subst (λ r. OnTrack n (fsm.after_listing r signed).due (fsm.after_listing r signed)) (sym found)
       (compare n signed known listing)
 
-  next_key : (n : ℕ) (s : State) (signers : List PublicKeyValue) → s.due ≡ due.CheckComment
-      → OnTrack n due.CheckComment (record s { signers = signers })
+  next_key : (n : ℕ) (s : State) (signers : List PublicKeyValue) → s.due ≡ fsm.CheckComment
+      → OnTrack n fsm.CheckComment (record s { signers = signers })
       → false ≡ w.accepts (g.text.signature.signature ++ g.text.comments.trusted) (key_of signers)
       (take 64 g.text.comments.signature)
-      → OnTrack n (due.next_key signers s).due (due.next_key signers s)
+      → OnTrack n (fsm.next_key signers s).due (fsm.next_key signers s)
   next_key n s [] at (is_o, none, recorded, fault, version, signature, second, left, signer) rejected =
       absurd (none-some g.key signer)
   next_key n s (v ∷ []) at (is_o, none, recorded, fault, version, signature, second, left, signer) rejected =
@@ -164,16 +164,16 @@ module _ (w : World) (o : Options) (g : IsGoodUpdate w o) where
       let found = rw (sym rejected) at signer in
       rw at (is_o, none, recorded, fault, version, signature, second, left, found)
 
-  after_piece : (n k : ℕ) (s : State) (left : Option ℕ) → s.due ≡ due.CopyData → StateKnows s → Left n left
+  after_piece : (n k : ℕ) (s : State) (left : Option ℕ) → s.due ≡ fsm.CopyData → StateKnows s → Left n left
       → s.left ≡ left → s.read ≡ [] → n + k ≤ length w.update
-      → OnTrack (n + k) (due.after_piece k left s).due (due.after_piece k left s)
+      → OnTrack (n + k) (fsm.after_piece k left s).due (fsm.after_piece k left s)
   after_piece n k s None at knows is none read more = rw (at, none) (knows, tt, read, more)
   after_piece n k s (Some left) at knows is none read more =
       rw (le-leb k left (omega (arith, is, more)), at) (knows, omega (arith, is, more), read, more)
 
   after_copy : (n : ℕ) (s : State) (left : Option ℕ) → StateKnows s → Left n left → s.read ≡ []
       → n ≡ length w.update
-      → OnTrack n (due.after_copy left s).due (due.after_copy left s)
+      → OnTrack n (fsm.after_copy left s).due (fsm.after_copy left s)
   after_copy n s None knows is read all = (knows, (w.update, rw read refl))
   after_copy n s (Some left) knows is read all =
       rw (eq-eqb left 0 (omega (arith, is, all))) (knows, (w.update, rw read refl))
@@ -185,13 +185,13 @@ module _ (w : World) (o : Options) (g : IsGoodUpdate w o) where
       absurd (true≢false (sym g.signed_data ∙ sym (rw read at wrong)))
 
   after_data : (n : ℕ) (s : State) → StateKnows s × (s.read ≡ w.update)
-      → OnTrack n (due.after_data (due.is_listed s) s).due (due.after_data (due.is_listed s) s)
+      → OnTrack n (fsm.after_data (fsm.is_listed s) s).due (fsm.after_data (fsm.is_listed s) s)
   after_data n s ((signature, key, same, listing), read) =
-      let fits : due.is_listed s ≡ true =
+      let fits : fsm.is_listed s ≡ true =
       listed_is w o s same listing ∙ ap (fits_list o.list w.list w.name) read ∙ g.listed in
       rw fits tt
 
-  check_list : {P : Type 0} (n : ℕ) (s : State) → OnTrack n due.CheckList s
+  check_list : {P : Type 0} (n : ℕ) (s : State) → OnTrack n fsm.CheckList s
       → false ≡ w.accepts (signed_digest s) (key_of s.signers) s.signature → P
   check_list n s ((same, none, recorded, version, signature, key, left), some, listing) rejected =
       let wrong = rw (
@@ -203,53 +203,53 @@ module _ (w : World) (o : Options) (g : IsGoodUpdate w o) where
       at rejected in
       absurd (true≢false (sym g.signed_data ∙ sym wrong))
 
-  keeps : (n : ℕ) (op : Operation) (e : Event) (s : State) → s.due ≡ op → OnTrack n op s → IsAcceptable g e
+  op_keeps : (n : ℕ) (op : Operation) (e : Event) (s : State) → s.due ≡ op → OnTrack n op s → IsAcceptable g e
       → IsTrueEvent w n s op e → Stays n op e s
-  keeps n op (Failed f) s at on fine is = absurd fine
-  keeps n op InUse s at on fine is = absurd fine
-  keeps n due.Nothing e s at on fine is = absurd on
-  keeps n due.CheckRecord e s at on fine is = absurd on
-  keeps n due.ReadTarget e s at on fine is = absurd on
-  keeps n due.CheckTarget e s at on fine is = absurd on
-  keeps n due.SyncTarget e s at on fine is = absurd on
-  keeps n due.SyncTargetName e s at on fine is = absurd on
-  keeps n due.RemoveFiles e s at on fine is = absurd on
-  keeps n due.WouldInstall e s at on fine is = absurd on
-  keeps n due.AlreadyInstalled e s at on fine is = absurd on
-  keeps n due.Rejected e s at on fine is = absurd on
-  keeps n due.ReadRecord (RecordRead found) s at on fine is = after_record n s found on is
-  keeps n due.ReadSignature (SignatureRead text time) s at on fine is =
+  op_keeps n op (Failed f) s at on fine is = absurd fine
+  op_keeps n op InUse s at on fine is = absurd fine
+  op_keeps n fsm.Nothing e s at on fine is = absurd on
+  op_keeps n fsm.CheckRecord e s at on fine is = absurd on
+  op_keeps n fsm.ReadTarget e s at on fine is = absurd on
+  op_keeps n fsm.CheckTarget e s at on fine is = absurd on
+  op_keeps n fsm.SyncTarget e s at on fine is = absurd on
+  op_keeps n fsm.SyncTargetName e s at on fine is = absurd on
+  op_keeps n fsm.RemoveFiles e s at on fine is = absurd on
+  op_keeps n fsm.WouldInstall e s at on fine is = absurd on
+  op_keeps n fsm.AlreadyInstalled e s at on fine is = absurd on
+  op_keeps n fsm.Rejected e s at on fine is = absurd on
+  op_keeps n fsm.ReadRecord (RecordRead found) s at on fine is = after_record n s found on is
+  op_keeps n fsm.ReadSignature (SignatureRead text time) s at on fine is =
       after_signature n s text time on fine is
-  keeps n due.CheckComment (Answered true) s at on fine is = after_comment n s on is
-  keeps n due.CheckComment (Answered false) s at on fine is =
+  op_keeps n fsm.CheckComment (Answered true) s at on fine is = after_comment n s on is
+  op_keeps n fsm.CheckComment (Answered false) s at on fine is =
       next_key n s s.signers at on (rw (on.5, on.6) at (is g.text g.parsed))
-  keeps n due.ReadList (ListRead list name) s at (known, some) fine is =
+  op_keeps n fsm.ReadList (ListRead list name) s at (known, some) fine is =
       (known, some, λ listed. rw (ap (λ (x : Options). x.list) known.0, is.0, is.1) refl)
-  keeps n due.CheckList (Answered true) s at on fine is = after_listing n s on
-  keeps n due.CheckList (Answered false) s at on fine is = check_list n s on is
-  keeps n due.ReadList e s at on fine is = tt
-  keeps n due.CheckList e s at on fine is = tt
-  keeps n due.CopyData (PieceCopied k) s at (knows, left, read, more) fine is =
+  op_keeps n fsm.CheckList (Answered true) s at on fine is = after_listing n s on
+  op_keeps n fsm.CheckList (Answered false) s at on fine is = check_list n s on is
+  op_keeps n fsm.ReadList e s at on fine is = tt
+  op_keeps n fsm.CheckList e s at on fine is = tt
+  op_keeps n fsm.CopyData (PieceCopied k) s at (knows, left, read, more) fine is =
       after_piece n k s s.left at knows left refl read is.1
-  keeps n due.CopyData Done s at (knows, left, read, more) fine is =
+  op_keeps n fsm.CopyData Done s at (knows, left, read, more) fine is =
       after_copy n s s.left knows left read is
-  keeps n due.ReadBack (PieceRead bytes) s at (knows, rest) fine is = rw at (knows, is.1)
-  keeps n due.ReadBack Done s at (knows, rest) fine is = (knows, is)
-  keeps n due.CheckData (Answered true) s at on fine is = after_data n s on
-  keeps n due.CheckData (Answered false) s at on fine is = check_data s on is
-  keeps n due.Lock Done s at on fine is = on
-  keeps n due.RemoveLeftovers Done s at on fine is = on
-  keeps n due.CreateFile Done s at on fine is = on
-  keeps n op Done s at on fine is = tt
-  keeps n op e s at on fine is = tt
+  op_keeps n fsm.ReadBack (PieceRead bytes) s at (knows, rest) fine is = rw at (knows, is.1)
+  op_keeps n fsm.ReadBack Done s at (knows, rest) fine is = (knows, is)
+  op_keeps n fsm.CheckData (Answered true) s at on fine is = after_data n s on
+  op_keeps n fsm.CheckData (Answered false) s at on fine is = check_data s on is
+  op_keeps n fsm.Lock Done s at on fine is = on
+  op_keeps n fsm.RemoveLeftovers Done s at on fine is = on
+  op_keeps n fsm.CreateFile Done s at on fine is = on
+  op_keeps n op Done s at on fine is = tt
+  op_keeps n op e s at on fine is = tt
 
-  moves : (n : ℕ) (e : Event) (s : State) (next : Option State) → is_some next ≡ true
+  answer_keeps : (n : ℕ) (e : Event) (s : State) (next : Option State) → is_some next ≡ true
       → IfSome next (λ t. OnTrack (count n e) t.due t)
       → OnTrack (count n e) (answer s next).1.due (answer s next).1
-  moves n e s (Some t) fits stays = stays
-  moves n e s None fits stays = absurd (true≢false (sym fits))
+  answer_keeps n e s (Some t) fits stays = stays
+  answer_keeps n e s None fits stays = absurd (true≢false (sym fits))
 
-  begins : (check : Bool) → OnTrack 0 (if check then due.ReadRecord else due.Lock) (begin o)
+  begins : (check : Bool) → OnTrack 0 (if check then fsm.ReadRecord else fsm.Lock) (begin o)
   begins true = (refl, refl)
   begins false = (refl, refl)
 
@@ -258,28 +258,28 @@ module _ (w : World) (o : Options) (g : IsGoodUpdate w o) where
   stays_on n s [] t on is = (n, rw is on)
   stays_on n s (e ∷ more) t on (((fits, is), fine), rest) =
       stays_on (count n e) (step s e).1 more t
-      (moves n e s (after s.due e s) fits (keeps n s.due e s refl on fine is)) rest
+      (answer_keeps n e s (after s.due e s) fits (op_keeps n s.due e s refl on fine is)) rest
 
   installed : (n : ℕ) (op : Operation) (s : State) → OnTrack n op s → has_ended op ≡ true
-      → op ≡ due.Installed
-  installed n due.Installed s on ended = refl
-  installed n due.WouldInstall s on ended = absurd on
-  installed n due.AlreadyInstalled s on ended = absurd on
-  installed n due.Rejected s on ended = absurd on
+      → op ≡ fsm.Installed
+  installed n fsm.Installed s on ended = refl
+  installed n fsm.WouldInstall s on ended = absurd on
+  installed n fsm.AlreadyInstalled s on ended = absurd on
+  installed n fsm.Rejected s on ended = absurd on
   installed n op s on ended = absurd (true≢false (sym ended))
 
   -- Both results of Ed25519 fit the question about the comment.
   fits_comment : (s : State) (accepted : Bool)
-      → is_some (after due.CheckComment (Answered accepted) s) ≡ true
+      → is_some (after fsm.CheckComment (Answered accepted) s) ≡ true
   fits_comment s true = refl
   fits_comment s false = refl
 
   fits_listing : (s : State) (accepted : Bool)
-      → is_some (after due.CheckList (Answered accepted) s) ≡ true
+      → is_some (after fsm.CheckList (Answered accepted) s) ≡ true
   fits_listing s true = refl
   fits_listing s false = refl
 
-  fits_data : (s : State) (accepted : Bool) → is_some (after due.CheckData (Answered accepted) s) ≡ true
+  fits_data : (s : State) (accepted : Bool) → is_some (after fsm.CheckData (Answered accepted) s) ≡ true
   fits_data s true = refl
   fits_data s false = refl
 
@@ -288,13 +288,13 @@ module _ (w : World) (o : Options) (g : IsGoodUpdate w o) where
   HasNext n op s =
       (e : Event) × (is_some (after op e s) ≡ true) × IsTrueEvent w n s op e × IsAcceptable g e
 
-  next_piece : (n : ℕ) (s : State) → n ≤ length w.update → HasNext n due.CopyData s
+  next_piece : (n : ℕ) (s : State) → n ≤ length w.update → HasNext n fsm.CopyData s
   next_piece n s more = elim (eq-or-lt_of_le more) [
     | inl all ↦ (Done, refl, all, tt)
     | inr less ↦ (PieceCopied (length w.update - n), refl, (omega (arith, less), omega (arith, less)), tt)
   ]
 
-  next_bytes : (n : ℕ) (s : State) (rest : List ℕ) → s.read ++ rest ≡ w.update → HasNext n due.ReadBack s
+  next_bytes : (n : ℕ) (s : State) (rest : List ℕ) → s.read ++ rest ≡ w.update → HasNext n fsm.ReadBack s
   next_bytes n s [] whole = (Done, refl, sym (append-nil s.read) ∙ whole, tt)
   next_bytes n s (b ∷ rest) whole =
       (PieceRead (b ∷ rest), refl, (omega arith, ([], append-nil (s.read ++ b ∷ rest) ∙ whole)), tt)
@@ -305,42 +305,42 @@ module _ (w : World) (o : Options) (g : IsGoodUpdate w o) where
   module _ (time : Option ℕ)
       (fresh : comment_fault o g.recorded.version time g.text.comments.trusted ≡ None) where
     has_next : (n : ℕ) (op : Operation) (s : State) → OnTrack n op s
-        → (op ≡ due.Installed) ⊎ HasNext n op s
-    has_next n due.Lock s on = inr (Done, refl, tt, tt)
-    has_next n due.ReadRecord s on = inr (RecordRead w.found_record, refl, refl, tt)
-    has_next n due.ReadSignature s on = inr (SignatureRead w.text time, refl, refl, fresh)
-    has_next n due.CheckComment s on =
+        → (op ≡ fsm.Installed) ⊎ HasNext n op s
+    has_next n fsm.Lock s on = inr (Done, refl, tt, tt)
+    has_next n fsm.ReadRecord s on = inr (RecordRead w.found_record, refl, refl, tt)
+    has_next n fsm.ReadSignature s on = inr (SignatureRead w.text time, refl, refl, fresh)
+    has_next n fsm.CheckComment s on =
         inr (
           Answered (says_yes w (comment_question s g.text.comments.trusted)),
           fits_comment s _,
           λ t parsed. ap (λ x. says_yes w (comment_question s x.comments.trusted)) (same_text t parsed),
           tt,
         )
-    has_next n due.ReadList s on = inr (ListRead w.list w.name, refl, (refl, refl), tt)
-    has_next n due.CheckList s on =
-        inr (Answered (says_yes w (data_question due.CheckList s)), fits_listing s _, refl, tt)
-    has_next n due.RemoveLeftovers s on = inr (Done, refl, tt, tt)
-    has_next n due.CreateFile s on = inr (Done, refl, tt, tt)
-    has_next n due.CopyData s (knows, left, read, more) = inr (next_piece n s more)
-    has_next n due.ReadBack s (knows, (rest, whole)) = inr (next_bytes n s rest whole)
-    has_next n due.CheckData s on =
-        inr (Answered (says_yes w (data_question due.CheckData s)), fits_data s _, refl, tt)
-    has_next n due.SetPermissions s on = inr (Done, refl, tt, tt)
-    has_next n due.SyncFile s on = inr (Done, refl, tt, tt)
-    has_next n due.CreateRecord s on = inr (Done, refl, tt, tt)
-    has_next n due.WriteRecord s on = inr (Done, refl, tt, tt)
-    has_next n due.SyncRecord s on = inr (Done, refl, tt, tt)
-    has_next n due.RenameRecord s on = inr (Done, refl, tt, tt)
-    has_next n due.SyncRecordName s on = inr (Done, refl, tt, tt)
-    has_next n due.RenameFile s on = inr (Done, refl, tt, tt)
-    has_next n due.SyncFileName s on = inr (Done, refl, tt, tt)
-    has_next n due.Installed s on = inl refl
+    has_next n fsm.ReadList s on = inr (ListRead w.list w.name, refl, (refl, refl), tt)
+    has_next n fsm.CheckList s on =
+        inr (Answered (says_yes w (data_question fsm.CheckList s)), fits_listing s _, refl, tt)
+    has_next n fsm.RemoveLeftovers s on = inr (Done, refl, tt, tt)
+    has_next n fsm.CreateFile s on = inr (Done, refl, tt, tt)
+    has_next n fsm.CopyData s (knows, left, read, more) = inr (next_piece n s more)
+    has_next n fsm.ReadBack s (knows, (rest, whole)) = inr (next_bytes n s rest whole)
+    has_next n fsm.CheckData s on =
+        inr (Answered (says_yes w (data_question fsm.CheckData s)), fits_data s _, refl, tt)
+    has_next n fsm.SetPermissions s on = inr (Done, refl, tt, tt)
+    has_next n fsm.SyncFile s on = inr (Done, refl, tt, tt)
+    has_next n fsm.CreateRecord s on = inr (Done, refl, tt, tt)
+    has_next n fsm.WriteRecord s on = inr (Done, refl, tt, tt)
+    has_next n fsm.SyncRecord s on = inr (Done, refl, tt, tt)
+    has_next n fsm.RenameRecord s on = inr (Done, refl, tt, tt)
+    has_next n fsm.SyncRecordName s on = inr (Done, refl, tt, tt)
+    has_next n fsm.RenameFile s on = inr (Done, refl, tt, tt)
+    has_next n fsm.SyncFileName s on = inr (Done, refl, tt, tt)
+    has_next n fsm.Installed s on = inl refl
     has_next n op s on = absurd on
 
     -- If at most `most` steps are left, there is a run from this state that installs the update.
     arrives : (most n : ℕ) (s : State) → left w n s.due s ≤ most → OnTrack n s.due s
         → (events : List Event) × (t : State)
-        × IsRun (λ n s e. IsLawfulEvent w n s e × IsAcceptable g e) n s events t × (t.due ≡ due.Installed)
+        × IsRun (λ n s e. IsLawfulEvent w n s e × IsAcceptable g e) n s events t × (t.due ≡ fsm.Installed)
     arrives zero n s few on = elim (has_next n s.due s on) [
       | inl done ↦ ([], s, refl, done)
       | inr (e, fits, is, fine) ↦ let less = step_less w n e s (fits, is) in absurd (omega
@@ -351,14 +351,14 @@ module _ (w : World) (o : Options) (g : IsGoodUpdate w o) where
       | inr (e, fits, is, fine) ↦
           let less = step_less w n e s (fits, is) in
           let (more, t, run, done) = arrives most (count n e) (step s e).1 (omega (arith, few, less))
-          (moves n e s (after s.due e s) fits (keeps n s.due e s refl on fine is)) in
+          (answer_keeps n e s (after s.due e s) fits (op_keeps n s.due e s refl on fine is)) in
           (e ∷ more, t, (((fits, is), fine), run), done)
     ]
 
 -- If nothing fails and the update is good, a run that has ended has installed the update.
 pub good_update_gets_installed : (w : World) (o : Options) (g : IsGoodUpdate w o) (events : List Event)
     (t : State)
-    → IsGoodRun g events t → has_ended t.due ≡ true → t.due ≡ due.Installed
+    → IsGoodRun g events t → has_ended t.due ≡ true → t.due ≡ fsm.Installed
 good_update_gets_installed w o g events t run ended =
     let (n, on) = stays_on w o g 0 (begin o) events t (begins w o g o.check) run in
     installed w o g n t.due t on ended
@@ -366,7 +366,7 @@ good_update_gets_installed w o g events t run ended =
 -- If the comment is not rejected at some time, there is a run without failures that installs the good update.
 pub good_update_has_run : (w : World) (o : Options) (g : IsGoodUpdate w o) (time : Option ℕ)
     → comment_fault o g.recorded.version time g.text.comments.trusted ≡ None
-    → (events : List Event) × (t : State) × IsGoodRun g events t × (t.due ≡ due.Installed)
+    → (events : List Event) × (t : State) × IsGoodRun g events t × (t.due ≡ fsm.Installed)
 good_update_has_run w o g time fresh =
     arrives w o g time fresh (left w 0 (begin o).due (begin o)) 0 (begin o) (omega arith)
     (begins w o g o.check)

@@ -9,7 +9,7 @@ use Rattle.minisign_install.specs.Decisions.{Recorded, judge_record, judge_text}
 use Rattle.minisign_install.specs.Faults.{InstallFault, SameNumber}
 use Rattle.minisign_install.specs.Step.{Event, Failed, RecordRead, SignatureRead, Operation, Answered}
 use Rattle.minisign_install.specs.Step.{TargetMissing, State, after, answer, step}
-use Rattle.minisign_install.specs.Step as due
+use Rattle.minisign_install.specs.Step as fsm
 use Rattle.minisign_install.specs.StepRuns.{as_check, check_due, decides}
 use Rattle.minisign_install.proofs.StepSafety.{Passed}
 use Rattle.minisign_lists.specs.declared.digests.ListedDigest.{ListedDigest}
@@ -20,54 +20,54 @@ pick : (is : Bool) (x y : State) (x' y' : State) → x' ≡ as_check x → y' �
 pick true x y x' y' one other = one
 pick false x y x' y' one other = other
 
-record_same : (s : State) (r : Result Recorded InstallFault) → s.due ≡ due.ReadRecord
-    → due.after_record r (as_check s) ≡ as_check (due.after_record r s)
+record_same : (s : State) (r : Result Recorded InstallFault) → s.due ≡ fsm.ReadRecord
+    → fsm.after_record r (as_check s) ≡ as_check (fsm.after_record r s)
 record_same s (Ok recorded) at = refl
 record_same s (Err fault) at = rw at refl
 
-signature_same : (s : State) (r : Passed) (time : Option ℕ) → s.due ≡ due.ReadSignature
-    → due.after_signature r time (as_check s) ≡ as_check (due.after_signature r time s)
+signature_same : (s : State) (r : Passed) (time : Option ℕ) → s.due ≡ fsm.ReadSignature
+    → fsm.after_signature r time (as_check s) ≡ as_check (fsm.after_signature r time s)
 signature_same s (Ok (t, signers)) time at = refl
 signature_same s (Err fault) time at = rw at refl
 
-install_same : (s : State) → s.options.check ≡ false → due.install (as_check s) ≡ as_check (due.install s)
+install_same : (s : State) → s.options.check ≡ false → fsm.install (as_check s) ≡ as_check (fsm.install s)
 install_same s installs = rw installs refl
 
-compare_same : (s : State) → s.options.check ≡ false → due.compare (as_check s) ≡ as_check (due.compare s)
+compare_same : (s : State) → s.options.check ≡ false → fsm.compare (as_check s) ≡ as_check (fsm.compare s)
 compare_same s installs =
-    pick (due.is_newer s) _ _ _ _ (install_same s installs)
+    pick (fsm.is_newer s) _ _ _ _ (install_same s installs)
     (pick (is_some s.recorded.digest) _ _ _ _ refl
-    (pick (due.is_rolling_back s) _ _ _ _ (install_same s installs) refl))
+    (pick (fsm.is_rolling_back s) _ _ _ _ (install_same s installs) refl))
 
-comment_same : (s : State) (fault : Option InstallFault) → s.due ≡ due.CheckComment → s.options.check ≡ false
-    → due.after_comment fault (record (as_check s) { is_signed = true })
-    ≡ as_check (due.after_comment fault (record s { is_signed = true }))
+comment_same : (s : State) (fault : Option InstallFault) → s.due ≡ fsm.CheckComment → s.options.check ≡ false
+    → fsm.after_comment fault (record (as_check s) { is_signed = true })
+    ≡ as_check (fsm.after_comment fault (record s { is_signed = true }))
 comment_same s None at installs =
     pick (is_some s.options.list) _ _ _ _ refl (compare_same (record s { is_signed = true }) installs)
 comment_same s (Some fault) at installs = rw at refl
 
-listing_same : (s : State) (listed : Result ListedDigest InstallFault) → s.due ≡ due.CheckList
+listing_same : (s : State) (listed : Result ListedDigest InstallFault) → s.due ≡ fsm.CheckList
     → s.options.check ≡ false
-    → due.after_listing listed (as_check s) ≡ as_check (due.after_listing listed s)
+    → fsm.after_listing listed (as_check s) ≡ as_check (fsm.after_listing listed s)
 listing_same s (Ok digest) at installs = compare_same s installs
 listing_same s (Err fault) at installs = rw at refl
 
-key_same : (s : State) (signers : List PublicKeyValue) → s.due ≡ due.CheckComment
-    → due.next_key signers (as_check s) ≡ as_check (due.next_key signers s)
+key_same : (s : State) (signers : List PublicKeyValue) → s.due ≡ fsm.CheckComment
+    → fsm.next_key signers (as_check s) ≡ as_check (fsm.next_key signers s)
 key_same s [] at = rw at refl
 key_same s (v ∷ []) at = rw at refl
 key_same s (v ∷ u ∷ more) at = refl
 
 digest_same : (s : State) (accepted : Bool) → s.options.check ≡ false
-    → due.after_digest accepted (as_check s) ≡ as_check (due.after_digest accepted s)
+    → fsm.after_digest accepted (as_check s) ≡ as_check (fsm.after_digest accepted s)
 digest_same s true installs = refl
-digest_same s false installs = pick (due.is_rolling_back s) _ _ _ _ (install_same s installs) refl
+digest_same s false installs = pick (fsm.is_rolling_back s) _ _ _ _ (install_same s installs) refl
 
-target_same : (s : State) (accepted : Bool) → s.due ≡ due.CheckTarget → s.options.check ≡ false
-    → due.after_target accepted (as_check s) ≡ as_check (due.after_target accepted s)
+target_same : (s : State) (accepted : Bool) → s.due ≡ fsm.CheckTarget → s.options.check ≡ false
+    → fsm.after_target accepted (as_check s) ≡ as_check (fsm.after_target accepted s)
 target_same s true at installs = rw installs refl
 target_same s false at installs =
-    pick (s.is_recorded || s.options.again) (due.install s) (due.reject SameNumber s) _ _
+    pick (s.is_recorded || s.options.again) (fsm.install s) (fsm.reject SameNumber s) _ _
     (install_same s installs) (rw at refl)
 
 choose : (is : Bool) (x y : State) → y ≡ as_check x
@@ -76,68 +76,68 @@ choose true x y same = ap (λ (t : State). Some t) same
 choose false x y same = refl
 
 fail_same : (op : Operation) (f : NamedFault) (s : State) → s.due ≡ op → decides op ≡ true
-    → due.fail f (as_check s) ≡ option_map as_check (due.fail f s)
-fail_same due.ReadRecord f s at is = choose (due.is_failure f) (due.reject (due.failure s.due f) s) _
+    → fsm.fail f (as_check s) ≡ option_map as_check (fsm.fail f s)
+fail_same fsm.ReadRecord f s at is = choose (fsm.is_failure f) (fsm.reject (fsm.failure s.due f) s) _
     (rw at refl)
-fail_same due.ReadSignature f s at is = choose (due.is_failure f) (due.reject (due.failure s.due f) s) _
+fail_same fsm.ReadSignature f s at is = choose (fsm.is_failure f) (fsm.reject (fsm.failure s.due f) s) _
     (rw at refl)
-fail_same due.CheckComment f s at is = choose (due.is_failure f) (due.reject (due.failure s.due f) s) _
+fail_same fsm.CheckComment f s at is = choose (fsm.is_failure f) (fsm.reject (fsm.failure s.due f) s) _
     (rw at refl)
-fail_same due.ReadList f s at is = choose (due.is_failure f) (due.reject (due.failure s.due f) s) _
+fail_same fsm.ReadList f s at is = choose (fsm.is_failure f) (fsm.reject (fsm.failure s.due f) s) _
     (rw at refl)
-fail_same due.CheckList f s at is = choose (due.is_failure f) (due.reject (due.failure s.due f) s) _
+fail_same fsm.CheckList f s at is = choose (fsm.is_failure f) (fsm.reject (fsm.failure s.due f) s) _
     (rw at refl)
-fail_same due.CheckRecord f s at is = choose (due.is_failure f) (due.reject (due.failure s.due f) s) _
+fail_same fsm.CheckRecord f s at is = choose (fsm.is_failure f) (fsm.reject (fsm.failure s.due f) s) _
     (rw at refl)
-fail_same due.ReadTarget f s at is = choose (due.is_failure f) (due.reject (due.failure s.due f) s) _
+fail_same fsm.ReadTarget f s at is = choose (fsm.is_failure f) (fsm.reject (fsm.failure s.due f) s) _
     (rw at refl)
-fail_same due.CheckTarget f s at is = choose (due.is_failure f) (due.reject (due.failure s.due f) s) _
+fail_same fsm.CheckTarget f s at is = choose (fsm.is_failure f) (fsm.reject (fsm.failure s.due f) s) _
     (rw at refl)
 fail_same op f s at is = absurd (true≢false (sym is))
 
 same_after : (op : Operation) (e : Event) (s : State) → s.due ≡ op → decides op ≡ true
     → s.options.check ≡ false → after op e (as_check s) ≡ option_map as_check (after op e s)
-same_after due.ReadRecord (Failed f) s at is installs = fail_same due.ReadRecord f s at is
-same_after due.ReadSignature (Failed f) s at is installs = fail_same due.ReadSignature f s at is
-same_after due.CheckComment (Failed f) s at is installs = fail_same due.CheckComment f s at is
-same_after due.ReadList (Failed f) s at is installs = fail_same due.ReadList f s at is
-same_after due.CheckList (Failed f) s at is installs = fail_same due.CheckList f s at is
-same_after due.CheckRecord (Failed f) s at is installs = fail_same due.CheckRecord f s at is
-same_after due.ReadTarget (Failed f) s at is installs = fail_same due.ReadTarget f s at is
-same_after due.CheckTarget (Failed f) s at is installs = fail_same due.CheckTarget f s at is
-same_after due.ReadRecord (RecordRead found) s at is installs =
+same_after fsm.ReadRecord (Failed f) s at is installs = fail_same fsm.ReadRecord f s at is
+same_after fsm.ReadSignature (Failed f) s at is installs = fail_same fsm.ReadSignature f s at is
+same_after fsm.CheckComment (Failed f) s at is installs = fail_same fsm.CheckComment f s at is
+same_after fsm.ReadList (Failed f) s at is installs = fail_same fsm.ReadList f s at is
+same_after fsm.CheckList (Failed f) s at is installs = fail_same fsm.CheckList f s at is
+same_after fsm.CheckRecord (Failed f) s at is installs = fail_same fsm.CheckRecord f s at is
+same_after fsm.ReadTarget (Failed f) s at is installs = fail_same fsm.ReadTarget f s at is
+same_after fsm.CheckTarget (Failed f) s at is installs = fail_same fsm.CheckTarget f s at is
+same_after fsm.ReadRecord (RecordRead found) s at is installs =
     ap (λ (t : State). Some t) (record_same s (judge_record s.options found) at)
-same_after due.ReadSignature (SignatureRead text time) s at is installs =
+same_after fsm.ReadSignature (SignatureRead text time) s at is installs =
     ap (λ (t : State). Some t) (signature_same s (judge_text s.options text) time at)
-same_after due.CheckComment (Answered true) s at is installs =
+same_after fsm.CheckComment (Answered true) s at is installs =
     ap (λ (t : State). Some t) (comment_same s s.fault at installs)
-same_after due.CheckComment (Answered false) s at is installs =
+same_after fsm.CheckComment (Answered false) s at is installs =
     ap (λ (t : State). Some t) (key_same s s.signers at)
-same_after due.ReadList (ListRead list name) s at is installs = refl
-same_after due.CheckList (Answered true) s at is installs =
+same_after fsm.ReadList (ListRead list name) s at is installs = refl
+same_after fsm.CheckList (Answered true) s at is installs =
     ap (λ (t : State). Some t)
     (listing_same (record s { is_list_signed = true }) s.listing.listed at installs)
-same_after due.CheckList (Answered false) s at is installs =
+same_after fsm.CheckList (Answered false) s at is installs =
     ap (λ (t : State). Some t) (rw at refl)
-same_after due.CheckRecord (Answered accepted) s at is installs =
+same_after fsm.CheckRecord (Answered accepted) s at is installs =
     ap (λ (t : State). Some t) (digest_same s accepted installs)
-same_after due.ReadTarget TargetMissing s at is installs =
+same_after fsm.ReadTarget TargetMissing s at is installs =
     ap (λ (t : State). Some t) (install_same s installs)
-same_after due.CheckTarget (Answered accepted) s at is installs =
-    ap (λ (t : State). Some t) (target_same s (accepted && due.is_listed s) at installs)
-same_after due.ReadRecord e s at is installs = refl
-same_after due.ReadSignature e s at is installs = refl
-same_after due.CheckComment e s at is installs = refl
-same_after due.ReadList e s at is installs = refl
-same_after due.CheckList e s at is installs = refl
-same_after due.CheckRecord e s at is installs = refl
-same_after due.ReadTarget e s at is installs = refl
-same_after due.CheckTarget e s at is installs = refl
+same_after fsm.CheckTarget (Answered accepted) s at is installs =
+    ap (λ (t : State). Some t) (target_same s (accepted && fsm.is_listed s) at installs)
+same_after fsm.ReadRecord e s at is installs = refl
+same_after fsm.ReadSignature e s at is installs = refl
+same_after fsm.CheckComment e s at is installs = refl
+same_after fsm.ReadList e s at is installs = refl
+same_after fsm.CheckList e s at is installs = refl
+same_after fsm.CheckRecord e s at is installs = refl
+same_after fsm.ReadTarget e s at is installs = refl
+same_after fsm.CheckTarget e s at is installs = refl
 same_after op e s at is installs = absurd (true≢false (sym is))
 
 same_due : (op : Operation) → decides op ≡ true → check_due op ≡ op
-same_due due.RemoveLeftovers is = absurd (true≢false (sym is))
-same_due due.SyncTarget is = absurd (true≢false (sym is))
+same_due fsm.RemoveLeftovers is = absurd (true≢false (sym is))
+same_due fsm.SyncTarget is = absurd (true≢false (sym is))
 same_due op is = refl
 
 same_answer : (s : State) (next : Option State)

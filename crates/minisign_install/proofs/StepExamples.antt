@@ -54,7 +54,7 @@ world = record {
   update = 7 ∷ [];
   list = [];
   name = [];
-  most = 0;
+  max_size = 0;
 }
 
 -- The signature file passes the checks that need no Ed25519.

@@ -25,7 +25,7 @@ use Rattle.minisign_lists.specs.declared.lines.LongDigest.TheVariants as long
 use Rattle.minisign_install.specs.Step.{Operation, Event, Done, InUse, Failed, RecordRead, SignatureRead}
 use Rattle.minisign_install.specs.Step.{Answered, TargetMissing, PieceRead, PieceCopied, State, begin, step}
 use Rattle.minisign_install.specs.Step.{ListRead, line_at_fault, new_key, new_version}
-use Rattle.minisign_install.specs.Step as due
+use Rattle.minisign_install.specs.Step as fsm
 
 -- == Keys, signature files and records ==
 
@@ -55,17 +55,17 @@ legacy comment = Ok (record {
 })
 
 -- Two fields of a comment.
-abbrev both : List ℕ → List ℕ → List ℕ
-both a b = a ++ 9 ∷ b
+abbrev two_fields : List ℕ → List ℕ → List ℕ
+two_fields a b = a ++ 9 ∷ b
 
 abbrev version_1 : List ℕ
-version_1 = both (codes "version:1") (codes "file:app")
+version_1 = two_fields (codes "version:1") (codes "file:app")
 
 abbrev version_2 : List ℕ
-version_2 = both (codes "version:2") (codes "file:app")
+version_2 = two_fields (codes "version:2") (codes "file:app")
 
 abbrev version_3 : List ℕ
-version_3 = both (codes "version:3") (codes "file:app")
+version_3 = two_fields (codes "version:3") (codes "file:app")
 
 -- The record of version 2 with the first key and a digest of bytes 0x22.
 abbrev record_2 : List ℕ
@@ -124,10 +124,10 @@ status_of Expired = 9
 status_of fault = 3
 
 abbrev status : Operation → Option InstallFault → Option ℕ
-status due.Installed error = Some 0
-status due.WouldInstall error = Some 0
-status due.AlreadyInstalled error = Some 10
-status due.Rejected (Some fault) = Some (status_of fault)
+status fsm.Installed error = Some 0
+status fsm.WouldInstall error = Some 0
+status fsm.AlreadyInstalled error = Some 10
+status fsm.Rejected (Some fault) = Some (status_of fault)
 status operation error = None
 
 -- The exit status of a run, if it has ended.
@@ -196,10 +196,10 @@ with_roll_back = record usual { roll_back = true }
 
 -- An upgrade performs these operations in this order.
 upgrade : course (begin usual) (begun (Some record_2) (signed version_3) (Some 5) ++ valid ∷ installed) ≡
-    due.Lock ∷ due.ReadRecord ∷ due.ReadSignature ∷ due.CheckComment ∷ due.RemoveLeftovers ∷ due.CreateFile
-    ∷ due.CopyData ∷ due.CopyData ∷ due.CopyData ∷ due.ReadBack ∷ due.ReadBack ∷ due.ReadBack ∷ due.CheckData
-    ∷ due.SetPermissions ∷ due.SyncFile ∷ due.CreateRecord ∷ due.WriteRecord ∷ due.SyncRecord
-    ∷ due.RenameRecord ∷ due.SyncRecordName ∷ due.RenameFile ∷ due.SyncFileName ∷ due.Installed ∷ []
+    fsm.Lock ∷ fsm.ReadRecord ∷ fsm.ReadSignature ∷ fsm.CheckComment ∷ fsm.RemoveLeftovers ∷ fsm.CreateFile
+    ∷ fsm.CopyData ∷ fsm.CopyData ∷ fsm.CopyData ∷ fsm.ReadBack ∷ fsm.ReadBack ∷ fsm.ReadBack ∷ fsm.CheckData
+    ∷ fsm.SetPermissions ∷ fsm.SyncFile ∷ fsm.CreateRecord ∷ fsm.WriteRecord ∷ fsm.SyncRecord
+    ∷ fsm.RenameRecord ∷ fsm.SyncRecordName ∷ fsm.RenameFile ∷ fsm.SyncFileName ∷ fsm.Installed ∷ []
 unfolding is_utf8 chars encode decode_pairs
 upgrade = refl
 
@@ -257,8 +257,8 @@ record_without_a_label = refl
 -- The installed file is the update: it is synced, and nothing is written.
 already : course (begin usual) (begun (Some record_2) (signed version_2) (Some 5) ++ valid ∷ valid ∷
     target_read ++ valid ∷ Done ∷ Done ∷ []) ≡
-    due.Lock ∷ due.ReadRecord ∷ due.ReadSignature ∷ due.CheckComment ∷ due.CheckRecord ∷ due.ReadTarget
-    ∷ due.ReadTarget ∷ due.CheckTarget ∷ due.SyncTarget ∷ due.SyncTargetName ∷ due.AlreadyInstalled ∷ []
+    fsm.Lock ∷ fsm.ReadRecord ∷ fsm.ReadSignature ∷ fsm.CheckComment ∷ fsm.CheckRecord ∷ fsm.ReadTarget
+    ∷ fsm.ReadTarget ∷ fsm.CheckTarget ∷ fsm.SyncTarget ∷ fsm.SyncTargetName ∷ fsm.AlreadyInstalled ∷ []
 unfolding is_utf8 chars encode decode_pairs
 already = refl
 
@@ -352,7 +352,7 @@ killed_after_the_target = refl
 
 -- A comment of version 3 with another field.
 abbrev with_field : List ℕ → Result SignatureTextRecord Fault
-with_field field = signed (both version_3 field)
+with_field field = signed (two_fields version_3 field)
 
 older_version : exits usual (begun (Some record_2) (signed version_1) (Some 5) ++ valid ∷ []) ≡ Some 4
 unfolding is_utf8 chars encode decode_pairs
@@ -378,7 +378,7 @@ clock_before_1970 : exits usual (begun (Some record_2) (signed version_3) None +
 unfolding is_utf8 chars encode decode_pairs
 clock_before_1970 = refl
 
-expired_and_older : exits usual (begun (Some record_2) (signed (both version_1 (codes "expires:100")))
+expired_and_older : exits usual (begun (Some record_2) (signed (two_fields version_1 (codes "expires:100")))
     (Some 100) ++ valid ∷ []) ≡ Some 9
 unfolding is_utf8 chars encode decode_pairs
 expired_and_older = refl
@@ -388,7 +388,8 @@ expiry_that_is_no_number : error_of usual (begun (Some record_2) (with_field (co
 unfolding is_utf8 chars encode decode_pairs
 expiry_that_is_no_number = refl
 
-two_expiries : error_of usual (begun (Some record_2) (signed (both (both version_3 (codes "expires:9"))
+two_expiries : error_of usual (begun (Some record_2) (signed (two_fields (two_fields version_3
+    (codes "expires:9"))
     (codes "expires:9"))) (Some 5) ++ valid ∷ []) ≡ Some BadExpiry
 unfolding is_utf8 chars encode decode_pairs
 two_expiries = refl
@@ -413,22 +414,22 @@ expiry_in_time : exits with_must_expire (begun (Some record_2) (with_field (code
 unfolding is_utf8 chars encode decode_pairs
 expiry_in_time = refl
 
-other_file : error_of usual (begun (Some record_2) (signed (both (codes "version:3")
+other_file : error_of usual (begun (Some record_2) (signed (two_fields (codes "version:3")
     (codes "file:tool"))) (Some 5) ++ valid ∷ []) ≡ Some OtherFile
 unfolding is_utf8 chars encode decode_pairs
 other_file = refl
 
-other_file_exits : exits usual (begun (Some record_2) (signed (both (codes "version:3")
+other_file_exits : exits usual (begun (Some record_2) (signed (two_fields (codes "version:3")
     (codes "file:tool"))) (Some 5) ++ valid ∷ []) ≡ Some 3
 unfolding is_utf8 chars encode decode_pairs
 other_file_exits = refl
 
-no_version : error_of usual (begun (Some record_2) (signed (both (codes "timestamp:3")
+no_version : error_of usual (begun (Some record_2) (signed (two_fields (codes "timestamp:3")
     (codes "file:app"))) (Some 5) ++ valid ∷ []) ≡ Some NoNumber
 unfolding is_utf8 chars encode decode_pairs
 no_version = refl
 
-version_of_2_to_the_64 : error_of usual (begun (Some record_2) (signed (both
+version_of_2_to_the_64 : error_of usual (begun (Some record_2) (signed (two_fields
     (codes "version:18446744073709551616") (codes "file:app"))) (Some 5) ++ valid ∷ []) ≡ Some NoNumber
 unfolding is_utf8 chars encode decode_pairs
 version_of_2_to_the_64 = refl
@@ -471,7 +472,7 @@ unfolding is_utf8 chars encode decode_pairs
 other_data_exits = refl
 
 other_data_is_removed : course (after (begin usual) (begun (Some record_2) (signed version_3) (Some 5)
-    ++ valid ∷ copied)) (invalid ∷ Done ∷ []) ≡ due.CheckData ∷ due.RemoveFiles ∷ due.Rejected ∷ []
+    ++ valid ∷ copied)) (invalid ∷ Done ∷ []) ≡ fsm.CheckData ∷ fsm.RemoveFiles ∷ fsm.Rejected ∷ []
 unfolding is_utf8 chars encode decode_pairs
 other_data_is_removed = refl
 
@@ -547,7 +548,7 @@ lock_file_that_cannot_be_opened : exits usual (Failed named.WritingFailed ∷ []
 unfolding is_utf8 chars encode decode_pairs
 lock_file_that_cannot_be_opened = refl
 
-check_takes_no_lock : (begin with_check).due ≡ due.ReadRecord
+check_takes_no_lock : (begin with_check).due ≡ fsm.ReadRecord
 check_takes_no_lock = refl
 
 -- == Each operation fails ==
@@ -651,7 +652,7 @@ no_sync_and_no_removal = refl
 
 failed_rename_removes_files : course (after (begin usual) (take 20 (begun (Some record_2) (signed
     version_3) (Some 5) ++ valid ∷ installed))) (Failed named.WritingFailed ∷ Done ∷ []) ≡
-    due.RenameFile ∷ due.RemoveFiles ∷ due.Rejected ∷ []
+    fsm.RenameFile ∷ fsm.RemoveFiles ∷ fsm.Rejected ∷ []
 unfolding is_utf8 chars encode decode_pairs
 failed_rename_removes_files = refl
 
@@ -711,7 +712,7 @@ check_of_a_changed_comment : exits with_check (checked (Some record_2) (signed v
 unfolding is_utf8 chars encode decode_pairs
 check_of_a_changed_comment = refl
 
-check_of_another_file : exits with_check (checked (Some record_2) (signed (both (codes "version:3")
+check_of_another_file : exits with_check (checked (Some record_2) (signed (two_fields (codes "version:3")
     (codes "file:tool"))) (Some 5) ++ valid ∷ []) ≡ Some 3
 unfolding is_utf8 chars encode decode_pairs
 check_of_another_file = refl
@@ -826,7 +827,7 @@ newer_version_after_a_roll_back : exits usual (begun (Some record_2) (signed ver
 unfolding is_utf8 chars encode decode_pairs
 newer_version_after_a_roll_back = refl
 
-roll_back_to_an_expired_update : exits with_roll_back (begun (Some record_2) (signed (both version_1
+roll_back_to_an_expired_update : exits with_roll_back (begun (Some record_2) (signed (two_fields version_1
     (codes "expires:100"))) (Some 100) ++ valid ∷ []) ≡ Some 9
 unfolding is_utf8 chars encode decode_pairs
 roll_back_to_an_expired_update = refl
@@ -847,7 +848,7 @@ listed list name =
     begun (Some record_2) (signed version_3) (Some 5) ++ valid ∷ ListRead list name ∷ []
 
 list_is_read_after_the_comment : course (begin with_list) (listed [] (codes "app")) ≡
-    due.Lock ∷ due.ReadRecord ∷ due.ReadSignature ∷ due.CheckComment ∷ due.ReadList ∷ due.CheckList ∷ []
+    fsm.Lock ∷ fsm.ReadRecord ∷ fsm.ReadSignature ∷ fsm.CheckComment ∷ fsm.ReadList ∷ fsm.CheckList ∷ []
 unfolding is_utf8 chars encode decode_pairs
 list_is_read_after_the_comment = refl
 

@@ -9,7 +9,7 @@ use Rattle.minisign_base.specs.declared.faults.NamedFault.TheVariants as named
 use Rattle.minisign_install.specs.Step.{Event, Done, InUse, Failed, RecordRead, SignatureRead, Operation}
 use Rattle.minisign_install.specs.Step.{Answered, PieceRead, TargetMissing, PieceCopied, State, after}
 use Rattle.minisign_install.specs.Step.{answer, begin, has_ended, has_files, step}
-use Rattle.minisign_install.specs.Step as due
+use Rattle.minisign_install.specs.Step as fsm
 use Rattle.minisign_install.specs.StepRuns.{EventFits, IsRun, Owned, count, nothing_owned, owned_by, owns}
 use Rattle.minisign_install.proofs.StepSafety.{Passed}
 use Rattle.minisign_lists.specs.declared.digests.ListedDigest.{ListedDigest}
@@ -22,18 +22,18 @@ OwnsNone d = (d.data_file ≡ false) × (d.record_file ≡ false)
 
 -- The temporary files that a run may own at each operation.
 abbrev Owns : Operation → Owned → Type 0
-Owns due.CopyData d = d.record_file ≡ false
-Owns due.ReadBack d = d.record_file ≡ false
-Owns due.CheckData d = d.record_file ≡ false
-Owns due.SetPermissions d = d.record_file ≡ false
-Owns due.SyncFile d = d.record_file ≡ false
-Owns due.CreateRecord d = d.record_file ≡ false
-Owns due.WriteRecord d = ⊤
-Owns due.SyncRecord d = ⊤
-Owns due.RenameRecord d = ⊤
-Owns due.SyncRecordName d = d.record_file ≡ false
-Owns due.RenameFile d = d.record_file ≡ false
-Owns due.RemoveFiles d = ⊤
+Owns fsm.CopyData d = d.record_file ≡ false
+Owns fsm.ReadBack d = d.record_file ≡ false
+Owns fsm.CheckData d = d.record_file ≡ false
+Owns fsm.SetPermissions d = d.record_file ≡ false
+Owns fsm.SyncFile d = d.record_file ≡ false
+Owns fsm.CreateRecord d = d.record_file ≡ false
+Owns fsm.WriteRecord d = ⊤
+Owns fsm.SyncRecord d = ⊤
+Owns fsm.RenameRecord d = ⊤
+Owns fsm.SyncRecordName d = d.record_file ≡ false
+Owns fsm.RenameFile d = d.record_file ≡ false
+Owns fsm.RemoveFiles d = ⊤
 Owns op d = OwnsNone d
 
 -- The run owns only temporary files that it may own in this state.
@@ -41,24 +41,24 @@ abbrev Holds : Owned → State → Type 0
 Holds d s = Owns s.due d
 
 -- If a run is rejected, it removes the temporary files that it has.
-rejected : (op : Operation) (d : Owned) → (op ≡ due.RemoveFiles → ⊥) → Owns op d
-    → Owns (if has_files op then due.RemoveFiles else due.Rejected) d
-rejected due.CopyData d other is = tt
-rejected due.ReadBack d other is = tt
-rejected due.CheckData d other is = tt
-rejected due.SetPermissions d other is = tt
-rejected due.SyncFile d other is = tt
-rejected due.CreateRecord d other is = tt
-rejected due.WriteRecord d other is = tt
-rejected due.SyncRecord d other is = tt
-rejected due.RenameRecord d other is = tt
-rejected due.SyncRecordName d other is = tt
-rejected due.RenameFile d other is = tt
-rejected due.RemoveFiles d other is = absurd (other refl)
+rejected : (op : Operation) (d : Owned) → (op ≡ fsm.RemoveFiles → ⊥) → Owns op d
+    → Owns (if has_files op then fsm.RemoveFiles else fsm.Rejected) d
+rejected fsm.CopyData d other is = tt
+rejected fsm.ReadBack d other is = tt
+rejected fsm.CheckData d other is = tt
+rejected fsm.SetPermissions d other is = tt
+rejected fsm.SyncFile d other is = tt
+rejected fsm.CreateRecord d other is = tt
+rejected fsm.WriteRecord d other is = tt
+rejected fsm.SyncRecord d other is = tt
+rejected fsm.RenameRecord d other is = tt
+rejected fsm.SyncRecordName d other is = tt
+rejected fsm.RenameFile d other is = tt
+rejected fsm.RemoveFiles d other is = absurd (other refl)
 rejected op d other is = is
 
 reject : (op : Operation) (fault : InstallFault) (s : State) (d : Owned) → s.due ≡ op
-    → (op ≡ due.RemoveFiles → ⊥) → Owns op d → Holds d (due.reject fault s)
+    → (op ≡ fsm.RemoveFiles → ⊥) → Owns op d → Holds d (fsm.reject fault s)
 reject op fault s d at other is = rw at (rejected op d other is)
 
 either : (is : Bool) (x y : State) (d : Owned) → Holds d x → Holds d y → Holds d (if is then x else y)
@@ -66,164 +66,165 @@ either true x y d one other = one
 either false x y d one other = other
 
 to_install : (check : Bool) (d : Owned) → OwnsNone d
-    → Owns (if check then due.WouldInstall else due.RemoveLeftovers) d
+    → Owns (if check then fsm.WouldInstall else fsm.RemoveLeftovers) d
 to_install true d is = is
 to_install false d is = is
 
-install : (s : State) (d : Owned) → OwnsNone d → Holds d (due.install s)
+install : (s : State) (d : Owned) → OwnsNone d → Holds d (fsm.install s)
 install s d is = to_install s.options.check d is
 
-compare : (s : State) (d : Owned) → OwnsNone d → Holds d (due.compare s)
+compare : (s : State) (d : Owned) → OwnsNone d → Holds d (fsm.compare s)
 compare s d is =
-    either (due.is_newer s) _ _ d (install s d is)
-    (either (is_some s.recorded.digest) _ _ d is (either (due.is_rolling_back s) _ _ d (install s d is) is))
+    either (fsm.is_newer s) _ _ d (install s d is)
+    (either (is_some s.recorded.digest) _ _ d is (either (fsm.is_rolling_back s) _ _ d (install s d is) is))
 
-after_record : (s : State) (r : Result Recorded InstallFault) (d : Owned) → s.due ≡ due.ReadRecord
-    → OwnsNone d → Holds d (due.after_record r s)
+after_record : (s : State) (r : Result Recorded InstallFault) (d : Owned) → s.due ≡ fsm.ReadRecord
+    → OwnsNone d → Holds d (fsm.after_record r s)
 after_record s (Ok recorded) d at is = is
-after_record s (Err fault) d at is = reject due.ReadRecord fault s d at (λ same. cc same) is
+after_record s (Err fault) d at is = reject fsm.ReadRecord fault s d at (λ same. cc same) is
 
-after_signature : (s : State) (r : Passed) (time : Option ℕ) (d : Owned) → s.due ≡ due.ReadSignature
-    → OwnsNone d → Holds d (due.after_signature r time s)
+after_signature : (s : State) (r : Passed) (time : Option ℕ) (d : Owned) → s.due ≡ fsm.ReadSignature
+    → OwnsNone d → Holds d (fsm.after_signature r time s)
 after_signature s (Ok (t, signers)) time d at is = is
-after_signature s (Err fault) time d at is = reject due.ReadSignature (Library fault) s d at
+after_signature s (Err fault) time d at is = reject fsm.ReadSignature (Library fault) s d at
     (λ same. cc same) is
 
-after_comment : (s : State) (fault : Option InstallFault) (d : Owned) → s.due ≡ due.CheckComment
-    → OwnsNone d → Holds d (due.after_comment fault (record s { is_signed = true }))
+after_comment : (s : State) (fault : Option InstallFault) (d : Owned) → s.due ≡ fsm.CheckComment
+    → OwnsNone d → Holds d (fsm.after_comment fault (record s { is_signed = true }))
 after_comment s None d at is =
     either (is_some s.options.list) _ _ d is (compare (record s { is_signed = true }) d is)
 after_comment s (Some fault) d at is =
-    reject due.CheckComment fault (record s { is_signed = true }) d at (λ same. cc same) is
+    reject fsm.CheckComment fault (record s { is_signed = true }) d at (λ same. cc same) is
 
-next_key : (s : State) (signers : List PublicKeyValue) (d : Owned) → s.due ≡ due.CheckComment
-    → OwnsNone d → Holds d (due.next_key signers s)
-next_key s [] d at is = reject due.CheckComment (Library (Named named.CommentSignatureRefused)) s d at
+next_key : (s : State) (signers : List PublicKeyValue) (d : Owned) → s.due ≡ fsm.CheckComment
+    → OwnsNone d → Holds d (fsm.next_key signers s)
+next_key s [] d at is = reject fsm.CheckComment (Library (Named named.CommentSignatureRefused)) s d at
     (λ same. cc same) is
-next_key s (v ∷ []) d at is = reject due.CheckComment (Library
+next_key s (v ∷ []) d at is = reject fsm.CheckComment (Library
     (Named named.CommentSignatureRefused)) s d at (λ same. cc same) is
 next_key s (v ∷ u ∷ more) d at is = rw at is
 
-after_listing : (s : State) (listed : Result ListedDigest InstallFault) (d : Owned) → s.due ≡ due.CheckList
-    → OwnsNone d → Holds d (due.after_listing listed s)
+after_listing : (s : State) (listed : Result ListedDigest InstallFault) (d : Owned) → s.due ≡ fsm.CheckList
+    → OwnsNone d → Holds d (fsm.after_listing listed s)
 after_listing s (Ok digest) d at is = compare s d is
-after_listing s (Err fault) d at is = reject due.CheckList fault s d at (λ same. cc same) is
+after_listing s (Err fault) d at is = reject fsm.CheckList fault s d at (λ same. cc same) is
 
-after_data : (s : State) (listed : Bool) (d : Owned) → s.due ≡ due.CheckData → d.record_file ≡ false
-    → Holds d (due.after_data listed s)
+after_data : (s : State) (listed : Bool) (d : Owned) → s.due ≡ fsm.CheckData → d.record_file ≡ false
+    → Holds d (fsm.after_data listed s)
 after_data s true d at is = is
-after_data s false d at is = reject due.CheckData DigestMismatch s d at (λ same. cc same) is
+after_data s false d at is = reject fsm.CheckData DigestMismatch s d at (λ same. cc same) is
 
-after_digest : (s : State) (accepted : Bool) (d : Owned) → OwnsNone d → Holds d (due.after_digest accepted s)
+after_digest : (s : State) (accepted : Bool) (d : Owned) → OwnsNone d → Holds d (fsm.after_digest accepted s)
 after_digest s accepted d is =
-    either (not accepted && due.is_rolling_back s) _ _ d (install s d is) is
+    either (not accepted && fsm.is_rolling_back s) _ _ d (install s d is) is
 
 target_is_update : (check : Bool) (d : Owned) → OwnsNone d
-    → Owns (if check then due.AlreadyInstalled else due.SyncTarget) d
+    → Owns (if check then fsm.AlreadyInstalled else fsm.SyncTarget) d
 target_is_update true d is = is
 target_is_update false d is = is
 
-after_target : (s : State) (accepted : Bool) (d : Owned) → s.due ≡ due.CheckTarget → OwnsNone d
-    → Holds d (due.after_target accepted s)
+after_target : (s : State) (accepted : Bool) (d : Owned) → s.due ≡ fsm.CheckTarget → OwnsNone d
+    → Holds d (fsm.after_target accepted s)
 after_target s true d at is = target_is_update s.options.check d is
 after_target s false d at is =
     either (s.is_recorded || s.options.again) _ _ d (install s d is)
-    (reject due.CheckTarget SameNumber s d at (λ same. cc same) is)
+    (reject fsm.CheckTarget SameNumber s d at (λ same. cc same) is)
 
-after_piece : (k : ℕ) (s : State) (left : Option ℕ) (d : Owned) → s.due ≡ due.CopyData
-    → d.record_file ≡ false → Holds d (due.after_piece k left s)
+after_piece : (k : ℕ) (s : State) (left : Option ℕ) (d : Owned) → s.due ≡ fsm.CopyData
+    → d.record_file ≡ false → Holds d (fsm.after_piece k left s)
 after_piece k s None d at is = rw at is
 after_piece k s (Some left) d at is =
-    either (nat_le k left) _ _ d (rw at is) (reject due.CopyData OtherSize s d at (λ same. cc same) is)
+    either (nat_le k left) _ _ d (rw at is) (reject fsm.CopyData OtherSize s d at (λ same. cc same) is)
 
-after_copy : (s : State) (left : Option ℕ) (d : Owned) → s.due ≡ due.CopyData → d.record_file ≡ false
-    → Holds d (due.after_copy left s)
+after_copy : (s : State) (left : Option ℕ) (d : Owned) → s.due ≡ fsm.CopyData → d.record_file ≡ false
+    → Holds d (fsm.after_copy left s)
 after_copy s None d at is = is
 after_copy s (Some left) d at is =
-    either (left == 0) _ _ d is (reject due.CopyData OtherSize s d at (λ same. cc same) is)
+    either (left == 0) _ _ d is (reject fsm.CopyData OtherSize s d at (λ same. cc same) is)
 
-maybe : (is : Bool) (t : State) (d : Owned) → Holds d t → IfSome (if is then Some t else None) (Holds d)
-maybe true t d holds = holds
-maybe false t d holds = tt
+holds_if_some : (is : Bool) (t : State) (d : Owned) → Holds d t
+    → IfSome (if is then Some t else None) (Holds d)
+holds_if_some true t d holds = holds
+holds_if_some false t d holds = tt
 
-keeps : (op : Operation) (e : Event) (s : State) (d : Owned) → s.due ≡ op → Owns op d
+op_keeps : (op : Operation) (e : Event) (s : State) (d : Owned) → s.due ≡ op → Owns op d
     → IfSome (after op e s) (Holds (owns op e d))
-keeps due.Nothing (Failed f) s d at is = tt
-keeps due.Installed (Failed f) s d at is = tt
-keeps due.AlreadyInstalled (Failed f) s d at is = tt
-keeps due.WouldInstall (Failed f) s d at is = tt
-keeps due.Rejected (Failed f) s d at is = tt
-keeps due.RemoveFiles (Failed f) s d at is =
-    maybe (due.is_failure f) (due.go due.Rejected s) nothing_owned (refl, refl)
-keeps op (Failed f) s d at is =
-    maybe (due.is_failure f) (due.reject (due.failure s.due f) s) _
-    (reject op (due.failure s.due f) s d at (λ same. cc same) is)
-keeps due.Lock InUse s d at is = reject due.Lock TargetInUse s d at (λ same. cc same) is
-keeps due.ReadRecord (RecordRead found) s d at is = after_record s (judge_record s.options found) d at is
-keeps due.ReadSignature (SignatureRead text time) s d at is =
+op_keeps fsm.Nothing (Failed f) s d at is = tt
+op_keeps fsm.Installed (Failed f) s d at is = tt
+op_keeps fsm.AlreadyInstalled (Failed f) s d at is = tt
+op_keeps fsm.WouldInstall (Failed f) s d at is = tt
+op_keeps fsm.Rejected (Failed f) s d at is = tt
+op_keeps fsm.RemoveFiles (Failed f) s d at is =
+    holds_if_some (fsm.is_failure f) (fsm.go fsm.Rejected s) nothing_owned (refl, refl)
+op_keeps op (Failed f) s d at is =
+    holds_if_some (fsm.is_failure f) (fsm.reject (fsm.failure s.due f) s) _
+    (reject op (fsm.failure s.due f) s d at (λ same. cc same) is)
+op_keeps fsm.Lock InUse s d at is = reject fsm.Lock TargetInUse s d at (λ same. cc same) is
+op_keeps fsm.ReadRecord (RecordRead found) s d at is = after_record s (judge_record s.options found) d at is
+op_keeps fsm.ReadSignature (SignatureRead text time) s d at is =
     after_signature s (judge_text s.options text) time d at is
-keeps due.CheckComment (Answered true) s d at is = after_comment s s.fault d at is
-keeps due.CheckComment (Answered false) s d at is = next_key s s.signers d at is
-keeps due.ReadList (ListRead list name) s d at is = is
-keeps due.CheckList (Answered true) s d at is =
+op_keeps fsm.CheckComment (Answered true) s d at is = after_comment s s.fault d at is
+op_keeps fsm.CheckComment (Answered false) s d at is = next_key s s.signers d at is
+op_keeps fsm.ReadList (ListRead list name) s d at is = is
+op_keeps fsm.CheckList (Answered true) s d at is =
     after_listing (record s { is_list_signed = true }) s.listing.listed d at is
-keeps due.CheckList (Answered false) s d at is = reject due.CheckList (Library
+op_keeps fsm.CheckList (Answered false) s d at is = reject fsm.CheckList (Library
     (Named named.SignatureRefused)) s d at (λ same. cc same) is
-keeps due.CheckRecord (Answered accepted) s d at is = after_digest s accepted d is
-keeps due.ReadTarget (PieceRead bytes) s d at is = rw at is
-keeps due.ReadTarget TargetMissing s d at is = install s d is
-keeps due.CheckTarget (Answered accepted) s d at is = after_target s (accepted && due.is_listed s) d at is
-keeps due.CopyData (PieceCopied k) s d at is = after_piece k s s.left d at is
-keeps due.CopyData Done s d at is = after_copy s s.left d at is
-keeps due.ReadBack (PieceRead bytes) s d at is = rw at is
-keeps due.CheckData (Answered true) s d at is = after_data s (due.is_listed s) d at is
-keeps due.CheckData (Answered false) s d at is = reject due.CheckData (Library
+op_keeps fsm.CheckRecord (Answered accepted) s d at is = after_digest s accepted d is
+op_keeps fsm.ReadTarget (PieceRead bytes) s d at is = rw at is
+op_keeps fsm.ReadTarget TargetMissing s d at is = install s d is
+op_keeps fsm.CheckTarget (Answered accepted) s d at is = after_target s (accepted && fsm.is_listed s) d at is
+op_keeps fsm.CopyData (PieceCopied k) s d at is = after_piece k s s.left d at is
+op_keeps fsm.CopyData Done s d at is = after_copy s s.left d at is
+op_keeps fsm.ReadBack (PieceRead bytes) s d at is = rw at is
+op_keeps fsm.CheckData (Answered true) s d at is = after_data s (fsm.is_listed s) d at is
+op_keeps fsm.CheckData (Answered false) s d at is = reject fsm.CheckData (Library
     (Named named.SignatureRefused)) s d at (λ same. cc same) is
-keeps due.CreateFile Done s d at is = is.1
-keeps due.CreateRecord Done s d at is = tt
-keeps due.WriteRecord Done s d at is = tt
-keeps due.SyncRecord Done s d at is = tt
-keeps due.RenameRecord Done s d at is = refl
-keeps due.RenameFile Done s d at is = (refl, is)
-keeps due.RemoveFiles Done s d at is = (refl, refl)
-keeps due.Nothing Done s d at is = tt
-keeps due.Installed Done s d at is = tt
-keeps due.AlreadyInstalled Done s d at is = tt
-keeps due.WouldInstall Done s d at is = tt
-keeps due.Rejected Done s d at is = tt
-keeps due.ReadRecord Done s d at is = tt
-keeps due.ReadList Done s d at is = tt
-keeps due.CheckList Done s d at is = tt
-keeps due.ReadSignature Done s d at is = tt
-keeps due.CheckComment Done s d at is = tt
-keeps due.CheckRecord Done s d at is = tt
-keeps due.CheckTarget Done s d at is = tt
-keeps due.CheckData Done s d at is = tt
-keeps op Done s d at is = is
-keeps op e s d at is = tt
+op_keeps fsm.CreateFile Done s d at is = is.1
+op_keeps fsm.CreateRecord Done s d at is = tt
+op_keeps fsm.WriteRecord Done s d at is = tt
+op_keeps fsm.SyncRecord Done s d at is = tt
+op_keeps fsm.RenameRecord Done s d at is = refl
+op_keeps fsm.RenameFile Done s d at is = (refl, is)
+op_keeps fsm.RemoveFiles Done s d at is = (refl, refl)
+op_keeps fsm.Nothing Done s d at is = tt
+op_keeps fsm.Installed Done s d at is = tt
+op_keeps fsm.AlreadyInstalled Done s d at is = tt
+op_keeps fsm.WouldInstall Done s d at is = tt
+op_keeps fsm.Rejected Done s d at is = tt
+op_keeps fsm.ReadRecord Done s d at is = tt
+op_keeps fsm.ReadList Done s d at is = tt
+op_keeps fsm.CheckList Done s d at is = tt
+op_keeps fsm.ReadSignature Done s d at is = tt
+op_keeps fsm.CheckComment Done s d at is = tt
+op_keeps fsm.CheckRecord Done s d at is = tt
+op_keeps fsm.CheckTarget Done s d at is = tt
+op_keeps fsm.CheckData Done s d at is = tt
+op_keeps op Done s d at is = is
+op_keeps op e s d at is = tt
 
-moves : (s : State) (next : Option State) (d : Owned) → is_some next ≡ true → IfSome next (Holds d)
+answer_keeps : (s : State) (next : Option State) (d : Owned) → is_some next ≡ true → IfSome next (Holds d)
     → Holds d (answer s next).1
-moves s (Some t) d fits holds = holds
-moves s None d fits holds = absurd (true≢false (sym fits))
+answer_keeps s (Some t) d fits holds = holds
+answer_keeps s None d fits holds = absurd (true≢false (sym fits))
 
 run_owns : (n : ℕ) (s : State) (events : List Event) (t : State) (d : Owned) → Holds d s
     → IsRun (λ n s e. EventFits s e) n s events t → Holds (owned_by s events d) t
 run_owns n s [] t d holds is = rw is holds
 run_owns n s (e ∷ more) t d holds (fits, run) =
     run_owns (count n e) (step s e).1 more t (owns s.due e d)
-    (moves s (after s.due e s) (owns s.due e d) fits (keeps s.due e s d refl holds)) run
+    (answer_keeps s (after s.due e s) (owns s.due e d) fits (op_keeps s.due e s d refl holds)) run
 
 begins : (check : Bool) (o : Options)
-    → Owns (if check then due.ReadRecord else due.Lock) nothing_owned
+    → Owns (if check then fsm.ReadRecord else fsm.Lock) nothing_owned
 begins true o = (refl, refl)
 begins false o = (refl, refl)
 
 ended : (op : Operation) (d : Owned) → Owns op d → has_ended op ≡ true → OwnsNone d
-ended due.Installed d is over = is
-ended due.AlreadyInstalled d is over = is
-ended due.WouldInstall d is over = is
-ended due.Rejected d is over = is
+ended fsm.Installed d is over = is
+ended fsm.AlreadyInstalled d is over = is
+ended fsm.WouldInstall d is over = is
+ended fsm.Rejected d is over = is
 ended op d is over = absurd (true≢false (sym over))
 
 none_left : (d : Owned) → d.data_file ≡ false → d.record_file ≡ false → d ≡ nothing_owned

@@ -16,8 +16,8 @@ use Rattle.minisign_install.specs.Faults.{Fault, InstallFault, Library, OtherSiz
 use Rattle.minisign_install.specs.Step.{Event, Done, InUse, Failed, RecordRead, SignatureRead, Answered}
 use Rattle.minisign_install.specs.Step.{PieceRead, TargetMissing, PieceCopied, State, begin, step}
 use Rattle.minisign_install.specs.Step.{Operation, after, answer, has_files, key_of}
-use Rattle.minisign_install.specs.Step as due
-use Rattle.minisign_install.specs.StepRuns.{IsAtOneOf, TimeOf}
+use Rattle.minisign_install.specs.Step as fsm
+use Rattle.minisign_install.specs.StepRuns.{IsAtTimeIn, TimeIn}
 use Rattle.minisign_install.specs.StepRuns.{IsEnd, IsSameVersion, IsReason, IsRun, IsSigned, IsLawfulEvent}
 use Rattle.minisign_install.specs.StepRuns.{IsTrueEvent, World, accepts_digest, count, first_signer, total}
 use Rattle.minisign_install.proofs.StepSafety.{Passed, no_pass, pass, required, text_parsed}
@@ -70,7 +70,7 @@ module _ (w : World) (o : Options) (times : Option ℕ → Bool) where
   -- the comment.
   abbrev IsJudged : ℕ → State → Type 0
   IsJudged n s =
-      (text : SignatureTextRecord) × (keys : List PublicKeyValue) × (time : TimeOf times) × (s.options ≡ o)
+      (text : SignatureTextRecord) × (keys : List PublicKeyValue) × (time : TimeIn times) × (s.options ≡ o)
       × (judge_record o w.found_record ≡ Ok s.recorded) × (w.text ≡ Ok text)
       × (judge_text o w.text ≡ Ok (text, keys))
       × (first_signer w text keys ≡ first_signer w text s.signers)
@@ -84,7 +84,7 @@ module _ (w : World) (o : Options) (times : Option ℕ → Bool) where
   -- The comment is signed, and not rejected.
   abbrev IsCommented : State → Type 0
   IsCommented s =
-      (g : IsSigned w o) × (time : TimeOf times) × (s.options ≡ o) × (s.recorded ≡ g.recorded)
+      (g : IsSigned w o) × (time : TimeIn times) × (s.options ≡ o) × (s.recorded ≡ g.recorded)
       × (comment_fault o g.recorded.version time.0 g.text.comments.trusted ≡ None)
       × (s.version ≡ unwrap_or (version_in o.numbering g.text.comments.trusted) 0)
       × (s.signature ≡ g.text.signature.signature) × (key_of s.signers ≡ g.key)
@@ -92,7 +92,7 @@ module _ (w : World) (o : Options) (times : Option ℕ → Bool) where
   -- And the list, if there is one, was read, is signed, and has the name.
   abbrev IsAccepted : State → Type 0
   IsAccepted s =
-      (g : IsSigned w o) × (time : TimeOf times) × (s.options ≡ o) × (s.recorded ≡ g.recorded)
+      (g : IsSigned w o) × (time : TimeIn times) × (s.options ≡ o) × (s.recorded ≡ g.recorded)
       × (comment_fault o g.recorded.version time.0 g.text.comments.trusted ≡ None)
       × (s.version ≡ unwrap_or (version_in o.numbering g.text.comments.trusted) 0)
       × (s.signature ≡ g.text.signature.signature) × (key_of s.signers ≡ g.key)
@@ -113,50 +113,50 @@ module _ (w : World) (o : Options) (times : Option ℕ → Bool) where
   -- If `is_recorded` is false, the update is not older, and the key has not signed the digest in the record.
   abbrev IsCompared : (s : State) → IsAccepted s → Type 0
   IsCompared s known =
-      s.is_recorded ≡ false → (due.is_rolling_back s ≡ false)
+      s.is_recorded ≡ false → (fsm.is_rolling_back s ≡ false)
       × ((digest : List ℕ) → s.recorded.digest ≡ Some digest → accepts_digest known.0 digest ≡ false)
 
   -- The invariant at each operation.
   abbrev Known : ℕ → Operation → State → Type 0
-  Known n due.Lock s = (s.options ≡ o) × (n ≡ 0)
-  Known n due.ReadRecord s = (s.options ≡ o) × (n ≡ 0)
-  Known n due.ReadSignature s = (s.options ≡ o) × (n ≡ 0) × (judge_record o w.found_record ≡ Ok s.recorded)
-  Known n due.CheckComment s = IsJudged n s
-  Known n due.ReadList s =
+  Known n fsm.Lock s = (s.options ≡ o) × (n ≡ 0)
+  Known n fsm.ReadRecord s = (s.options ≡ o) × (n ≡ 0)
+  Known n fsm.ReadSignature s = (s.options ≡ o) × (n ≡ 0) × (judge_record o w.found_record ≡ Ok s.recorded)
+  Known n fsm.CheckComment s = IsJudged n s
+  Known n fsm.ReadList s =
       (known : IsCommented s) × Left n (signed_size o.list known.0.text.comments.trusted) s.left
       × (is_some o.list ≡ true)
-  Known n due.CheckList s =
+  Known n fsm.CheckList s =
       (known : IsCommented s) × Left n (signed_size o.list known.0.text.comments.trusted) s.left
       × (is_some o.list ≡ true) × HasListing w o s
-  Known n due.CheckRecord s =
+  Known n fsm.CheckRecord s =
       (known : IsAccepted s) × Left n (signed_size o.list known.0.text.comments.trusted) s.left × IsNotNewer s
-  Known n due.ReadTarget s =
-      (known : IsAccepted s) × Left n (signed_size o.list known.0.text.comments.trusted) s.left × IsNotNewer s
-      × IsCompared s known
-  Known n due.CheckTarget s =
+  Known n fsm.ReadTarget s =
       (known : IsAccepted s) × Left n (signed_size o.list known.0.text.comments.trusted) s.left × IsNotNewer s
       × IsCompared s known
-  Known n due.SyncTarget s =
+  Known n fsm.CheckTarget s =
+      (known : IsAccepted s) × Left n (signed_size o.list known.0.text.comments.trusted) s.left × IsNotNewer s
+      × IsCompared s known
+  Known n fsm.SyncTarget s =
       (known : IsAccepted s)
       × ((installed : List ℕ) × (accepts_data known.0 installed ≡ true))
-  Known n due.SyncTargetName s =
+  Known n fsm.SyncTargetName s =
       (known : IsAccepted s)
       × ((installed : List ℕ) × (accepts_data known.0 installed ≡ true))
-  Known n due.AlreadyInstalled s =
+  Known n fsm.AlreadyInstalled s =
       (known : IsAccepted s)
       × ((installed : List ℕ) × (accepts_data known.0 installed ≡ true))
-  Known n due.WouldInstall s = IsAccepted s × (o.check ≡ true)
-  Known n due.RemoveLeftovers s =
+  Known n fsm.WouldInstall s = IsAccepted s × (o.check ≡ true)
+  Known n fsm.RemoveLeftovers s =
       (known : IsAccepted s) × Left n (signed_size o.list known.0.text.comments.trusted) s.left
-  Known n due.CreateFile s =
+  Known n fsm.CreateFile s =
       (known : IsAccepted s) × Left n (signed_size o.list known.0.text.comments.trusted) s.left
-  Known n due.CopyData s =
+  Known n fsm.CopyData s =
       (known : IsAccepted s) × Left n (signed_size o.list known.0.text.comments.trusted) s.left
-  Known n due.ReadBack s = IsAccepted s
-  Known n due.CheckData s = IsAccepted s × (s.read ≡ w.update)
-  Known n due.RemoveFiles s = ⊤
-  Known n due.Rejected s = ⊤
-  Known n due.Nothing s = ⊤
+  Known n fsm.ReadBack s = IsAccepted s
+  Known n fsm.CheckData s = IsAccepted s × (s.read ≡ w.update)
+  Known n fsm.RemoveFiles s = ⊤
+  Known n fsm.Rejected s = ⊤
+  Known n fsm.Nothing s = ⊤
   Known n op s =
       (known : IsAccepted s) × (accepts_data known.0 w.update ≡ true)
 
@@ -172,14 +172,14 @@ module _ (w : World) (o : Options) (times : Option ℕ → Bool) where
   calm : (s : State) (e : Event) → Explains s e s.error
   calm s e fault none some = absurd (none-some fault (sym none ∙ some))
 
-  rejected : (n : ℕ) (is : Bool) (t : State) → Known n (if is then due.RemoveFiles else due.Rejected) t
+  rejected : (n : ℕ) (is : Bool) (t : State) → Known n (if is then fsm.RemoveFiles else fsm.Rejected) t
   rejected n true t = tt
   rejected n false t = tt
 
   reject : (n : ℕ) (fault : InstallFault) (s t : State) (e : Event) → IsReason w o times s e fault
-      → Holds n s e (due.reject fault t)
+      → Holds n s e (fsm.reject fault t)
   reject n fault s t e why = (
-    rejected n (has_files t.due) (due.reject fault t),
+    rejected n (has_files t.due) (fsm.reject fault t),
     λ other none some. subst (IsReason w o times s e) (same_Some fault other some) why,
   )
 
@@ -190,13 +190,13 @@ module _ (w : World) (o : Options) (times : Option ℕ → Bool) where
 
   to_install : (n : ℕ) (check : Bool) (s : State) (known : IsAccepted s) → check ≡ o.check
       → Left n (signed_size o.list known.0.text.comments.trusted) s.left
-      → Known n (if check then due.WouldInstall else due.RemoveLeftovers) (due.install s)
+      → Known n (if check then fsm.WouldInstall else fsm.RemoveLeftovers) (fsm.install s)
   to_install n true s known is sized = (known, sym is)
   to_install n false s known is sized = (known, sized)
 
   install : (n : ℕ) (s t : State) (e : Event) (known : IsAccepted t)
       → Left n (signed_size o.list known.0.text.comments.trusted) t.left → t.error ≡ s.error
-      → Holds n s e (due.install t)
+      → Holds n s e (fsm.install t)
   install n s t e known sized same = (
     to_install n t.options.check t known (ap (λ (x : Options). x.check) known.2) sized,
     λ fault none some. calm s e fault none (sym same ∙ some),
@@ -209,14 +209,14 @@ module _ (w : World) (o : Options) (times : Option ℕ → Bool) where
 
   compare : (n : ℕ) (s t : State) (e : Event) (known : IsAccepted t)
       → Left n (signed_size o.list known.0.text.comments.trusted) t.left → t.error ≡ s.error
-      → Holds n s e (due.compare t)
+      → Holds n s e (fsm.compare t)
   compare n s t e known sized same =
       let quiet : Explains s e t.error = λ fault none some. calm s e fault none (sym same ∙ some) in
       let in_place = install n s t e known sized same in
-      either n (due.is_newer t) s _ _ e (λ is. in_place) (λ old.
+      either n (fsm.is_newer t) s _ _ e (λ is. in_place) (λ old.
       either n (is_some t.recorded.digest) s _ _ e
       (λ is. ((known, sized, not_newer t.recorded.version t.version old), quiet)) (λ none.
-      either n (due.is_rolling_back t) s _ _ e (λ is. in_place)
+      either n (fsm.is_rolling_back t) s _ _ e (λ is. in_place)
       (λ is. (
         (
           known,
@@ -228,16 +228,16 @@ module _ (w : World) (o : Options) (times : Option ℕ → Bool) where
       ))))
 
   after_record : (n : ℕ) (s : State) (found : Option (List ℕ)) (r : Result Recorded InstallFault)
-      → Known n due.ReadRecord s → judge_record o w.found_record ≡ r
-      → Holds n s (RecordRead found) (due.after_record r s)
+      → Known n fsm.ReadRecord s → judge_record o w.found_record ≡ r
+      → Holds n s (RecordRead found) (fsm.after_record r s)
   after_record n s found (Ok recorded) (same, none) record_applies =
       ((same, none, record_applies), calm s (RecordRead found))
   after_record n s found (Err fault) known record_applies = reject n fault s s (RecordRead found)
       (inl record_applies)
 
   after_signature : (n : ℕ) (s : State) (text : Result SignatureTextRecord Fault) (r : Passed)
-      (time : Option ℕ) → times time ≡ true → Known n due.ReadSignature s → judge_text o w.text ≡ r
-      → Holds n s (SignatureRead text time) (due.after_signature r time s)
+      (time : Option ℕ) → times time ≡ true → Known n fsm.ReadSignature s → judge_text o w.text ≡ r
+      → Holds n s (SignatureRead text time) (fsm.after_signature r time s)
   after_signature n s text (Ok (t, keys)) time timed (same, none, record_applies) passed = (
     (
       t,
@@ -287,7 +287,7 @@ module _ (w : World) (o : Options) (times : Option ℕ → Bool) where
 
   list_next : (listed : Bool) (n : ℕ) (s t : State) (known : IsCommented t) → is_some o.list ≡ listed
       → Left n (signed_size o.list known.0.text.comments.trusted) t.left → t.error ≡ s.error
-      → Holds n s (Answered true) (if listed then due.go due.ReadList t else due.compare t)
+      → Holds n s (Answered true) (if listed then fsm.go fsm.ReadList t else fsm.compare t)
   list_next true n s t known some sized same =
       ((known, sized, some), λ fault none found. calm s (Answered true) fault none (sym same ∙ found))
   list_next false n s t known not sized same =
@@ -295,13 +295,13 @@ module _ (w : World) (o : Options) (times : Option ℕ → Bool) where
       (accepted_with t known (λ some. absurd (true≢false (sym some ∙ not)))
       (λ long is. absurd (true≢false (sym (ap is_some is) ∙ not)))) sized same
 
-  by_fault : (n : ℕ) (s : State) (time : TimeOf times) (g : IsSigned w o) (fault : Option InstallFault)
+  by_fault : (n : ℕ) (s : State) (time : TimeIn times) (g : IsSigned w o) (fault : Option InstallFault)
       → s.options ≡ o → s.recorded ≡ g.recorded
       → comment_fault o g.recorded.version time.0 g.text.comments.trusted ≡ fault
       → s.version ≡ unwrap_or (version_in o.numbering g.text.comments.trusted) 0
       → s.signature ≡ g.text.signature.signature → key_of s.signers ≡ g.key
       → Left n (signed_size o.list g.text.comments.trusted) s.left
-      → Holds n s (Answered true) (due.after_comment fault (record s { is_signed = true }))
+      → Holds n s (Answered true) (fsm.after_comment fault (record s { is_signed = true }))
   by_fault n s time g None same recorded none version signature key left =
       list_next (is_some s.options.list) n s (record s { is_signed = true })
       (g, time, same, recorded, none, version, signature, key)
@@ -313,7 +313,7 @@ module _ (w : World) (o : Options) (times : Option ℕ → Bool) where
   after_comment : (n : ℕ) (s : State) (fault : Option InstallFault) (judged : IsJudged n s)
       → s.fault ≡ fault → true ≡ w.accepts (s.signature ++ judged.0.comments.trusted) (key_of s.signers)
       s.comment_signature
-      → Holds n s (Answered true) (due.after_comment fault (record s { is_signed = true }))
+      → Holds n s (Answered true) (fsm.after_comment fault (record s { is_signed = true }))
   after_comment n s fault (
     text,
     keys,
@@ -344,11 +344,11 @@ module _ (w : World) (o : Options) (times : Option ℕ → Bool) where
       by_fault n s time g fault same refl (sym is_fault ∙ is) version signature refl
       (left_at n (signed_size o.list text.comments.trusted) s.left left none)
 
-  next_key : (n : ℕ) (s : State) (signers : List PublicKeyValue) → s.due ≡ due.CheckComment
+  next_key : (n : ℕ) (s : State) (signers : List PublicKeyValue) → s.due ≡ fsm.CheckComment
       → (judged : IsJudged n (record s { signers = signers }))
       → false ≡ w.accepts (s.signature ++ judged.0.comments.trusted) (key_of signers)
       s.comment_signature
-      → Holds n s (Answered false) (due.next_key signers s)
+      → Holds n s (Answered false) (fsm.next_key signers s)
   next_key n s [] at (
     text,
     keys,
@@ -427,7 +427,7 @@ module _ (w : World) (o : Options) (times : Option ℕ → Bool) where
   -- The result of Ed25519 about the data is about the key and the signature of the update.
   data_answered : (s : State) (known : IsAccepted s) (accepted : Bool)
       → accepted ≡ w.accepts (signed_digest s) (key_of s.signers) s.signature
-      → accepts_data known.0 s.read ≡ (accepted && due.is_listed s)
+      → accepts_data known.0 s.read ≡ (accepted && fsm.is_listed s)
   data_answered s known accepted is =
       let signed = answered s (commented s known) accepted known.8 is in
       let listed = listed_is w o s known.2 known.8 in
@@ -438,7 +438,7 @@ module _ (w : World) (o : Options) (times : Option ℕ → Bool) where
       → Left n (signed_size o.list known.0.text.comments.trusted) s.left → is_some o.list ≡ true
       → HasListing w o s → s.listing.listed ≡ listed
       → accepts_digest known.0 (digest_to_sign o.list w.list s.read) ≡ true
-      → Holds n s (Answered true) (due.after_listing listed (record s { is_list_signed = true }))
+      → Holds n s (Answered true) (fsm.after_listing listed (record s { is_list_signed = true }))
   after_listing n s (Ok digest) known sized some listing is signed =
       compare n s (record s { is_list_signed = true }) (Answered true)
       (accepted_with (record s { is_list_signed = true }) known listing (λ long mode. (
@@ -456,7 +456,7 @@ module _ (w : World) (o : Options) (times : Option ℕ → Bool) where
 
   list_refused : (n : ℕ) (s : State) (known : IsCommented s) → is_some o.list ≡ true
       → accepts_digest known.0 (digest_to_sign o.list w.list s.read) ≡ false
-      → Holds n s (Answered false) (due.reject (Library (Named named.SignatureRefused)) s)
+      → Holds n s (Answered false) (fsm.reject (Library (Named named.SignatureRefused)) s)
   list_refused n s known some wrong =
       reject n _ s s (Answered false)
       (inr (inr (inr (inr (inr (inr (inl (
@@ -465,10 +465,10 @@ module _ (w : World) (o : Options) (times : Option ℕ → Bool) where
         ap (accepts_digest known.0) (same_digest o.list w.list w.update s.read some) ∙ wrong,
       ))))))))
 
-  other_digest : (s : State) (digest : List ℕ) (known : IsAccepted s)
+  recorded_differs : (s : State) (digest : List ℕ) (known : IsAccepted s)
       → false ≡ w.accepts (unwrap_or s.recorded.digest []) (key_of s.signers) s.signature
       → s.recorded.digest ≡ Some digest → accepts_digest known.0 digest ≡ false
-  other_digest s digest known is some = of_update s (commented s known) digest false (rw some at is)
+  recorded_differs s digest known is some = of_update s (commented s known) digest false (rw some at is)
 
   same_number : (r : Option ℕ) (v k : ℕ) → r ≡ Some k → v ≤ k → is_below (Some v) r ≡ false → v ≡ k
   same_number None v k is older not = absurd (none-some k is)
@@ -487,8 +487,8 @@ module _ (w : World) (o : Options) (times : Option ℕ → Bool) where
         recorded = sym (ap (λ (r : Recorded). r.version) recorded) ∙ is_k;
         offered = sym version ∙ same_number s.recorded.version s.version k is_k older others.0;
         installed = s.read;
-        other = is;
-        other_digest =
+        installed_differs = is;
+        recorded_differs =
             λ digest some. others.1 digest (ap (λ (r : Recorded). r.digest) recorded ∙ some);
       }
 
@@ -502,30 +502,30 @@ module _ (w : World) (o : Options) (times : Option ℕ → Bool) where
   too_short n left some all same =
       true≢false (sym (eq-eqb left 0 (omega (arith, all, same))) ∙ some)
 
-  after_digest : (n : ℕ) (s : State) (accepted : Bool) → Known n due.CheckRecord s
+  after_digest : (n : ℕ) (s : State) (accepted : Bool) → Known n fsm.CheckRecord s
       → accepted ≡ w.accepts (unwrap_or s.recorded.digest []) (key_of s.signers) s.signature
-      → Holds n s (Answered accepted) (due.after_digest accepted s)
+      → Holds n s (Answered accepted) (fsm.after_digest accepted s)
   after_digest n s true (known, sized, older) is =
       ((known, sized, older, λ not. absurd (true≢false not)), calm s (Answered true))
   after_digest n s false (known, sized, older) is =
-      either n (due.is_rolling_back s) s _ _ (Answered false)
+      either n (fsm.is_rolling_back s) s _ _ (Answered false)
       (λ back. install n s s (Answered false) known sized refl)
       (λ not. (
-        (known, sized, older, λ no_digest. (not, λ digest some. other_digest s digest known is some)),
+        (known, sized, older, λ no_digest. (not, λ digest some. recorded_differs s digest known is some)),
         calm s (Answered false),
       ))
 
   target_is_update : (n : ℕ) (check : Bool) (t : State) (known : IsAccepted t)
       → ((installed : List ℕ) × (accepts_data known.0 installed ≡ true))
-      → Known n (if check then due.AlreadyInstalled else due.SyncTarget) t
+      → Known n (if check then fsm.AlreadyInstalled else fsm.SyncTarget) t
   target_is_update n true t known is = (known, is)
   target_is_update n false t known is = (known, is)
 
-  after_target : (n : ℕ) (s : State) (accepted is_update : Bool) → (known : Known n due.CheckTarget s)
+  after_target : (n : ℕ) (s : State) (accepted is_update : Bool) → (known : Known n fsm.CheckTarget s)
       → accepts_data known.0.0 s.read ≡ is_update
-      → Holds n s (Answered accepted) (due.after_target is_update s)
+      → Holds n s (Answered accepted) (fsm.after_target is_update s)
   after_target n s accepted true (known, sized, older, compared) is = (
-    target_is_update n s.options.check (due.after_target true s) known (s.read, is),
+    target_is_update n s.options.check (fsm.after_target true s) known (s.read, is),
     calm s (Answered accepted),
   )
   after_target n s accepted false (known, sized, older, compared) is =
@@ -534,9 +534,9 @@ module _ (w : World) (o : Options) (times : Option ℕ → Bool) where
       (λ may_not. reject n SameNumber s s (Answered accepted)
       (inr (inr (inr (inr (inl (known.0, refl, same_version s known older compared may_not is)))))))
 
-  after_data : (n : ℕ) (s : State) (listed : Bool) (known : IsAccepted s) → due.is_listed s ≡ listed
+  after_data : (n : ℕ) (s : State) (listed : Bool) (known : IsAccepted s) → fsm.is_listed s ≡ listed
       → s.read ≡ w.update → accepts_digest known.0 (digest_to_sign o.list w.list s.read) ≡ true
-      → Holds n s (Answered true) (due.after_data listed s)
+      → Holds n s (Answered true) (fsm.after_data listed s)
   after_data n s true known listed whole signed =
       let fits = sym (listed_is w o s known.2 known.8) ∙ listed in (
         (known, ap (λ m. accepts_data known.0 m) (sym whole) ∙ and_true _ _ signed fits),
@@ -552,9 +552,9 @@ module _ (w : World) (o : Options) (times : Option ℕ → Bool) where
         ap (fits_list o.list w.list w.name) (sym whole) ∙ other,
       )))))))))
 
-  after_piece : (n k : ℕ) (s : State) (left : Option ℕ) → s.due ≡ due.CopyData → s.left ≡ left
+  after_piece : (n k : ℕ) (s : State) (left : Option ℕ) → s.due ≡ fsm.CopyData → s.left ≡ left
       → (known : IsAccepted s) → Left n (signed_size o.list known.0.text.comments.trusted) left
-      → n + k ≤ length w.update → Holds (n + k) s (PieceCopied k) (due.after_piece k left s)
+      → n + k ≤ length w.update → Holds (n + k) s (PieceCopied k) (fsm.after_piece k left s)
   after_piece n k s None at is_left known sized fits =
       (rw (at, is_left) (known, tt), calm s (PieceCopied k))
   after_piece n k s (Some left) at is_left known sized fits =
@@ -568,61 +568,61 @@ module _ (w : World) (o : Options) (times : Option ℕ → Bool) where
 
   after_copy : (n : ℕ) (s : State) (left : Option ℕ) → (known : IsAccepted s)
       → Left n (signed_size o.list known.0.text.comments.trusted) left → n ≡ length w.update
-      → Holds n s Done (due.after_copy left s)
+      → Holds n s Done (fsm.after_copy left s)
   after_copy n s None known sized all = (known, calm s Done)
   after_copy n s (Some left) known sized all =
       either n (left == 0) s _ _ Done (λ nothing. (known, calm s Done))
       (λ some. reject n OtherSize s s Done
       (inr (inr (inr (inr (inr (inl (known.0, refl, (left + n, sized, too_short n left some all)))))))))
 
-  maybe : (n : ℕ) (is : Bool) (s t : State) (e : Event) → Holds n s e t
+  holds_if_some : (n : ℕ) (is : Bool) (s t : State) (e : Event) → Holds n s e t
       → IfSome (if is then Some t else None) (Holds n s e)
-  maybe n true s t e holds = holds
-  maybe n false s t e holds = tt
+  holds_if_some n true s t e holds = holds
+  holds_if_some n false s t e holds = tt
 
-  keeps : (n : ℕ) (op : Operation) (e : Event) (s : State) → s.due ≡ op → Known n op s
-      → IsTrueEvent w n s op e → IsAtOneOf times e → IfSome (after op e s) (Holds (count n e) s e)
-  keeps n due.Nothing (Failed f) s at known is timed = tt
-  keeps n due.Installed (Failed f) s at known is timed = tt
-  keeps n due.AlreadyInstalled (Failed f) s at known is timed = tt
-  keeps n due.WouldInstall (Failed f) s at known is timed = tt
-  keeps n due.Rejected (Failed f) s at known is timed = tt
-  keeps n due.RemoveFiles (Failed f) s at known is timed =
-      maybe n (due.is_failure f) s (due.go due.Rejected s) (Failed f) (tt, calm s (Failed f))
-  keeps n op (Failed f) s at known is timed =
-      maybe n (due.is_failure f) s (due.reject (due.failure s.due f) s) (Failed f)
-      (reject n (due.failure s.due f) s s (Failed f) refl)
-  keeps n due.Lock InUse s at known is timed = reject n _ s s InUse refl
-  keeps n due.ReadRecord (RecordRead found) s at known is timed =
+  op_keeps : (n : ℕ) (op : Operation) (e : Event) (s : State) → s.due ≡ op → Known n op s
+      → IsTrueEvent w n s op e → IsAtTimeIn times e → IfSome (after op e s) (Holds (count n e) s e)
+  op_keeps n fsm.Nothing (Failed f) s at known is timed = tt
+  op_keeps n fsm.Installed (Failed f) s at known is timed = tt
+  op_keeps n fsm.AlreadyInstalled (Failed f) s at known is timed = tt
+  op_keeps n fsm.WouldInstall (Failed f) s at known is timed = tt
+  op_keeps n fsm.Rejected (Failed f) s at known is timed = tt
+  op_keeps n fsm.RemoveFiles (Failed f) s at known is timed =
+      holds_if_some n (fsm.is_failure f) s (fsm.go fsm.Rejected s) (Failed f) (tt, calm s (Failed f))
+  op_keeps n op (Failed f) s at known is timed =
+      holds_if_some n (fsm.is_failure f) s (fsm.reject (fsm.failure s.due f) s) (Failed f)
+      (reject n (fsm.failure s.due f) s s (Failed f) refl)
+  op_keeps n fsm.Lock InUse s at known is timed = reject n _ s s InUse refl
+  op_keeps n fsm.ReadRecord (RecordRead found) s at known is timed =
       after_record n s found (judge_record s.options found) known (rw (known.0, is) refl)
-  keeps n due.ReadSignature (SignatureRead text time) s at known is timed =
+  op_keeps n fsm.ReadSignature (SignatureRead text time) s at known is timed =
       after_signature n s text (judge_text s.options text) time timed known (rw (known.0, is) refl)
-  keeps n due.CheckComment (Answered true) s at known is timed = after_comment n s s.fault known refl
+  op_keeps n fsm.CheckComment (Answered true) s at known is timed = after_comment n s s.fault known refl
       (is known.0 known.5)
-  keeps n due.CheckComment (Answered false) s at known is timed = next_key n s s.signers at known
+  op_keeps n fsm.CheckComment (Answered false) s at known is timed = next_key n s s.signers at known
       (is known.0 known.5)
-  keeps n due.ReadList (ListRead list name) s at (known, sized, some) is timed = (
+  op_keeps n fsm.ReadList (ListRead list name) s at (known, sized, some) is timed = (
     (known, sized, some, λ listed. rw (ap (λ (x : Options). x.list) known.2, is.0, is.1) refl),
     calm s (ListRead list name),
   )
-  keeps n due.CheckList (Answered true) s at (known, sized, some, listing) is timed =
+  op_keeps n fsm.CheckList (Answered true) s at (known, sized, some, listing) is timed =
       after_listing n s s.listing.listed known sized some listing refl (answered s known true listing is)
-  keeps n due.CheckList (Answered false) s at (known, sized, some, listing) is timed =
+  op_keeps n fsm.CheckList (Answered false) s at (known, sized, some, listing) is timed =
       list_refused n s known some (answered s known false listing is)
-  keeps n due.CheckRecord (Answered accepted) s at known is timed = after_digest n s accepted known is
-  keeps n due.ReadTarget (PieceRead bytes) s at known is timed = (rw at known, calm s (PieceRead bytes))
-  keeps n due.ReadTarget TargetMissing s at (known, sized, older, compared) is timed =
+  op_keeps n fsm.CheckRecord (Answered accepted) s at known is timed = after_digest n s accepted known is
+  op_keeps n fsm.ReadTarget (PieceRead bytes) s at known is timed = (rw at known, calm s (PieceRead bytes))
+  op_keeps n fsm.ReadTarget TargetMissing s at (known, sized, older, compared) is timed =
       install n s s TargetMissing known sized refl
-  keeps n due.CheckTarget (Answered accepted) s at known is timed =
-      after_target n s accepted (accepted && due.is_listed s) known (data_answered s known.0 accepted is)
-  keeps n due.CopyData (PieceCopied k) s at (known, sized) is timed =
+  op_keeps n fsm.CheckTarget (Answered accepted) s at known is timed =
+      after_target n s accepted (accepted && fsm.is_listed s) known (data_answered s known.0 accepted is)
+  op_keeps n fsm.CopyData (PieceCopied k) s at (known, sized) is timed =
       after_piece n k s s.left at refl known sized is.1
-  keeps n due.CopyData Done s at (known, sized) is timed = after_copy n s s.left known sized is
-  keeps n due.ReadBack (PieceRead bytes) s at known is timed = (rw at known, calm s (PieceRead bytes))
-  keeps n due.ReadBack Done s at known is timed = ((known, is), calm s Done)
-  keeps n due.CheckData (Answered true) s at (known, whole) is timed =
-      after_data n s (due.is_listed s) known refl whole (answered s (commented s known) true known.8 is)
-  keeps n due.CheckData (Answered false) s at (known, whole) is timed =
+  op_keeps n fsm.CopyData Done s at (known, sized) is timed = after_copy n s s.left known sized is
+  op_keeps n fsm.ReadBack (PieceRead bytes) s at known is timed = (rw at known, calm s (PieceRead bytes))
+  op_keeps n fsm.ReadBack Done s at known is timed = ((known, is), calm s Done)
+  op_keeps n fsm.CheckData (Answered true) s at (known, whole) is timed =
+      after_data n s (fsm.is_listed s) known refl whole (answered s (commented s known) true known.8 is)
+  op_keeps n fsm.CheckData (Answered false) s at (known, whole) is timed =
       reject n _ s s (Answered false)
       (inr (inr (inr (inr (inr (inr (inl (
         known.0,
@@ -630,53 +630,53 @@ module _ (w : World) (o : Options) (times : Option ℕ → Bool) where
         ap (λ m. accepts_digest known.0 (digest_to_sign o.list w.list m)) (sym whole)
             ∙ answered s (commented s known) false known.8 is,
       ))))))))
-  keeps n due.RemoveFiles Done s at known is timed = (tt, calm s Done)
-  keeps n due.Nothing Done s at known is timed = tt
-  keeps n due.Installed Done s at known is timed = tt
-  keeps n due.AlreadyInstalled Done s at known is timed = tt
-  keeps n due.WouldInstall Done s at known is timed = tt
-  keeps n due.Rejected Done s at known is timed = tt
-  keeps n due.ReadRecord Done s at known is timed = tt
-  keeps n due.ReadSignature Done s at known is timed = tt
-  keeps n due.CheckComment Done s at known is timed = tt
-  keeps n due.ReadList Done s at known is timed = tt
-  keeps n due.CheckList Done s at known is timed = tt
-  keeps n due.CheckRecord Done s at known is timed = tt
-  keeps n due.CheckTarget Done s at known is timed = tt
-  keeps n due.CheckData Done s at known is timed = tt
-  keeps n op Done s at known is timed = (known, calm s Done)
-  keeps n op e s at known is timed = tt
+  op_keeps n fsm.RemoveFiles Done s at known is timed = (tt, calm s Done)
+  op_keeps n fsm.Nothing Done s at known is timed = tt
+  op_keeps n fsm.Installed Done s at known is timed = tt
+  op_keeps n fsm.AlreadyInstalled Done s at known is timed = tt
+  op_keeps n fsm.WouldInstall Done s at known is timed = tt
+  op_keeps n fsm.Rejected Done s at known is timed = tt
+  op_keeps n fsm.ReadRecord Done s at known is timed = tt
+  op_keeps n fsm.ReadSignature Done s at known is timed = tt
+  op_keeps n fsm.CheckComment Done s at known is timed = tt
+  op_keeps n fsm.ReadList Done s at known is timed = tt
+  op_keeps n fsm.CheckList Done s at known is timed = tt
+  op_keeps n fsm.CheckRecord Done s at known is timed = tt
+  op_keeps n fsm.CheckTarget Done s at known is timed = tt
+  op_keeps n fsm.CheckData Done s at known is timed = tt
+  op_keeps n op Done s at known is timed = (known, calm s Done)
+  op_keeps n op e s at known is timed = tt
 
-  moves : (n : ℕ) (e : Event) (s : State) (next : Option State) → is_some next ≡ true
+  answer_keeps : (n : ℕ) (e : Event) (s : State) (next : Option State) → is_some next ≡ true
       → IfSome next (Holds (count n e) s e) → Known (count n e) (answer s next).1.due (answer s next).1
-  moves n e s (Some t) fits holds = holds.0
-  moves n e s None fits holds = absurd (true≢false (sym fits))
+  answer_keeps n e s (Some t) fits holds = holds.0
+  answer_keeps n e s None fits holds = absurd (true≢false (sym fits))
 
   known_at : (n : ℕ) (s : State) (events : List Event) (t : State) → Known n s.due s
-      → IsRun (λ n s e. IsLawfulEvent w n s e × IsAtOneOf times e) n s events t
+      → IsRun (λ n s e. IsLawfulEvent w n s e × IsAtTimeIn times e) n s events t
       → Known (total n events) t.due t
   known_at n s [] t known is = rw is known
   known_at n s (e ∷ more) t known (((fits, is), timed), run) =
       known_at (count n e) (step s e).1 more t
-      (moves n e s (after s.due e s) fits (keeps n s.due e s refl known is timed)) run
+      (answer_keeps n e s (after s.due e s) fits (op_keeps n s.due e s refl known is timed)) run
 
-  begins : (check : Bool) → Known 0 (if check then due.ReadRecord else due.Lock) (begin o)
+  begins : (check : Bool) → Known 0 (if check then fsm.ReadRecord else fsm.Lock) (begin o)
   begins true = (refl, refl)
   begins false = (refl, refl)
 
   ends : (n : ℕ) (op : Operation) (s : State) → Known n op s → IsEnd w o times op
-  ends n due.Installed s ((g, time, same, recorded, none, version, signature, key, listing, list), whole) =
+  ends n fsm.Installed s ((g, time, same, recorded, none, version, signature, key, listing, list), whole) =
       (g, time, none, whole)
-  ends n due.AlreadyInstalled s
+  ends n fsm.AlreadyInstalled s
       ((g, time, same, recorded, none, version, signature, key, listing, list), present) =
       (g, time, none, present)
-  ends n due.WouldInstall s
+  ends n fsm.WouldInstall s
       ((g, time, same, recorded, none, version, signature, key, listing, list), check) =
       (check, (g, time, none, list))
   ends n op s known = tt
 
   refused : (before now : Option InstallFault) (fault : InstallFault)
-      → due.result_of before now ≡ Err (Refused fault) → (before ≡ None) × (now ≡ Some fault)
+      → fsm.result_of before now ≡ Err (Refused fault) → (before ≡ None) × (now ≡ Some fault)
   refused None (Some f) fault is = (refl, ap fault_of is)
   refused None None fault is = absurd (none-some fault (ap fault_of is))
   refused (Some f) now fault is = absurd (none-some fault (ap fault_of is))
@@ -688,7 +688,7 @@ module _ (w : World) (o : Options) (times : Option ℕ → Bool) where
   explains n s e None fault holds is = absurd (none-some fault (ap fault_of is))
 
   run_knows : (events : List Event) (t : State)
-      → IsRun (λ n s e. IsLawfulEvent w n s e × IsAtOneOf times e) 0 (begin o) events t
+      → IsRun (λ n s e. IsLawfulEvent w n s e × IsAtTimeIn times e) 0 (begin o) events t
       → Known (total 0 events) t.due t
   run_knows events t run = known_at 0 (begin o) events t (begins o.check) run
 
@@ -696,15 +696,15 @@ module _ (w : World) (o : Options) (times : Option ℕ → Bool) where
 -- lock is in use.
 pub errors_are_true : (w : World) (o : Options) (times : Option ℕ → Bool) (events : List Event) (s : State)
     (e : Event) (fault : InstallFault)
-    → IsRun (λ n s e. IsLawfulEvent w n s e × IsAtOneOf times e) 0 (begin o) events s
-    → IsLawfulEvent w (total 0 events) s e → IsAtOneOf times e → (step s e).0 ≡ Err (Refused fault)
+    → IsRun (λ n s e. IsLawfulEvent w n s e × IsAtTimeIn times e) 0 (begin o) events s
+    → IsLawfulEvent w (total 0 events) s e → IsAtTimeIn times e → (step s e).0 ≡ Err (Refused fault)
     → IsReason w o times s e fault
 errors_are_true w o times events s e fault run (fits, is) timed refuses =
     explains w o times (count (total 0 events) e) s e (after s.due e s) fault
-    (keeps w o times (total 0 events) s.due e s refl (run_knows w o times events s run) is timed) refuses
+    (op_keeps w o times (total 0 events) s.due e s refl (run_knows w o times events s run) is timed) refuses
 
 -- If a run has ended without an error, IsEnd holds.
 pub ends_are_true : (w : World) (o : Options) (times : Option ℕ → Bool) (events : List Event) (t : State)
-    → IsRun (λ n s e. IsLawfulEvent w n s e × IsAtOneOf times e) 0 (begin o) events t → IsEnd w o times t.due
+    → IsRun (λ n s e. IsLawfulEvent w n s e × IsAtTimeIn times e) 0 (begin o) events t → IsEnd w o times t.due
 ends_are_true w o times events t run =
     ends w o times (total 0 events) t.due t (run_knows w o times events t run)

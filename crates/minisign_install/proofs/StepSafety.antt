@@ -21,7 +21,7 @@ use Rattle.minisign_install.specs.Step.{ListRead, PieceRead, TargetMissing, Piec
 use Rattle.minisign_install.specs.Step.{is_listed, step}
 use Rattle.minisign_install.specs.Step.{Operation, after, answer, comment_question, data_question}
 use Rattle.minisign_install.specs.Step.{has_files, new_record}
-use Rattle.minisign_install.specs.Step as due
+use Rattle.minisign_install.specs.Step as fsm
 use Rattle.minisign_install.specs.StepRuns.{IsTrueEvent, World, count, Changes, Disk, IsSafe, HasVersion}
 use Rattle.minisign_install.specs.StepRuns.{HasListing, ComparesNoVersion, IsUpdate, Runs, says_yes}
 use Rattle.minisign_install.proofs.Listings.{listed_is}
@@ -64,10 +64,10 @@ no_version : (first : Bool) (e : InstallFault) (r : Recorded)
 no_version true e r is = ap version_of is
 no_version false e r is = ap version_of is
 
-first_given : (first : Bool) (e : InstallFault) (r : Recorded)
+first_is_set : (first : Bool) (e : InstallFault) (r : Recorded)
     → (if first then Ok nothing_recorded else Err e) ≡ Ok r → first ≡ true
-first_given true e r is = refl
-first_given false e r is = cc is
+first_is_set true e r is = refl
+first_is_set false e r is = cc is
 
 applies_or_not : (compares_none : Bool) (n k : ℕ) (key digest : Option (List ℕ))
     → version_of (if compares_none then Ok nothing_recorded
@@ -76,13 +76,13 @@ applies_or_not : (compares_none : Bool) (n k : ℕ) (key digest : Option (List �
 applies_or_not true n k key digest is = absurd (none-some k is)
 applies_or_not false n k key digest is = is
 
-both_given : (given other : Bool) (n : ℕ) (key digest : Option (List ℕ))
+both_are_set : (given other : Bool) (n : ℕ) (key digest : Option (List ℕ))
     → version_of (if given && other then Ok nothing_recorded
     else Ok (record { version = Some n; key = key; digest = digest })) ≡ None
     → (given ≡ true) × (other ≡ true)
-both_given true true n key digest is = (refl, refl)
-both_given true false n key digest is = absurd (none-some n (sym is))
-both_given false other n key digest is = absurd (none-some n (sym is))
+both_are_set true true n key digest is = (refl, refl)
+both_are_set true false n key digest is = absurd (none-some n (sym is))
+both_are_set false other n key digest is = absurd (none-some n (sym is))
 
 module _ (w : World) (o : Options) where
   same_text : (signers : List PublicKeyValue) (t u : SignatureTextRecord) (keys : List PublicKeyValue)
@@ -112,13 +112,13 @@ module _ (w : World) (o : Options) where
   compares_none : (bytes : List ℕ) (version : Option ℕ) (r : Recorded)
       → recorded_version o.numbering bytes ≡ version
       → judge_version o bytes version ≡ Ok r → r.version ≡ None → ComparesNoVersion o (Some bytes)
-  compares_none bytes None r reads is none = inl (first_given o.first _ r is, reads)
+  compares_none bytes None r reads is none = inl (first_is_set o.first _ r is, reads)
   compares_none bytes (Some n) r reads is none =
-      inr (both_given (o.first || o.new_key) (names_other_key o bytes) n _ _ (ap version_of is ∙ none))
+      inr (both_are_set (o.first || o.new_key) (names_other_key o bytes) n _ _ (ap version_of is ∙ none))
 
   not_compared : (found : Option (List ℕ)) (r : Recorded) → judge_record o found ≡ Ok r
       → r.version ≡ None → ComparesNoVersion o found
-  not_compared None r is none = first_given o.first _ r is
+  not_compared None r is none = first_is_set o.first _ r is
   not_compared (Some bytes) r is none =
       compares_none bytes (recorded_version o.numbering bytes) r refl is none
 
@@ -147,7 +147,7 @@ module _ (w : World) (o : Options) where
   -- In addition, this key has signed the data that was read, or the list in which it is listed.
   abbrev pub IsWhole : State → Type 0
   IsWhole s =
-      IsAccepted s × (says_yes w (data_question due.CheckData s) ≡ true)
+      IsAccepted s × (says_yes w (data_question fsm.CheckData s) ≡ true)
       × (fits_list o.list w.list w.name s.read ≡ true)
 
   not_below : (r : Option ℕ) (v k : ℕ) → r ≡ Some k
@@ -185,14 +185,14 @@ module _ (w : World) (o : Options) where
     whole,
     listed,
   ) = record {
-    same = same;
+    same_options = same;
     record_applies = record_applies;
     text = text;
     parsed = parsed;
     keys = keys;
     passed = passed;
-    others = others;
-    given = given;
+    passed_over = others;
+    keys_split = given;
     time = time;
     comment_accepted = sym fault ∙ none;
     version = version;
@@ -212,90 +212,90 @@ module _ (w : World) (o : Options) where
 
   -- The invariant at each operation.
   abbrev pub Known : Operation → State → Type 0
-  Known due.Lock s = s.options ≡ o
-  Known due.ReadRecord s = s.options ≡ o
-  Known due.ReadSignature s = (s.options ≡ o) × (judge_record o w.found_record ≡ Ok s.recorded)
-  Known due.CheckComment s = IsJudged s
-  Known due.ReadList s = IsCommented s × (is_some o.list ≡ true)
-  Known due.CheckList s = IsAccepted s × (is_some o.list ≡ true)
-  Known due.CheckRecord s = IsAccepted s
-  Known due.ReadTarget s = IsAccepted s
-  Known due.CheckTarget s = IsAccepted s
-  Known due.SyncTarget s = IsAccepted s
-  Known due.SyncTargetName s = IsAccepted s
-  Known due.RemoveLeftovers s = IsAccepted s
-  Known due.CreateFile s = IsAccepted s
-  Known due.CopyData s = IsAccepted s
-  Known due.ReadBack s = IsAccepted s
-  Known due.CheckData s = IsAccepted s
-  Known due.AlreadyInstalled s = IsAccepted s
-  Known due.WouldInstall s = IsAccepted s
-  Known due.RemoveFiles s = ⊤
-  Known due.Rejected s = ⊤
-  Known due.Nothing s = ⊤
+  Known fsm.Lock s = s.options ≡ o
+  Known fsm.ReadRecord s = s.options ≡ o
+  Known fsm.ReadSignature s = (s.options ≡ o) × (judge_record o w.found_record ≡ Ok s.recorded)
+  Known fsm.CheckComment s = IsJudged s
+  Known fsm.ReadList s = IsCommented s × (is_some o.list ≡ true)
+  Known fsm.CheckList s = IsAccepted s × (is_some o.list ≡ true)
+  Known fsm.CheckRecord s = IsAccepted s
+  Known fsm.ReadTarget s = IsAccepted s
+  Known fsm.CheckTarget s = IsAccepted s
+  Known fsm.SyncTarget s = IsAccepted s
+  Known fsm.SyncTargetName s = IsAccepted s
+  Known fsm.RemoveLeftovers s = IsAccepted s
+  Known fsm.CreateFile s = IsAccepted s
+  Known fsm.CopyData s = IsAccepted s
+  Known fsm.ReadBack s = IsAccepted s
+  Known fsm.CheckData s = IsAccepted s
+  Known fsm.AlreadyInstalled s = IsAccepted s
+  Known fsm.WouldInstall s = IsAccepted s
+  Known fsm.RemoveFiles s = ⊤
+  Known fsm.Rejected s = ⊤
+  Known fsm.Nothing s = ⊤
   Known op s = IsWhole s
 
   module _ (old : Disk) where
     -- The changes of the disk before this operation.
     abbrev pub Changed : Operation → State → Disk → Type 0
-    Changed due.SyncRecordName s new = (new.target ≡ old.target) × (new.record_bytes ≡ Some (new_record s))
-    Changed due.RenameFile s new = (new.target ≡ old.target) × (new.record_bytes ≡ Some (new_record s))
-    Changed due.SyncFileName s new = (new.target ≡ Some s.read) × (new.record_bytes ≡ Some (new_record s))
-    Changed due.Installed s new = (new.target ≡ Some s.read) × (new.record_bytes ≡ Some (new_record s))
-    Changed due.RemoveFiles s new = IsSafe w o old new
-    Changed due.Rejected s new = IsSafe w o old new
+    Changed fsm.SyncRecordName s new = (new.target ≡ old.target) × (new.record_bytes ≡ Some (new_record s))
+    Changed fsm.RenameFile s new = (new.target ≡ old.target) × (new.record_bytes ≡ Some (new_record s))
+    Changed fsm.SyncFileName s new = (new.target ≡ Some s.read) × (new.record_bytes ≡ Some (new_record s))
+    Changed fsm.Installed s new = (new.target ≡ Some s.read) × (new.record_bytes ≡ Some (new_record s))
+    Changed fsm.RemoveFiles s new = IsSafe w o old new
+    Changed fsm.Rejected s new = IsSafe w o old new
     Changed op s new = new ≡ old
 
     abbrev pub Holds : Operation → State → Disk → Type 0
     Holds op s new = Known op s × Changed op s new
 
     safe_at : (op : Operation) (s : State) (new : Disk) → Holds op s new → IsSafe w o old new
-    safe_at due.SyncRecordName s new (known, (target, recorded)) =
+    safe_at fsm.SyncRecordName s new (known, (target, recorded)) =
         inr (s, update_of s known, recorded, inl target)
-    safe_at due.RenameFile s new (known, (target, recorded)) =
+    safe_at fsm.RenameFile s new (known, (target, recorded)) =
         inr (s, update_of s known, recorded, inl target)
-    safe_at due.SyncFileName s new (known, (target, recorded)) =
+    safe_at fsm.SyncFileName s new (known, (target, recorded)) =
         inr (s, update_of s known, recorded, inr target)
-    safe_at due.Installed s new (known, (target, recorded)) =
+    safe_at fsm.Installed s new (known, (target, recorded)) =
         inr (s, update_of s known, recorded, inr target)
-    safe_at due.RemoveFiles s new (known, safe) = safe
-    safe_at due.Rejected s new (known, safe) = safe
+    safe_at fsm.RemoveFiles s new (known, safe) = safe
+    safe_at fsm.Rejected s new (known, safe) = safe
     safe_at op s new (known, same) = inl same
 
     failed : (op : Operation) (f : NamedFault) (s : State) (mid new : Disk) → Holds op s mid
         → Changes op s (Failed f) mid new → IsSafe w o old new
-    failed due.RenameRecord f s mid new (known, same) (inl is) = inl (is ∙ same)
-    failed due.RenameRecord f s mid new (known, same) (inr is) =
+    failed fsm.RenameRecord f s mid new (known, same) (inl is) = inl (is ∙ same)
+    failed fsm.RenameRecord f s mid new (known, same) (inr is) =
         inr (
           s,
           update_of s known,
           ap (λ (d : Disk). d.record_bytes) is,
           inl (ap (λ (d : Disk). d.target) is ∙ ap (λ (d : Disk). d.target) same),
         )
-    failed due.RenameFile f s mid new (known, (target, recorded)) (inl is) =
+    failed fsm.RenameFile f s mid new (known, (target, recorded)) (inl is) =
         inr (s, update_of s known, rw is recorded, inl (rw is target))
-    failed due.RenameFile f s mid new (known, (target, recorded)) (inr is) =
+    failed fsm.RenameFile f s mid new (known, (target, recorded)) (inr is) =
         inr (s, update_of s known, rw is recorded, inr (ap (λ (d : Disk). d.target) is))
     failed op f s mid new holds is = rw is (safe_at op s mid holds)
 
     -- If the disk is safe when a run is rejected, the invariant holds.
     rejected : (is : Bool) (s : State) (new : Disk) → IsSafe w o old new
-        → Holds (if is then due.RemoveFiles else due.Rejected) s new
+        → Holds (if is then fsm.RemoveFiles else fsm.Rejected) s new
     rejected true s new safe = (tt, safe)
     rejected false s new safe = (tt, safe)
 
     reject : (fault : InstallFault) (s : State) (new : Disk) → IsSafe w o old new
-        → Holds (due.reject fault s).due (due.reject fault s) new
-    reject fault s new safe = rejected (has_files s.due) (due.reject fault s) new safe
+        → Holds (fsm.reject fault s).due (fsm.reject fault s) new
+    reject fault s new safe = rejected (has_files s.due) (fsm.reject fault s) new safe
 
     after_record : (s : State) (new : Disk) (r : Result Recorded InstallFault) → s.options ≡ o → new ≡ old
-        → judge_record o w.found_record ≡ r → Holds (due.after_record r s).due (due.after_record r s) new
+        → judge_record o w.found_record ≡ r → Holds (fsm.after_record r s).due (fsm.after_record r s) new
     after_record s new (Ok recorded) same is record_applies = ((same, record_applies), is)
     after_record s new (Err fault) same is record_applies = reject fault s new (inl is)
 
     after_signature : (s : State) (new : Disk) (r : Passed) (time : Option ℕ)
-        → Known due.ReadSignature s → new ≡ old → judge_text o w.text ≡ r
-        → Holds (due.after_signature r time s).due (due.after_signature r time s) new
+        → Known fsm.ReadSignature s → new ≡ old → judge_text o w.text ≡ r
+        → Holds (fsm.after_signature r time s).due (fsm.after_signature r time s) new
     after_signature s new (Ok (t, keys)) time (same, record_applies) is passed =
         let parsed = text_parsed w.text t keys passed in
         let again : judge_text o (Ok t) ≡ Ok (t, keys) = rw parsed at passed in (
@@ -325,42 +325,42 @@ module _ (w : World) (o : Options) where
     either false s t new one other = other
 
     to_install : (check : Bool) (s : State) (new : Disk) → IsAccepted s → new ≡ old
-        → Holds (if check then due.WouldInstall else due.RemoveLeftovers) (due.install s) new
+        → Holds (if check then fsm.WouldInstall else fsm.RemoveLeftovers) (fsm.install s) new
     to_install true s new accepted is = (accepted, is)
     to_install false s new accepted is = (accepted, is)
 
     install : (s : State) (new : Disk) → IsAccepted s → new ≡ old
-        → Holds (due.install s).due (due.install s) new
+        → Holds (fsm.install s).due (fsm.install s) new
     install s new accepted is = to_install s.options.check s new accepted is
 
     compare : (s : State) (new : Disk) → IsAccepted s → new ≡ old
-        → Holds (due.compare s).due (due.compare s) new
+        → Holds (fsm.compare s).due (fsm.compare s) new
     compare s new accepted is =
-        either (due.is_newer s) _ _ new (install s new accepted is)
+        either (fsm.is_newer s) _ _ new (install s new accepted is)
         (either (is_some s.recorded.digest) _ _ new (accepted, is)
-        (either (due.is_rolling_back s) _ _ new (install s new accepted is) (accepted, is)))
+        (either (fsm.is_rolling_back s) _ _ new (install s new accepted is) (accepted, is)))
 
     list_next : (listed : Bool) (s : State) (new : Disk) → is_some o.list ≡ listed → IsCommented s
         → new ≡ old
-        → Holds (if listed then due.go due.ReadList s else due.compare s).due
-        (if listed then due.go due.ReadList s else due.compare s) new
+        → Holds (if listed then fsm.go fsm.ReadList s else fsm.compare s).due
+        (if listed then fsm.go fsm.ReadList s else fsm.compare s) new
     list_next true s new some known is = ((known, some), is)
     list_next false s new none known is =
         compare s new (known, λ some. absurd (true≢false (sym some ∙ none))) is
 
     after_comment : (s : State) (new : Disk) (fault : Option InstallFault) → (judged : IsJudged s)
         → s.fault ≡ fault → says_yes w (comment_question s judged.0.comments.trusted) ≡ true → new ≡ old
-        → Holds (due.after_comment fault (record s { is_signed = true })).due
-        (due.after_comment fault (record s { is_signed = true })) new
+        → Holds (fsm.after_comment fault (record s { is_signed = true })).due
+        (fsm.after_comment fault (record s { is_signed = true })) new
     after_comment s new None judged none comment is =
         list_next (is_some s.options.list) (record s { is_signed = true }) new
         (ap (λ (x : Options). is_some x.list) (sym judged.4)) (judged, none, comment) is
     after_comment s new (Some fault) judged some comment is =
         reject fault (record s { is_signed = true }) new (inl is)
 
-    next_key : (s : State) (new : Disk) (signers : List PublicKeyValue) → s.due ≡ due.CheckComment
+    next_key : (s : State) (new : Disk) (signers : List PublicKeyValue) → s.due ≡ fsm.CheckComment
         → IsJudged (record s { signers = signers }) → new ≡ old
-        → Holds (due.next_key signers s).due (due.next_key signers s) new
+        → Holds (fsm.next_key signers s).due (fsm.next_key signers s) new
     next_key s new [] at judged is = reject _ s new (inl is)
     next_key s new (v ∷ []) at judged is = reject _ s new (inl is)
     next_key s new (v ∷ u ∷ more) at (
@@ -401,150 +401,151 @@ module _ (w : World) (o : Options) where
         )
 
     after_listing : (s : State) (new : Disk) (listed : Result ListedDigest InstallFault) → IsAccepted s
-        → new ≡ old → Holds (due.after_listing listed s).due (due.after_listing listed s) new
+        → new ≡ old → Holds (fsm.after_listing listed s).due (fsm.after_listing listed s) new
     after_listing s new (Ok digest) known is = compare s new known is
     after_listing s new (Err fault) known is = reject fault s new (inl is)
 
     after_data : (s : State) (new : Disk) (listed : Bool) → is_listed s ≡ listed → IsAccepted s
-        → says_yes w (data_question due.CheckData s) ≡ true → new ≡ old
-        → Holds (due.after_data listed s).due (due.after_data listed s) new
+        → says_yes w (data_question fsm.CheckData s) ≡ true → new ≡ old
+        → Holds (fsm.after_data listed s).due (fsm.after_data listed s) new
     after_data s new true listed (known, listing) whole is =
         (((known, listing), whole, sym (listed_is w o s known.0.4 listing) ∙ listed), is)
     after_data s new false listed known whole is = reject DigestMismatch s new (inl is)
 
     after_digest : (s : State) (new : Disk) (accepted : Bool) → IsAccepted s → new ≡ old
-        → Holds (due.after_digest accepted s).due (due.after_digest accepted s) new
+        → Holds (fsm.after_digest accepted s).due (fsm.after_digest accepted s) new
     after_digest s new accepted known is =
-        either (not accepted && due.is_rolling_back s) _ _ new (install s new known is) (known, is)
+        either (not accepted && fsm.is_rolling_back s) _ _ new (install s new known is) (known, is)
 
     target_is_update : (check : Bool) (s : State) (new : Disk) → IsAccepted s → new ≡ old
-        → Holds (if check then due.AlreadyInstalled else due.SyncTarget) s new
+        → Holds (if check then fsm.AlreadyInstalled else fsm.SyncTarget) s new
     target_is_update true s new known is = (known, is)
     target_is_update false s new known is = (known, is)
 
     after_target : (s : State) (new : Disk) (accepted : Bool) → IsAccepted s → new ≡ old
-        → Holds (due.after_target accepted s).due (due.after_target accepted s) new
-    after_target s new true known is = target_is_update s.options.check (due.after_target true s) new known is
+        → Holds (fsm.after_target accepted s).due (fsm.after_target accepted s) new
+    after_target s new true known is = target_is_update s.options.check (fsm.after_target true s) new known is
     after_target s new false known is =
         either (s.is_recorded || s.options.again) _ _ new (install s new known is)
         (reject SameNumber s new (inl is))
 
-    after_piece : (n : ℕ) (s : State) (new : Disk) (left : Option ℕ) → s.due ≡ due.CopyData → IsAccepted s
-        → new ≡ old → Holds (due.after_piece n left s).due (due.after_piece n left s) new
+    after_piece : (n : ℕ) (s : State) (new : Disk) (left : Option ℕ) → s.due ≡ fsm.CopyData → IsAccepted s
+        → new ≡ old → Holds (fsm.after_piece n left s).due (fsm.after_piece n left s) new
     after_piece n s new None at known is = rw at (known, is)
     after_piece n s new (Some left) at known is =
         either (nat_le n left) _ _ new (rw at (known, is)) (reject OtherSize s new (inl is))
 
     after_copy : (s : State) (new : Disk) (left : Option ℕ) → IsAccepted s → new ≡ old
-        → Holds (due.after_copy left s).due (due.after_copy left s) new
+        → Holds (fsm.after_copy left s).due (fsm.after_copy left s) new
     after_copy s new None known is = (known, is)
     after_copy s new (Some left) known is =
         either (left == 0) _ _ new (known, is) (reject OtherSize s new (inl is))
 
     -- The invariant holds after a failure with a possible reason; after another failure there is no state.
-    maybe : (is : Bool) (t : State) (new : Disk) → Holds t.due t new
+    holds_if_some : (is : Bool) (t : State) (new : Disk) → Holds t.due t new
         → IfSome (if is then Some t else None) (λ x. Holds x.due x new)
-    maybe true t new holds = holds
-    maybe false t new holds = tt
+    holds_if_some true t new holds = holds
+    holds_if_some false t new holds = tt
 
-    pub keeps : (n : ℕ) (op : Operation) (e : Event) (s : State) (mid new : Disk) → s.due ≡ op
+    pub op_keeps : (n : ℕ) (op : Operation) (e : Event) (s : State) (mid new : Disk) → s.due ≡ op
         → Holds op s mid
         → Changes op s e mid new → IsTrueEvent w n s op e
         → IfSome (after op e s) (λ t. Holds t.due t new)
-    keeps n due.Nothing (Failed f) s mid new at holds change is = tt
-    keeps n due.Installed (Failed f) s mid new at holds change is = tt
-    keeps n due.AlreadyInstalled (Failed f) s mid new at holds change is = tt
-    keeps n due.WouldInstall (Failed f) s mid new at holds change is = tt
-    keeps n due.Rejected (Failed f) s mid new at holds change is = tt
-    keeps n due.RemoveFiles (Failed f) s mid new at holds change is =
-        maybe (due.is_failure f) (due.go due.Rejected s) new
-        (tt, failed due.RemoveFiles f s mid new holds change)
-    keeps n op (Failed f) s mid new at holds change is =
-        maybe (due.is_failure f) (due.reject (due.failure s.due f) s) new
-        (reject (due.failure s.due f) s new (failed op f s mid new holds change))
-    keeps n due.Lock InUse s mid new at (known, same) change is =
+    op_keeps n fsm.Nothing (Failed f) s mid new at holds change is = tt
+    op_keeps n fsm.Installed (Failed f) s mid new at holds change is = tt
+    op_keeps n fsm.AlreadyInstalled (Failed f) s mid new at holds change is = tt
+    op_keeps n fsm.WouldInstall (Failed f) s mid new at holds change is = tt
+    op_keeps n fsm.Rejected (Failed f) s mid new at holds change is = tt
+    op_keeps n fsm.RemoveFiles (Failed f) s mid new at holds change is =
+        holds_if_some (fsm.is_failure f) (fsm.go fsm.Rejected s) new
+        (tt, failed fsm.RemoveFiles f s mid new holds change)
+    op_keeps n op (Failed f) s mid new at holds change is =
+        holds_if_some (fsm.is_failure f) (fsm.reject (fsm.failure s.due f) s) new
+        (reject (fsm.failure s.due f) s new (failed op f s mid new holds change))
+    op_keeps n fsm.Lock InUse s mid new at (known, same) change is =
         reject _ s new (inl (change ∙ same))
-    keeps n due.ReadRecord (RecordRead found) s mid new at (known, same) change is =
+    op_keeps n fsm.ReadRecord (RecordRead found) s mid new at (known, same) change is =
         after_record s new (judge_record s.options found) known (change ∙ same) (rw (known, is) refl)
-    keeps n due.ReadSignature (SignatureRead text time) s mid new at (known, same) change is =
+    op_keeps n fsm.ReadSignature (SignatureRead text time) s mid new at (known, same) change is =
         after_signature s new (judge_text s.options text) time known (change ∙ same) (rw (known.0, is) refl)
-    keeps n due.CheckComment (Answered true) s mid new at (known, same) change is =
+    op_keeps n fsm.CheckComment (Answered true) s mid new at (known, same) change is =
         after_comment s new s.fault known refl (sym (is known.0 known.6)) (change ∙ same)
-    keeps n due.CheckComment (Answered false) s mid new at (known, same) change is =
+    op_keeps n fsm.CheckComment (Answered false) s mid new at (known, same) change is =
         next_key s new s.signers at known (change ∙ same)
-    keeps n due.ReadList (ListRead list name) s mid new at (known, same) change is = (
+    op_keeps n fsm.ReadList (ListRead list name) s mid new at (known, same) change is = (
       (
         (known.0, λ some. rw (ap (λ (x : Options). x.list) known.0.0.4, is.0, is.1) refl),
         known.1,
       ),
       change ∙ same,
     )
-    keeps n due.CheckList (Answered true) s mid new at (known, same) change is =
+    op_keeps n fsm.CheckList (Answered true) s mid new at (known, same) change is =
         after_listing (record s { is_list_signed = true }) new s.listing.listed known.0 (change ∙ same)
-    keeps n due.CheckList (Answered false) s mid new at (known, same) change is =
+    op_keeps n fsm.CheckList (Answered false) s mid new at (known, same) change is =
         reject _ s new (inl (change ∙ same))
-    keeps n due.CheckRecord (Answered accepted) s mid new at (known, same) change is =
+    op_keeps n fsm.CheckRecord (Answered accepted) s mid new at (known, same) change is =
         after_digest s new accepted known (change ∙ same)
-    keeps n due.ReadTarget (PieceRead bytes) s mid new at (known, same) change is = rw at
+    op_keeps n fsm.ReadTarget (PieceRead bytes) s mid new at (known, same) change is = rw at
         (known, change ∙ same)
-    keeps n due.ReadTarget TargetMissing s mid new at (known, same) change is =
+    op_keeps n fsm.ReadTarget TargetMissing s mid new at (known, same) change is =
         install s new known (change ∙ same)
-    keeps n due.CheckTarget (Answered accepted) s mid new at (known, same) change is =
+    op_keeps n fsm.CheckTarget (Answered accepted) s mid new at (known, same) change is =
         after_target s new (accepted && is_listed s) known (change ∙ same)
-    keeps n due.CopyData (PieceCopied k) s mid new at (known, same) change is =
+    op_keeps n fsm.CopyData (PieceCopied k) s mid new at (known, same) change is =
         after_piece k s new s.left at known (change ∙ same)
-    keeps n due.CopyData Done s mid new at (known, same) change is = after_copy s new s.left known
+    op_keeps n fsm.CopyData Done s mid new at (known, same) change is = after_copy s new s.left known
         (change ∙ same)
-    keeps n due.ReadBack (PieceRead bytes) s mid new at (known, same) change is = rw at (
+    op_keeps n fsm.ReadBack (PieceRead bytes) s mid new at (known, same) change is = rw at (
       known,
       change
           ∙ same,
     )
-    keeps n due.CheckData (Answered true) s mid new at (known, same) change is =
+    op_keeps n fsm.CheckData (Answered true) s mid new at (known, same) change is =
         after_data s new (is_listed s) refl known (sym is) (change ∙ same)
-    keeps n due.CheckData (Answered false) s mid new at (known, same) change is =
+    op_keeps n fsm.CheckData (Answered false) s mid new at (known, same) change is =
         reject _ s new (inl (change ∙ same))
-    keeps n due.RenameRecord Done s mid new at (known, same) change is = (
+    op_keeps n fsm.RenameRecord Done s mid new at (known, same) change is = (
       known,
       (
         ap (λ (d : Disk). d.target) change ∙ ap (λ (d : Disk). d.target) same,
         ap (λ (d : Disk). d.record_bytes) change,
       ),
     )
-    keeps n due.RenameFile Done s mid new at (known, (target, recorded)) change is =
+    op_keeps n fsm.RenameFile Done s mid new at (known, (target, recorded)) change is =
         (known, (ap (λ (d : Disk). d.target) change, ap (λ (d : Disk). d.record_bytes) change ∙ recorded))
-    keeps n due.SyncRecordName Done s mid new at (known, changed) change is = (known, rw change changed)
-    keeps n due.SyncFileName Done s mid new at (known, changed) change is = (known, rw change changed)
-    keeps n due.RemoveFiles Done s mid new at (known, safe) change is = (tt, rw change safe)
-    keeps n due.Nothing Done s mid new at holds change is = tt
-    keeps n due.Installed Done s mid new at holds change is = tt
-    keeps n due.AlreadyInstalled Done s mid new at holds change is = tt
-    keeps n due.WouldInstall Done s mid new at holds change is = tt
-    keeps n due.Rejected Done s mid new at holds change is = tt
-    keeps n due.ReadRecord Done s mid new at holds change is = tt
-    keeps n due.ReadSignature Done s mid new at holds change is = tt
-    keeps n due.CheckComment Done s mid new at holds change is = tt
-    keeps n due.ReadList Done s mid new at holds change is = tt
-    keeps n due.CheckList Done s mid new at holds change is = tt
-    keeps n due.CheckRecord Done s mid new at holds change is = tt
-    keeps n due.CheckTarget Done s mid new at holds change is = tt
-    keeps n due.CheckData Done s mid new at holds change is = tt
-    keeps n op Done s mid new at (known, same) change is = (known, change ∙ same)
-    keeps n op e s mid new at holds change is = tt
+    op_keeps n fsm.SyncRecordName Done s mid new at (known, changed) change is = (known, rw change changed)
+    op_keeps n fsm.SyncFileName Done s mid new at (known, changed) change is = (known, rw change changed)
+    op_keeps n fsm.RemoveFiles Done s mid new at (known, safe) change is = (tt, rw change safe)
+    op_keeps n fsm.Nothing Done s mid new at holds change is = tt
+    op_keeps n fsm.Installed Done s mid new at holds change is = tt
+    op_keeps n fsm.AlreadyInstalled Done s mid new at holds change is = tt
+    op_keeps n fsm.WouldInstall Done s mid new at holds change is = tt
+    op_keeps n fsm.Rejected Done s mid new at holds change is = tt
+    op_keeps n fsm.ReadRecord Done s mid new at holds change is = tt
+    op_keeps n fsm.ReadSignature Done s mid new at holds change is = tt
+    op_keeps n fsm.CheckComment Done s mid new at holds change is = tt
+    op_keeps n fsm.ReadList Done s mid new at holds change is = tt
+    op_keeps n fsm.CheckList Done s mid new at holds change is = tt
+    op_keeps n fsm.CheckRecord Done s mid new at holds change is = tt
+    op_keeps n fsm.CheckTarget Done s mid new at holds change is = tt
+    op_keeps n fsm.CheckData Done s mid new at holds change is = tt
+    op_keeps n op Done s mid new at (known, same) change is = (known, change ∙ same)
+    op_keeps n op e s mid new at holds change is = tt
 
-    pub moves : (e : Event) (s : State) (new : Disk) (next : Option State) → is_some next ≡ true
+    pub answer_keeps : (e : Event) (s : State) (new : Disk) (next : Option State) → is_some next ≡ true
         → IfSome next (λ t. Holds t.due t new) → Holds (answer s next).1.due (answer s next).1 new
-    moves e s new (Some t) fits holds = holds
-    moves e s new None fits holds = absurd (true≢false (sym fits))
+    answer_keeps e s new (Some t) fits holds = holds
+    answer_keeps e s new None fits holds = absurd (true≢false (sym fits))
 
     run_holds : (n : ℕ) (s : State) (mid : Disk) (events : List (Event × Disk)) (t : State) (new : Disk)
         → Holds s.due s mid → Runs w n s mid events t new → Holds t.due t new
     run_holds n s mid [] t new holds (is, same) = rw (is, same) holds
     run_holds n s mid ((e, disk) ∷ more) t new holds ((fits, is), change, rest) =
         run_holds (count n e) (step s e).1 disk more t new
-        (moves e s disk (after s.due e s) fits (keeps n s.due e s mid disk refl holds change is)) rest
+        (answer_keeps e s disk (after s.due e s) fits
+        (op_keeps n s.due e s mid disk refl holds change is)) rest
 
-    pub begins : (check : Bool) → Holds (if check then due.ReadRecord else due.Lock) (begin o) old
+    pub begins : (check : Bool) → Holds (if check then fsm.ReadRecord else fsm.Lock) (begin o) old
     begins true = (refl, refl)
     begins false = (refl, refl)
 

@@ -9,7 +9,7 @@ use Rattle.minisign_install.specs.Decisions.{Options, Recorded, comment_fault, j
 use Rattle.minisign_install.specs.Faults.{Fault, InstallFault, OtherSize, SameNumber}
 use Rattle.minisign_install.specs.Histories.{AllEvents, IsAtTime, is_past_comment}
 use Rattle.minisign_install.specs.Step.{Event, Operation, State, after, answer, begin, step}
-use Rattle.minisign_install.specs.Step as due
+use Rattle.minisign_install.specs.Step as fsm
 use Rattle.minisign_install.specs.StepRuns.{World, count}
 use Rattle.minisign_install.proofs.SafeCalls.{Invariant, begins, knows, next}
 use Rattle.minisign_install.proofs.StepSafety.{Known, Passed, text_parsed}
@@ -30,48 +30,48 @@ module _ (w : World) (o : Options) (time : Option ℕ) where
       → s.fault ≡ comment_fault o s.recorded.version time text.comments.trusted
 
   abbrev At : Operation → State → Type 0
-  At due.Nothing s = ⊤
-  At due.Lock s = ⊤
-  At due.ReadRecord s = ⊤
-  At due.ReadSignature s = ⊤
-  At due.RemoveFiles s = ⊤
-  At due.Rejected s = ⊤
+  At fsm.Nothing s = ⊤
+  At fsm.Lock s = ⊤
+  At fsm.ReadRecord s = ⊤
+  At fsm.ReadSignature s = ⊤
+  At fsm.RemoveFiles s = ⊤
+  At fsm.Rejected s = ⊤
   At op s = IsTimely s
 
   abbrev Holds : State → Type 0
   Holds s = At s.due s
 
   rejected : (is : Bool) (fault : InstallFault) (s : State)
-      → Holds (record s { due = if is then due.RemoveFiles else due.Rejected; error = Some fault })
+      → Holds (record s { due = if is then fsm.RemoveFiles else fsm.Rejected; error = Some fault })
   rejected true fault s = tt
   rejected false fault s = tt
 
-  reject : (fault : InstallFault) (s : State) → Holds (due.reject fault s)
-  reject fault s = rejected (due.has_files s.due) fault s
+  reject : (fault : InstallFault) (s : State) → Holds (fsm.reject fault s)
+  reject fault s = rejected (fsm.has_files s.due) fault s
 
   begins_now : (check : Bool) (s : State) → IsTimely s
-      → Holds (record s { due = if check then due.WouldInstall else due.RemoveLeftovers; read = [] })
+      → Holds (record s { due = if check then fsm.WouldInstall else fsm.RemoveLeftovers; read = [] })
   begins_now true s is = is
   begins_now false s is = is
 
-  install : (s : State) → IsTimely s → Holds (due.install s)
+  install : (s : State) → IsTimely s → Holds (fsm.install s)
   install s is = begins_now s.options.check s is
 
   either : (is : Bool) (x y : State) → Holds x → Holds y → Holds (if is then x else y)
   either true x y one other = one
   either false x y one other = other
 
-  compare : (s : State) → IsTimely s → Holds (due.compare s)
+  compare : (s : State) → IsTimely s → Holds (fsm.compare s)
   compare s is =
-      either (due.is_newer s) _ _ (install s is)
-      (either (is_some s.recorded.digest) _ _ is (either (due.is_rolling_back s) _ _ (install s is) is))
+      either (fsm.is_newer s) _ _ (install s is)
+      (either (is_some s.recorded.digest) _ _ is (either (fsm.is_rolling_back s) _ _ (install s is) is))
 
-  after_record : (r : Result Recorded InstallFault) (s : State) → Holds (due.after_record r s)
+  after_record : (r : Result Recorded InstallFault) (s : State) → Holds (fsm.after_record r s)
   after_record (Ok r) s = tt
   after_record (Err fault) s = reject fault s
 
   after_signature : (r : Passed) (other : Option ℕ) (s : State) → s.options ≡ o → other ≡ time
-      → judge_text o w.text ≡ r → Holds (due.after_signature r other s)
+      → judge_text o w.text ≡ r → Holds (fsm.after_signature r other s)
   after_signature (Ok (t, keys)) other s same now passed =
       let parsed = text_parsed w o w.text t keys passed in
       λ text is.
@@ -81,102 +81,103 @@ module _ (w : World) (o : Options) (time : Option ℕ) where
   after_signature (Err fault) other s same now passed = reject _ s
 
   after_comment : (fault : Option InstallFault) (s : State) → IsTimely s
-      → Holds (due.after_comment fault (record s { is_signed = true }))
+      → Holds (fsm.after_comment fault (record s { is_signed = true }))
   after_comment None s is =
       either (is_some s.options.list) _ _ is (compare (record s { is_signed = true }) is)
   after_comment (Some fault) s is = reject fault (record s { is_signed = true })
 
-  next_key : (signers : List PublicKeyValue) (s : State) → s.due ≡ due.CheckComment → IsTimely s
-      → Holds (due.next_key signers s)
+  next_key : (signers : List PublicKeyValue) (s : State) → s.due ≡ fsm.CheckComment → IsTimely s
+      → Holds (fsm.next_key signers s)
   next_key [] s at is = reject _ s
   next_key (v ∷ []) s at is = reject _ s
   next_key (v ∷ u ∷ more) s at is = rw at is
 
   after_listing : (listed : Result ListedDigest InstallFault) (s : State) → IsTimely s
-      → Holds (due.after_listing listed s)
+      → Holds (fsm.after_listing listed s)
   after_listing (Ok digest) s is = compare s is
   after_listing (Err fault) s is = reject fault s
 
-  after_data : (listed : Bool) (s : State) → IsTimely s → Holds (due.after_data listed s)
+  after_data : (listed : Bool) (s : State) → IsTimely s → Holds (fsm.after_data listed s)
   after_data true s is = is
   after_data false s is = reject DigestMismatch s
 
-  after_digest : (accepted : Bool) (s : State) → IsTimely s → Holds (due.after_digest accepted s)
-  after_digest accepted s is = either (not accepted && due.is_rolling_back s) _ _ (install s is) is
+  after_digest : (accepted : Bool) (s : State) → IsTimely s → Holds (fsm.after_digest accepted s)
+  after_digest accepted s is = either (not accepted && fsm.is_rolling_back s) _ _ (install s is) is
 
   target_is_update : (check : Bool) (s : State) → IsTimely s
-      → Holds (due.go (if check then due.AlreadyInstalled else due.SyncTarget) s)
+      → Holds (fsm.go (if check then fsm.AlreadyInstalled else fsm.SyncTarget) s)
   target_is_update true s is = is
   target_is_update false s is = is
 
-  after_target : (accepted : Bool) (s : State) → IsTimely s → Holds (due.after_target accepted s)
+  after_target : (accepted : Bool) (s : State) → IsTimely s → Holds (fsm.after_target accepted s)
   after_target true s is = target_is_update s.options.check s is
   after_target false s is =
       either (s.is_recorded || s.options.again) _ _ (install s is) (reject SameNumber s)
 
-  after_piece : (n : ℕ) (left : Option ℕ) (s : State) → s.due ≡ due.CopyData → IsTimely s
-      → Holds (due.after_piece n left s)
+  after_piece : (n : ℕ) (left : Option ℕ) (s : State) → s.due ≡ fsm.CopyData → IsTimely s
+      → Holds (fsm.after_piece n left s)
   after_piece n None s at is = rw at is
   after_piece n (Some left) s at is = either (nat_le n left) _ _ (rw at is) (reject OtherSize s)
 
-  after_copy : (left : Option ℕ) (s : State) → IsTimely s → Holds (due.after_copy left s)
+  after_copy : (left : Option ℕ) (s : State) → IsTimely s → Holds (fsm.after_copy left s)
   after_copy None s is = is
   after_copy (Some left) s is = either (left == 0) _ _ is (reject OtherSize s)
 
-  maybe : (is : Bool) (t : State) → Holds t → IfSome (if is then Some t else None) Holds
-  maybe true t holds = holds
-  maybe false t holds = tt
+  holds_if_some : (is : Bool) (t : State) → Holds t → IfSome (if is then Some t else None) Holds
+  holds_if_some true t holds = holds
+  holds_if_some false t holds = tt
 
-  keeps : (op : Operation) (e : Event) (s : State) (old new : Snapshot) → s.due ≡ op → Known w o op s
+  op_keeps : (op : Operation) (e : Event) (s : State) (old new : Snapshot) → s.due ≡ op → Known w o op s
       → At op s → Performs w s op e old new → IsAtTime time e → IfSome (after op e s) Holds
-  keeps due.Nothing (due.Failed f) s old new at known is done now = tt
-  keeps due.Installed (due.Failed f) s old new at known is done now = tt
-  keeps due.AlreadyInstalled (due.Failed f) s old new at known is done now = tt
-  keeps due.WouldInstall (due.Failed f) s old new at known is done now = tt
-  keeps due.Rejected (due.Failed f) s old new at known is done now = tt
-  keeps due.RemoveFiles (due.Failed f) s old new at known is done now =
-      maybe (due.is_failure f) (due.go due.Rejected s) tt
-  keeps op (due.Failed f) s old new at known is done now =
-      maybe (due.is_failure f) (due.reject (due.failure s.due f) s) (reject (due.failure s.due f) s)
-  keeps due.Lock due.InUse s old new at known is done now = reject _ s
-  keeps due.ReadRecord (due.RecordRead found) s old new at known is done now =
+  op_keeps fsm.Nothing (fsm.Failed f) s old new at known is done now = tt
+  op_keeps fsm.Installed (fsm.Failed f) s old new at known is done now = tt
+  op_keeps fsm.AlreadyInstalled (fsm.Failed f) s old new at known is done now = tt
+  op_keeps fsm.WouldInstall (fsm.Failed f) s old new at known is done now = tt
+  op_keeps fsm.Rejected (fsm.Failed f) s old new at known is done now = tt
+  op_keeps fsm.RemoveFiles (fsm.Failed f) s old new at known is done now =
+      holds_if_some (fsm.is_failure f) (fsm.go fsm.Rejected s) tt
+  op_keeps op (fsm.Failed f) s old new at known is done now =
+      holds_if_some (fsm.is_failure f) (fsm.reject (fsm.failure s.due f) s) (reject (fsm.failure s.due f) s)
+  op_keeps fsm.Lock fsm.InUse s old new at known is done now = reject _ s
+  op_keeps fsm.ReadRecord (fsm.RecordRead found) s old new at known is done now =
       after_record (judge_record s.options found) s
-  keeps due.ReadSignature (due.SignatureRead text other) s old new at known is done now =
+  op_keeps fsm.ReadSignature (fsm.SignatureRead text other) s old new at known is done now =
       after_signature (judge_text s.options text) other s known.0 now (rw (known.0, done.0) refl)
-  keeps due.CheckComment (due.Answered true) s old new at known is done now = after_comment s.fault s is
-  keeps due.CheckComment (due.Answered false) s old new at known is done now = next_key s.signers s at is
-  keeps due.ReadList (due.ListRead list name) s old new at known is done now = is
-  keeps due.CheckList (due.Answered true) s old new at known is done now =
+  op_keeps fsm.CheckComment (fsm.Answered true) s old new at known is done now = after_comment s.fault s is
+  op_keeps fsm.CheckComment (fsm.Answered false) s old new at known is done now = next_key s.signers s at is
+  op_keeps fsm.ReadList (fsm.ListRead list name) s old new at known is done now = is
+  op_keeps fsm.CheckList (fsm.Answered true) s old new at known is done now =
       after_listing s.listing.listed (record s { is_list_signed = true }) is
-  keeps due.CheckList (due.Answered false) s old new at known is done now = reject _ s
-  keeps due.CheckRecord (due.Answered accepted) s old new at known is done now = after_digest accepted s is
-  keeps due.ReadTarget (due.PieceRead bytes) s old new at known is done now = rw at is
-  keeps due.ReadTarget due.TargetMissing s old new at known is done now = install s is
-  keeps due.CheckTarget (due.Answered accepted) s old new at known is done now =
-      after_target (accepted && due.is_listed s) s is
-  keeps due.CopyData (due.PieceCopied n) s old new at known is done now = after_piece n s.left s at is
-  keeps due.CopyData due.Done s old new at known is done now = after_copy s.left s is
-  keeps due.ReadBack (due.PieceRead bytes) s old new at known is done now = rw at is
-  keeps due.CheckData (due.Answered true) s old new at known is done now = after_data (due.is_listed s) s is
-  keeps due.CheckData (due.Answered false) s old new at known is done now = reject _ s
-  keeps due.Lock due.Done s old new at known is done now = tt
-  keeps due.RemoveFiles due.Done s old new at known is done now = tt
-  keeps due.ReadTarget due.Done s old new at known is done now = is
-  keeps due.SyncTarget due.Done s old new at known is done now = is
-  keeps due.SyncTargetName due.Done s old new at known is done now = is
-  keeps due.RemoveLeftovers due.Done s old new at known is done now = is
-  keeps due.CreateFile due.Done s old new at known is done now = is
-  keeps due.ReadBack due.Done s old new at known is done now = is
-  keeps due.SetPermissions due.Done s old new at known is done now = is
-  keeps due.SyncFile due.Done s old new at known is done now = is
-  keeps due.CreateRecord due.Done s old new at known is done now = is
-  keeps due.WriteRecord due.Done s old new at known is done now = is
-  keeps due.SyncRecord due.Done s old new at known is done now = is
-  keeps due.RenameRecord due.Done s old new at known is done now = is
-  keeps due.SyncRecordName due.Done s old new at known is done now = is
-  keeps due.RenameFile due.Done s old new at known is done now = is
-  keeps due.SyncFileName due.Done s old new at known is done now = is
-  keeps op e s old new at known is done now = tt
+  op_keeps fsm.CheckList (fsm.Answered false) s old new at known is done now = reject _ s
+  op_keeps fsm.CheckRecord (fsm.Answered accepted) s old new at known is done now = after_digest accepted s is
+  op_keeps fsm.ReadTarget (fsm.PieceRead bytes) s old new at known is done now = rw at is
+  op_keeps fsm.ReadTarget fsm.TargetMissing s old new at known is done now = install s is
+  op_keeps fsm.CheckTarget (fsm.Answered accepted) s old new at known is done now =
+      after_target (accepted && fsm.is_listed s) s is
+  op_keeps fsm.CopyData (fsm.PieceCopied n) s old new at known is done now = after_piece n s.left s at is
+  op_keeps fsm.CopyData fsm.Done s old new at known is done now = after_copy s.left s is
+  op_keeps fsm.ReadBack (fsm.PieceRead bytes) s old new at known is done now = rw at is
+  op_keeps fsm.CheckData (fsm.Answered true) s old new at known is done now =
+      after_data (fsm.is_listed s) s is
+  op_keeps fsm.CheckData (fsm.Answered false) s old new at known is done now = reject _ s
+  op_keeps fsm.Lock fsm.Done s old new at known is done now = tt
+  op_keeps fsm.RemoveFiles fsm.Done s old new at known is done now = tt
+  op_keeps fsm.ReadTarget fsm.Done s old new at known is done now = is
+  op_keeps fsm.SyncTarget fsm.Done s old new at known is done now = is
+  op_keeps fsm.SyncTargetName fsm.Done s old new at known is done now = is
+  op_keeps fsm.RemoveLeftovers fsm.Done s old new at known is done now = is
+  op_keeps fsm.CreateFile fsm.Done s old new at known is done now = is
+  op_keeps fsm.ReadBack fsm.Done s old new at known is done now = is
+  op_keeps fsm.SetPermissions fsm.Done s old new at known is done now = is
+  op_keeps fsm.SyncFile fsm.Done s old new at known is done now = is
+  op_keeps fsm.CreateRecord fsm.Done s old new at known is done now = is
+  op_keeps fsm.WriteRecord fsm.Done s old new at known is done now = is
+  op_keeps fsm.SyncRecord fsm.Done s old new at known is done now = is
+  op_keeps fsm.RenameRecord fsm.Done s old new at known is done now = is
+  op_keeps fsm.SyncRecordName fsm.Done s old new at known is done now = is
+  op_keeps fsm.RenameFile fsm.Done s old new at known is done now = is
+  op_keeps fsm.SyncFileName fsm.Done s old new at known is done now = is
+  op_keeps op e s old new at known is done now = tt
 
   moved : (s : State) (next : Option State) → is_some next ≡ true → IfSome next Holds
       → Holds (answer s next).1
@@ -191,14 +192,14 @@ module _ (w : World) (o : Options) (time : Option ℕ) where
       timely_from (count n c.event) (step s c.event).1 c.after more t end
       (next w o ⊤ ⊥ n s m c known others (λ q. absurd q) fits is (λ found. tt))
       (moved s (after s.due c.event s) fits
-      (keeps s.due c.event s c.before c.after refl (knows w o ⊤ ⊥ n s m known) holds is now)) run rest
+      (op_keeps s.due c.event s c.before c.after refl (knows w o ⊤ ⊥ n s m known) holds is now)) run rest
 
-  starts : (check : Bool) (s : State) → At (if check then due.ReadRecord else due.Lock) s
+  starts : (check : Bool) (s : State) → At (if check then fsm.ReadRecord else fsm.Lock) s
   starts true s = tt
   starts false s = tt
 
-  judged_at : (op : Operation) (s : State) → At op s → op ≡ due.CheckComment → IsTimely s
-  judged_at due.CheckComment s holds is = holds
+  judged_at : (op : Operation) (s : State) → At op s → op ≡ fsm.CheckComment → IsTimely s
+  judged_at fsm.CheckComment s holds is = holds
   judged_at op s holds is = cc is
 
   fault_is : (s : State) → IsTimely s → s.fault ≡ None → (text : SignatureTextRecord) → w.text ≡ Ok text
@@ -208,37 +209,37 @@ module _ (w : World) (o : Options) (time : Option ℕ) where
   accepted_at : (op : Operation) (s : State) → At op s → Known w o op s → is_past_comment op ≡ true
       → (text : SignatureTextRecord) → w.text ≡ Ok text
       → comment_fault o s.recorded.version time text.comments.trusted ≡ None
-  accepted_at due.ReadList s holds known is = fault_is s holds known.0.1
-  accepted_at due.CheckList s holds known is = fault_is s holds known.0.0.1
-  accepted_at due.CheckRecord s holds known is = fault_is s holds known.0.1
-  accepted_at due.ReadTarget s holds known is = fault_is s holds known.0.1
-  accepted_at due.CheckTarget s holds known is = fault_is s holds known.0.1
-  accepted_at due.SyncTarget s holds known is = fault_is s holds known.0.1
-  accepted_at due.SyncTargetName s holds known is = fault_is s holds known.0.1
-  accepted_at due.AlreadyInstalled s holds known is = fault_is s holds known.0.1
-  accepted_at due.RemoveLeftovers s holds known is = fault_is s holds known.0.1
-  accepted_at due.CreateFile s holds known is = fault_is s holds known.0.1
-  accepted_at due.CopyData s holds known is = fault_is s holds known.0.1
-  accepted_at due.ReadBack s holds known is = fault_is s holds known.0.1
-  accepted_at due.CheckData s holds known is = fault_is s holds known.0.1
-  accepted_at due.WouldInstall s holds known is = fault_is s holds known.0.1
-  accepted_at due.SetPermissions s holds known is = fault_is s holds known.0.0.1
-  accepted_at due.SyncFile s holds known is = fault_is s holds known.0.0.1
-  accepted_at due.CreateRecord s holds known is = fault_is s holds known.0.0.1
-  accepted_at due.WriteRecord s holds known is = fault_is s holds known.0.0.1
-  accepted_at due.SyncRecord s holds known is = fault_is s holds known.0.0.1
-  accepted_at due.RenameRecord s holds known is = fault_is s holds known.0.0.1
-  accepted_at due.SyncRecordName s holds known is = fault_is s holds known.0.0.1
-  accepted_at due.RenameFile s holds known is = fault_is s holds known.0.0.1
-  accepted_at due.SyncFileName s holds known is = fault_is s holds known.0.0.1
-  accepted_at due.Installed s holds known is = fault_is s holds known.0.0.1
+  accepted_at fsm.ReadList s holds known is = fault_is s holds known.0.1
+  accepted_at fsm.CheckList s holds known is = fault_is s holds known.0.0.1
+  accepted_at fsm.CheckRecord s holds known is = fault_is s holds known.0.1
+  accepted_at fsm.ReadTarget s holds known is = fault_is s holds known.0.1
+  accepted_at fsm.CheckTarget s holds known is = fault_is s holds known.0.1
+  accepted_at fsm.SyncTarget s holds known is = fault_is s holds known.0.1
+  accepted_at fsm.SyncTargetName s holds known is = fault_is s holds known.0.1
+  accepted_at fsm.AlreadyInstalled s holds known is = fault_is s holds known.0.1
+  accepted_at fsm.RemoveLeftovers s holds known is = fault_is s holds known.0.1
+  accepted_at fsm.CreateFile s holds known is = fault_is s holds known.0.1
+  accepted_at fsm.CopyData s holds known is = fault_is s holds known.0.1
+  accepted_at fsm.ReadBack s holds known is = fault_is s holds known.0.1
+  accepted_at fsm.CheckData s holds known is = fault_is s holds known.0.1
+  accepted_at fsm.WouldInstall s holds known is = fault_is s holds known.0.1
+  accepted_at fsm.SetPermissions s holds known is = fault_is s holds known.0.0.1
+  accepted_at fsm.SyncFile s holds known is = fault_is s holds known.0.0.1
+  accepted_at fsm.CreateRecord s holds known is = fault_is s holds known.0.0.1
+  accepted_at fsm.WriteRecord s holds known is = fault_is s holds known.0.0.1
+  accepted_at fsm.SyncRecord s holds known is = fault_is s holds known.0.0.1
+  accepted_at fsm.RenameRecord s holds known is = fault_is s holds known.0.0.1
+  accepted_at fsm.SyncRecordName s holds known is = fault_is s holds known.0.0.1
+  accepted_at fsm.RenameFile s holds known is = fault_is s holds known.0.0.1
+  accepted_at fsm.SyncFileName s holds known is = fault_is s holds known.0.0.1
+  accepted_at fsm.Installed s holds known is = fault_is s holds known.0.0.1
   accepted_at op s holds known is = absurd (true≢false (sym is))
 
 -- When the question about the comment is due, `fault` is the result of checking the comment at the time that
 -- was passed in.
 pub judged_in_time : (w : World) (o : Options) (m : Snapshot) (calls : List Call) (t : State) (end : Snapshot)
     (time : Option ℕ) → Applies w (begin o) m calls t end → AllEvents (IsAtTime time) calls
-    → t.due ≡ due.CheckComment → (text : SignatureTextRecord) → w.text ≡ Ok text
+    → t.due ≡ fsm.CheckComment → (text : SignatureTextRecord) → w.text ≡ Ok text
     → t.fault ≡ comment_fault o t.recorded.version time text.comments.trusted
 judged_in_time w o m calls t end time run now is =
     let (holds, (k, known)) = timely_from w o time 0 (begin o) m calls t end (begins w o ⊤ ⊥ m)

@@ -27,7 +27,7 @@ use Rattle.minisign_install.specs.Step.{Event, Operation, State, after, answer, 
 use Rattle.minisign_install.proofs.SafeCalls.{Invariant, knows, next}
 use Rattle.minisign_install.proofs.SafeCalls as safe_calls
 use Rattle.minisign_install.proofs.StepSafety.{Known, Passed, text_parsed}
-use Rattle.minisign_install.specs.Step as due
+use Rattle.minisign_install.specs.Step as fsm
 use Rattle.minisign_install.specs.StepRuns.{World, count}
 use Rattle.minisign_install.specs.Traces.{FollowerHolds, IsFollowed, IsLawful, StateKnows, calls_of, changed}
 use Rattle.minisign_install.specs.Traces.{event_of}
@@ -62,9 +62,9 @@ bytes_are (Some file) None is = absurd (none-some (seen file) (sym is))
 bytes_are None (Some v) is = absurd (none-some (seen_as v) is)
 bytes_are None None is = refl
 
-both : (a b : Bool) → (a && b) ≡ true → (a ≡ true) × (b ≡ true)
-both true b is = (refl, is)
-both false b is = absurd (true≢false (sym is))
+and_parts : (a b : Bool) → (a && b) ≡ true → (a ≡ true) × (b ≡ true)
+and_parts true b is = (refl, is)
+and_parts false b is = absurd (true≢false (sym is))
 
 is_not : (b : Bool) → not b ≡ true → b ≡ false
 is_not true is = absurd (true≢false (sym is))
@@ -75,7 +75,7 @@ pub file_is_read : (place : Option File) (v : Option FileView) (number : ℕ) (r
     → (file : File) × (place ≡ Some file) × (file.bytes ≡ read) × (number ≡ file.number)
 file_is_read (Some file) (Some v) number read is holds =
     let one = same_Some (seen file) (seen_as v) is in
-    let (same, equal) = both (v.number == number) (bytes_eq v.bytes.now read) holds in (
+    let (same, equal) = and_parts (v.number == number) (bytes_eq v.bytes.now read) holds in (
       file,
       refl,
       ap (λ (x : Seen). x.bytes) one ∙ same_bytes v.bytes.now read equal,
@@ -88,51 +88,51 @@ file_is_read None None number read is holds = absurd (true≢false (sym holds))
 -- == Operations that are done, and that have failed ==
 
 plain_performs : (w : World) (s : State) (op : Operation) (did : Effect) (m : Snapshot)
-    → is_plain op did ≡ true → Performs w s op due.Done m (affected did m)
-plain_performs w s due.SyncTarget effect.TargetSynced m is = refl
-plain_performs w s due.SyncTargetName effect.NamesSynced m is = refl
-plain_performs w s due.RemoveLeftovers effect.LeftoversRemoved m is = refl
-plain_performs w s due.CreateFile (effect.DataCreated number) m is = (number, refl)
-plain_performs w s due.SetPermissions effect.DataPermitted m is = refl
-plain_performs w s due.SyncFile effect.DataSynced m is = refl
-plain_performs w s due.CreateRecord (effect.RecordCreated number) m is = (number, refl)
-plain_performs w s due.SyncRecord effect.RecordSynced m is = refl
-plain_performs w s due.RenameRecord effect.RecordRenamed m is = refl
-plain_performs w s due.SyncRecordName effect.NamesSynced m is = refl
-plain_performs w s due.RenameFile effect.DataRenamed m is = refl
-plain_performs w s due.SyncFileName effect.NamesSynced m is = refl
-plain_performs w s due.RemoveFiles effect.FilesRemoved m is = refl
+    → is_plain op did ≡ true → Performs w s op fsm.Done m (affected did m)
+plain_performs w s fsm.SyncTarget effect.TargetSynced m is = refl
+plain_performs w s fsm.SyncTargetName effect.NamesSynced m is = refl
+plain_performs w s fsm.RemoveLeftovers effect.LeftoversRemoved m is = refl
+plain_performs w s fsm.CreateFile (effect.DataCreated number) m is = (number, refl)
+plain_performs w s fsm.SetPermissions effect.DataPermitted m is = refl
+plain_performs w s fsm.SyncFile effect.DataSynced m is = refl
+plain_performs w s fsm.CreateRecord (effect.RecordCreated number) m is = (number, refl)
+plain_performs w s fsm.SyncRecord effect.RecordSynced m is = refl
+plain_performs w s fsm.RenameRecord effect.RecordRenamed m is = refl
+plain_performs w s fsm.SyncRecordName effect.NamesSynced m is = refl
+plain_performs w s fsm.RenameFile effect.DataRenamed m is = refl
+plain_performs w s fsm.SyncFileName effect.NamesSynced m is = refl
+plain_performs w s fsm.RemoveFiles effect.FilesRemoved m is = refl
 plain_performs w s op did m is = absurd (true≢false (sym is))
 
 pub done_performs : (w : World) (s : State) (op : Operation) (did : Effect) (f : Files) (m : Snapshot)
     (read update : List ℕ) → AreFilesOf f m → read ≡ s.read → w.update ≡ update
-    → is_done op did f read update ≡ true → Performs w s op due.Done m (affected did m)
-done_performs w s due.Lock effect.Locked f m read update present same offered is =
+    → is_done op did f read update ≡ true → Performs w s op fsm.Done m (affected did m)
+done_performs w s fsm.Lock effect.Locked f m read update present same offered is =
     (present.busy ∙ is_not f.is_busy is, refl)
-done_performs w s due.ReadTarget (effect.TargetOpened number) f m read update present same offered is =
+done_performs w s fsm.ReadTarget (effect.TargetOpened number) f m read update present same offered is =
     let (file, at, holds, one) = file_is_read m.target f.target number read present.target is in
     (file, at, holds ∙ same, ap (λ (n : ℕ). record m { opened = Some n }) one)
-done_performs w s due.CopyData effect.Nothing f m read update present same offered is =
+done_performs w s fsm.CopyData effect.Nothing f m read update present same offered is =
     (bytes_are m.data_file f.data_file present.data_file ∙ same_bytes _ update is ∙ sym offered, refl)
-done_performs w s due.ReadBack effect.Nothing f m read update present same offered is =
+done_performs w s fsm.ReadBack effect.Nothing f m read update present same offered is =
     (sym same ∙ same_bytes read _ is ∙ sym (bytes_are m.data_file f.data_file present.data_file), refl)
 done_performs w s op did f m read update present same offered is = plain_performs w s op did m is
 
 pub failed_performs : (w : World) (s : State) (op : Operation) (f : NamedFault) (did : Effect) (m : Snapshot)
-    → has_failed op did ≡ true → Performs w s op (due.Failed f) m (affected did m)
-failed_performs w s due.RenameRecord f effect.RecordRenamed m is = inr refl
-failed_performs w s due.RenameRecord f effect.Nothing m is = inl refl
-failed_performs w s due.RenameFile f effect.DataRenamed m is = inr refl
-failed_performs w s due.RenameFile f effect.Nothing m is = inl refl
-failed_performs w s due.RemoveFiles f effect.FilesRemoved m is = (None, None, refl)
-failed_performs w s due.RemoveFiles f effect.Nothing m is = (m.data_file, m.record_file, refl)
-failed_performs w s due.CreateFile f effect.Nothing m is = (m.data_file, refl)
-failed_performs w s due.CopyData f effect.Nothing m is = (m.data_file, refl)
-failed_performs w s due.SetPermissions f effect.Nothing m is = (m.data_file, refl)
-failed_performs w s due.SyncFile f effect.Nothing m is = (m.data_file, refl)
-failed_performs w s due.CreateRecord f effect.Nothing m is = (m.record_file, refl)
-failed_performs w s due.WriteRecord f effect.Nothing m is = (m.record_file, refl)
-failed_performs w s due.SyncRecord f effect.Nothing m is = (m.record_file, refl)
+    → has_failed op did ≡ true → Performs w s op (fsm.Failed f) m (affected did m)
+failed_performs w s fsm.RenameRecord f effect.RecordRenamed m is = inr refl
+failed_performs w s fsm.RenameRecord f effect.Nothing m is = inl refl
+failed_performs w s fsm.RenameFile f effect.DataRenamed m is = inr refl
+failed_performs w s fsm.RenameFile f effect.Nothing m is = inl refl
+failed_performs w s fsm.RemoveFiles f effect.FilesRemoved m is = (None, None, refl)
+failed_performs w s fsm.RemoveFiles f effect.Nothing m is = (m.data_file, m.record_file, refl)
+failed_performs w s fsm.CreateFile f effect.Nothing m is = (m.data_file, refl)
+failed_performs w s fsm.CopyData f effect.Nothing m is = (m.data_file, refl)
+failed_performs w s fsm.SetPermissions f effect.Nothing m is = (m.data_file, refl)
+failed_performs w s fsm.SyncFile f effect.Nothing m is = (m.data_file, refl)
+failed_performs w s fsm.CreateRecord f effect.Nothing m is = (m.record_file, refl)
+failed_performs w s fsm.WriteRecord f effect.Nothing m is = (m.record_file, refl)
+failed_performs w s fsm.SyncRecord f effect.Nothing m is = (m.record_file, refl)
 failed_performs w s op f effect.Nothing m is = refl
 failed_performs w s op f did m is = absurd (true≢false (sym is))
 
@@ -150,9 +150,9 @@ pub fits : (s : State) (e : Event) (r : Result Unit (Refusal InstallFault)) (is_
 fits s e r is_due same wrong is = answered_fits s (after s.due e s) r is_due same wrong is
 
 pub signature_is : (w : World) (s : State) (op : Operation) (text : Result SignatureTextRecord Fault)
-    (time : Option ℕ) (old new : Snapshot) → Performs w s op (due.SignatureRead text time) old new
-    → (op ≡ due.ReadSignature) × (text ≡ w.text)
-signature_is w s due.ReadSignature text time old new is = (refl, is.0)
+    (time : Option ℕ) (old new : Snapshot) → Performs w s op (fsm.SignatureRead text time) old new
+    → (op ≡ fsm.ReadSignature) × (text ≡ w.text)
+signature_is w s fsm.ReadSignature text time old new is = (refl, is.0)
 signature_is w s op text time old new is = absurd is
 
 -- == The message of the question ==
@@ -164,15 +164,15 @@ same_ok : (t u : SignatureTextRecord) → ok t ≡ ok u → t ≡ u
 same_ok t u is = cc is
 
 -- A world with this signature file and no other inputs. The lemma text_parsed holds for every world.
-abbrev nothing_found : Result SignatureTextRecord Fault → World
-nothing_found text = record {
+abbrev world_of_text : Result SignatureTextRecord Fault → World
+world_of_text text = record {
   accepts = λ message key signature. false;
   found_record = None;
   text = text;
   update = [];
   list = [];
   name = [];
-  most = 0;
+  max_size = 0;
 }
 
 written : (o : Options) (text : Result SignatureTextRecord Fault) (judged : Passed) (n : ℕ)
@@ -180,7 +180,7 @@ written : (o : Options) (text : Result SignatureTextRecord Fault) (judged : Pass
     → 0 < n → (t : SignatureTextRecord) → text ≡ Ok t
     → take n now ≡ t.signature.signature ++ t.comments.trusted
 written o text (Ok (u, keys)) n before now judged (long, room, is, rest) some t parsed =
-    let one = same_ok u t (sym (text_parsed (nothing_found text) o text u keys judged) ∙ parsed) in
+    let one = same_ok u t (sym (text_parsed (world_of_text text) o text u keys judged) ∙ parsed) in
     is ∙ ap (λ (x : SignatureTextRecord). x.signature.signature ++ x.comments.trusted) one
 written o text (Err e) n before now judged (none, same) some t parsed = absurd (omega (arith, none, some))
 
@@ -195,39 +195,39 @@ message_is w s text n before now is has =
 message_of : (o : Options) (text : Result SignatureTextRecord Fault) (judged : Passed) (n : ℕ)
     (before now : List ℕ) → judge_text o text ≡ judged → HasMessage (comment_message judged) n before now
     → (t : SignatureTextRecord) → text ≡ Ok t → (op : Operation)
-    → (IfErr judged (λ e. op ≡ due.CheckComment → ⊥)) → op ≡ due.CheckComment
+    → (IfErr judged (λ e. op ≡ fsm.CheckComment → ⊥)) → op ≡ fsm.CheckComment
     → (n ≡ length (t.signature.signature ++ t.comments.trusted)) × (n ≤ length now)
 message_of o text (Ok (u, keys)) n before now judged (long, room, is, rest) t parsed op not at =
-    let one = same_ok u t (sym (text_parsed (nothing_found text) o text u keys judged) ∙ parsed) in
+    let one = same_ok u t (sym (text_parsed (world_of_text text) o text u keys judged) ∙ parsed) in
     (long ∙ ap (λ (x : SignatureTextRecord). length (x.signature.signature ++ x.comments.trusted)) one, room)
 message_of o text (Err e) n before now judged has t parsed op not at = absurd (not at)
 
-not_asked : (is : Bool) → (if is then due.RemoveFiles else due.Rejected) ≡ due.CheckComment → ⊥
+not_asked : (is : Bool) → (if is then fsm.RemoveFiles else fsm.Rejected) ≡ fsm.CheckComment → ⊥
 not_asked true = λ at. cc at
 not_asked false = λ at. cc at
 
 not_due : (judged : Passed) (time : Option ℕ) (s : State)
-    → IfErr judged (λ e. (due.after_signature judged time s).due ≡ due.CheckComment → ⊥)
+    → IfErr judged (λ e. (fsm.after_signature judged time s).due ≡ fsm.CheckComment → ⊥)
 not_due (Ok (t, keys)) time s = tt
-not_due (Err e) time s = not_asked (due.has_files s.due)
+not_due (Err e) time s = not_asked (fsm.has_files s.due)
 
 due_after : (s : State) (op : Operation) (text : Result SignatureTextRecord Fault) (time : Option ℕ)
-    → op ≡ due.ReadSignature
-    → (answer s (after op (due.SignatureRead text time) s)).1
-    ≡ due.after_signature (judge_text s.options text) time s
-due_after s due.ReadSignature text time is = refl
+    → op ≡ fsm.ReadSignature
+    → (answer s (after op (fsm.SignatureRead text time) s)).1
+    ≡ fsm.after_signature (judge_text s.options text) time s
+due_after s fsm.ReadSignature text time is = refl
 due_after s op text time is = cc is
 
 -- If the question about the comment is due next, all of its message is in the buffer.
 pub whole_is : (w : World) (s : State) (text : List ℕ) (time : Option ℕ) (n : ℕ) (before now : List ℕ)
-    → w.text ≡ read_utf8 read_signature text → s.due ≡ due.ReadSignature
+    → w.text ≡ read_utf8 read_signature text → s.due ≡ fsm.ReadSignature
     → HasMessage (comment_message (judged_text s text)) n before now
-    → IsWhole w (step s (due.SignatureRead (read_utf8 read_signature text) time)).1.due n now
+    → IsWhole w (step s (fsm.SignatureRead (read_utf8 read_signature text) time)).1.due n now
 whole_is w s text time n before now is at has =
     λ asked t parsed.
     let next = due_after s s.due (read_utf8 read_signature text) time at in
     message_of s.options (read_utf8 read_signature text) (judged_text s text) n before now refl has t
-    (sym is ∙ parsed) (due.after_signature (judged_text s text) time s).due
+    (sym is ∙ parsed) (fsm.after_signature (judged_text s text) time s).due
     (not_due (judged_text s text) time s) (sym (ap (λ (x : State). x.due) next) ∙ asked)
 
 -- == Steps ==
@@ -241,9 +241,9 @@ pub if_some : {A : Type 0} (r : Option A) (P Q : A → Type 0) → ((x : A) → 
 if_some (Some x) P Q leads holds = leads x holds
 if_some None P Q leads holds = tt
 
-pub nothing_is : (did : Effect) → is_nothing did ≡ true → did ≡ effect.Nothing
-nothing_is effect.Nothing is = refl
-nothing_is did is = absurd (true≢false (sym is))
+pub is_nothing_effect : (did : Effect) → is_nothing did ≡ true → did ≡ effect.Nothing
+is_nothing_effect effect.Nothing is = refl
+is_nothing_effect did is = absurd (true≢false (sym is))
 
 pub not_growing : (did : Effect) → ((piece : Bor (List ℕ)) → did ≢ effect.DataGrown piece)
     → is_growing did ≡ false
@@ -283,19 +283,19 @@ abbrev Keeps : List ℕ → State → Type 0
 Keeps read t = t.read ≡ (if installs t.due then [] else read)
 
 rejected : (is : Bool) (fault : InstallFault) (s : State)
-    → Keeps s.read (record s { due = if is then due.RemoveFiles else due.Rejected; error = Some fault })
+    → Keeps s.read (record s { due = if is then fsm.RemoveFiles else fsm.Rejected; error = Some fault })
 rejected true fault s = refl
 rejected false fault s = refl
 
-reject : (fault : InstallFault) (s : State) → Keeps s.read (due.reject fault s)
-reject fault s = rejected (due.has_files s.due) fault s
+reject : (fault : InstallFault) (s : State) → Keeps s.read (fsm.reject fault s)
+reject fault s = rejected (fsm.has_files s.due) fault s
 
 begins : (check : Bool) (read : List ℕ) (s : State)
-    → Keeps read (record s { due = if check then due.WouldInstall else due.RemoveLeftovers; read = [] })
+    → Keeps read (record s { due = if check then fsm.WouldInstall else fsm.RemoveLeftovers; read = [] })
 begins true read s = refl
 begins false read s = refl
 
-install : (s : State) → Keeps s.read (due.install s)
+install : (s : State) → Keeps s.read (fsm.install s)
 install s = begins s.options.check s.read s
 
 either : (is : Bool) (read : List ℕ) (x y : State) → Keeps read x → Keeps read y
@@ -303,125 +303,125 @@ either : (is : Bool) (read : List ℕ) (x y : State) → Keeps read x → Keeps 
 either true read x y one other = one
 either false read x y one other = other
 
-compare : (s : State) → Keeps s.read (due.compare s)
+compare : (s : State) → Keeps s.read (fsm.compare s)
 compare s =
-    let older = either (due.is_rolling_back s) s.read (due.install s) (due.go due.ReadTarget s) (install s)
+    let older = either (fsm.is_rolling_back s) s.read (fsm.install s) (fsm.go fsm.ReadTarget s) (install s)
     refl in
-    let same = either (is_some s.recorded.digest) s.read (due.go due.CheckRecord s)
-    (if due.is_rolling_back s then due.install s else due.go due.ReadTarget s) refl older in
-    either (due.is_newer s) s.read (due.install s) (if is_some s.recorded.digest then due.go due.CheckRecord s
-    else if due.is_rolling_back s then due.install s else due.go due.ReadTarget s) (install s) same
+    let same = either (is_some s.recorded.digest) s.read (fsm.go fsm.CheckRecord s)
+    (if fsm.is_rolling_back s then fsm.install s else fsm.go fsm.ReadTarget s) refl older in
+    either (fsm.is_newer s) s.read (fsm.install s) (if is_some s.recorded.digest then fsm.go fsm.CheckRecord s
+    else if fsm.is_rolling_back s then fsm.install s else fsm.go fsm.ReadTarget s) (install s) same
 
-after_record : (r : Result Recorded InstallFault) (s : State) → Keeps s.read (due.after_record r s)
+after_record : (r : Result Recorded InstallFault) (s : State) → Keeps s.read (fsm.after_record r s)
 after_record (Ok r) s = refl
 after_record (Err fault) s = reject fault s
 
-after_signature : (r : Passed) (time : Option ℕ) (s : State) → Keeps s.read (due.after_signature r time s)
+after_signature : (r : Passed) (time : Option ℕ) (s : State) → Keeps s.read (fsm.after_signature r time s)
 after_signature (Ok (t, keys)) time s = refl
 after_signature (Err fault) time s = reject (Library fault) s
 
 after_comment : (fault : Option InstallFault) (s : State)
-    → Keeps s.read (due.after_comment fault (record s { is_signed = true }))
+    → Keeps s.read (fsm.after_comment fault (record s { is_signed = true }))
 after_comment None s =
-    either (is_some s.options.list) s.read (due.go due.ReadList (record s { is_signed = true }))
-    (due.compare (record s { is_signed = true })) refl (compare (record s { is_signed = true }))
+    either (is_some s.options.list) s.read (fsm.go fsm.ReadList (record s { is_signed = true }))
+    (fsm.compare (record s { is_signed = true })) refl (compare (record s { is_signed = true }))
 after_comment (Some fault) s = reject fault (record s { is_signed = true })
 
-next_key : (signers : List PublicKeyValue) (s : State) → s.due ≡ due.CheckComment
-    → Keeps s.read (due.next_key signers s)
+next_key : (signers : List PublicKeyValue) (s : State) → s.due ≡ fsm.CheckComment
+    → Keeps s.read (fsm.next_key signers s)
 next_key [] s at = reject (Library (Named named.CommentSignatureRefused)) s
 next_key (v ∷ []) s at = reject (Library (Named named.CommentSignatureRefused)) s
 next_key (v ∷ u ∷ more) s at = rw at refl
 
 after_listing : (listed : Result ListedDigest InstallFault) (s : State)
-    → Keeps s.read (due.after_listing listed s)
+    → Keeps s.read (fsm.after_listing listed s)
 after_listing (Ok digest) s = compare s
 after_listing (Err fault) s = reject fault s
 
-after_data : (listed : Bool) (s : State) → Keeps s.read (due.after_data listed s)
+after_data : (listed : Bool) (s : State) → Keeps s.read (fsm.after_data listed s)
 after_data true s = refl
 after_data false s = reject DigestMismatch s
 
-after_digest : (accepted : Bool) (s : State) → Keeps s.read (due.after_digest accepted s)
+after_digest : (accepted : Bool) (s : State) → Keeps s.read (fsm.after_digest accepted s)
 after_digest accepted s =
-    either (not accepted && due.is_rolling_back s) s.read (due.install s)
-    (record s { due = due.ReadTarget; is_recorded = accepted }) (install s) refl
+    either (not accepted && fsm.is_rolling_back s) s.read (fsm.install s)
+    (record s { due = fsm.ReadTarget; is_recorded = accepted }) (install s) refl
 
 target_is_update : (check : Bool) (s : State)
-    → Keeps s.read (due.go (if check then due.AlreadyInstalled else due.SyncTarget) s)
+    → Keeps s.read (fsm.go (if check then fsm.AlreadyInstalled else fsm.SyncTarget) s)
 target_is_update true s = refl
 target_is_update false s = refl
 
-after_target : (accepted : Bool) (s : State) → Keeps s.read (due.after_target accepted s)
+after_target : (accepted : Bool) (s : State) → Keeps s.read (fsm.after_target accepted s)
 after_target true s = target_is_update s.options.check s
 after_target false s =
-    either (s.is_recorded || s.options.again) s.read (due.install s) (due.reject SameNumber s) (install s)
+    either (s.is_recorded || s.options.again) s.read (fsm.install s) (fsm.reject SameNumber s) (install s)
     (reject SameNumber s)
 
-after_piece : (n : ℕ) (left : Option ℕ) (s : State) → s.due ≡ due.CopyData
-    → Keeps s.read (due.after_piece n left s)
+after_piece : (n : ℕ) (left : Option ℕ) (s : State) → s.due ≡ fsm.CopyData
+    → Keeps s.read (fsm.after_piece n left s)
 after_piece n None s at = rw at refl
 after_piece n (Some left) s at =
-    either (nat_le n left) s.read (record s { left = Some (left - n) }) (due.reject OtherSize s) (rw at refl)
+    either (nat_le n left) s.read (record s { left = Some (left - n) }) (fsm.reject OtherSize s) (rw at refl)
     (reject OtherSize s)
 
-after_copy : (left : Option ℕ) (s : State) → Keeps s.read (due.after_copy left s)
+after_copy : (left : Option ℕ) (s : State) → Keeps s.read (fsm.after_copy left s)
 after_copy None s = refl
 after_copy (Some left) s =
-    either (left == 0) s.read (due.go due.ReadBack s) (due.reject OtherSize s) refl (reject OtherSize s)
+    either (left == 0) s.read (fsm.go fsm.ReadBack s) (fsm.reject OtherSize s) refl (reject OtherSize s)
 
-maybe : (is : Bool) (e : Event) (read : List ℕ) (t : State) → Reads e read t
+holds_if_some : (is : Bool) (e : Event) (read : List ℕ) (t : State) → Reads e read t
     → IfSome (if is then Some t else None) (Reads e read)
-maybe true e read t holds = holds
-maybe false e read t holds = tt
+holds_if_some true e read t holds = holds
+holds_if_some false e read t holds = tt
 
 reads : (op : Operation) (e : Event) (s : State) → s.due ≡ op → IfSome (after op e s) (Reads e s.read)
-reads due.Nothing (due.Failed f) s at = tt
-reads due.Installed (due.Failed f) s at = tt
-reads due.AlreadyInstalled (due.Failed f) s at = tt
-reads due.WouldInstall (due.Failed f) s at = tt
-reads due.Rejected (due.Failed f) s at = tt
-reads due.RemoveFiles (due.Failed f) s at =
-    maybe (due.is_failure f) (due.Failed f) s.read (due.go due.Rejected s) refl
-reads op (due.Failed f) s at =
-    maybe (due.is_failure f) (due.Failed f) s.read (due.reject (due.failure s.due f) s)
-    (reject (due.failure s.due f) s)
-reads due.Lock due.InUse s at = reject TargetInUse s
-reads due.ReadRecord (due.RecordRead found) s at = after_record (judge_record s.options found) s
-reads due.ReadSignature (due.SignatureRead text time) s at =
+reads fsm.Nothing (fsm.Failed f) s at = tt
+reads fsm.Installed (fsm.Failed f) s at = tt
+reads fsm.AlreadyInstalled (fsm.Failed f) s at = tt
+reads fsm.WouldInstall (fsm.Failed f) s at = tt
+reads fsm.Rejected (fsm.Failed f) s at = tt
+reads fsm.RemoveFiles (fsm.Failed f) s at =
+    holds_if_some (fsm.is_failure f) (fsm.Failed f) s.read (fsm.go fsm.Rejected s) refl
+reads op (fsm.Failed f) s at =
+    holds_if_some (fsm.is_failure f) (fsm.Failed f) s.read (fsm.reject (fsm.failure s.due f) s)
+    (reject (fsm.failure s.due f) s)
+reads fsm.Lock fsm.InUse s at = reject TargetInUse s
+reads fsm.ReadRecord (fsm.RecordRead found) s at = after_record (judge_record s.options found) s
+reads fsm.ReadSignature (fsm.SignatureRead text time) s at =
     after_signature (judge_text s.options text) time s
-reads due.CheckComment (due.Answered true) s at = after_comment s.fault s
-reads due.CheckComment (due.Answered false) s at = next_key s.signers s at
-reads due.ReadList (due.ListRead list name) s at = refl
-reads due.CheckList (due.Answered true) s at =
+reads fsm.CheckComment (fsm.Answered true) s at = after_comment s.fault s
+reads fsm.CheckComment (fsm.Answered false) s at = next_key s.signers s at
+reads fsm.ReadList (fsm.ListRead list name) s at = refl
+reads fsm.CheckList (fsm.Answered true) s at =
     after_listing s.listing.listed (record s { is_list_signed = true })
-reads due.CheckList (due.Answered false) s at = reject (Library (Named named.SignatureRefused)) s
-reads due.CheckRecord (due.Answered accepted) s at = after_digest accepted s
-reads due.ReadTarget (due.PieceRead bytes) s at = rw at refl
-reads due.ReadTarget due.TargetMissing s at = install s
-reads due.CheckTarget (due.Answered accepted) s at = after_target (accepted && due.is_listed s) s
-reads due.CopyData (due.PieceCopied n) s at = after_piece n s.left s at
-reads due.CopyData due.Done s at = after_copy s.left s
-reads due.ReadBack (due.PieceRead bytes) s at = rw at refl
-reads due.CheckData (due.Answered true) s at = after_data (due.is_listed s) s
-reads due.CheckData (due.Answered false) s at = reject (Library (Named named.SignatureRefused)) s
-reads due.Lock due.Done s at = refl
-reads due.ReadTarget due.Done s at = refl
-reads due.SyncTarget due.Done s at = refl
-reads due.SyncTargetName due.Done s at = refl
-reads due.RemoveLeftovers due.Done s at = refl
-reads due.CreateFile due.Done s at = refl
-reads due.ReadBack due.Done s at = refl
-reads due.SetPermissions due.Done s at = refl
-reads due.SyncFile due.Done s at = refl
-reads due.CreateRecord due.Done s at = refl
-reads due.WriteRecord due.Done s at = refl
-reads due.SyncRecord due.Done s at = refl
-reads due.RenameRecord due.Done s at = refl
-reads due.SyncRecordName due.Done s at = refl
-reads due.RenameFile due.Done s at = refl
-reads due.SyncFileName due.Done s at = refl
-reads due.RemoveFiles due.Done s at = refl
+reads fsm.CheckList (fsm.Answered false) s at = reject (Library (Named named.SignatureRefused)) s
+reads fsm.CheckRecord (fsm.Answered accepted) s at = after_digest accepted s
+reads fsm.ReadTarget (fsm.PieceRead bytes) s at = rw at refl
+reads fsm.ReadTarget fsm.TargetMissing s at = install s
+reads fsm.CheckTarget (fsm.Answered accepted) s at = after_target (accepted && fsm.is_listed s) s
+reads fsm.CopyData (fsm.PieceCopied n) s at = after_piece n s.left s at
+reads fsm.CopyData fsm.Done s at = after_copy s.left s
+reads fsm.ReadBack (fsm.PieceRead bytes) s at = rw at refl
+reads fsm.CheckData (fsm.Answered true) s at = after_data (fsm.is_listed s) s
+reads fsm.CheckData (fsm.Answered false) s at = reject (Library (Named named.SignatureRefused)) s
+reads fsm.Lock fsm.Done s at = refl
+reads fsm.ReadTarget fsm.Done s at = refl
+reads fsm.SyncTarget fsm.Done s at = refl
+reads fsm.SyncTargetName fsm.Done s at = refl
+reads fsm.RemoveLeftovers fsm.Done s at = refl
+reads fsm.CreateFile fsm.Done s at = refl
+reads fsm.ReadBack fsm.Done s at = refl
+reads fsm.SetPermissions fsm.Done s at = refl
+reads fsm.SyncFile fsm.Done s at = refl
+reads fsm.CreateRecord fsm.Done s at = refl
+reads fsm.WriteRecord fsm.Done s at = refl
+reads fsm.SyncRecord fsm.Done s at = refl
+reads fsm.RenameRecord fsm.Done s at = refl
+reads fsm.SyncRecordName fsm.Done s at = refl
+reads fsm.RenameFile fsm.Done s at = refl
+reads fsm.SyncFileName fsm.Done s at = refl
+reads fsm.RemoveFiles fsm.Done s at = refl
 reads op e s at = tt
 
 moved : (s : State) (next : Option State) (e : Event) → is_some next ≡ true → IfSome next (Reads e s.read)
@@ -453,22 +453,22 @@ known_from w o n s m (c ∷ more) t end known (others, fits, is, run) =
     known_from w o (count n c.event) (step s c.event).1 c.after more t end
     (next w o ⊤ ⊥ n s m c known others (λ q. absurd q) fits is (λ found. tt)) run
 
-named_by : (w : World) (o : Options) (op : Operation) (s : State) → Known w o op s → op ≡ due.ReadSignature
+named_by : (w : World) (o : Options) (op : Operation) (s : State) → Known w o op s → op ≡ fsm.ReadSignature
     → s.options.file ≡ o.file
-named_by w o due.ReadSignature s known is = ap (λ (x : Options). x.file) known.0
+named_by w o fsm.ReadSignature s known is = ap (λ (x : Options). x.file) known.0
 named_by w o op s known is = cc is
 
 signature_by : (w : World) (o : Options) (op : Operation) (s : State) → Known w o op s
-    → op ≡ due.CheckComment → (t : SignatureTextRecord) → w.text ≡ Ok t
+    → op ≡ fsm.CheckComment → (t : SignatureTextRecord) → w.text ≡ Ok t
     → s.signature ≡ t.signature.signature
-signature_by w o due.CheckComment s known is t parsed =
+signature_by w o fsm.CheckComment s known is t parsed =
     known.11 ∙ ap (λ (x : SignatureTextRecord). x.signature.signature)
     (same_ok known.0 t (sym known.6 ∙ parsed))
 signature_by w o op s known is t parsed = cc is
 
-parsed_by : (w : World) (o : Options) (op : Operation) (s : State) → Known w o op s → op ≡ due.CheckComment
+parsed_by : (w : World) (o : Options) (op : Operation) (s : State) → Known w o op s → op ≡ fsm.CheckComment
     → (t : SignatureTextRecord) × (w.text ≡ Ok t)
-parsed_by w o due.CheckComment s known is = (known.0, known.6)
+parsed_by w o fsm.CheckComment s known is = (known.0, known.6)
 parsed_by w o op s known is = cc is
 
 -- After a lawful run, StateKnows holds.
@@ -493,8 +493,8 @@ Reached g o m f message front =
     × ((more : List Line) → IsRecorded g (begin o) m [] (front ++ more)
     → IsRecorded g s now f.source.now more)
 
-others_again : (one two three : Snapshot) → Others one two → Others two three → Others one three
-others_again one two three a b = record {
+others_in_sequence : (one two three : Snapshot) → Others one two → Others two three → Others one three
+others_in_sequence one two three a b = record {
   data_stays = b.data_stays ∙ a.data_stays;
   record_stays = b.record_stays ∙ a.record_stays;
   opened_stays = b.opened_stays ∙ a.opened_stays;
@@ -548,7 +548,7 @@ goes_on g o m f h message written front (line.Others other)
       last,
       changed other now,
       run,
-      others_again last now (changed other now) others allowed,
+      others_in_sequence last now (changed other now) others allowed,
       after_it,
       λ more. ap (calls_of m) (append_assoc front (line.Others other ∷ []) more)
           ∙ same (line.Others other ∷ more),

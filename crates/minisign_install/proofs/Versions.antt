@@ -127,7 +127,7 @@ module _ (w : World) (o : Options) (accepts_whole : AcceptsWholeKeys w.accepts) 
   pub update_reads : (s : State) → IsUpdate w o s
       → recorded_version o.numbering (new_record s) ≡ Some (new_version s)
   update_reads s update =
-      rw (sym (ap (λ (x : Options). x.numbering) update.same))
+      rw (sym (ap (λ (x : Options). x.numbering) update.same_options))
       (new_version_reads s (next_bound s update) (next_key_length s update) (update_digest w o s update))
 
   -- The next run with these options, unless they include --first or --new-key, reads the version number and
@@ -139,7 +139,7 @@ module _ (w : World) (o : Options) (accepts_whole : AcceptsWholeKeys w.accepts) 
         digest = Some (signed_digest s);
       })
   own_record s update not_first not_new =
-      next_run_reads o s not_first not_new (sym (ap (λ (x : Options). x.numbering) update.same))
+      next_run_reads o s not_first not_new (sym (ap (λ (x : Options). x.numbering) update.same_options))
       (next_bound s update) (next_key_length s update) (update_digest w o s update)
 
   -- So does a run with other options and other keys.
@@ -151,7 +151,8 @@ module _ (w : World) (o : Options) (accepts_whole : AcceptsWholeKeys w.accepts) 
         digest = Some (signed_digest s);
       })
   later_record p s update same not_first not_new =
-      next_run_reads p s not_first not_new (same ∙ sym (ap (λ (x : Options). x.numbering) update.same))
+      next_run_reads p s not_first not_new (same
+      ∙ sym (ap (λ (x : Options). x.numbering) update.same_options))
       (next_bound s update) (next_key_length s update) (update_digest w o s update)
 
   -- == A step ==
@@ -241,17 +242,18 @@ synced_stays : (place : Option File) (found : Option (List ℕ)) → IsSynced pl
 synced_stays (Some file) found synced (bytes, is, same) = is ∙ ap (λ x. Some x) (same synced)
 synced_stays None found synced is = is
 
-found_after : (old new : Snapshot) (left : List (Option File)) (found : Option (List ℕ)) → Crashes old new
+found_after_crash : (old new : Snapshot) (left : List (Option File)) (found : Option (List ℕ))
+    → Crashes old new
     → new.recorded_left ≡ left → CrashMayLeaveOneOf (new.recorded ∷ left) found → RecordMayBe old found
-found_after old new [] found crash none (inl is) =
+found_after_crash old new [] found crash none (inl is) =
     rw (synced_stays new.recorded found crash.record_on_disk is) crash.record_remains
-found_after old new [] found crash none (inr is) = absurd is
-found_after old new (x ∷ more) found crash none is =
+found_after_crash old new [] found crash none (inr is) = absurd is
+found_after_crash old new (x ∷ more) found crash none is =
     let empty : x ∷ more ≡ [] = sym none ∙ crash.record_sure in cc empty
 
 crash_keeps : (numbering : Numbering) (old new : Snapshot) → Crashes old new → KeepsVersion numbering old new
 crash_keeps numbering old new crash k has found is =
-    has found (found_after old new new.recorded_left found crash refl is)
+    has found (found_after_crash old new new.recorded_left found crash refl is)
 
 -- The recorded version does not decrease over any history.
 pub versions_keep : (numbering : Numbering) (old new : Snapshot) (events : List (HistoryEvent numbering))
@@ -262,5 +264,5 @@ versions_keep numbering old new (Runs r ∷ later) (on, rest) k has =
     versions_keep numbering r.ended new later rest k (updater_keeps numbering r k begun)
 versions_keep numbering old new (Crashed m ∷ later) (crash, rest) k has =
     versions_keep numbering m new later rest k (crash_keeps numbering old m crash k has)
-versions_keep numbering old new (OthersChangeFiles m ∷ later) (keeps, rest) k has =
-    versions_keep numbering m new later rest k (keeps k has)
+versions_keep numbering old new (OthersChangeFiles m ∷ later) (op_keeps, rest) k has =
+    versions_keep numbering m new later rest k (op_keeps k has)

@@ -104,7 +104,7 @@ Performs w s ReadRecord (RecordRead found) old new =
 Performs w s ReadSignature (SignatureRead text time) old new = (text ≡ w.text) × (new ≡ old)
 Performs w s ReadList (ListRead list name) old new = (list ≡ w.list) × (name ≡ w.name) × (new ≡ old)
 Performs w s ReadTarget (PieceRead bytes) old new =
-    (0 < length bytes) × (length (s.read ++ bytes) ≤ w.most) × (new ≡ old)
+    (0 < length bytes) × (length (s.read ++ bytes) ≤ w.max_size) × (new ≡ old)
 Performs w s ReadTarget Done old new =
     (file : File) × (old.target ≡ Some file) × (file.bytes ≡ s.read)
     × (new ≡ record old { opened = Some file.number })

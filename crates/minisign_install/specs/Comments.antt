@@ -29,7 +29,7 @@ value_of label comment = slice_get (values_of label comment) 0
 -- The text is this number in decimal digits, without a sign and below 2^64.
 pub record IsNumberText (text : List ℕ) (n : ℕ) : Type 0 where
   pub numeral : IsNumeral 10 text
-  pub is : digits_value 10 text ≡ n
+  pub value_is : digits_value 10 text ≡ n
   pub bound : n < 2 ^ 64
 
 -- The label of the field with the name of the file.
@@ -68,7 +68,7 @@ expiries must comment = filter_map (expiry_in must) (fields comment)
 -- The comment has exactly one of these fields, it is spelled exactly `expires:`, and its value is this time.
 pub record ExpiresAt (must : Bool) (comment : List ℕ) (until : ℕ) : Type 0 where
   pub value : List ℕ
-  pub once : length (expiries must comment) ≡ 1
+  pub single_value : length (expiries must comment) ≡ 1
   pub labelled : value_of expiry_label comment ≡ Some value
   pub number : IsNumberText value until
 
@@ -94,7 +94,7 @@ size_label = codes "size:"
 -- The comment has exactly one field `size:`, and its value is this length.
 pub record SizedAs (comment : List ℕ) (size : ℕ) : Type 0 where
   pub value : List ℕ
-  pub once : values_of size_label comment ≡ value ∷ []
+  pub single_value : values_of size_label comment ≡ value ∷ []
   pub number : IsNumberText value size
 
 -- The comment has exactly one field `size:`, with this length, or no such field if the length is None.

@@ -58,14 +58,15 @@ abbrev pub install_number : InstallFault → ℕ
 install_number e = (install_row e).number
 
 -- The error is an installation error, not one of the library.
-abbrev pub is_own : InstallFault → Bool
-is_own (Library fault) = false
-is_own e = true
+abbrev pub is_installer_fault : InstallFault → Bool
+is_installer_fault (Library fault) = false
+is_installer_fault e = true
 
 -- The text for this error number: the text of the installation error or of the library's error (without key
 -- IDs) with this number, or the text for an unknown number.
 pub record IsErrorText (n : ℕ) (text : List ℕ) : Type 0 where
   pub library : IsListedMeaning n text
-  pub own : (e : InstallFault) → is_own e ≡ true → n ≡ install_number e → text ≡ (install_row e).summary
-  pub unknown : IsUnlisted n → ((e : InstallFault) → is_own e ≡ true → n ≢ install_number e)
+  pub installer : (e : InstallFault) → is_installer_fault e ≡ true → n ≡ install_number e
+      → text ≡ (install_row e).summary
+  pub unknown : IsUnlisted n → ((e : InstallFault) → is_installer_fault e ≡ true → n ≢ install_number e)
       → text ≡ unknown_text

@@ -182,8 +182,8 @@ pub record IsOldUpdate (w : World) (o : Options) : Type 0 where
   pub installs : o.check ≡ false
   pub recorded : Recorded
   pub record_applies : judge_record o w.found_record ≡ Ok recorded
-  pub last : ℕ
-  pub last_is : recorded.version ≡ Some last
+  pub last_version : ℕ
+  pub last_recorded : recorded.version ≡ Some last_version
   pub text : SignatureTextRecord
   pub parsed : w.text ≡ Ok text
   pub keys : List PublicKeyValue
@@ -194,8 +194,9 @@ pub record IsOldUpdate (w : World) (o : Options) : Type 0 where
   pub listed : fits_list o.list w.list w.name w.update ≡ true
   pub version : ℕ
   pub numbered : version_in o.numbering text.comments.trusted ≡ Some version
-  pub not_newer : version ≤ last
-  pub own : (recorded.digest ≡ Some (digest_to_sign o.list w.list w.update)) ⊎ (version < last)
+  pub not_newer : version ≤ last_version
+  pub recorded_or_older : (recorded.digest ≡ Some (digest_to_sign o.list w.list w.update))
+      ⊎ (version < last_version)
   pub sized : (size : ℕ) → signed_size o.list text.comments.trusted ≡ Some size → length w.update ≡ size
 
 -- The event is not a failure, and the comment is not rejected at the time that is passed in.
@@ -244,11 +245,11 @@ pub record IsOtherUpdate (w : World) (o : Options) (k : ℕ) (digest : List ℕ)
 -- A run with these options, after a run that has ended in this state: it reads the record of that run, and
 -- its options neither ignore the record nor replace other data.
 pub record IsLaterRun (w : World) (o : Options) (numbering : Numbering) (s : State) : Type 0 where
-  pub finds : w.found_record ≡ Some (new_record s)
-  pub field : o.numbering ≡ numbering
-  pub later : o.first ≡ false
-  pub same_keys : o.new_key ≡ false
-  pub once : o.again ≡ false
+  pub reads_record : w.found_record ≡ Some (new_record s)
+  pub same_field : o.numbering ≡ numbering
+  pub not_first : o.first ≡ false
+  pub not_new_key : o.new_key ≡ false
+  pub not_again : o.again ≡ false
 
 -- The event is not a failure, and the comment is not rejected at the time that is passed in if version k is
 -- recorded.

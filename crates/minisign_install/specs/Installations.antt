@@ -17,7 +17,7 @@ use Rattle.minisign_external.specs.declared.state.Refusal.TheVariants.{WrongUse}
 use Rattle.minisign_install.specs.Decisions.{comment_fault, judge_text, signed_size, version_in}
 use Rattle.minisign_install.specs.Faults.{Fault}
 use Rattle.minisign_install.specs.Step.{ReadSignature, SignatureRead, after_signature}
-use Rattle.minisign_install.specs.declared.installation.progress.Judged.{Judged}
+use Rattle.minisign_install.specs.declared.installation.progress.Judgment.{Judgment}
 use Rattle.minisign_hash.specs.Stored.{WasFed}
 use Rattle.minisign_external.specs.declared.public_keys.PublicKeyValue.{PublicKeyValue}
 use Rattle.minisign_external.specs.declared.state.Misuse.{Misuse}
@@ -27,7 +27,7 @@ use Rattle.minisign_install.specs.Comments.{Numbering, Timestamp, Version}
 use Rattle.minisign_install.specs.Decisions.{Options, Recorded}
 use Rattle.minisign_install.specs.Faults.{BadName, InstallFault, Library, ListedTwice, MalformedLine, Named}
 use Rattle.minisign_install.specs.Faults.{NotListed, NotUtf8}
-use Rattle.minisign_install.specs.Faults.{install_number, is_own}
+use Rattle.minisign_install.specs.Faults.{install_number, is_installer_fault}
 use Rattle.minisign_install.specs.RecordTexts.{IsRecordOf, record_digest, record_key}
 use Rattle.minisign_install.specs.Step.{CopyData, Done, Lock, PieceRead, ReadBack, ReadRecord, ReadTarget}
 use Rattle.minisign_install.specs.Step.{RemoveFiles, WriteRecord, new_key, new_record, new_version}
@@ -128,7 +128,7 @@ judgment_of (Err fault) = Err fault
 -- The keys that may have signed: the first key, the other key, both or neither.
 abbrev pub signers_of : Progress → List PublicKeyValue
 signers_of p =
-    (if p.by_key == 1 then p.chosen.key ∷ [] else []) ++ (if p.by_other_key == 1 then p.chosen.other
+    (if p.key_matches == 1 then p.chosen.key ∷ [] else []) ++ (if p.other_key_matches == 1 then p.chosen.other
     ∷ [] else [])
 
 -- The state that the struct represents. The struct does not contain the file name; of the bytes that were
@@ -156,7 +156,7 @@ state_of p file read fault error = record {
 -- n is the number of this error, which is an installation error and not one of the library, or 0 if there is
 -- no error.
 abbrev pub IsOwnNumber : ℕ → Option InstallFault → Type 0
-IsOwnNumber n fault = MatchOption fault (n ≡ 0) (λ e. (n ≡ install_number e) × (is_own e ≡ true))
+IsOwnNumber n fault = MatchOption fault (n ≡ 0) (λ e. (n ≡ install_number e) × (is_installer_fault e ≡ true))
 
 -- The number of the error, or 0 if there is none.
 abbrev pub error_number : Option InstallFault → ℕ
@@ -304,7 +304,7 @@ IsNewRecord s bytes = IsRecordOf s.options.numbering (new_version s) (new_key s)
 -- short, and is unchanged.
 pub record IsWritten (text : List ℕ) (n : ℕ) (old new : List ℕ) : Type 0 where
   pub front : 0 < n → (n ≤ length new) × (take n new ≡ text)
-  pub rest : drop n new ≡ drop n old
+  pub rest_unchanged : drop n new ≡ drop n old
   pub room : n ≡ 0 → (new ≡ old) × (length old < length text)
 
 -- The text is written as IsWritten says, or nothing is written if there is no text.
@@ -414,7 +414,7 @@ plain (Err r) = Err r
 
 -- The struct contains the result of reading the signature file `t`: its two signatures, the version number
 -- and the size in its comment, and the number of the error if the comment is rejected.
-pub record IsReadAs (j : Judged) (o : Options) (t : SignatureTextRecord) (second : List ℕ)
+pub record IsReadAs (j : Judgment) (o : Options) (t : SignatureTextRecord) (second : List ℕ)
     (recorded time : Option ℕ)
     : Type 0 where
   pub judged : j.is_judged ≡ 1

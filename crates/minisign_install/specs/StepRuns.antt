@@ -41,7 +41,7 @@ pub record World : Type 0 where
   pub update : List ℕ
   pub list : List ℕ
   pub name : List ℕ
-  pub most : ℕ
+  pub max_size : ℕ
 
 -- Ed25519 accepts the signature in this question.
 abbrev pub says_yes : World → Question → Bool
@@ -62,7 +62,7 @@ IsTrueEvent w n s op (SignatureRead text time) = text ≡ w.text
 IsTrueEvent w n s op (ListRead list name) = (list ≡ w.list) × (name ≡ w.name)
 IsTrueEvent w n s op (Answered accepted) = IsAnswer w s op accepted
 IsTrueEvent w n s ReadTarget (PieceRead bytes) =
-    (0 < length bytes) × (length (s.read ++ bytes) ≤ w.most)
+    (0 < length bytes) × (length (s.read ++ bytes) ≤ w.max_size)
 IsTrueEvent w n s ReadBack (PieceRead bytes) =
     (0 < length bytes) × ((rest : List ℕ) × ((s.read ++ bytes) ++ rest ≡ w.update))
 IsTrueEvent w n s op (PieceCopied k) = (0 < k) × (n + k ≤ length w.update)
@@ -197,14 +197,14 @@ HasListing w o s =
 -- a list, the key has signed the list instead of the data, and the list has the digest of the data for the
 -- name. The version number that is recorded next is not below the recorded one.
 pub record IsUpdate (w : World) (o : Options) (s : State) : Type 0 where
-  pub same : s.options ≡ o
+  pub same_options : s.options ≡ o
   pub record_applies : judge_record o w.found_record ≡ Ok s.recorded
   pub text : SignatureTextRecord
   pub parsed : w.text ≡ Ok text
   pub keys : List PublicKeyValue
   pub passed : judge_text o (Ok text) ≡ Ok (text, keys)
-  pub others : List PublicKeyValue
-  pub given : others ++ s.signers ≡ keys
+  pub passed_over : List PublicKeyValue
+  pub keys_split : passed_over ++ s.signers ≡ keys
   pub time : Option ℕ
   pub comment_accepted : comment_fault o s.recorded.version time text.comments.trusted ≡ None
   pub version : s.version ≡ unwrap_or (version_in o.numbering text.comments.trusted) 0
@@ -266,31 +266,31 @@ pub record IsSameVersion {w : World} {o : Options} (g : IsSigned w o) : Type 0 w
   pub recorded : g.recorded.version ≡ Some version
   pub offered : unwrap_or (version_in o.numbering g.text.comments.trusted) 0 ≡ version
   pub installed : List ℕ
-  pub other : accepts_data g installed ≡ false
-  pub other_digest : (digest : List ℕ) → g.recorded.digest ≡ Some digest → accepts_digest g digest ≡ false
+  pub installed_differs : accepts_data g installed ≡ false
+  pub recorded_differs : (digest : List ℕ) → g.recorded.digest ≡ Some digest → accepts_digest g digest ≡ false
 
 -- If this event passes in a time, the time is in the set.
-abbrev pub IsAtOneOf : (Option ℕ → Bool) → Event → Type 0
-IsAtOneOf times (SignatureRead text time) = times time ≡ true
-IsAtOneOf times e = ⊤
+abbrev pub IsAtTimeIn : (Option ℕ → Bool) → Event → Type 0
+IsAtTimeIn times (SignatureRead text time) = times time ≡ true
+IsAtTimeIn times e = ⊤
 
 -- A time in the set.
-abbrev pub TimeOf : (Option ℕ → Bool) → Type 0
-TimeOf times = (time : Option ℕ) × (times time ≡ true)
+abbrev pub TimeIn : (Option ℕ → Bool) → Type 0
+TimeIn times = (time : Option ℕ) × (times time ≡ true)
 
 -- The error is due to an input of the run: the record is rejected; or the signature file is; or no given key
 -- has signed the comment; or the signed comment is rejected at a time in the set; or the recorded version is
 -- installed with a different file; or the data does not have the signed size; or the data, or else the list,
 -- is not signed; or the signed list does not have exactly one entry of the name; or the data does not have
 -- the digest in the signed list.
-abbrev pub IsFoundFault : World → Options → (Option ℕ → Bool) → InstallFault → Type 0
-IsFoundFault w o times fault =
+abbrev pub IsInputFault : World → Options → (Option ℕ → Bool) → InstallFault → Type 0
+IsInputFault w o times fault =
     (judge_record o w.found_record ≡ Err fault)
     ⊎ ((f : Fault) × (fault ≡ Library f) × (judge_text o w.text ≡ Err f))
     ⊎ ((fault ≡ Library (Named named.CommentSignatureRefused))
     × ((t : SignatureTextRecord) × (keys : List PublicKeyValue) × (judge_text o w.text ≡ Ok (t, keys))
     × (first_signer w t keys ≡ None)))
-    ⊎ ((g : IsSigned w o) × (time : TimeOf times)
+    ⊎ ((g : IsSigned w o) × (time : TimeIn times)
     × (comment_fault o g.recorded.version time.0 g.text.comments.trusted ≡ Some fault))
     ⊎ ((g : IsSigned w o) × (fault ≡ SameNumber) × IsSameVersion g)
     ⊎ ((g : IsSigned w o) × (fault ≡ OtherSize)
@@ -308,7 +308,7 @@ IsFoundFault w o times fault =
 abbrev pub IsReason : World → Options → (Option ℕ → Bool) → State → Event → InstallFault → Type 0
 IsReason w o times s (Failed f) fault = fault ≡ failure s.due f
 IsReason w o times s InUse fault = fault ≡ TargetInUse
-IsReason w o times s e fault = IsFoundFault w o times fault
+IsReason w o times s e fault = IsInputFault w o times fault
 
 -- The meaning of the end of a run. After Installed, AlreadyInstalled and WouldInstall, a given key has signed
 -- the trusted comment, and the comment is not rejected at a time in the set. After Installed, this key has
@@ -317,15 +317,15 @@ IsReason w o times s e fault = IsFoundFault w o times fault
 -- signed the list instead, and the list has the digest of the data for the name.
 abbrev pub IsEnd : World → Options → (Option ℕ → Bool) → Operation → Type 0
 IsEnd w o times Installed =
-    (g : IsSigned w o) × (time : TimeOf times)
+    (g : IsSigned w o) × (time : TimeIn times)
     × (comment_fault o g.recorded.version time.0 g.text.comments.trusted ≡ None)
     × (accepts_data g w.update ≡ true)
 IsEnd w o times AlreadyInstalled =
-    (g : IsSigned w o) × (time : TimeOf times)
+    (g : IsSigned w o) × (time : TimeIn times)
     × (comment_fault o g.recorded.version time.0 g.text.comments.trusted ≡ None)
     × ((installed : List ℕ) × (accepts_data g installed ≡ true))
 IsEnd w o times WouldInstall =
-    (o.check ≡ true) × ((g : IsSigned w o) × (time : TimeOf times)
+    (o.check ≡ true) × ((g : IsSigned w o) × (time : TimeIn times)
     × (comment_fault o g.recorded.version time.0 g.text.comments.trusted ≡ None) × IsListAccepted g)
 IsEnd w o times op = ⊤
 

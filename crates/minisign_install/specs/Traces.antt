@@ -16,7 +16,7 @@ use Rattle.minisign_install.specs.Applications.{synced, synced_if, written}
 use Rattle.minisign_install.specs.Decisions.{Options}
 use Rattle.minisign_install.specs.Installations.{Represents, question_due, record_due}
 use Rattle.minisign_install.specs.Step.{Event, Operation, State, after, begin, new_record, step}
-use Rattle.minisign_install.specs.Step as due
+use Rattle.minisign_install.specs.Step as fsm
 use Rattle.minisign_install.specs.StepRuns.{World}
 use Rattle.minisign_install.specs.declared.traces.Change.{Change}
 use Rattle.minisign_install.specs.declared.traces.Change.TheVariants as change
@@ -48,21 +48,21 @@ world_of f = record {
   update = f.update.now;
   list = [];
   name = [];
-  most = f.most;
+  max_size = f.max_size;
 }
 
 -- == From a trace to a run ==
 
 abbrev pub event_of : Report → Event
-event_of report.Done = due.Done
-event_of report.InUse = due.InUse
-event_of (report.Failed fault) = due.Failed fault
-event_of (report.Recorded found) = due.RecordRead (option_map (λ r. r.now) found)
-event_of (report.Signature text time) = due.SignatureRead (read_utf8 read_signature text.now) time
-event_of (report.Answered accepted) = due.Answered accepted
-event_of report.NoTarget = due.TargetMissing
-event_of (report.Piece bytes) = due.PieceRead bytes.now
-event_of (report.Copied length) = due.PieceCopied length
+event_of report.Done = fsm.Done
+event_of report.InUse = fsm.InUse
+event_of (report.Failed fault) = fsm.Failed fault
+event_of (report.Recorded found) = fsm.RecordRead (option_map (λ r. r.now) found)
+event_of (report.Signature text time) = fsm.SignatureRead (read_utf8 read_signature text.now) time
+event_of (report.Answered accepted) = fsm.Answered accepted
+event_of report.NoTarget = fsm.TargetMissing
+event_of (report.Piece bytes) = fsm.PieceRead bytes.now
+event_of (report.Copied length) = fsm.PieceCopied length
 
 -- The files after the effect of an operation.
 abbrev pub affected : Effect → Snapshot → Snapshot
@@ -156,19 +156,19 @@ is_nothing did = false
 
 -- The operation has this effect whenever it succeeds, whatever the files contain.
 abbrev pub is_plain : Operation → Effect → Bool
-is_plain due.SyncTarget effect.TargetSynced = true
-is_plain due.SyncTargetName effect.NamesSynced = true
-is_plain due.RemoveLeftovers effect.LeftoversRemoved = true
-is_plain due.CreateFile (effect.DataCreated number) = true
-is_plain due.SetPermissions effect.DataPermitted = true
-is_plain due.SyncFile effect.DataSynced = true
-is_plain due.CreateRecord (effect.RecordCreated number) = true
-is_plain due.SyncRecord effect.RecordSynced = true
-is_plain due.RenameRecord effect.RecordRenamed = true
-is_plain due.SyncRecordName effect.NamesSynced = true
-is_plain due.RenameFile effect.DataRenamed = true
-is_plain due.SyncFileName effect.NamesSynced = true
-is_plain due.RemoveFiles effect.FilesRemoved = true
+is_plain fsm.SyncTarget effect.TargetSynced = true
+is_plain fsm.SyncTargetName effect.NamesSynced = true
+is_plain fsm.RemoveLeftovers effect.LeftoversRemoved = true
+is_plain fsm.CreateFile (effect.DataCreated number) = true
+is_plain fsm.SetPermissions effect.DataPermitted = true
+is_plain fsm.SyncFile effect.DataSynced = true
+is_plain fsm.CreateRecord (effect.RecordCreated number) = true
+is_plain fsm.SyncRecord effect.RecordSynced = true
+is_plain fsm.RenameRecord effect.RecordRenamed = true
+is_plain fsm.SyncRecordName effect.NamesSynced = true
+is_plain fsm.RenameFile effect.DataRenamed = true
+is_plain fsm.SyncFileName effect.NamesSynced = true
+is_plain fsm.RemoveFiles effect.FilesRemoved = true
 is_plain op did = false
 
 -- The file at the target has this number, and these bytes were read.
@@ -179,17 +179,17 @@ is_read number read None = false
 -- The operation may be reported as done with this effect, if these bytes were read so far and this is the
 -- update.
 abbrev pub is_done : Operation → Effect → Files → List ℕ → List ℕ → Bool
-is_done due.Lock effect.Locked f read update = not f.is_busy
-is_done due.ReadTarget (effect.TargetOpened number) f read update = is_read number read f.target
-is_done due.CopyData effect.Nothing f read update = bytes_eq (bytes_seen f.data_file) update
-is_done due.ReadBack effect.Nothing f read update = bytes_eq read (bytes_seen f.data_file)
+is_done fsm.Lock effect.Locked f read update = not f.is_busy
+is_done fsm.ReadTarget (effect.TargetOpened number) f read update = is_read number read f.target
+is_done fsm.CopyData effect.Nothing f read update = bytes_eq (bytes_seen f.data_file) update
+is_done fsm.ReadBack effect.Nothing f read update = bytes_eq read (bytes_seen f.data_file)
 is_done op did f read update = is_plain op did
 
 -- A failed operation may have had this effect.
 abbrev pub has_failed : Operation → Effect → Bool
-has_failed due.RenameRecord effect.RecordRenamed = true
-has_failed due.RenameFile effect.DataRenamed = true
-has_failed due.RemoveFiles effect.FilesRemoved = true
+has_failed fsm.RenameRecord effect.RecordRenamed = true
+has_failed fsm.RenameFile effect.DataRenamed = true
+has_failed fsm.RemoveFiles effect.FilesRemoved = true
 has_failed op did = is_nothing did
 
 -- == Traces that record each effect ==
@@ -201,7 +201,7 @@ IsPieceOf whole front piece = (rest : List ℕ) × (whole ≡ (front ++ piece) +
 -- The next operation writes the new record, and these are its bytes.
 abbrev pub IsRecordDue : State → List ℕ → Type 0
 IsRecordDue s bytes =
-    (s.due ≡ due.WriteRecord) × (is_some (record_due s) ≡ true) × (bytes ≡ new_record s)
+    (s.due ≡ fsm.WriteRecord) × (is_some (record_due s) ≡ true) × (bytes ≡ new_record s)
     × (length bytes ≤ 224)
 
 -- The effect is that the new record was written.
@@ -219,20 +219,20 @@ HasCopied update front n did = ⊥
 -- piece is the next one.
 abbrev pub CanGrow : State → List ℕ → List ℕ → Effect → Type 0
 CanGrow s update front (effect.DataGrown piece) =
-    (s.due ≡ due.CopyData) × HasCopied update front (length piece.now) (effect.DataGrown piece)
+    (s.due ≡ fsm.CopyData) × HasCopied update front (length piece.now) (effect.DataGrown piece)
 CanGrow s update front did = ⊤
 
 -- The effect is one that this operation has if it succeeds.
 abbrev pub is_effect : Operation → Effect → Bool
-is_effect due.Lock effect.Locked = true
-is_effect due.ReadTarget (effect.TargetOpened number) = true
-is_effect due.CopyData effect.Nothing = true
-is_effect due.ReadBack effect.Nothing = true
+is_effect fsm.Lock effect.Locked = true
+is_effect fsm.ReadTarget (effect.TargetOpened number) = true
+is_effect fsm.CopyData effect.Nothing = true
+is_effect fsm.ReadBack effect.Nothing = true
 is_effect op did = is_plain op did
 
 -- The effect is that of the operation that is due in this state, if it succeeds.
 abbrev pub IsDoneAs : State → Operation → Effect → Type 0
-IsDoneAs s due.WriteRecord did = HasWritten s did
+IsDoneAs s fsm.WriteRecord did = HasWritten s did
 IsDoneAs s op did = is_effect op did ≡ true
 
 -- The content of the file that is being read: the file that was at the target when reading began.
@@ -241,7 +241,7 @@ source_at s m source = if length s.read == 0 then bytes_of m.target else source
 
 -- If the installed file is being read, the piece is its next one.
 abbrev pub IsNextRead : State → List ℕ → List ℕ → Type 0
-IsNextRead s source piece = s.due ≡ due.ReadTarget → IsPieceOf source s.read piece
+IsNextRead s source piece = s.due ≡ fsm.ReadTarget → IsPieceOf source s.read piece
 
 -- If the report is a piece that was read, it is the next one.
 abbrev pub IsReadFrom : State → List ℕ → Report → Type 0
@@ -285,14 +285,14 @@ MessageFits w message =
 -- When this operation is due, the update is to be installed, and the bytes that were read before are
 -- discarded.
 abbrev pub installs : Operation → Bool
-installs due.RemoveLeftovers = true
-installs due.WouldInstall = true
+installs fsm.RemoveLeftovers = true
+installs fsm.WouldInstall = true
 installs op = false
 
 -- The bytes read so far, after an event.
 abbrev pub read_after : Event → List ℕ → List ℕ
-read_after (due.PieceRead bytes) read = read ++ bytes
-read_after (due.ListRead list name) read = []
+read_after (fsm.PieceRead bytes) read = read ++ bytes
+read_after (fsm.ListRead list name) read = []
 read_after e read = read
 
 abbrev pub is_growing : Effect → Bool
@@ -302,10 +302,10 @@ is_growing did = false
 -- The state has the file name, and the data signature of the signature file, at the operations that need
 -- them.
 pub record StateKnows (w : World) (file : List ℕ) (s : State) : Type 0 where
-  pub named : s.due ≡ due.ReadSignature → s.options.file ≡ file
-  pub signature : s.due ≡ due.CheckComment → (t : SignatureTextRecord) → w.text ≡ Ok t
+  pub named : s.due ≡ fsm.ReadSignature → s.options.file ≡ file
+  pub signature : s.due ≡ fsm.CheckComment → (t : SignatureTextRecord) → w.text ≡ Ok t
       → s.signature ≡ t.signature.signature
-  pub parsed : s.due ≡ due.CheckComment → (t : SignatureTextRecord) × (w.text ≡ Ok t)
+  pub parsed : s.due ≡ fsm.CheckComment → (t : SignatureTextRecord) × (w.text ≡ Ok t)
 
 -- The buffer begins with the message of the question about the trusted comment, unless its length is 0.
 abbrev pub IsAsked : World → ℕ → List ℕ → Type 0
@@ -316,7 +316,7 @@ IsAsked w n message =
 -- If the check of the trusted comment is due, n is the length of its message, which fits into the buffer.
 abbrev pub IsWhole : World → Operation → ℕ → List ℕ → Type 0
 IsWhole w op n message =
-    op ≡ due.CheckComment → (t : SignatureTextRecord) → w.text ≡ Ok t
+    op ≡ fsm.CheckComment → (t : SignatureTextRecord) → w.text ≡ Ok t
     → (n ≡ length (t.signature.signature ++ t.comments.trusted)) × (n ≤ length message)
 
 -- The follower represents the state and the files.

@@ -4,7 +4,7 @@
 ghost use Rattle.std.specs.Prelude.{◌≡◌, ◌<◌, List, ℕ, Some, true, IfSome, MatchResult, length};
 ghost use Rattle.minisign_external.specs.Numbers.{WritesCut};
 ghost use Rattle.minisign_base.specs.Faults.{row};
-ghost use Rattle.minisign_install.specs.Faults.{IsErrorText, Named, is_own, install_number};
+ghost use Rattle.minisign_install.specs.Faults.{IsErrorText, Named, is_installer_fault, install_number};
 ghost use Rattle.minisign_install.specs.Faults.{install_row, Library};
 
 use minisign_base::ErrorKind::{self, Io, Misc, Verify};
@@ -81,8 +81,10 @@ impl InstallFault {
 
     /// Returns the installation error with this number.
     pub(crate) fn of_number(number: u32) -> Option<InstallFault>
-        ensures found { (e : InstallFault) → is_own e ≡ true → number ≡ install_number e → result ≡ Some e }
-        ensures own { IfSome result (λ e. (is_own e ≡ true) × (number ≡ install_number e)) }
+        ensures found { (e : InstallFault) → is_installer_fault e ≡ true → number ≡ install_number e
+            → result ≡ Some e }
+        ensures installer_fault { IfSome result (λ e. (is_installer_fault e ≡ true)
+            × (number ≡ install_number e)) }
     {
         use InstallFault::*;
         Some(match number {
@@ -114,7 +116,8 @@ impl InstallFault {
     // library.
     pub(crate) fn row(&self) -> Result<&'static (u32, ErrorKind, &'static str), &PError>
         ensures { MatchResult result
-            (λ r. (is_own self.now ≡ true) × (row r.now.0 r.now.1 r.now.2.now ≡ install_row self.now))
+            (λ r. (is_installer_fault self.now ≡ true)
+            × (row r.now.0 r.now.1 r.now.2.now ≡ install_row self.now))
             (λ fault. self.now ≡ Library fault.now) }
     {
         use InstallFault::*;
@@ -240,7 +243,7 @@ pub fn error_text(number: u32) -> &'static str
     // this number, without key IDs. For 0 it is "no error", and for a number without a meaning "unknown
     // error". It has fewer than 128 bytes.
     ensures meaning { IsErrorText number result.now }
-    ensures room { length result.now < 128 }
+    ensures below_128_bytes { length result.now < 128 }
 {
     if let Some(fault) = InstallFault::of_number(number) {
         if let Ok((_, _, text)) = fault.row() {
@@ -258,7 +261,7 @@ pub fn write_error_text(number: u32, to: &mut [u8]) -> usize
     // after the 0 are unchanged. The result is the length of the whole text.
     ensures written { (text : List ℕ) × IsErrorText number text × (result ≡ length text)
         × WritesCut text to.old to.new }
-    ensures room { result < 128 }
+    ensures below_128_bytes { result < 128 }
 {
     numbers::write_cut(error_text(number), to)
 }

@@ -28,7 +28,7 @@ ghost use Rattle.minisign_install.specs.Step.{new_record};
 ghost use Rattle.minisign_install.specs.Step.{new_key, new_version, signed_digest, step};
 ghost use Rattle.minisign_install.specs.Faults.{InstallFault, NoRecord, SameNumber};
 ghost use Rattle.minisign_install.specs.Installations.{numbered};
-ghost use Rattle.minisign_install.specs.StepRuns.{IsAtOneOf, IsEnd, IsAcceptable, IsGoodUpdate, IsReason};
+ghost use Rattle.minisign_install.specs.StepRuns.{IsAtTimeIn, IsEnd, IsAcceptable, IsGoodUpdate, IsReason};
 ghost use Rattle.minisign_install.specs.StepRuns.{IsUpdate, Succeeds};
 ghost use Rattle.minisign_install.specs.StepRuns.{IsListAccepted, IsSigned, World};
 ghost use Rattle.minisign_hash.specs.Blake2b.{blake2b_digest};
@@ -76,11 +76,11 @@ pub fn any_application_is_safe()
         → AllCalls LeavesContent calls }
 
     // If a call returns an error, then an operation has failed, the lock is in use, or the run has found the
-    // cause of this error at a time that the application passed in. `IsFoundFault` lists these causes, and
+    // cause of this error at a time that the application passed in. `IsInputFault` lists these causes, and
     // `times` is any set that contains the times that were passed in.
     ensures errors { (w : World) (o : Options) (times : Option ℕ → Bool) (m : Snapshot) (calls : List Call)
         (s : State) (end : Snapshot) (c : Call) (fault : InstallFault) → Applies w (begin o) m calls s end
-        → AllEvents (IsAtOneOf times) calls → IsAtOneOf times c.event → Others end c.before
+        → AllEvents (IsAtTimeIn times) calls → IsAtTimeIn times c.event → Others end c.before
         → is_some (after s.due c.event s) ≡ true → Performs w s s.due c.event c.before c.after
         → (step s c.event).0 ≡ Err (Refused fault) → IsReason w o times s c.event fault }
 
@@ -90,7 +90,7 @@ pub fn any_application_is_safe()
     // this key has signed the digest of some data. If the signature is that of a list, the key has signed the
     // list instead, in which the data is listed.
     ensures ends { (w : World) (o : Options) (times : Option ℕ → Bool) (m : Snapshot) (calls : List Call)
-        (t : State) (end : Snapshot) → Applies w (begin o) m calls t end → AllEvents (IsAtOneOf times) calls
+        (t : State) (end : Snapshot) → Applies w (begin o) m calls t end → AllEvents (IsAtTimeIn times) calls
         → IsEnd w o times t.due }
 
     // Suppose that other processes leave the target alone. If a run ends as installed, the update is at the
@@ -134,7 +134,8 @@ pub fn any_good_update_arrives()
     // A later run with the same options reads from the new record the version number and the key that this
     // run recorded, and the digest of the data that it installed, or of the list. The options must not
     // include --first or --new-key.
-    ensures own { (w : World) (o : Options) → AcceptsWholeKeys w.accepts → (s : State) → IsUpdate w o s
+    ensures record_of_update { (w : World) (o : Options) → AcceptsWholeKeys w.accepts → (s : State)
+        → IsUpdate w o s
         → o.first ≡ false → o.new_key ≡ false
         → judge_record o (Some (new_record s)) ≡ Ok (record {
           version = Some (new_version s);

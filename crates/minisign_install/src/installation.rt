@@ -343,7 +343,7 @@ impl Installation {
             → SignatureSteps sig_text.now time s result (Represents self.new) message.old message.new }
         ensures unchanged { OnErr result (message.new ≡ message.old) }
         ensures misuse { result ≡ Err (WrongUse NotDue) → self.new ≡ self.old }
-        ensures short { result ≡ Err (WrongUse NoRoom) → self.new ≡ self.old }
+        ensures unchanged_if_no_room { result ≡ Err (WrongUse NoRoom) → self.new ≡ self.old }
     {
         if self.is_begun() {
             self.progress.signature(sig_text, file, time, message)
@@ -383,7 +383,7 @@ impl Installation {
         ensures steps { is_answer accepted ≡ true
             → CallSteps (Answered (accepted == answer_yes)) self.old self.new result }
         // Any other number is rejected, and the installation is unchanged.
-        ensures bad { is_answer accepted ≡ false
+        ensures rejects_bad_answer { is_answer accepted ≡ false
             → (result ≡ Err (WrongUse BadAnswer)) × (self.new ≡ self.old) }
         // After `NotDue` the installation is unchanged.
         ensures misuse { result ≡ Err (WrongUse NotDue) → self.new ≡ self.old }
@@ -453,7 +453,7 @@ impl Installation {
         ensures reads_back { (s : State) → Represents self.now s → 0 < result
             → IsNewRecord s (take result to.new) }
         // The rest of the buffer is unchanged, in every case.
-        ensures rest { drop result to.new ≡ drop result to.old }
+        ensures rest_unchanged { drop result to.new ≡ drop result to.old }
     {
         if self.is_begun() {
             self.progress.record_text(to)

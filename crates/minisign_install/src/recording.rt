@@ -32,7 +32,7 @@ pub(crate) struct KeyAndDigest {
 // Returns the error for a record that has no version number for the field: it has one for the other field, or
 // it is damaged.
 pub(crate) fn unfit_record_fault(bytes: &[u8], numbering: Numbering) -> InstallFault
-    ensures why { ((result ≡ kept_by (other_field numbering))
+    ensures reason { ((result ≡ kept_by (other_field numbering))
         × ((n : ℕ) × IsNumberFor (other_field numbering) bytes.now n))
         ⊎ ((result ≡ DamagedRecord) × HasNoNumber (other_field numbering) bytes.now) }
 {
@@ -159,7 +159,7 @@ pub(crate) fn write_record(
     ensures written { 0 < result
         → (result ≤ length to.new)
         × (take result to.new ≡ record_of numbering number values.now.key values.now.digest) }
-    ensures rest { drop result to.new ≡ drop result to.old }
+    ensures rest_unchanged { drop result to.new ≡ drop result to.old }
     ensures unwritten { result ≡ 0
         → (to.new ≡ to.old)
         × (length to.old < length (record_of numbering number values.now.key values.now.digest)) }

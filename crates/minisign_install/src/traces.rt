@@ -75,7 +75,7 @@ pub struct RunInputs<'a> {
     /// The data.
     pub update: &'a [u8],
     /// The maximum length of the installed file.
-    pub most: usize,
+    pub max_size: usize,
 }
 
 /// An event that the application reports to the installer, by a call of `Installation`.
@@ -164,9 +164,9 @@ fn is_listed(table: &[Signed], message: &[u8], key: &[u8; 32], signature: &[u8; 
 
 // Returns the prefix of `whole` that consists of `front` and `piece`, if `whole` begins with them.
 fn extended<'a>(whole: &'a [u8], front: &[u8], piece: &[u8]) -> Option<&'a [u8]>
-    ensures is { IfSome result (λ r. (r.now ≡ front.now ++ piece.now)
+    ensures sound { IfSome result (λ r. (r.now ≡ front.now ++ piece.now)
         × ((rest : List ℕ) × (r.now ++ rest ≡ whole.now))) }
-    ensures finds { IsPieceOf whole.now front.now piece.now → is_some result ≡ true }
+    ensures complete { IsPieceOf whole.now front.now piece.now → is_some result ≡ true }
 {
     if whole.len() < front.len() || whole.len() - front.len() < piece.len() {
         return None;
@@ -309,9 +309,9 @@ impl<'a> Files<'a> {
     // Returns the files after this change by another process, or `None` if other processes must not make it:
     // the record does not change while this run holds the lock.
     fn changed(&self, change: &Change<'a>) -> Option<Files<'a>>
-        ensures is { IfSome result (λ f. (m : Snapshot) → AreFilesOf self.now m
+        ensures sound { IfSome result (λ f. (m : Snapshot) → AreFilesOf self.now m
             → Others m (changed change.now m) × AreFilesOf f (changed change.now m)) }
-        ensures finds { (m : Snapshot) → AreFilesOf self.now m → Others m (changed change.now m)
+        ensures complete { (m : Snapshot) → AreFilesOf self.now m → Others m (changed change.now m)
             → is_some result ≡ true }
     {
         match *change {
@@ -352,10 +352,10 @@ fn was_due(outcome: Result<(), Refusal<InstallFault>>) -> bool
 // Reports an event to the installer. Returns true if it fits the operation that was due. For a signature
 // file, which `report_signature` reports, and for an empty piece the result is false.
 fn has_reported(installation: &mut Installation, report: &Report) -> bool
-    ensures taken { result ≡ true → (s : State) → Represents installation.old s
+    ensures sound { result ≡ true → (s : State) → Represents installation.old s
         → Represents installation.new (step s (event_of report.now)).1
         × (is_some (after s.due (event_of report.now) s) ≡ true) }
-    ensures fits { (s : State) → Represents installation.old s
+    ensures complete { (s : State) → Represents installation.old s
         → is_some (after s.due (event_of report.now) s) ≡ true → is_reported report.now ≡ true
         → result ≡ true }
 {
@@ -377,9 +377,9 @@ fn has_reported(installation: &mut Installation, report: &Report) -> bool
 impl<'a> Follower<'a> {
     // Returns true if these bytes are the new record.
     fn is_new_record(&self, bytes: &[u8]) -> bool
-        ensures is { result ≡ true → (s : State) → Represents self.now.installation s → s.due ≡ WriteRecord
+        ensures sound { result ≡ true → (s : State) → Represents self.now.installation s → s.due ≡ WriteRecord
             → bytes.now ≡ new_record s }
-        ensures finds { (s : State) → Represents self.now.installation s → IsRecordDue s bytes.now
+        ensures complete { (s : State) → Represents self.now.installation s → IsRecordDue s bytes.now
             → result ≡ true }
     {
         let mut room = [0u8; 224];
@@ -393,10 +393,10 @@ impl<'a> Follower<'a> {
 
     // Returns true if the effect is that the new record was written.
     fn has_written(&self, effect: &Effect<'a>) -> bool
-        ensures is { result ≡ true → (w : World) (s : State) (m : Snapshot)
+        ensures sound { result ≡ true → (w : World) (s : State) (m : Snapshot)
             → Represents self.now.installation s
             → s.due ≡ WriteRecord → Performs w s WriteRecord Done m (affected effect.now m) }
-        ensures finds { (s : State) → Represents self.now.installation s → HasWritten s effect.now
+        ensures complete { (s : State) → Represents self.now.installation s → HasWritten s effect.now
             → result ≡ true }
     {
         match *effect {
@@ -407,10 +407,10 @@ impl<'a> Follower<'a> {
 
     // Returns true if the operation that is due may be reported as done with this effect.
     fn is_done(&self, inputs: &RunInputs<'a>, effect: &Effect<'a>) -> bool
-        ensures is { result ≡ true → (message : List ℕ) (s : State) (m : Snapshot)
+        ensures sound { result ≡ true → (message : List ℕ) (s : State) (m : Snapshot)
             → FollowerHolds (world_of inputs.now) self.now message s m
             → Performs (world_of inputs.now) s s.due Done m (affected effect.now m) }
-        ensures finds { (message : List ℕ) (s : State) (m : Snapshot)
+        ensures complete { (message : List ℕ) (s : State) (m : Snapshot)
             → FollowerHolds (world_of inputs.now) self.now message s m
             → Performs (world_of inputs.now) s s.due Done m (affected effect.now m)
             → IsDoneAs s s.due effect.now → result ≡ true }
@@ -423,9 +423,9 @@ impl<'a> Follower<'a> {
 
     // Returns true if the application may report that another run holds the lock.
     fn is_in_use(&self, effect: &Effect<'a>) -> bool
-        ensures is { result ≡ true → (w : World) (message : List ℕ) (s : State) (m : Snapshot)
+        ensures sound { result ≡ true → (w : World) (message : List ℕ) (s : State) (m : Snapshot)
             → FollowerHolds w self.now message s m → Performs w s s.due InUse m (affected effect.now m) }
-        ensures finds { (s : State) → Represents self.now.installation s → s.due ≡ Lock
+        ensures complete { (s : State) → Represents self.now.installation s → s.due ≡ Lock
             → self.now.files.is_busy ≡ true → is_nothing effect.now ≡ true → result ≡ true }
     {
         self.installation.due() == Operation::Lock && self.files.is_busy && effect.is_nothing()
@@ -433,10 +433,10 @@ impl<'a> Follower<'a> {
 
     // Returns true if the operation that is due may have failed with this effect.
     fn has_failed(&self, fault: NamedFault, effect: &Effect<'a>) -> bool
-        ensures is { result ≡ true → (w : World) (message : List ℕ) (s : State) (m : Snapshot)
+        ensures sound { result ≡ true → (w : World) (message : List ℕ) (s : State) (m : Snapshot)
             → FollowerHolds w self.now message s m
             → Performs w s s.due (Failed fault) m (affected effect.now m) }
-        ensures finds { (s : State) → Represents self.now.installation s
+        ensures complete { (s : State) → Represents self.now.installation s
             → has_failed s.due effect.now ≡ true → result ≡ true }
     {
         effect.has_failed(self.installation.due())
@@ -445,10 +445,10 @@ impl<'a> Follower<'a> {
     // Returns true if reading the record is due, and it is both the one among the inputs and the current
     // file.
     fn has_read_record(&self, inputs: &RunInputs<'a>, record: Option<&'a [u8]>) -> bool
-        ensures is { result ≡ true → (message : List ℕ) (s : State) (m : Snapshot)
+        ensures sound { result ≡ true → (message : List ℕ) (s : State) (m : Snapshot)
             → FollowerHolds (world_of inputs.now) self.now message s m
             → Performs (world_of inputs.now) s s.due (RecordRead (option_map (λ r. r.now) record.entry)) m m }
-        ensures finds { (s : State) → Represents self.now.installation s → s.due ≡ ReadRecord
+        ensures complete { (s : State) → Represents self.now.installation s → s.due ≡ ReadRecord
             → option_map (λ r. r.now) record.entry ≡ (world_of inputs.now).found_record
             → option_map (λ r. r.now) record.entry ≡ option_map (λ v. v.bytes.now) self.now.files.recorded
             → result ≡ true }
@@ -460,11 +460,11 @@ impl<'a> Follower<'a> {
 
     // Returns true if reading the signature file is due, and it is the one among the inputs of the run.
     fn has_read_signature(&self, inputs: &RunInputs<'a>, text: &[u8]) -> bool
-        ensures is { result ≡ true → (time : Option ℕ) (message : List ℕ) (s : State) (m : Snapshot)
+        ensures sound { result ≡ true → (time : Option ℕ) (message : List ℕ) (s : State) (m : Snapshot)
             → FollowerHolds (world_of inputs.now) self.now message s m
             → Performs (world_of inputs.now) s s.due
             (SignatureRead (read_utf8 read_signature text.now) time) m m }
-        ensures finds { (s : State) → Represents self.now.installation s → s.due ≡ ReadSignature
+        ensures complete { (s : State) → Represents self.now.installation s → s.due ≡ ReadSignature
             → text.now ≡ inputs.now.sig_text.now → result ≡ true }
     {
         self.installation.due() == Operation::ReadSignature && *text == *inputs.sig_text
@@ -472,9 +472,9 @@ impl<'a> Follower<'a> {
 
     // Returns true if reading the target is due, and there is no file.
     fn has_no_target(&self) -> bool
-        ensures is { result ≡ true → (w : World) (message : List ℕ) (s : State) (m : Snapshot)
+        ensures sound { result ≡ true → (w : World) (message : List ℕ) (s : State) (m : Snapshot)
             → FollowerHolds w self.now message s m → Performs w s s.due TargetMissing m m }
-        ensures finds { (s : State) → Represents self.now.installation s → s.due ≡ ReadTarget
+        ensures complete { (s : State) → Represents self.now.installation s → s.due ≡ ReadTarget
             → self.now.files.target ≡ None → result ≡ true }
     {
         self.installation.due() == Operation::ReadTarget && self.files.target.is_none()
@@ -482,11 +482,12 @@ impl<'a> Follower<'a> {
 
     // Returns true if this is the result of Ed25519 for the question that is due.
     fn has_answered(&self, inputs: &RunInputs<'a>, message: &[u8], accepted: bool) -> bool
-        ensures is { result ≡ true → (file : List ℕ) (s : State) (m : Snapshot)
+        ensures sound { result ≡ true → (file : List ℕ) (s : State) (m : Snapshot)
             → StateKnows (world_of inputs.now) file s
             → FollowerHolds (world_of inputs.now) self.now message.now s m
             → Performs (world_of inputs.now) s s.due (Answered accepted) m m }
-        ensures finds { (file : List ℕ) (s : State) (m : Snapshot) → StateKnows (world_of inputs.now) file s
+        ensures complete { (file : List ℕ) (s : State) (m : Snapshot)
+            → StateKnows (world_of inputs.now) file s
             → FollowerHolds (world_of inputs.now) self.now message.now s m
             → Performs (world_of inputs.now) s s.due (Answered accepted) m m
             → is_some (question_due s) ≡ true → result ≡ true }
@@ -512,11 +513,11 @@ impl<'a> Follower<'a> {
 
     // Returns the bytes that were read including this piece, if it is the next piece of the file that is
     // being read.
-    fn next_read(&self, most: usize, bytes: &[u8]) -> Option<&'a [u8]>
-        ensures is { IfSome result (λ r. (w : World) (message : List ℕ) (s : State) (m : Snapshot)
-            → w.most ≡ most → FollowerHolds w self.now message s m
+    fn next_read(&self, max_size: usize, bytes: &[u8]) -> Option<&'a [u8]>
+        ensures sound { IfSome result (λ r. (w : World) (message : List ℕ) (s : State) (m : Snapshot)
+            → w.max_size ≡ max_size → FollowerHolds w self.now message s m
             → (r.now ≡ s.read ++ bytes.now) × Performs w s s.due (PieceRead bytes.now) m m) }
-        ensures finds { (w : World) (message : List ℕ) (s : State) (m : Snapshot) → w.most ≡ most
+        ensures complete { (w : World) (message : List ℕ) (s : State) (m : Snapshot) → w.max_size ≡ max_size
             → FollowerHolds w self.now message s m → Performs w s s.due (PieceRead bytes.now) m m
             → IsNextRead s self.now.source.now bytes.now → is_some result ≡ true }
     {
@@ -525,7 +526,7 @@ impl<'a> Follower<'a> {
         }
         match self.installation.due() {
             Operation::ReadTarget => match extended(self.source, self.read, bytes) {
-                Some(read) if read.len() <= most => Some(read),
+                Some(read) if read.len() <= max_size => Some(read),
                 _ => None,
             },
             Operation::ReadBack => extended(bytes_seen(&self.files.data_file), self.read, bytes),
@@ -536,11 +537,11 @@ impl<'a> Follower<'a> {
     // Returns the contents of the temporary file of the data including this piece, if it is the next piece of
     // the data.
     fn next_data(&self, update: &'a [u8], len: u64, piece: &[u8]) -> Option<&'a [u8]>
-        ensures is { IfSome result (λ r. (w : World) (message : List ℕ) (s : State) (m : Snapshot)
+        ensures sound { IfSome result (λ r. (w : World) (message : List ℕ) (s : State) (m : Snapshot)
             → w.update ≡ update.now → FollowerHolds w self.now message s m
             → (r.now ≡ bytes_seen self.now.files.data_file ++ piece.now)
             × Performs w s s.due (PieceCopied len) m (record m { data_file = grown piece.now m.data_file })) }
-        ensures finds { (s : State) → Represents self.now.installation s → s.due ≡ CopyData → 0 < len
+        ensures complete { (s : State) → Represents self.now.installation s → s.due ≡ CopyData → 0 < len
             → length piece.now ≡ len → IsPieceOf update.now (bytes_seen self.now.files.data_file) piece.now
             → is_some result ≡ true }
     {
@@ -552,10 +553,10 @@ impl<'a> Follower<'a> {
 
     // Returns true if the effect is that the next piece of the data, of this length, was copied.
     fn has_copied(&self, update: &'a [u8], len: u64, effect: &Effect<'a>) -> bool
-        ensures is { result ≡ true → (w : World) (message : List ℕ) (s : State) (m : Snapshot)
+        ensures sound { result ≡ true → (w : World) (message : List ℕ) (s : State) (m : Snapshot)
             → w.update ≡ update.now → FollowerHolds w self.now message s m
             → Performs w s s.due (PieceCopied len) m (affected effect.now m) }
-        ensures finds { (s : State) → Represents self.now.installation s → s.due ≡ CopyData
+        ensures complete { (s : State) → Represents self.now.installation s → s.due ≡ CopyData
             → HasCopied update.now (bytes_seen self.now.files.data_file) len effect.now → result ≡ true }
     {
         match *effect {
@@ -573,11 +574,12 @@ impl<'a> Follower<'a> {
         report: &Report<'a>,
         effect: &Effect<'a>,
     ) -> bool
-        ensures is { result ≡ true → (file : List ℕ) (s : State) (m : Snapshot)
+        ensures sound { result ≡ true → (file : List ℕ) (s : State) (m : Snapshot)
             → StateKnows (world_of inputs.now) file s
             → FollowerHolds (world_of inputs.now) self.now message.now s m
             → Performs (world_of inputs.now) s s.due (event_of report.now) m (affected effect.now m) }
-        ensures finds { (file : List ℕ) (s : State) (m : Snapshot) → StateKnows (world_of inputs.now) file s
+        ensures complete { (file : List ℕ) (s : State) (m : Snapshot)
+            → StateKnows (world_of inputs.now) file s
             → FollowerHolds (world_of inputs.now) self.now message.now s m
             → Performs (world_of inputs.now) s s.due (event_of report.now) m (affected effect.now m)
             → ReportMatches inputs.now s m self.now.source.now report.now effect.now → result ≡ true }
@@ -597,7 +599,7 @@ impl<'a> Follower<'a> {
             }
             Report::NoTarget => effect.is_nothing() && self.has_no_target(),
             Report::Piece(bytes) => {
-                effect.is_nothing() && self.next_read(inputs.most, bytes).is_some()
+                effect.is_nothing() && self.next_read(inputs.max_size, bytes).is_some()
             }
             Report::Copied(len) => self.has_copied(inputs.update, len, effect),
         }
@@ -605,10 +607,10 @@ impl<'a> Follower<'a> {
 
     // Returns the files after this effect, or `None` if the piece is not the next one of the data.
     fn next_files(&self, inputs: &RunInputs<'a>, effect: &Effect<'a>) -> Option<Files<'a>>
-        ensures is { IfSome result (λ f. (message : List ℕ) (s : State) (m : Snapshot)
+        ensures sound { IfSome result (λ f. (message : List ℕ) (s : State) (m : Snapshot)
             → FollowerHolds (world_of inputs.now) self.now message s m
             → AreFilesOf f (affected effect.now m)) }
-        ensures finds { (s : State) → Represents self.now.installation s
+        ensures complete { (s : State) → Represents self.now.installation s
             → CanGrow s inputs.now.update.now (bytes_seen self.now.files.data_file) effect.now
             → is_some result ≡ true }
     {
@@ -629,16 +631,16 @@ impl<'a> Follower<'a> {
     // Returns the bytes that were read including this report, or `None` if its piece is not the next one of
     // the file.
     fn now_read(&self, inputs: &RunInputs<'a>, report: &Report<'a>) -> Option<&'a [u8]>
-        ensures is { IfSome result (λ r. (message : List ℕ) (s : State) (m : Snapshot)
+        ensures sound { IfSome result (λ r. (message : List ℕ) (s : State) (m : Snapshot)
             → FollowerHolds (world_of inputs.now) self.now message s m
             → r.now ≡ read_after (event_of report.now) s.read) }
-        ensures finds { (message : List ℕ) (s : State) (m new : Snapshot)
+        ensures complete { (message : List ℕ) (s : State) (m new : Snapshot)
             → FollowerHolds (world_of inputs.now) self.now message s m
             → Performs (world_of inputs.now) s s.due (event_of report.now) m new
             → IsReadFrom s self.now.source.now report.now → is_some result ≡ true }
     {
         match *report {
-            Report::Piece(bytes) => self.next_read(inputs.most, bytes),
+            Report::Piece(bytes) => self.next_read(inputs.max_size, bytes),
             _ => Some(self.read),
         }
     }
@@ -664,10 +666,10 @@ impl<'a> Follower<'a> {
         text: &[u8],
         time: Option<u64>,
     ) -> bool
-        ensures taken { result ≡ true → (w : World) (s : State) → Represents self.old.installation s
+        ensures sound { result ≡ true → (w : World) (s : State) → Represents self.old.installation s
             → s.options.file ≡ file.now → w.text ≡ read_utf8 read_signature text.now
             → HasReported w (SignatureRead (read_utf8 read_signature text.now) time) s self.new message.new }
-        ensures fits { (w : World) (s : State) → Represents self.old.installation s
+        ensures complete { (w : World) (s : State) → Represents self.old.installation s
             → s.options.file ≡ file.now → w.text ≡ read_utf8 read_signature text.now
             → MessageFits w message.old → s.due ≡ ReadSignature → result ≡ true }
         ensures unchanged { (self.new.files ≡ self.old.files) × (self.new.read ≡ self.old.read)
@@ -688,10 +690,10 @@ impl<'a> Follower<'a> {
 
     // Reports an event to the installer. Returns true if it fits the operation that was due.
     fn reports(&mut self, file: &[u8], message: &mut [u8], report: &Report<'a>) -> bool
-        ensures taken { result ≡ true → (w : World) (s : State) (m new : Snapshot) → StateKnows w file.now s
+        ensures sound { result ≡ true → (w : World) (s : State) (m new : Snapshot) → StateKnows w file.now s
             → FollowerHolds w self.old message.old s m → Performs w s s.due (event_of report.now) m new
             → HasReported w (event_of report.now) s self.new message.new }
-        ensures fits { (w : World) (s : State) (m new : Snapshot) → StateKnows w file.now s
+        ensures complete { (w : World) (s : State) (m new : Snapshot) → StateKnows w file.now s
             → FollowerHolds w self.old message.old s m → Performs w s s.due (event_of report.now) m new
             → is_some (after s.due (event_of report.now) s) ≡ true → MessageFits w message.old
             → result ≡ true }
@@ -727,9 +729,9 @@ impl<'a> Follower<'a> {
         report: &Report<'a>,
         effect: &Effect<'a>,
     ) -> bool
-        ensures follows { result ≡ true → HasFollowed (world_of inputs.now) file.now (event_of report.now)
+        ensures sound { result ≡ true → HasFollowed (world_of inputs.now) file.now (event_of report.now)
             effect.now self.old self.new message.old message.new }
-        ensures finds { (s : State) (m : Snapshot) → StateKnows (world_of inputs.now) file.now s
+        ensures complete { (s : State) (m : Snapshot) → StateKnows (world_of inputs.now) file.now s
             → FollowerHolds (world_of inputs.now) self.old message.old s m
             → MessageFits (world_of inputs.now) message.old
             → IsNext (world_of inputs.now) s m (event_of report.now) effect.now
@@ -762,9 +764,9 @@ impl<'a> Follower<'a> {
         message: &mut [u8],
         line: &Line<'a>,
     ) -> bool
-        ensures follows { result ≡ true → IsFollowed (world_of inputs.now) file.now line.now self.old self.new
+        ensures sound { result ≡ true → IsFollowed (world_of inputs.now) file.now line.now self.old self.new
             message.old message.new }
-        ensures finds { (s : State) (m : Snapshot) → StateKnows (world_of inputs.now) file.now s
+        ensures complete { (s : State) (m : Snapshot) → StateKnows (world_of inputs.now) file.now s
             → FollowerHolds (world_of inputs.now) self.old message.old s m
             → MessageFits (world_of inputs.now) message.old
             → IsRecorded inputs.now s m self.old.source.now (line.now ∷ []) → result ≡ true }
@@ -784,8 +786,8 @@ impl<'a> Follower<'a> {
 
 // Returns true if both are the same bytes, or none.
 fn same(one: Option<&[u8]>, other: Option<&[u8]>) -> bool
-    ensures is { result ≡ true → option_map (λ r. r.now) one.entry ≡ option_map (λ r. r.now) other.entry }
-    ensures finds { option_map (λ r. r.now) one.entry ≡ option_map (λ r. r.now) other.entry
+    ensures sound { result ≡ true → option_map (λ r. r.now) one.entry ≡ option_map (λ r. r.now) other.entry }
+    ensures complete { option_map (λ r. r.now) one.entry ≡ option_map (λ r. r.now) other.entry
         → result ≡ true }
 {
     match (one, other) {

@@ -27,8 +27,8 @@ count_covers n k some =
     let turned : k * div_ceil n k ≡ div_ceil n k * k = mul_comm k (div_ceil n k) in
     omega (arith, (div_ceil_times n k (omega arith)).0)
 
-pub some_kept : (n k : ℕ) → 1 ≤ k → 1 ≤ n → 0 < div_ceil n k
-some_kept n k some rows = elim (cases_lt 0 (div_ceil n k)) [
+pub kept_count_positive : (n k : ℕ) → 1 ≤ k → 1 ≤ n → 0 < div_ceil n k
+kept_count_positive n k some rows = elim (cases_lt 0 (div_ceil n k)) [
   | inl kept_rows_now ↦ kept_rows_now
   | inr none ↦
       let zero_is : div_ceil n k ≡ 0 = omega arith in
@@ -37,12 +37,12 @@ some_kept n k some rows = elim (cases_lt 0 (div_ceil n k)) [
       absurd (omega arith)
 ]
 
-pub last_before : (n k : ℕ) → 1 ≤ k → 1 ≤ n → k * (div_ceil n k - 1) < n
-last_before n k some rows =
+pub last_kept_row_exists : (n k : ℕ) → 1 ≤ k → 1 ≤ n → k * (div_ceil n k - 1) < n
+last_kept_row_exists n k some rows =
     let c : ℕ = div_ceil n k in
     let turned : k * c ≡ c * k = mul_comm k c in
     let below : c * k < n + k = (div_ceil_times n k (omega arith)).1 in
-    let kept_rows_now : 0 < c = some_kept n k some rows in
+    let kept_rows_now : 0 < c = kept_count_positive n k some rows in
     let one : c ≡ suc (c - 1) = omega arith in
     let next : k * c ≡ k * (c - 1) + k = ap (λ (m : ℕ). k * m) one ∙ mul-suc k (c - 1) in
     omega arith
@@ -87,8 +87,8 @@ rom_mix_from-kept_rows r n k b some rows =
     let c : ℕ = div_ceil n k in
     let kept_rows_now : List (List ℕ) = kept_rows r n k b in
     let last : length kept_rows_now - 1 ≡ c - 1 = ap (λ (m : ℕ). m - 1) (length-kept_rows r n k b) in
-    let before : k * (c - 1) < n = last_before n k some rows in
-    let some_row : 0 < c = some_kept n k some rows in
+    let before : k * (c - 1) < n = last_kept_row_exists n k some rows in
+    let some_row : 0 < c = kept_count_positive n k some rows in
     let within : c - 1 < c = omega arith in
     let up : k * (c - 1) + (n - k * (c - 1)) ≡ n = omega arith in
     let start : row_at r (get_or kept_rows_now (length kept_rows_now - 1) []) (n - k *

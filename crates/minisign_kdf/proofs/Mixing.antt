@@ -15,23 +15,23 @@ use Rattle.minisign_kdf.proofs.Ordered.{block-diagonal_bytes, diagonal_bytes-app
 
 -- The block that is xored with block number i: the last block if i is 0, and otherwise the mixed
 -- block i - 1.
-unfoldable pub before : ℕ → List ℕ → ℕ → List ℕ
-before r b zero = block 64 b (2 * r - 1)
-before r b (suc i) = mixed_block r b i
+unfoldable pub previous_block : ℕ → List ℕ → ℕ → List ℕ
+previous_block r b zero = block 64 b (2 * r - 1)
+previous_block r b (suc i) = mixed_block r b i
 
 pub mixed_block_is : (r : ℕ) (b : List ℕ) (i : ℕ)
-    → mixed_block r b i ≡ salsa20_8 (zip2 bit_xor (before r b i) (block 64 b i))
-unfolding before mixed_block
+    → mixed_block r b i ≡ salsa20_8 (zip2 bit_xor (previous_block r b i) (block 64 b i))
+unfolding previous_block mixed_block
 mixed_block_is r b zero = refl
 mixed_block_is r b (suc i) = refl
 
-pub before_next : (r : ℕ) (b : List ℕ) (i : ℕ) → before r b (i + 1) ≡ mixed_block r b i
-unfolding before
-before_next r b i = rw add-one refl
+pub previous_block_next : (r : ℕ) (b : List ℕ) (i : ℕ) → previous_block r b (i + 1) ≡ mixed_block r b i
+unfolding previous_block
+previous_block_next r b i = rw add-one refl
 
--- Block number i of scryptBlockMix is Salsa20/8 of the xor of `before` and block i of the input.
+-- Block number i of scryptBlockMix is Salsa20/8 of the xor of `previous_block` and block i of the input.
 pub mixed_next : (r : ℕ) (xs x y c : List ℕ) (i n k : ℕ) → length xs ≡ 32 * r → i < 2 * r
-    → x ≡ before r (diagonal_bytes xs) i → n ≡ 16 → k ≡ 16 * i
+    → x ≡ previous_block r (diagonal_bytes xs) i → n ≡ 16 → k ≡ 16 * i
     → c ≡ take n (drop k xs) → y ≡ salsa20_8 (zip2 bit_xor x (bytes_of_words32 (standard_order c)))
     → y ≡ mixed_block r (diagonal_bytes xs) i
 mixed_next r xs x y c i n k len lt ex en ek ec ey =
@@ -66,12 +66,13 @@ written_all r i b even odd ei le lo he ho =
     ∙ (λ t. (ap diagonal_bytes (sym we) ∙ he ∙ ap (joined_lists (λ (j : ℕ). mixed_block r b (2 * j))) ei) t
     ++ (ap diagonal_bytes (sym wo) ∙ ho ∙ ap (joined_lists (λ (j : ℕ). mixed_block r b (2 * j + 1))) ei) t)
 
--- For block 0, `before` is the last block of the input.
-pub before_first : (r : ℕ) (xs x : List ℕ) (n k : ℕ) → length xs ≡ 32 * r → 1 ≤ r → n ≡ 16 → k ≡ 32 * r - 16
+-- For block 0, `previous_block` is the last block of the input.
+pub previous_block_first : (r : ℕ) (xs x : List ℕ) (n k : ℕ) → length xs ≡ 32 * r → 1 ≤ r → n ≡ 16
+    → k ≡ 32 * r - 16
     → x ≡ take n (drop k xs)
-    → bytes_of_words32 (standard_order x) ≡ before r (diagonal_bytes xs) (2 * 0)
-unfolding before
-before_first r xs x n k len some en ek ex =
+    → bytes_of_words32 (standard_order x) ≡ previous_block r (diagonal_bytes xs) (2 * 0)
+unfolding previous_block
+previous_block_first r xs x n k len some en ek ex =
     let e : 32 * r - 16 ≡ 16 * (2 * r - 1) = omega arith in
     rw (ex, en, ek, e) (sym (block-diagonal_bytes xs (2 * r) (2 * r - 1) (omega arith) (omega arith)))
 

@@ -22,8 +22,8 @@ n_log2_small v a = elim (cases_lt v.n_log2 64) [
 ]
 
 -- At most n of n rows are kept.
-pub kept_at_most : (n k : ℕ) → 1 ≤ k → div_ceil n k ≤ n
-kept_at_most n k some = elim (cases_lt n (div_ceil n k)) [
+pub kept_count_at_most : (n k : ℕ) → 1 ≤ k → div_ceil n k ≤ n
+kept_count_at_most n k some = elim (cases_lt n (div_ceil n k)) [
   | inl above ↦
       let c : ℕ = div_ceil n k in
       let below : c * k < n + k = (div_ceil_times n k (omega arith)).1 in

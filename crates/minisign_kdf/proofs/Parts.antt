@@ -14,8 +14,8 @@ pub record AreChanged (f : List ℕ → List ℕ) (len i : ℕ) (xs0 xs : List �
   pub front : take (len * i) xs ≡ joined_lists (λ j. f (block len xs0 j)) i
   pub back : drop (len * i) xs ≡ drop (len * i) xs0
 
-after_next : (len i : ℕ) → len * (i + 1) ≡ len * i + len
-after_next len i = ap (λ (j : ℕ). len * j) (add-one i) ∙ mul-suc len i
+next_offset : (len i : ℕ) → len * (i + 1) ≡ len * i + len
+next_offset len i = ap (λ (j : ℕ). len * j) (add-one i) ∙ mul-suc len i
 
 -- If the first i parts have been changed, changing part number i gives the first i + 1 changed
 -- parts.
@@ -23,7 +23,7 @@ pub changed_next : (f : List ℕ → List ℕ) (len i w : ℕ) (xs0 xs ys : List
     → w ≡ len → len * i + len ≤ length xs → length ys ≡ len
     → ys ≡ f (take w (drop (len * i) xs)) → AreChanged f len (i + 1) xs0 (put_mid (len * i) w xs ys)
 changed_next f len i w xs0 xs ys done ew fits ly ey =
-    let e : len * (i + 1) ≡ len * i + len = after_next len i in
+    let e : len * (i + 1) ≡ len * i + len = next_offset len i in
     let this : ys ≡ f (block len xs0 i) = ey ∙ (λ t. f (take (ew t) (done.back t))) in
     let step : drop (len * (i + 1)) xs ≡ drop (len * (i + 1)) xs0 =
     ap (λ (k : ℕ). drop k xs) e ∙ sym (drop-drop len (len * i) xs) ∙ ap (drop len) done.back
@@ -51,6 +51,6 @@ pub appended_next : (f : ℕ → List ℕ) (n i k : ℕ) (xs ys : List ℕ) → 
     → ys ≡ f i → length ys ≡ n → n * i ≤ length xs
     → take (n * (i + 1)) (put_mid (n * i) k xs ys) ≡ joined_lists f (i + 1)
 appended_next f n i k xs ys done ey ly fits =
-    let e : n * (i + 1) ≡ n * i + n = after_next n i in
+    let e : n * (i + 1) ≡ n * i + n = next_offset n i in
     take-put_mid (n * i) k xs ys (n * (i + 1)) (omega arith) fits ∙ (λ t. done t ++ ey t)
     ∙ sym (joined_lists_next f i)

@@ -14,7 +14,7 @@ use Rattle.minisign_kdf.specs.Diagonal.{diagonal_bytes}
 use Rattle.minisign_kdf.specs.Kept.{integerify, kept_rows, remade_row, rom_mix_from, rows_of}
 use Rattle.minisign_kdf.specs.Scrypt.{block_mix, mixed_part, row_at}
 use Rattle.minisign_kdf.proofs.Blocks.{block_front, block_new, block_whole, row_before}
-use Rattle.minisign_kdf.proofs.Kept.{quotient_kept, row_at-add, some_kept}
+use Rattle.minisign_kdf.proofs.Kept.{quotient_kept, row_at-add, kept_count_positive}
 use Rattle.minisign_kdf.proofs.RowMixing.{mod_64, row_at_none}
 
 -- == Rows of words ==
@@ -52,21 +52,21 @@ kept_rows_of r n k b words each = map_same (λ (i : ℕ). diagonal_bytes (block 
 -- == Filling ==
 
 -- The first kept row is row 0.
-pub kept_first : (r k i : ℕ) (xs y : List ℕ) → xs ≡ y → length y ≡ 32 * r → i < 1
+pub first_kept_row : (r k i : ℕ) (xs y : List ℕ) → xs ≡ y → length y ≡ 32 * r → i < 1
     → diagonal_bytes (block (32 * r) xs i) ≡ row_at r (diagonal_bytes y) (k * i)
-kept_first r k i xs y ex ly lt =
+first_kept_row r k i xs y ex ly lt =
     let e : i ≡ 0 = omega arith in
     let none : k * 0 ≡ 0 = omega arith in
     rw (e, ex, none) (ap diagonal_bytes (block_whole (32 * r) y ly) ∙ sym (row_at_none r (diagonal_bytes y)))
 
 -- If the first m kept rows have been stored, appending the last one, mixed k times, gives the first
 -- m + 1 kept rows.
-pub kept_next : (r k m i : ℕ) (b xs y : List ℕ)
+pub next_kept_row : (r k m i : ℕ) (b xs y : List ℕ)
     → ((j : ℕ) → j < m → diagonal_bytes (block (32 * r) xs j) ≡ row_at r b (k * j)) → length xs ≡ 32 * r * m
     → 1 ≤ m
     → length y ≡ 32 * r → diagonal_bytes y ≡ row_at r (diagonal_bytes (block (32 * r) xs (m - 1))) k
     → i < m + 1 → diagonal_bytes (block (32 * r) (xs ++ y) i) ≡ row_at r b (k * i)
-kept_next r k m i b xs y done lx some ly ey lt = elim (cases_lt i m) [
+next_kept_row r k m i b xs y done lx some ly ey lt = elim (cases_lt i m) [
   | inl before ↦ ap diagonal_bytes (block_front (32 * r) m i xs y lx before) ∙ done i before
   | inr past ↦
       let e : i ≡ m = omega arith in
@@ -117,7 +117,7 @@ mixed_from r n k words y some rows ey =
     let c : ℕ = div_ceil n k in
     let kept : List (List ℕ) = rows_of r c words in
     let count : length kept - 1 ≡ c - 1 = ap (λ (m : ℕ). m - 1) (length-rows_of r c words) in
-    let within : c - 1 < c = (let some_row : 0 < c = some_kept n k some rows in omega arith) in
+    let within : c - 1 < c = (let some_row : 0 < c = kept_count_positive n k some rows in omega arith) in
     let start : row_at r (get_or kept (length kept - 1) []) (n - k * (length kept - 1))
     ≡ last_row_mixed r n k words =
     ap (λ (m : ℕ). row_at r (get_or kept m []) (n - k * m)) count

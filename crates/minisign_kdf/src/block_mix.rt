@@ -11,7 +11,7 @@ use crate::salsa::{Block, salsa20_8, xor_of};
 // Applies scryptBlockMix `times` times to `from`, with the result in `into`. The previous contents
 // of `into` and `work` are ignored.
 pub(crate) fn mix_times(r: usize, times: usize, from: &[u32], into: &mut [u32], work: &mut [u32])
-    requires some { 1 ≤ r }
+    requires r_positive { 1 ≤ r }
     requires times { 1 ≤ times }
     requires from_len { length from.now ≡ 32 * r }
     requires into_len { length into.old ≡ 32 * r }
@@ -28,7 +28,7 @@ pub(crate) fn mix_times(r: usize, times: usize, from: &[u32], into: &mut [u32], 
 // Applies scryptBlockMix to `from` once if `times` is odd, and otherwise twice, with the result in
 // `into`. The number of remaining applications is then even.
 fn begin_mixing(r: usize, times: usize, from: &[u32], into: &mut [u32], work: &mut [u32])
-    requires some { 1 ≤ r }
+    requires r_positive { 1 ≤ r }
     requires from_len { length from.now ≡ 32 * r }
     requires into_len { length into.old ≡ 32 * r }
     requires work_len { length work.old ≡ 32 * r }
@@ -45,7 +45,7 @@ fn begin_mixing(r: usize, times: usize, from: &[u32], into: &mut [u32], work: &m
 // Computes scryptBlockMix of the 2 * r blocks of `from` into `into`. As the RFC requires, the even
 // blocks of the result come before the odd ones.
 pub(crate) fn block_mix(r: usize, from: &[u32], into: &mut [u32])
-    requires some { 1 ≤ r }
+    requires r_positive { 1 ≤ r }
     requires from_len { length from.now ≡ 32 * r }
     requires into_len { length into.old ≡ 32 * r }
     ensures { diagonal_bytes into.new ≡ block_mix r (diagonal_bytes from.now) }
@@ -62,7 +62,7 @@ pub(crate) fn block_mix(r: usize, from: &[u32], into: &mut [u32])
 
 // Computes scryptBlockMix of the xor of `from` and `row` into `into`.
 pub(crate) fn xor_block_mix(r: usize, from: &[u32], row: &[u32], into: &mut [u32])
-    requires some { 1 ≤ r }
+    requires r_positive { 1 ≤ r }
     requires from_len { length from.now ≡ 32 * r }
     requires row_len { length row.now ≡ 32 * r }
     requires into_len { length into.old ≡ 32 * r }

@@ -10,8 +10,8 @@ ghost use Rattle.minisign_kdf.specs.Kept.{KeptRows, kept_rows, rows_of};
 ghost use Rattle.minisign_kdf.specs.Scrypt.{row_at};
 
 use crate::block_mix::mix_times;
+use crate::diagonal_order::load_part;
 use crate::errors::KdfError;
-use crate::order::load_part;
 use crate::row_memory::RowMemory;
 use std::alloc::{AllocError, Global};
 use std::marker::Model;
@@ -53,7 +53,7 @@ impl Rows {
     /// Returns `OutOfMemory` if an allocation failed: 128 * r bytes for each of the N / k rows, rounded up,
     /// in one request, and then 256 * r bytes, before any mixing.
     pub fn fill(alloc: Global, block: &[u8], n_log2: u8, k: u64) -> Result<Rows, KdfError>
-        requires some { 0 < length block.now }
+        requires not_empty { 0 < length block.now }
         requires whole { length block.now % 128 ≡ 0 }
         requires even { 1 ≤ n_log2 }
         requires cost { n_log2 < 64 }
@@ -66,7 +66,7 @@ impl Rows {
             (λ v. v ≡ record { r = r; n = 2 ^ n_log2; k = k; rows = kept_rows r (2 ^ n_log2) k block.now }) }
 
         // The only error is out of memory.
-        ensures refused { IfErr result (λ e. e ≡ KdfError.OutOfMemory) }
+        ensures only_out_of_memory { IfErr result (λ e. e ≡ KdfError.OutOfMemory) }
     {
         let r = block.len() / 128;
         let mut words = memory_for_rows(alloc, r, n_log2, k)?;
@@ -112,9 +112,9 @@ pub(crate) fn memory_for_rows(
     requires small { 32 * r < 2 ^ 64 }
     requires cost { n_log2 < 64 }
     requires k_positive { 1 ≤ k }
-    ensures room { IfOk result (λ v. vec_capacity v ≡ 32 * r * div_ceil (2 ^ n_log2) k) }
-    ensures fits { OnOk result (128 * r * div_ceil (2 ^ n_log2) k < 2 ^ 63) }
-    ensures refused { IfErr result (λ e. e ≡ KdfError.OutOfMemory) }
+    ensures capacity { IfOk result (λ v. vec_capacity v ≡ 32 * r * div_ceil (2 ^ n_log2) k) }
+    ensures rows_fit { OnOk result (128 * r * div_ceil (2 ^ n_log2) k < 2 ^ 63) }
+    ensures only_out_of_memory { IfErr result (λ e. e ≡ KdfError.OutOfMemory) }
 {
     let Some(len) = (32 * r).checked_mul(kept_count(n_log2, k)) else {
         return Err(KdfError::OutOfMemory);
@@ -127,7 +127,7 @@ pub(crate) fn memory_for_rows(
 
 // Returns how many rows of 32 * r words `words` contains.
 pub(crate) fn rows_in(words: &[u32], r: usize) -> u64
-    requires some { 1 ≤ r }
+    requires r_positive { 1 ≤ r }
     requires small { 32 * r < 2 ^ 64 }
     ensures { (count : ℕ) → length words.now ≡ 32 * r * count → result ≡ count }
 {
@@ -148,7 +148,7 @@ pub(crate) fn keep_rows<S: RowMemory>(
     rows: &mut S,
     work: &mut [u32],
 )
-    requires some { 0 < length block.now }
+    requires not_empty { 0 < length block.now }
     requires whole { length block.now % 128 ≡ 0 }
     requires cost { n_log2 < 64 }
     requires k_positive { 1 ≤ k }
@@ -159,7 +159,7 @@ pub(crate) fn keep_rows<S: RowMemory>(
     ensures rows { let r = length block.now / 128 in
         rows_of r (div_ceil (2 ^ n_log2) k) (S.words rows.new)
         ≡ kept_rows r (2 ^ n_log2) k block.now }
-    ensures room { S.room rows.old ≤ S.room rows.new }
+    ensures room_not_reduced { S.room rows.old ≤ S.room rows.new }
 {
     let len = block.len() / 4;
     let (x, rest) = work.split_at_mut(len);
@@ -196,7 +196,7 @@ fn fill_rows<S: RowMemory>(
     x: &mut [u32],
     work: &mut [u32],
 )
-    requires some { 1 ≤ r }
+    requires r_positive { 1 ≤ r }
     requires count { 1 ≤ count }
     requires k_positive { 1 ≤ k }
     requires room { 32 * r * count ≤ S.room rows.old }
@@ -206,7 +206,7 @@ fn fill_rows<S: RowMemory>(
     ensures rows { (i : ℕ) → i < count
         → diagonal_bytes (block (32 * r) (S.words rows.new) i)
         ≡ row_at r (diagonal_bytes x.old) (k * i) }
-    ensures room { S.room rows.old ≤ S.room rows.new }
+    ensures room_not_reduced { S.room rows.old ≤ S.room rows.new }
 {
     let len = 32 * r;
     rows.clear();

@@ -32,13 +32,13 @@ impl Buffers {
     // Allocates all three buffers, first the one for the rows.
     fn new(alloc: Global, params: &Params, k: u64) -> Result<Buffers, KdfError>
         requires k_positive { 1 ≤ k }
-        ensures room { IfOk result
+        ensures capacity { IfOk result
             (λ b. vec_capacity b.rows ≡ 32 * params.now.r * div_ceil (2 ^ params.now.n_log2) k) }
         ensures work { IfOk result (λ b. vec_len b.work ≡ 96 * params.now.r) }
         ensures parts { IfOk result (λ b. vec_len b.parts ≡ 128 * params.now.r * params.now.p) }
-        ensures fits { OnOk result
+        ensures rows_fit { OnOk result
             (128 * params.now.r * div_ceil (2 ^ params.now.n_log2) k < 2 ^ 63) }
-        ensures refused { IfErr result (λ e. e ≡ KdfError.OutOfMemory) }
+        ensures only_out_of_memory { IfErr result (λ e. e ≡ KdfError.OutOfMemory) }
     {
         let r = params.r() as usize;
         let p = params.p() as usize;
@@ -71,14 +71,14 @@ pub fn scrypt(
 ) -> Result<(), KdfError>
     // On success, `out` holds the scrypt output of RFC 7914 for the password, the salt, the parameters and
     // its length, which is from 1 to 137438953440 bytes.
-    ensures fits { OnOk result (IsTrue (is_key_length (length out.old))) }
+    ensures key_length_is_allowed { OnOk result (IsTrue (is_key_length (length out.old))) }
     ensures derived { OnOk result
         (out.new ≡ scrypt password.now salt.now (2 ^ params.now.n_log2) params.now.r params.now.p
         (length out.old)) }
 
     // On success, all N rows of a part were in memory at the same time, so they have fewer than 2^63 bytes
     // in total. (With only every second row kept, this would not follow.)
-    ensures room { OnOk result (128 * params.now.r * 2 ^ params.now.n_log2 < 2 ^ 63) }
+    ensures rows_fit { OnOk result (128 * params.now.r * 2 ^ params.now.n_log2 < 2 ^ 63) }
 
     // The error is `InvalidOutputLen` if the length of `out` is not in this range, and otherwise out of
     // memory. After an error, `out` is unchanged.
@@ -122,7 +122,7 @@ pub fn scrypt_keeping(
     // On success, for every k of at least 1, `out` holds the scrypt output of RFC 7914 for the password,
     // the salt, the parameters and its length, which is from 1 to 137438953440 bytes. It does not depend on
     // k.
-    ensures fits { OnOk result (IsTrue (is_key_length (length out.old))) }
+    ensures key_length_is_allowed { OnOk result (IsTrue (is_key_length (length out.old))) }
     ensures derived { OnOk result
         (out.new ≡ scrypt password.now salt.now (2 ^ params.now.n_log2) params.now.r params.now.p
         (length out.old)) }
@@ -130,7 +130,7 @@ pub fn scrypt_keeping(
     // On success, the result is the number of rows kept for each part, N / k rounded up, and these rows
     // have fewer than 2^63 bytes in total.
     ensures count { IfOk result (λ n. n ≡ div_ceil (2 ^ params.now.n_log2) k) }
-    ensures room { OnOk result
+    ensures rows_fit { OnOk result
         (128 * params.now.r * div_ceil (2 ^ params.now.n_log2) k < 2 ^ 63) }
 
     // The error is `InvalidOutputLen` if the length of `out` is not in this range, and otherwise out of
@@ -255,7 +255,7 @@ fn derive<S: RowMemory>(
     requires out_len { length out.old ≤ longest_key }
     ensures derived { out.new ≡ scrypt password.now salt.now
         (2 ^ params.now.n_log2) params.now.r params.now.p (length out.old) }
-    ensures held { length (S.words rows.new)
+    ensures words_len { length (S.words rows.new)
         ≡ 32 * params.now.r * div_ceil (2 ^ params.now.n_log2) k }
 {
     let r = params.r() as usize;
@@ -276,7 +276,7 @@ fn mix_parts<S: RowMemory>(
     rows: &mut S,
     work: &mut [u32],
 )
-    requires some { 1 ≤ r }
+    requires r_positive { 1 ≤ r }
     requires even { 1 ≤ n_log2 }
     requires cost { n_log2 < 64 }
     requires k_positive { 1 ≤ k }
@@ -286,7 +286,7 @@ fn mix_parts<S: RowMemory>(
     requires work_len { length work.old ≡ 96 * r }
     ensures mixed { parts.new ≡ joined_lists
         (λ i. rom_mix r (2 ^ n_log2) (block (128 * r) parts.old i)) p }
-    ensures held { length (S.words rows.new) ≡ 32 * r * div_ceil (2 ^ n_log2) k }
+    ensures words_len { length (S.words rows.new) ≡ 32 * r * div_ceil (2 ^ n_log2) k }
 {
     let len = 128 * r;
     'parts: for i in 0..p {
@@ -305,9 +305,9 @@ fn rom_mix<S: RowMemory>(n_log2: u8, k: u64, part: &mut [u8], rows: &mut S, work
     requires room { 32 * (length part.old / 128) * div_ceil (2 ^ n_log2) k ≤ S.room rows.old }
     requires work_len { 3 * length part.old ≤ 4 * length work.old }
     ensures mixed { part.new ≡ rom_mix (length part.old / 128) (2 ^ n_log2) part.old }
-    ensures held { length (S.words rows.new)
+    ensures words_len { length (S.words rows.new)
         ≡ 32 * (length part.old / 128) * div_ceil (2 ^ n_log2) k }
-    ensures room { S.room rows.old ≤ S.room rows.new }
+    ensures room_not_reduced { S.room rows.old ≤ S.room rows.new }
 {
     keep_rows(part, n_log2, k, rows, work);
     mix_kept(rows.words(), n_log2, k, part, work);

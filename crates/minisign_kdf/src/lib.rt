@@ -5,11 +5,11 @@
 #![tactic(auto)]
 
 mod block_mix;
+mod diagonal_order;
 pub mod errors;
 pub mod hmac;
 pub mod kept_rows;
 pub mod key_derivation;
-mod order;
 pub mod params;
 pub mod pbkdf2;
 pub mod rom_mix;

@@ -11,8 +11,8 @@ ghost use Rattle.minisign_kdf.specs.Kept.{integerify, kept_rows, remade_row, rom
 ghost use Rattle.minisign_kdf.specs.Scrypt.{block_mix, rom_mix, row_at};
 
 use crate::block_mix::{mix_times, xor_block_mix};
+use crate::diagonal_order::store_part;
 use crate::kept_rows::{kept_count, row_count};
-use crate::order::store_part;
 use std::simd::u32x4;
 
 /// Writes scryptROMix (RFC 7914, section 5) with N = 2^`n_log2` to `out`. `rows` has only every k-th row: the
@@ -62,7 +62,7 @@ fn mix_with_rows(
     work: &mut [u32],
     row: &mut [u32],
 )
-    requires some { 1 ≤ r }
+    requires r_positive { 1 ≤ r }
     requires even { 1 ≤ n_log2 }
     requires cost { n_log2 < 64 }
     requires k_positive { 1 ≤ k }
@@ -83,7 +83,7 @@ fn mix_with_rows(
 // Computes row N into `x` by mixing the last kept row. The previous contents of `x` and `work` are
 // ignored.
 fn mix_last_row(r: usize, n_log2: u8, k: u64, rows: &[u32], x: &mut [u32], work: &mut [u32])
-    requires some { 1 ≤ r }
+    requires r_positive { 1 ≤ r }
     requires cost { n_log2 < 64 }
     requires k_positive { 1 ≤ k }
     requires rows_len { length rows.now ≡ 32 * r * div_ceil (2 ^ n_log2) k }
@@ -110,7 +110,7 @@ fn mix_with_row(
     row: &mut [u32],
     out: &mut [u32],
 )
-    requires some { 1 ≤ r }
+    requires r_positive { 1 ≤ r }
     requires cost { n_log2 < 64 }
     requires k_positive { 1 ≤ k }
     requires rows_len { length rows.now ≡ 32 * r * div_ceil (2 ^ n_log2) k }
@@ -129,7 +129,7 @@ fn mix_with_row(
 // Returns the kept row from which row j is computed.
 #[inline(always)]
 fn kept_row(r: usize, n_log2: u8, k: u64, rows: &[u32], j: usize) -> &[u32]
-    requires some { 1 ≤ r }
+    requires r_positive { 1 ≤ r }
     requires k_positive { 1 ≤ k }
     requires j { j < 2 ^ n_log2 }
     requires rows_len { length rows.now ≡ 32 * r * div_ceil (2 ^ n_log2) k }
@@ -151,7 +151,7 @@ fn mix_with_remade(
     row: &mut [u32],
     out: &mut [u32],
 )
-    requires some { 1 ≤ r }
+    requires r_positive { 1 ≤ r }
     requires base_row_len { length base_row.now ≡ 32 * r }
     requires x_len { length x.now ≡ 32 * r }
     requires row_len { length row.old ≡ 32 * r }
@@ -172,7 +172,7 @@ fn mix_with_remade(
 // Returns the low 64 bits of the last block, which are its first two words. In diagonal order these are at
 // indices 0 and 13.
 fn integerify(r: usize, x: &[u32]) -> u64
-    requires some { 1 ≤ r }
+    requires r_positive { 1 ≤ r }
     requires x_len { length x.now ≡ 32 * r }
     ensures { result ≡ integerify r (diagonal_bytes x.now) % 2 ^ 64 }
 {
@@ -184,7 +184,7 @@ fn integerify(r: usize, x: &[u32]) -> u64
 // the mixing afterwards waits for memory once and not for each block. The values are xored into `out`, which
 // is overwritten afterwards.
 fn touch_row(r: usize, row: &[u32], out: &mut [u32])
-    requires some { 1 ≤ r }
+    requires r_positive { 1 ≤ r }
     requires row_len { length row.now ≡ 32 * r }
     requires out_len { length out.old ≡ 32 * r }
     ensures { length out.new ≡ length row.now }

@@ -13,14 +13,14 @@ pub(crate) trait RowMemory {
     fn clear(&mut self)
         ensures words { words self.new ≡ [] }
         ensures len { length (words self.new) ≡ 0 }
-        ensures room { room self.old ≤ room self.new };
+        ensures room_not_reduced { room self.old ≤ room self.new };
 
     // Appends a row. The buffer must have space for it.
     fn push(&mut self, row: &[u32])
         requires { length (words self.old) + length row.now ≤ room self.old }
         ensures words { words self.new ≡ words self.old ++ row.now }
         ensures len { length (words self.new) ≡ length (words self.old) + length row.now }
-        ensures room { room self.old ≤ room self.new };
+        ensures room_not_reduced { room self.old ≤ room self.new };
 
     // Returns the words of the rows.
     fn words(&self) -> &[u32]

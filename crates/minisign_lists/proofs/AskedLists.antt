@@ -69,10 +69,10 @@ has_room s true (Err m) j n room h = cc h
 has_room s false c j n room h = cc h
 
 -- If asking succeeds, the message fits into the buffer.
-pub roomy : (s : Bool) (v : PublicKeyValue) (signature : SignatureValue) (text : List ℕ) (room : ℕ)
+pub room_is_enough : (s : Bool) (v : PublicKeyValue) (signature : SignatureValue) (text : List ℕ) (room : ℕ)
     → asked_strictly s (asking_checks v signature text false room) ≡ Ok true
     → 64 + signature.comment_len ≤ room
-roomy s v signature text room h =
+room_is_enough s v signature text room h =
     has_room s (is_public_key v) (comment_of signature text)
     (judge_key v.key_id (signature_of_value signature) false) signature.comment_len room h
 
@@ -133,9 +133,10 @@ list_decided l v sig_text text name accepts first second r new returned has answ
     let t : SignatureTextRecord = has.signed in
     let asked : ListValue = asked_list v s name text t.comments.trusted in
     let whole : (s.whole == 1) ≡ has_whole_signature t.comments =
-    ap (λ (x : SignatureValue). x.whole == 1) has.from.value ∙ one_or_zero (has_whole_signature t.comments) in
+    ap (λ (x : SignatureValue). x.whole == 1) has.parsed.value
+    ∙ one_or_zero (has_whole_signature t.comments) in
     ap (λ p. p.0) returned
-    ∙ ap (λ (x : ListValue). (list_verdict_outcome x first second).0) has.is
+    ∙ ap (λ (x : ListValue). (list_verdict_outcome x first second).0) has.list_value
     ∙ judged_as (judge_answers first ((s.whole == 1) && second)) name t.comments.trusted asked
     ∙ ap (λ r. given_list (and_then (wrap_library_error r)
     (λ comment. and_then (check_list_name name comment) (λ _. Ok comment))))

@@ -19,35 +19,36 @@ record Split (p : Entry → Bool) (es : List Entry) (e : Entry) : Type 0 where
   pub passes : p e ≡ true
   pub others : list_any p (before ++ after) ≡ false
 
-none : (p : Entry → Bool) (es : List Entry) → filter p es ≡ [] → list_any p es ≡ false
-none p [] h = refl
-none p (x ∷ es) h = elim (cases_Bool (p x)) [
+none_passes : (p : Entry → Bool) (es : List Entry) → filter p es ≡ [] → list_any p es ≡ false
+none_passes p [] h = refl
+none_passes p (x ∷ es) h = elim (cases_Bool (p x)) [
   | inl is ↦ absurd (cc (rw is at h))
-  | inr is ↦ rw is (none p es (rw is at h))
+  | inr is ↦ rw is (none_passes p es (rw is at h))
 ]
 
-nothing : (p : Entry → Bool) (es : List Entry) → list_any p es ≡ false → filter p es ≡ []
-nothing p [] h = refl
-nothing p (x ∷ es) h = elim (cases_Bool (p x)) [
+filters_to_nothing : (p : Entry → Bool) (es : List Entry) → list_any p es ≡ false → filter p es ≡ []
+filters_to_nothing p [] h = refl
+filters_to_nothing p (x ∷ es) h = elim (cases_Bool (p x)) [
   | inl is ↦ absurd (cc (rw is at h))
-  | inr is ↦ rw is (nothing p es (rw is at h))
+  | inr is ↦ rw is (filters_to_nothing p es (rw is at h))
 ]
 
-first : (p : Entry → Bool) (x : Entry) (es : List Entry) (e : Entry) → p x ≡ true → x ∷ filter p es ≡ e ∷ []
+split_at_first : (p : Entry → Bool) (x : Entry) (es : List Entry) (e : Entry) → p x ≡ true
+    → x ∷ filter p es ≡ e ∷ []
     → Split p (x ∷ es) e
-first p x es e is h =
+split_at_first p x es e is h =
     let same : x ≡ e = ap (λ l. get_or l 0 e) h in
     record {
       before = [];
       after = es;
       whole = ap (λ y. y ∷ es) same;
       passes = rw same at is;
-      others = none p es (ap (drop 1) h);
+      others = none_passes p es (ap (drop 1) h);
     }
 
-later : (p : Entry → Bool) (x : Entry) (es : List Entry) (e : Entry) → p x ≡ false → Split p es e
+split_later : (p : Entry → Bool) (x : Entry) (es : List Entry) (e : Entry) → p x ≡ false → Split p es e
     → Split p (x ∷ es) e
-later p x es e is s = record {
+split_later p x es e is s = record {
   before = x ∷ s.before;
   after = s.after;
   whole = ap (λ l. x ∷ l) s.whole;
@@ -58,13 +59,13 @@ later p x es e is s = record {
 split : (p : Entry → Bool) (es : List Entry) (e : Entry) → filter p es ≡ e ∷ [] → Split p es e
 split p [] e h = absurd (cc h)
 split p (x ∷ es) e h = elim (cases_Bool (p x)) [
-  | inl is ↦ first p x es e is (rw is at h)
-  | inr is ↦ later p x es e is (split p es e (rw is at h))
+  | inl is ↦ split_at_first p x es e is (rw is at h)
+  | inr is ↦ split_later p x es e is (split p es e (rw is at h))
 ]
 
 joined : (p : Entry → Bool) (before : List Entry) (e : Entry) (after : List Entry) → p e ≡ true
     → list_any p (before ++ after) ≡ false → filter p (before ++ e ∷ after) ≡ e ∷ []
-joined p [] e after is others = rw is (ap (λ l. e ∷ l) (nothing p after others))
+joined p [] e after is others = rw is (ap (λ l. e ∷ l) (filters_to_nothing p after others))
 joined p (x ∷ before) e after is others = elim (cases_Bool (p x)) [
   | inl passes ↦ absurd (cc (rw passes at others))
   | inr other ↦ rw other (joined p before e after is (rw other at others))
@@ -75,11 +76,12 @@ abbrev got : Result Entry ListFault → Entry → Entry
 got (Ok e) _ = e
 got (Err f) e = e
 
-one : (long : LongDigest) (list name : List ℕ) (e : Entry) (es found : List Entry) → is_name name ≡ true
+listed_if_only : (long : LongDigest) (list name : List ℕ) (e : Entry) (es found : List Entry)
+    → is_name name ≡ true
     → read_list long list ≡ Ok es → filter (has_name (without_dot name)) es ≡ found → only_entry found ≡ Ok e
     → IsListed long list name e
-one long list name e es [] named read is h = absurd (cc h)
-one long list name e es (x ∷ []) named read is h =
+listed_if_only long list name e es [] named read is h = absurd (cc h)
+listed_if_only long list name e es (x ∷ []) named read is h =
     let same : x ≡ e = ap (λ r. got r e) h in
     let s = split (has_name (without_dot name)) es e (is ∙ ap (λ y. y ∷ []) same) in
     record {
@@ -90,7 +92,7 @@ one long list name e es (x ∷ []) named read is h =
       of_name = s.passes;
       others = s.others;
     }
-one long list name e es (_ ∷ _ ∷ _) named read is h = absurd (cc h)
+listed_if_only long list name e es (_ ∷ _ ∷ _) named read is h = absurd (cc h)
 
 listed : (long : LongDigest) (list name : List ℕ) (e : Entry) (named : Bool)
     (r : Result (List Entry) ListFault) → is_name name ≡ named → read_list long list ≡ r
@@ -99,12 +101,12 @@ listed : (long : LongDigest) (list name : List ℕ) (e : Entry) (named : Bool)
     → IsListed long list name e
 listed long list name e false r named read h = absurd (cc h)
 listed long list name e true (Err f) named read h = absurd (cc h)
-listed long list name e true (Ok es) named read h = one long list name e es _ named read refl h
+listed long list name e true (Ok es) named read h = listed_if_only long list name e es _ named read refl h
 
-given : (long : LongDigest) (list name : List ℕ) (e : Entry) → IsListed long list name e
+listed_gives_entry : (long : LongDigest) (list name : List ℕ) (e : Entry) → IsListed long list name e
     → listed_entry long list name ≡ Ok e
 unfolding listed_entry
-given long list name e l =
+listed_gives_entry long list name e l =
     rw (l.named, l.entries)
     (ap only_entry (joined (has_name (without_dot name)) l.before e l.after l.of_name l.others))
 
@@ -112,5 +114,5 @@ pub decided : (long : LongDigest) (list name : List ℕ)
     → IsReading (IsListed long list name) (listed_entry long list name)
 unfolding listed_entry
 decided long list name = record {
-  value = λ e. (listed long list name e _ _ refl refl, given long list name e);
+  value = λ e. (listed long list name e _ _ refl refl, listed_gives_entry long list name e);
 }

@@ -60,15 +60,15 @@ pub record IsWritten (long : LongDigest) (text : List ℕ) (old new : List Entry
   pub written : new ≡ map (value_in text) done ++ drop (length done) old
 
 -- The entries in a result, or none if it is an error.
-abbrev rest_of : Result (List Entry) ListFault → List Entry
-rest_of (Ok es) = es
-rest_of (Err f) = []
+abbrev entries_or_none : Result (List Entry) ListFault → List Entry
+entries_or_none (Ok es) = es
+entries_or_none (Err f) = []
 
 -- If a line has no entry, all entries are on the lines after it.
-skipped : (r : Result (List Entry) ListFault) (more : List Entry) → map_ok (λ es. [] ++ es) r ≡ Ok more
+line_skipped : (r : Result (List Entry) ListFault) (more : List Entry) → map_ok (λ es. [] ++ es) r ≡ Ok more
     → r ≡ Ok more
-skipped (Ok es) more h = h
-skipped (Err f) more h = absurd (cc h)
+line_skipped (Ok es) more h = h
+line_skipped (Err f) more h = absurd (cc h)
 
 -- The result r is a success, and `more` consists of the entry e and the entries in r.
 record Behind (r : Result (List Entry) ListFault) (e : Entry) (more : List Entry) : Type 0 where
@@ -76,15 +76,15 @@ record Behind (r : Result (List Entry) ListFault) (e : Entry) (more : List Entry
   pub is : r ≡ Ok tail
   pub whole : more ≡ e ∷ tail
 
-taken : (r : Result (List Entry) ListFault) (e : Entry) (more : List Entry)
+entry_is_first : (r : Result (List Entry) ListFault) (e : Entry) (more : List Entry)
     → map_ok (λ es. (e ∷ []) ++ es) r ≡ Ok more
     → Behind r e more
-taken (Ok es) e more h = record {
+entry_is_first (Ok es) e more h = record {
   tail = es;
   is = refl;
-  whole = sym (ap rest_of h);
+  whole = sym (ap entries_or_none h);
 }
-taken (Err f) e more h = absurd (cc h)
+entry_is_first (Err f) e more h = absurd (cc h)
 
 -- If a buffer begins with the list xs, writing an element after xs gives a buffer that begins with
 -- xs and this element.
@@ -111,12 +111,12 @@ module _ (long : LongDigest) (text : List ℕ) (old new : List EntryValue) (n co
     done = w.done;
     more = w.more;
     all = w.all;
-    unread_entries = skipped (read_entries long (n + 1 + 1) (lines more)) w.more read;
+    unread_entries = line_skipped (read_entries long (n + 1 + 1) (lines more)) w.more read;
     counted = ap (λ p. p.0) put ∙ w.counted;
     written = ap (λ p. p.1) put ∙ w.written;
   }
   step (Ok (Some e)) next to w line read at room len put =
-      let behind = taken (read_entries long (n + 1 + 1) (lines more)) e w.more read in
+      let behind = entry_is_first (read_entries long (n + 1 + 1) (lines more)) e w.more read in
       let f = value_in text in
       let xs = map f w.done in
       let size : length xs ≡ length w.done = length-map w.done f in
@@ -165,7 +165,8 @@ module _ (long : LongDigest) (text : List ℕ) (old new : List EntryValue) (n co
   pub all_written : IsWritten long text old new n count rest es → lines rest ≡ []
       → new ≡ map (value_in text) es ++ drop (length es) old
   all_written w end =
-      let none : w.more ≡ [] = ap rest_of (sym w.unread_entries ∙ ap (read_entries long (n + 1)) end) in
+      let none : w.more ≡ [] = ap entries_or_none (sym w.unread_entries
+      ∙ ap (read_entries long (n + 1)) end) in
       let whole : es ≡ w.done = w.all ∙ ap (λ l. w.done ++ l) none ∙ append-nil w.done in
       w.written ∙ ap (λ l. map (value_in text) l ++ drop (length l) old) (sym whole)
 

@@ -42,15 +42,15 @@ record Ended (list : List ℕ) : Type 0 where
   pub some : 0 < length list → 0 < length front
 
 -- The last byte of b ∷ rest.
-abbrev last : ℕ → List ℕ → ℕ
-last b [] = b
-last b (c ∷ rest) = last c rest
+abbrev last_byte : ℕ → List ℕ → ℕ
+last_byte b [] = b
+last_byte b (c ∷ rest) = last_byte c rest
 
-last_index : (b : ℕ) (rest : List ℕ) → slice_index (b ∷ rest) (length rest) ≡ last b rest
+last_index : (b : ℕ) (rest : List ℕ) → slice_index (b ∷ rest) (length rest) ≡ last_byte b rest
 last_index b [] = refl
 last_index b (c ∷ rest) = last_index c rest
 
-ended_at : (b : ℕ) (rest : List ℕ) → is_feed (last b rest) ≡ true → Ended (b ∷ rest)
+ended_at : (b : ℕ) (rest : List ℕ) → is_feed (last_byte b rest) ≡ true → Ended (b ∷ rest)
 ended_at b [] h = record {
   front = [] ∷ [];
   parts = rw h refl;

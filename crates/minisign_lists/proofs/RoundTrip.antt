@@ -42,9 +42,9 @@ dot_clean p name h = elim (cases_Bool (bytes_eq (take 2 name) (46 ∷ 47 ∷ [])
   | inr is ↦ rw is h
 ]
 
-same : (xs : List ℕ) → bytes_eq xs xs ≡ true
-same [] = refl
-same (x ∷ xs) = rw (eq-eqb x x refl, same xs) refl
+equals_itself : (xs : List ℕ) → bytes_eq xs xs ≡ true
+equals_itself [] = refl
+equals_itself (x ∷ xs) = rw (eq-eqb x x refl, equals_itself xs) refl
 
 not_false : (b : Bool) → not b ≡ true → b ≡ false
 not_false true h = absurd (cc h)
@@ -95,33 +95,35 @@ map_found : {V W : Type 0} (f : V → W) (r : Result V ListFault) → is_missing
 map_found f (Ok v) h = refl
 map_found f (Err e) h = h
 
-then_found : {V W : Type 0} (r : Result V ListFault) (more : V → Result W ListFault) → is_missing r ≡ false
+then_not_missing : {V W : Type 0} (r : Result V ListFault) (more : V → Result W ListFault)
+    → is_missing r ≡ false
     → ((v : V) → is_missing (more v) ≡ false) → is_missing (and_then r more) ≡ false
-then_found (Ok v) more h all = all v
-then_found (Err e) more h all = h
+then_not_missing (Ok v) more h all = all v
+then_not_missing (Err e) more h all = h
 
 entries_found : (l : LongDigest) (n : ℕ) (ls : List (List ℕ)) → is_missing (read_entries l n ls) ≡ false
 entries_found l n [] = refl
-entries_found l n (x ∷ ls) = then_found (read_line l n x) _ (line_found l n x)
+entries_found l n (x ∷ ls) = then_not_missing (read_line l n x) _ (line_found l n x)
     (λ o. map_found _ (read_entries l (n + 1) ls) (entries_found l (n + 1) ls))
 
-nothing : (es : List Entry) → only_entry es ≡ Err NotListed → es ≡ []
-nothing [] h = refl
-nothing (e ∷ []) h = absurd (cc h)
-nothing (e ∷ second ∷ es) h = absurd (cc (ap is_missing h))
+not_listed_is_empty : (es : List Entry) → only_entry es ≡ Err NotListed → es ≡ []
+not_listed_is_empty [] h = refl
+not_listed_is_empty (e ∷ []) h = absurd (cc h)
+not_listed_is_empty (e ∷ second ∷ es) h = absurd (cc (ap is_missing h))
 
-free : (list name : List ℕ) (named : Bool) (r : Result (List Entry) ListFault) → is_name name ≡ named
+free_if_not_listed : (list name : List ℕ) (named : Bool) (r : Result (List Entry) ListFault)
+    → is_name name ≡ named
     → read_list long.Rejected list ≡ r → is_missing r ≡ false
     → cond named (and_then r (λ es. only_entry (filter (has_name (without_dot name)) es))) (Err BadName)
     ≡ Err NotListed
     → IsFree list name
-free list name false r named read found h = absurd (cc (ap is_missing h))
-free list name true (Err f) named read found h = absurd (cc (sym found ∙ ap is_missing h))
-free list name true (Ok es) named read found h = record {
+free_if_not_listed list name false r named read found h = absurd (cc (ap is_missing h))
+free_if_not_listed list name true (Err f) named read found h = absurd (cc (sym found ∙ ap is_missing h))
+free_if_not_listed list name true (Ok es) named read found h = record {
   named = named;
   entries = es;
   read = read;
-  none = nothing (filter (has_name (without_dot name)) es) h;
+  none = not_listed_is_empty (filter (has_name (without_dot name)) es) h;
 }
 
 -- The facts that follow from a successful check of appending.
@@ -183,7 +185,7 @@ checked buffer len name h =
     record {
       fits = fits;
       ended = is.ended;
-      free = free list name (is_name name) (read_list long.Rejected list) refl refl
+      free = free_if_not_listed list name (is_name name) (read_list long.Rejected list) refl refl
           (entries_found long.Rejected 1 (lines list)) is.missing;
     }
 
@@ -213,12 +215,12 @@ module _ (l : LongDigest) (list name : List ℕ) (d : ListedDigest) (are : IsByt
       let new : read_list l (list ++ written_line d m) ≡ Ok (given.entries ++ e ∷ []) =
       ap (read_entries l 1) new_lines ∙ entries_more l 1 (lines list) x given.entries e given.read line in
       let only : filter (has_name m) (given.entries ++ e ∷ []) ≡ e ∷ [] =
-      filter-append (has_name m) given.entries (e ∷ []) ∙ rw (given.none, same m) refl in
+      filter-append (has_name m) given.entries (e ∷ []) ∙ rw (given.none, equals_itself m) refl in
       record {
         before = given.entries;
-        was = given.read;
+        list_read = given.read;
         free = given.none;
-        is = new;
+        longer_read = new;
         found = rw (given.named, new) (ap only_entry only);
       }
 

@@ -74,9 +74,9 @@ pub record HasAskedList (l : ListValue) (v : PublicKeyValue) (sig_text : List �
     (text : List ℕ) : Type 0 where
   pub signature : SignatureValue
   pub signed : SignatureTextRecord
-  pub from : IsReadFrom signature sig_text signed
+  pub parsed : IsReadFrom signature sig_text signed
   pub read : read_under v false sig_text ≡ Ok signed
-  pub is : l ≡ asked_list v signature list_name text signed.comments.trusted
+  pub list_value : l ≡ asked_list v signature list_name text signed.comments.trusted
 
 -- The verdict on a list: the trusted comment, if the signature file is a valid prehashed signature of the
 -- list under the key, and the comment names the list, if a name is given; otherwise the first of these

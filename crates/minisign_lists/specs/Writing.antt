@@ -86,9 +86,9 @@ digest_size (listed.Blake2b digest) = 64
 pub record IsReadBack (l : LongDigest) (list longer : List ℕ) (digest : ListedDigest) (name : List ℕ) : Type 0
   where
     pub before : List Entry
-    pub was : read_list long.Rejected list ≡ Ok before
+    pub list_read : read_list long.Rejected list ≡ Ok before
     pub free : filter (has_name (without_dot name)) before ≡ []
-    pub is : read_list l longer
+    pub longer_read : read_list l longer
         ≡ Ok (before ++ written_entry (1 + length (lines list)) digest (without_dot name) ∷ [])
     pub found : listed_entry l longer name
         ≡ Ok (written_entry (1 + length (lines list)) digest (without_dot name))

@@ -65,7 +65,7 @@ impl<'a> Entries<'a> {
 // Splits off the first line, without its line ending.
 pub(crate) fn next_line(text: &[u8]) -> Option<(&[u8], &[u8])>
     ensures some { IfSome result (λ p. lines text.now ≡ p.0.now ∷ lines p.1.now) }
-    ensures rest { IfSome result (λ p. p.1.now ≡ after_line text.now) }
+    ensures text_after_line { IfSome result (λ p. p.1.now ≡ after_line text.now) }
     ensures shorter { IfSome result (λ p. length p.1.now < length text.now) }
     ensures none { IfNone result (lines text.now ≡ []) }
 {
@@ -92,10 +92,10 @@ pub(crate) fn after_line(text: &[u8]) -> &[u8]
 fn split_line(text: &[u8]) -> Option<(&[u8], &[u8])>
     ensures some { IfSome result
         (λ p. slice_split is_feed text.now ≡ p.0.now ∷ slice_split is_feed p.1.now) }
-    ensures rest { IfSome result (λ p. p.1.now ≡ after_line text.now) }
+    ensures text_after_line { IfSome result (λ p. p.1.now ≡ after_line text.now) }
     ensures shorter { IfSome result (λ p. length p.1.now < length text.now) }
     ensures none { IfNone result (slice_split is_feed text.now ≡ text.now ∷ []) }
-    ensures last { IfNone result (after_line text.now ≡ []) }
+    ensures nothing_after_line { IfNone result (after_line text.now ≡ []) }
 {
     match text.iter().position(|&letter| letter == b'\n') {
         Some(at) => Some((&text[..at], &text[at + 1..])),

@@ -81,7 +81,7 @@ impl ListFault {
         ensures row { MatchResult result
             (λ r. (is_list_error self.now ≡ true) × (row r.now.0 r.now.1 r.now.2.now ≡ list_row self.now))
             (λ fault. self.now ≡ Library fault.now) }
-        ensures short { IfOk result (λ r. length r.now.2.now < 128) }
+        ensures below_128_bytes { IfOk result (λ r. length r.now.2.now < 128) }
     {
         use ListFault::*;
         Ok(match self {

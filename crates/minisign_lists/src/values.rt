@@ -295,7 +295,7 @@ impl ListValue {
 
         // If the result is true, the buffer after the message is unchanged. Otherwise the list, the questions
         // and the buffer are unchanged.
-        ensures rest { result ≡ Ok true
+        ensures rest_unchanged { result ≡ Ok true
             → drop questions.new.message_len message.new ≡ drop questions.new.message_len message.old }
         ensures unchanged { result ≢ Ok true
             → (self.new ≡ self.old) × (questions.new ≡ questions.old) × (message.new ≡ message.old) }
@@ -476,7 +476,7 @@ fn ask_once(
         → (read_under key.now false sig_text.now ≡ Ok t) × AreQuestionsWithoutDigest questions.new
         message.new key.now t }
     ensures room { result ≡ Ok true → 64 + signature.now.comment_len ≤ length message.old }
-    ensures rest { result ≡ Ok true
+    ensures rest_unchanged { result ≡ Ok true
         → drop questions.new.message_len message.new ≡ drop questions.new.message_len message.old }
     ensures unchanged { result ≢ Ok true → (questions.new ≡ questions.old) × (message.new ≡ message.old) }
 {
@@ -782,7 +782,7 @@ impl FileValue {
         ensures fed { (d : ListedDigest) (m : List ℕ) → IsFedValue self.now d m
             → MatchResult result (λ c. IsFedCheck c d m) (λ _. ⊥) }
         ensures usable { IfOk result IsUsable }
-        ensures begun { OnOk result (self.now.mark ≡ file_mark) }
+        ensures is_begun { OnOk result (self.now.mark ≡ file_mark) }
         ensures refused { IfErr result (λ e. (e ≡ NotBegun)
             × ((d : ListedDigest) (m : List ℕ) → ¬ (IsFedValue self.now d m))) }
     {
@@ -817,7 +817,7 @@ impl FileValue {
         // check was begun; then the state is unchanged.
         ensures fed { (d : ListedDigest) (m : List ℕ) → IsFedValue self.old d m
             → MatchResult result (λ _. IsFedValue self.new d (m ++ piece.now)) (λ _. ⊥) }
-        ensures begun { OnOk result (self.old.mark ≡ file_mark) }
+        ensures was_begun { OnOk result (self.old.mark ≡ file_mark) }
         ensures refused { IfErr result (λ e. (e ≡ NotBegun) × (self.new ≡ self.old)
             × ((d : ListedDigest) (m : List ℕ) → ¬ (IsFedValue self.old d m))) }
     {

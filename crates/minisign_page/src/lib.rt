@@ -64,7 +64,7 @@ pub extern "C" fn page_error_text(error: u32, text: &mut [u8]) -> usize
     // text.
     ensures written { (meaning : List ℕ) × IsListMeaning error meaning × (result ≡ length meaning)
         × WritesCut meaning text.old text.new }
-    ensures room { result < 128 }
+    ensures below_128_bytes { result < 128 }
 {
     match ListFault::of_number(error) {
         Some(fault) => {
@@ -95,8 +95,8 @@ pub extern "C" fn page_update(state: &mut State, piece: &[u8]) -> u32
     // state is unchanged.
     ensures fed { (m : List ℕ) → IsFedState state.old m → (result ≡ 0)
         × IsFedState state.new (m ++ piece.now) }
-    ensures asked { KeepsQuestions state.old state.new }
-    ensures begun { result ≡ 0 → IsMarkedFed state.old }
+    ensures questions_kept { KeepsQuestions state.old state.new }
+    ensures was_begun { result ≡ 0 → IsMarkedFed state.old }
     ensures refused { 0 < result → (result ≡ misuse_number (feeding_misuse state.old))
         × (state.new ≡ state.old) }
 {
@@ -115,7 +115,7 @@ pub extern "C" fn page_digest(state: &mut State, digest: &mut [u8; 64]) -> u32
     // verdict. Then the result is the number of that error, and the state and the digest are unchanged.
     ensures digest { (m : List ℕ) → IsFedState state.old m
         → (result ≡ 0) × (digest.new ≡ blake2b_digest 64 m) × HasReturnedDigest state.new m }
-    ensures asked { KeepsQuestions state.old state.new }
+    ensures questions_kept { KeepsQuestions state.old state.new }
     ensures finalized { result ≡ 0 → IsMarkedFed state.old × IsMarkedFinalized state.new }
     ensures refused { 0 < result → (result ≡ misuse_number (feeding_misuse state.old))
         × (state.new ≡ state.old) × (digest.new ≡ digest.old) }
@@ -213,7 +213,7 @@ pub extern "C" fn page_ask(
 
     // On success, the buffer after the message is unchanged. After an error, the state, the questions and the
     // buffer are unchanged.
-    ensures rest { result ≡ 0 → drop questions.new.message_len message.new
+    ensures rest_unchanged { result ≡ 0 → drop questions.new.message_len message.new
         ≡ drop questions.new.message_len message.old }
     ensures unchanged { 0 < result → (state.new ≡ state.old) × (questions.new ≡ questions.old)
         × (message.new ≡ message.old) }
@@ -249,7 +249,7 @@ pub extern "C" fn page_verdict(state: &mut State, first: u32, second: u32) -> u3
     // **So for every public key file that contains this key: the result is 0 exactly if the signature file is
     // a valid signature of the message under that public key. Otherwise it is the number of the first check
     // that fails.**
-    ensures texts { (v : PublicKeyValue) (pk_text sig_text message : List ℕ) (legacy : Bool)
+    ensures same_verdict_as_texts { (v : PublicKeyValue) (pk_text sig_text message : List ℕ) (legacy : Bool)
         (accepts : Verifier) → IsAnswered state.old accepts v sig_text message legacy first second
         → IsKeyText pk_text v → GivesNumber accepts pk_text sig_text message legacy result }
 
@@ -316,7 +316,7 @@ pub extern "C" fn page_list_ask(
 
     // On success, the buffer after the message is unchanged. After an error, the list, the questions and the
     // buffer are unchanged.
-    ensures rest { result ≡ 0 → drop questions.new.message_len message.new
+    ensures rest_unchanged { result ≡ 0 → drop questions.new.message_len message.new
         ≡ drop questions.new.message_len message.old }
     ensures unchanged { 0 < result → (list.new ≡ list.old) × (questions.new ≡ questions.old)
         × (message.new ≡ message.old) }
@@ -355,7 +355,7 @@ pub extern "C" fn page_list_ask_any(
         × (list.new ≡ asked_list key.now signature.now None text.now t.comments.trusted) }
     ensures strict { result ≡ 0 → (t : SignatureTextRecord) → IsReadFrom signature.now sig_text.now t
         → is_strict_text key.now t ≡ true }
-    ensures rest { result ≡ 0 → drop questions.new.message_len message.new
+    ensures rest_unchanged { result ≡ 0 → drop questions.new.message_len message.new
         ≡ drop questions.new.message_len message.old }
     ensures unchanged { 0 < result → (list.new ≡ list.old) × (questions.new ≡ questions.old)
         × (message.new ≡ message.old) }
@@ -556,7 +556,7 @@ fn write_list_error(fault: &ListFault, text: &mut [u8]) -> usize
     requires { is_list_error fault.now ≡ true }
     ensures written { (result ≡ length (list_row fault.now).summary)
         × WritesCut (list_row fault.now).summary text.old text.new }
-    ensures room { result < 128 }
+    ensures below_128_bytes { result < 128 }
 {
     match fault.row() {
         Ok((_, _, meaning)) => write_cut(meaning, text),

@@ -6,11 +6,11 @@ use Rattle.minisign_tool.specs.declared.replacing.Contents.{Contents}
 
 -- The permission bits of a new file that everybody may read and write, 0o666, and of one that only
 -- its owner may read and write, 0o600.
-abbrev pub for_all : ℕ
-for_all = 438
+abbrev pub mode_for_all : ℕ
+mode_for_all = 438
 
-abbrev pub for_the_owner : ℕ
-for_the_owner = 384
+abbrev pub mode_for_owner : ℕ
+mode_for_owner = 384
 
 -- The contents are for the file at this path: these bytes, and these permission bits if the file is
 -- new.

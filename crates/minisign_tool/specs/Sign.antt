@@ -43,21 +43,21 @@ signing_call sk_file data_reader random reader writer old new = record {
 -- All the data was read, and this is the text of the box that signing makes for it with the default
 -- comments. If the key is genuine, the text parses to a box that is valid for the data.
 pub record SignsText {S K R Z A B : Type 0} (s : SchemeOf S) (scheme : S) (d : SigningCall K R Z A B)
-    (sk_text : List ℕ) (moment : ℕ) (text : List ℕ) : Type 0 where
+    (sk_text : List ℕ) (unix_time : ℕ) (text : List ℕ) : Type 0 where
   pub key : SecretKeyRecord
   pub message : List ℕ
-  pub given : GivesKey d.prompt None sk_text (Ok key)
+  pub key_given : GivesKey d.prompt None sk_text (Ok key)
   pub read : ReadsWhole d.data_reader.source d.data_reader.old d.data_reader.new message
-  pub signed : IsSignedText (s.signature_of scheme) key message (given_comments None None moment) d.random
+  pub signed : IsSignedText (s.signature_of scheme) key message (given_comments None None unix_time) d.random
       text
   pub vouched : ReadsBackIfGenuine (s.accepts scheme) (s.public_of scheme) key message text
 
 -- The key's file was read whole, and this is the text that signing with its text makes.
 pub record MakesSigned {S K R Z A B : Type 0} (s : SchemeOf S) (scheme : S) (d : SigningCall K R Z A B)
-    (moment : ℕ) (text : List ℕ) : Type 0 where
+    (unix_time : ℕ) (text : List ℕ) : Type 0 where
   pub sk_text : List ℕ
   pub read : ReadsWhole d.sk_file.source d.sk_file.old d.sk_file.new sk_text
-  pub signs : SignsText s scheme d sk_text moment text
+  pub signs : SignsText s scheme d sk_text unix_time text
 
 -- The key's file contains the text of a key. If this key is genuine, the signature text is valid
 -- for all of the data under every public key with the seed's key bytes and the key ID.
@@ -66,9 +66,9 @@ pub record MakesVouched {K R Z A B : Type 0} (accepts : Verifier) (public_of : L
   pub sk_text : List ℕ
   pub message : List ℕ
   pub key : SecretKeyRecord
-  pub held : KnownBytesAre (d.sk_file.source.ahead d.sk_file.old) sk_text
-  pub signed : KnownBytesAre (d.data_reader.source.ahead d.data_reader.old) message
-  pub given : IsKeyOf sk_text key
+  pub sk_text_known : KnownBytesAre (d.sk_file.source.ahead d.sk_file.old) sk_text
+  pub message_known : KnownBytesAre (d.data_reader.source.ahead d.data_reader.old) message
+  pub key_of_text : IsKeyOf sk_text key
   pub vouched : ReadsBackIfGenuine accepts public_of key message text
 
 -- The signature text was not written completely: the sink received a prefix of it.
@@ -87,7 +87,7 @@ HasWrittenVouched accepts public_of d g = (text : List ℕ) × MakesVouched acce
 abbrev pub HasWrittenSigned : {S K R Z A B G : Type 0} → SchemeOf S → S → SigningCall K R Z A B → SinkCall G
     → ℕ
     → Type 0
-HasWrittenSigned s scheme d g moment = (text : List ℕ) × MakesSigned s scheme d moment text
+HasWrittenSigned s scheme d g unix_time = (text : List ℕ) × MakesSigned s scheme d unix_time text
     × SinkCompletesPart g text
 
 -- No signature was made: the key's file could not be read as a text, and no other device was used; or signing
@@ -104,6 +104,6 @@ NoSignature d e =
 abbrev pub FileSigningFails : {S K R Z A B G : Type 0} → SchemeOf S → S → SigningCall K R Z A B → SinkCall G
     → ℕ
     → Fault → Type 0
-FileSigningFails s scheme d g moment e =
+FileSigningFails s scheme d g unix_time e =
     (NoSignature d e × (g.new ≡ g.old))
-    ⊎ ((text : List ℕ) × MakesSigned s scheme d moment text × WriteFails g text e)
+    ⊎ ((text : List ℕ) × MakesSigned s scheme d unix_time text × WriteFails g text e)

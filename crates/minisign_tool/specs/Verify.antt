@@ -50,11 +50,11 @@ pub record FilesVouch {P Q R : Type 0} (accepts : Verifier) (d : VerifyingCall P
   pub pk_text : List ℕ
   pub sig_text : List ℕ
   pub message : List ℕ
-  pub pk_held : KnownBytesAre (d.pk_file.source.ahead d.pk_file.old) pk_text
-  pub sig_held : KnownBytesAre (d.sig_file.source.ahead d.sig_file.old) sig_text
-  pub given : KnownBytesAre (d.data_reader.source.ahead d.data_reader.old) message
+  pub pk_known : KnownBytesAre (d.pk_file.source.ahead d.pk_file.old) pk_text
+  pub sig_known : KnownBytesAre (d.sig_file.source.ahead d.sig_file.old) sig_text
+  pub known_bytes : KnownBytesAre (d.data_reader.source.ahead d.data_reader.old) message
   pub vouched : TextsVouchFor accepts pk_text sig_text message false
-  pub said : Said (status_lines vouched.box)
+  pub lines_received : Said (status_lines vouched.box)
 
 -- In addition, the data was copied, and the texts in both files are valid for the copy.
 pub record FilesVouchForCopy {P Q R O : Type 0} (accepts : Verifier) (d : VerifyingCall P Q R)

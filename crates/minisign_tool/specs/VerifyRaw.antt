@@ -67,7 +67,7 @@ pub record RawFilesVouch {P Q R : Type 0} (accepts : Verifier) (pk_file : Source
   pub held : ReadsBoth pk_file sig_file key_file signature_file
   pub read : ReadsWhole reader.source reader.old reader.new message
   pub vouched : VouchesRaw accepts key_file signature_file message
-  pub said : Said (line verified_text)
+  pub line_received : Said (line verified_text)
 
 -- A file was not read whole, and no data was read; if it is the first, the second is unchanged. Or
 -- verification with the bytes of both failed.

@@ -8,13 +8,13 @@ ghost use Rattle.minisign.specs.NamedFaults.{ClockIncorrect, ReadingFailed};
 ghost use Rattle.minisign_tool.specs.Copying.{input_is_output};
 ghost use Rattle.minisign_tool.specs.Endings.{SaysOnlyFaults, SaysRawVerdict, SaysVerdict, SomeBytesVouch};
 ghost use Rattle.minisign_tool.specs.Endings.{SomeTextsVouch};
-ghost use Rattle.minisign_tool.specs.Replacing.{HoldsContents, for_all, for_the_owner};
+ghost use Rattle.minisign_tool.specs.Replacing.{HoldsContents, mode_for_all, mode_for_owner};
 ghost use Rattle.minisign_tool.specs.Report.{TakesOrFails, fault_line};
 
 use crate::cat::run_cat;
 use crate::keygen::run_keygen;
 use crate::replacing::{
-    Contents, FOR_ALL, FOR_THE_OWNER, is_same_file, replace_both, replace_file,
+    Contents, MODE_FOR_ALL, MODE_FOR_OWNER, is_same_file, replace_both, replace_file,
 };
 use crate::report::report;
 use crate::sign::{SigningDevices, run_sign};
@@ -45,7 +45,7 @@ pub fn keygen_files<S: Scheme, W: Sink>(
 
     // With exit status 0, only the warning was sent. With exit status 1, only the warning and then
     // the error line were sent.
-    ensures said { IfOk result (SaysOnlyFaults W.Sink errors.old errors.new) }
+    ensures errors_received { IfOk result (SaysOnlyFaults W.Sink errors.old errors.new) }
 
     // The only error before the body begins is `reading failed`, and then nothing was written.
     ensures refused { IfErr result (λ e. (e ≡ Named ReadingFailed) × (errors.new ≡ errors.old)) }
@@ -78,17 +78,17 @@ fn contents_of_pair<'a>(
 ) -> (Contents<'a>, Contents<'a>)
     // A new public key file may be read by everybody, a new secret key file only by its owner, and
     // each gets its own text.
-    ensures public { HoldsContents result.0 pk.now for_all pk_text.now }
-    ensures secret { HoldsContents result.1 sk.now for_the_owner sk_text.now }
+    ensures public { HoldsContents result.0 pk.now mode_for_all pk_text.now }
+    ensures secret { HoldsContents result.1 sk.now mode_for_owner sk_text.now }
 {
     let public = Contents {
         path: pk,
-        mode: FOR_ALL,
+        mode: MODE_FOR_ALL,
         bytes: pk_text,
     };
     let secret = Contents {
         path: sk,
-        mode: FOR_THE_OWNER,
+        mode: MODE_FOR_OWNER,
         bytes: sk_text,
     };
     (public, secret)
@@ -110,7 +110,7 @@ pub fn sign_files<S: Scheme, W: Sink>(
 
     // With exit status 0, only the warning was sent. With exit status 1, only the warning and then
     // the error line were sent.
-    ensures said { IfOk result (SaysOnlyFaults W.Sink errors.old errors.new) }
+    ensures errors_received { IfOk result (SaysOnlyFaults W.Sink errors.old errors.new) }
 
     // The only errors before the body begins are `reading failed` and that of the clock, and then nothing
     // was written.
@@ -118,7 +118,7 @@ pub fn sign_files<S: Scheme, W: Sink>(
         × (errors.new ≡ errors.old)) }
 {
     let (sk_file, data_file, random_file) = open_three(rt, sk, file, "/dev/urandom")?;
-    let moment = unix_timestamp(rt)?;
+    let unix_time = unix_timestamp(rt)?;
     let mut devices = SigningDevices {
         sk_file: ReaderSource::new(sk_file),
         data_reader: ReaderSource::new(data_file),
@@ -130,7 +130,7 @@ pub fn sign_files<S: Scheme, W: Sink>(
         rt.alloc(),
         scheme,
         &mut devices,
-        moment,
+        unix_time,
         &mut signature,
         errors,
     );
@@ -145,11 +145,11 @@ pub fn sign_files<S: Scheme, W: Sink>(
 fn contents_of_signature<'a>(sig: &'a str, text: &'a VecSink) -> Contents<'a>
     // A new signature file may be read by everybody, and gets the text that was made.
     ensures { (bytes : List ℕ) → ⟦<VecSink as Sink>⟧.taken text.now ≡ Some bytes
-        → HoldsContents result sig.now for_all bytes }
+        → HoldsContents result sig.now mode_for_all bytes }
 {
     Contents {
         path: sig,
-        mode: FOR_ALL,
+        mode: MODE_FOR_ALL,
         bytes: text.as_slice(),
     }
 }
@@ -172,7 +172,7 @@ pub fn verify_files<S: Scheme, W: Sink>(
 
     // With exit status 0, the status lines were written after the warning was sent. With exit status 1, the
     // error line was sent last.
-    ensures said { IfOk result (SaysVerdict W.Sink errors.old errors.new) }
+    ensures errors_received { IfOk result (SaysVerdict W.Sink errors.old errors.new) }
 
     // The only error before the body begins is `reading failed`, and then nothing was written.
     ensures refused { IfErr result (λ e. (e ≡ Named ReadingFailed) × (errors.new ≡ errors.old)) }
@@ -203,7 +203,7 @@ pub fn verify_raw_files<S: Scheme, W: Sink>(
 
     // With exit status 0, the status line was written after the warning was sent. With exit status 1, the
     // error line was sent last.
-    ensures said { IfOk result (SaysRawVerdict W.Sink errors.old errors.new) }
+    ensures errors_received { IfOk result (SaysRawVerdict W.Sink errors.old errors.new) }
 
     // The only error before the body begins is `reading failed`, and then nothing was written.
     ensures refused { IfErr result (λ e. (e ≡ Named ReadingFailed) × (errors.new ≡ errors.old)) }
@@ -240,7 +240,7 @@ pub fn cat_files<S: Scheme, W: Sink>(
 
     // With exit status 0, the status lines were written after the warning was sent. With exit status 1, the
     // error line was sent last.
-    ensures said { IfOk result (SaysVerdict W.Sink errors.old errors.new) }
+    ensures errors_received { IfOk result (SaysVerdict W.Sink errors.old errors.new) }
 
     // The only errors before the body begins are `reading failed` and data from the file that standard
     // output is redirected to, and then nothing was written.

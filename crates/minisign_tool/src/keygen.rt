@@ -37,7 +37,7 @@ pub fn run_keygen<S: Scheme, Z: RandomSource, R: Source, W: Sink, P: Sink, K: Si
     // **The exit status is 0 only if a key pair was made from bytes of the random source under a password
     // that was typed twice, both texts were written, and the secret key's text decrypts under that password
     // to the key that belongs to the public key.** The warning was sent before.
-    ensures made { result ≡ 0 → MakesKeys (S.public_of scheme.now)
+    ensures makes_keys { result ≡ 0 → MakesKeys (S.public_of scheme.now)
         (random_call Z.RandomSource random.old random.new) (prompt_call R.Source W.Sink prompt.old prompt.new)
         (sink_call P.Sink pk_sink.old pk_sink.new) (sink_call K.Sink sk_sink.old sk_sink.new) }
     ensures warned { result ≡ 0 → TakesOrFails E.Sink errors.old errors.new warning_line }

@@ -54,7 +54,7 @@ fn run<S: Scheme, W: Sink>(
 ) -> Result<u8>
     // The exit status is at most 2. After an error nothing was written.
     ensures status { IfOk result (λ s. s ≤ 2) }
-    ensures unsaid { OnErr result (errors.new ≡ errors.old) }
+    ensures errors_unchanged { OnErr result (errors.new ≡ errors.old) }
 
     // There is an exit status only if the arguments could be read.
     ensures read { OnOk result (IsOk arguments) }
@@ -66,7 +66,7 @@ fn run<S: Scheme, W: Sink>(
     // usage.
     //
     // If an argument is not UTF-8, the command is the usage.
-    ensures ended { IfOk result (λ s. IfOk arguments (λ a. (command : Command) × ReadAsksFor
+    ensures command_shown { IfOk result (λ s. IfOk arguments (λ a. (command : Command) × ReadAsksFor
         (option_map (λ v. map (λ w. string_bytes w) (drop 1 v.items)) a) command × ShowsCommand
         (S.accepts scheme.now) command s × SaysCommand W.Sink command errors.old errors.new s)) }
 {
@@ -85,14 +85,14 @@ fn run_arguments<S: Scheme, W: Sink>(
 ) -> Result<u8>
     // The exit status is at most 2. After an error nothing was written.
     ensures status { IfOk result (λ s. s ≤ 2) }
-    ensures unsaid { OnErr result (errors.new ≡ errors.old) }
+    ensures errors_unchanged { OnErr result (errors.new ≡ errors.old) }
 
     // **`verify` and `cat` exit with status 0 only if some texts of a public key and a signature
     // are valid for some data, and `verify-raw` only if the bytes of some public key and some bare
     // signature are valid for some data; the usage exits with status 2.** The lines that are sent
     // to the error stream are those of the command for its exit status, or the warning and then the
     // usage.
-    ensures ended { IfOk result (λ s. (command : Command) × AsksFor (map (λ a. string_bytes a)
+    ensures command_shown { IfOk result (λ s. (command : Command) × AsksFor (map (λ a. string_bytes a)
         (drop 1 arguments.now)) command × ShowsCommand (S.accepts scheme.now) command s
         × SaysCommand W.Sink command errors.old errors.new s) }
 {
@@ -108,15 +108,15 @@ fn run_command<S: Scheme, W: Sink>(
 ) -> Result<u8>
     // The exit status is at most 2. After an error nothing was written.
     ensures status { IfOk result (λ s. s ≤ 2) }
-    ensures unsaid { OnErr result (errors.new ≡ errors.old) }
+    ensures errors_unchanged { OnErr result (errors.new ≡ errors.old) }
 
     // **`verify` and `cat` exit with status 0 only if some texts of a public key and a signature
     // are valid for some data, and `verify-raw` only if the bytes of some public key and some bare
     // signature are valid for some data; the usage exits with status 2.** The lines that are sent
     // to the error stream are those of the command for its exit status, or the warning and then the
     // usage.
-    ensures ended { IfOk result (ShowsCommand (S.accepts scheme.now) command.entry) }
-    ensures said { IfOk result (SaysCommand W.Sink command.entry errors.old errors.new) }
+    ensures command_shown { IfOk result (ShowsCommand (S.accepts scheme.now) command.entry) }
+    ensures errors_received { IfOk result (SaysCommand W.Sink command.entry errors.old errors.new) }
 {
     match command {
         Command::Keygen { pk, sk } => keygen_files(rt, scheme, pk, sk, errors),
@@ -132,7 +132,7 @@ fn run_command<S: Scheme, W: Sink>(
 fn show_usage<W: Sink>(errors: &mut W) -> u8
     // The usage was sent after the warning, and the exit status is 2.
     ensures status { result ≡ 2 }
-    ensures said { ShowsWarningAndUsage W.Sink errors.old errors.new }
+    ensures errors_received { ShowsWarningAndUsage W.Sink errors.old errors.new }
 {
     warn(errors);
     usage(errors)

@@ -13,10 +13,10 @@ use std::random::RandomSource;
 use std::{fs, io};
 
 /// Mode of a new file that everybody may read and write, as far as the umask allows.
-pub const FOR_ALL: u32 = 0o666;
+pub const MODE_FOR_ALL: u32 = 0o666;
 
 /// Mode of a new file that only its owner may read and write.
-pub const FOR_THE_OWNER: u32 = 0o600;
+pub const MODE_FOR_OWNER: u32 = 0o600;
 
 // The maximum number of links that are followed one after another, as in Linux.
 const MAX_LINKS: u32 = 40;
@@ -305,7 +305,7 @@ fn make_temporary_file(
         Some(_) => {
             // A file without write permission is not replaced.
             let _writable = written(OpenOptions::new().write(true).open(rt, place.path.as_str()))?;
-            FOR_THE_OWNER
+            MODE_FOR_OWNER
         }
         None => contents.mode,
     };

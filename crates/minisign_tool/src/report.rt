@@ -29,7 +29,7 @@ pub fn usage<W: Sink>(errors: &mut W) -> u8
     // The exit status is 2. The usage was written completely, or the error stream failed and received a
     // prefix of it.
     ensures status { result ≡ 2 }
-    ensures said { TakesOrFails W.Sink errors.old errors.new usage_line }
+    ensures errors_received { TakesOrFails W.Sink errors.old errors.new usage_line }
 {
     let _ = write_all(
         errors,
@@ -43,7 +43,7 @@ pub fn report<W: Sink>(errors: &mut W, fault: &PError) -> u8
     // The exit status is 1. `error: ` and the text of this error were written as a line, or the error
     // stream failed and received a prefix of it.
     ensures status { result ≡ 1 }
-    ensures said { TakesOrFails W.Sink errors.old errors.new (fault_line fault.now) }
+    ensures errors_received { TakesOrFails W.Sink errors.old errors.new (fault_line fault.now) }
 {
     let mut room = [0; TEXT_ROOM];
     let _ = put_fault(errors, fault.text(&mut room));
@@ -75,7 +75,7 @@ fn put_fault<W: Sink>(errors: &mut W, text: &[u8]) -> std::result::Result<(), De
         (Appends (W.taken errors.old) (W.taken errors.new) (codes "error: " ++ line text.now)) }
     ensures no_new_fault { OnOk result (W.sink_faults errors.new ≡ W.sink_faults errors.old) }
     ensures refused { OnErr result (ErrorCountRises (W.sink_faults errors.old) (W.sink_faults errors.new)) }
-    ensures front { OnErr result
+    ensures prefix_received { OnErr result
         (AppendsPrefix (W.taken errors.old) (W.taken errors.new) (codes "error: " ++ line text.now)) }
 {
     let mut room = [0; 512];

@@ -34,7 +34,7 @@ pub struct SigningDevices<K, R, Z, A, B> {
 
 /// Signs the data of `devices` with the text of their secret key, writes the signature text to `signature`,
 /// and flushes it. The key's file is read whole first and must be UTF-8. If the key is encrypted, the
-/// prompt asks for the password. The comments are the default ones, with `moment` in seconds since 1970.
+/// prompt asks for the password. The comments are the default ones, with `unix_time` in seconds since 1970.
 /// The warning and the line of an error go to `errors`. Returns the exit status: 0 if `signature` received
 /// the whole text, otherwise 1. `signature` is unchanged until the text is made.
 pub fn run_sign<
@@ -50,7 +50,7 @@ pub fn run_sign<
     alloc: Global,
     scheme: &S,
     devices: &mut SigningDevices<K, R, Z, A, B>,
-    moment: u64,
+    unix_time: u64,
     signature: &mut G,
     errors: &mut W,
 ) -> u8
@@ -69,22 +69,24 @@ pub fn run_sign<
     // as the clause `headline` states. The warning was sent.
     ensures signed { result ≡ 0 → HasWrittenSigned S.Scheme scheme.now
         (signing_call K.Source R.Source Z.RandomSource A.Source B.Sink devices.old devices.new)
-        (sink_call G.Sink signature.old signature.new) moment }
-    ensures said { result ≡ 0 → TakesOrFails W.Sink errors.old errors.new warning_line }
+        (sink_call G.Sink signature.old signature.new) unix_time }
+    ensures errors_received { result ≡ 0 → TakesOrFails W.Sink errors.old errors.new warning_line }
 
     // With exit status 1, either the key's file could not be read as a text, and nothing else was used; or
     // signing failed, and nothing was written; or the text was not written completely.
     ensures refused { result ≡ 1 → ShowsOnlyFault W.Sink errors.old errors.new
         (FileSigningFails S.Scheme scheme.now (signing_call K.Source R.Source Z.RandomSource A.Source B.Sink
-        devices.old devices.new) (sink_call G.Sink signature.old signature.new) moment) }
+        devices.old devices.new) (sink_call G.Sink signature.old signature.new) unix_time) }
 
     // The unread bytes of the source and of the random source are suffixes of those before the
     // call, whatever the result.
-    ensures given { PrefixIsRemoved (R.ahead devices.old.data_reader) (R.ahead devices.new.data_reader) }
-    ensures drawn { PrefixIsRemoved (Z.random_ahead devices.old.random) (Z.random_ahead devices.new.random) }
+    ensures prefix_removed { PrefixIsRemoved (R.ahead devices.old.data_reader)
+        (R.ahead devices.new.data_reader) }
+    ensures random_prefix_removed { PrefixIsRemoved (Z.random_ahead devices.old.random)
+        (Z.random_ahead devices.new.random) }
 {
     warn(errors);
-    match write_signature(alloc, scheme, devices, moment, signature) {
+    match write_signature(alloc, scheme, devices, unix_time, signature) {
         Ok(()) => 0,
         Err(fault) => report(errors, &fault),
     }
@@ -95,7 +97,7 @@ fn write_signature<S: Scheme, K: Source, R: Source, Z: RandomSource, A: Source, 
     alloc: Global,
     scheme: &S,
     devices: &mut SigningDevices<K, R, Z, A, B>,
-    moment: u64,
+    unix_time: u64,
     signature: &mut G,
 ) -> Result<()>
     ensures headline { OnOk result (HasWrittenVouched (S.accepts scheme.now) (S.public_of scheme.now)
@@ -103,14 +105,16 @@ fn write_signature<S: Scheme, K: Source, R: Source, Z: RandomSource, A: Source, 
         (sink_call G.Sink signature.old signature.new)) }
     ensures signed { OnOk result (HasWrittenSigned S.Scheme scheme.now
         (signing_call K.Source R.Source Z.RandomSource A.Source B.Sink devices.old devices.new)
-        (sink_call G.Sink signature.old signature.new) moment) }
+        (sink_call G.Sink signature.old signature.new) unix_time) }
     ensures refused { IfErr result (FileSigningFails S.Scheme scheme.now
         (signing_call K.Source R.Source Z.RandomSource A.Source B.Sink devices.old devices.new)
-        (sink_call G.Sink signature.old signature.new) moment) }
-    ensures given { PrefixIsRemoved (R.ahead devices.old.data_reader) (R.ahead devices.new.data_reader) }
-    ensures drawn { PrefixIsRemoved (Z.random_ahead devices.old.random) (Z.random_ahead devices.new.random) }
+        (sink_call G.Sink signature.old signature.new) unix_time) }
+    ensures prefix_removed { PrefixIsRemoved (R.ahead devices.old.data_reader)
+        (R.ahead devices.new.data_reader) }
+    ensures random_prefix_removed { PrefixIsRemoved (Z.random_ahead devices.old.random)
+        (Z.random_ahead devices.new.random) }
 {
-    let text = make_text(alloc, scheme, devices, moment)?;
+    let text = make_text(alloc, scheme, devices, unix_time)?;
     write_text(signature, &text)
 }
 
@@ -119,22 +123,24 @@ fn make_text<S: Scheme, K: Source, R: Source, Z: RandomSource, A: Source, B: Sin
     alloc: Global,
     scheme: &S,
     devices: &mut SigningDevices<K, R, Z, A, B>,
-    moment: u64,
+    unix_time: u64,
 ) -> Result<String>
     ensures headline { IfOk result (λ t. MakesVouched (S.accepts scheme.now) (S.public_of scheme.now)
         (signing_call K.Source R.Source Z.RandomSource A.Source B.Sink devices.old devices.new)
         (string_bytes t)) }
     ensures signed { IfOk result (λ t. MakesSigned S.Scheme scheme.now
-        (signing_call K.Source R.Source Z.RandomSource A.Source B.Sink devices.old devices.new) moment
+        (signing_call K.Source R.Source Z.RandomSource A.Source B.Sink devices.old devices.new) unix_time
         (string_bytes t)) }
     ensures refused { IfErr result (NoSignature
         (signing_call K.Source R.Source Z.RandomSource A.Source B.Sink devices.old devices.new)) }
-    ensures given { PrefixIsRemoved (R.ahead devices.old.data_reader) (R.ahead devices.new.data_reader) }
-    ensures drawn { PrefixIsRemoved (Z.random_ahead devices.old.random) (Z.random_ahead devices.new.random) }
+    ensures prefix_removed { PrefixIsRemoved (R.ahead devices.old.data_reader)
+        (R.ahead devices.new.data_reader) }
+    ensures random_prefix_removed { PrefixIsRemoved (Z.random_ahead devices.old.random)
+        (Z.random_ahead devices.new.random) }
 {
     let sk_text = read_text(alloc, &mut devices.sk_file)?;
     let (password, trusted_comment, untrusted_comment) = (None, None, None);
-    default_comments_are_read_back(moment);
+    default_comments_are_read_back(unix_time);
     sign_texts(
         alloc,
         scheme,
@@ -145,7 +151,7 @@ fn make_text<S: Scheme, K: Source, R: Source, Z: RandomSource, A: Source, B: Sin
         trusted_comment,
         untrusted_comment,
         &mut devices.random,
-        moment,
+        unix_time,
     )
 }
 

@@ -49,7 +49,8 @@ pub fn run_verify<S: Scheme, P: Source, Q: Source, R: Rereader, W: Sink>(
     ensures refused { result ≡ 1 → EndsWithFault W.Sink errors.old errors.new
         (FilesFail (S.accepts scheme.now)
         (verifying_call P.Source Q.Source R.Source R.steady devices.old devices.new)) }
-    ensures given { PrefixIsRemoved (R.ahead devices.old.data_reader) (R.ahead devices.new.data_reader) }
+    ensures prefix_removed { PrefixIsRemoved (R.ahead devices.old.data_reader)
+        (R.ahead devices.new.data_reader) }
 {
     warn(errors);
     match verify_with_files(alloc, scheme, devices, errors) {
@@ -73,7 +74,8 @@ fn verify_with_files<S: Scheme, P: Source, Q: Source, R: Rereader, W: Sink>(
     ensures refused { IfErr result (FilesFail (S.accepts scheme.now)
         (verifying_call P.Source Q.Source R.Source R.steady devices.old devices.new)
         (sink_call W.Sink errors.old errors.new)) }
-    ensures given { PrefixIsRemoved (R.ahead devices.old.data_reader) (R.ahead devices.new.data_reader) }
+    ensures prefix_removed { PrefixIsRemoved (R.ahead devices.old.data_reader)
+        (R.ahead devices.new.data_reader) }
 {
     let (pk_text, sig_text) = read_both_texts(alloc, &mut devices.pk_file, &mut devices.sig_file)?;
     let (quiet, output, allow_legacy) = (false, false, false);

@@ -49,7 +49,7 @@ pub fn run_verify_raw<S: Scheme, P: Source, Q: Source, R: Rereader, W: Sink>(
     ensures refused { result ≡ 1 → EndsWithFault W.Sink errors.old errors.new (RawFilesFail
         (S.accepts scheme.now) (source_call P.Source pk_file.old pk_file.new) (source_call Q.Source
         sig_file.old sig_file.new) (rereader_call R.Source R.steady data_reader.old data_reader.new)) }
-    ensures given { PrefixIsRemoved (R.ahead data_reader.old) (R.ahead data_reader.new) }
+    ensures prefix_removed { PrefixIsRemoved (R.ahead data_reader.old) (R.ahead data_reader.new) }
 {
     warn(errors);
     match verify_with_files(alloc, scheme, pk_file, sig_file, data_reader, errors) {
@@ -74,7 +74,7 @@ fn verify_with_files<S: Scheme, P: Source, Q: Source, R: Rereader, W: Sink>(
     ensures refused { IfErr result (RawFilesFail (S.accepts scheme.now) (source_call P.Source pk_file.old
         pk_file.new) (source_call Q.Source sig_file.old sig_file.new) (rereader_call R.Source R.steady
         data_reader.old data_reader.new) (sink_call W.Sink errors.old errors.new)) }
-    ensures given { PrefixIsRemoved (R.ahead data_reader.old) (R.ahead data_reader.new) }
+    ensures prefix_removed { PrefixIsRemoved (R.ahead data_reader.old) (R.ahead data_reader.new) }
 {
     let key = read_to_end(alloc, pk_file)?;
     let signature = read_to_end(alloc, sig_file)?;
@@ -102,7 +102,8 @@ pub fn verify_raw<S: Scheme, R: Rereader, W: Sink>(
         × VouchesRaw (S.accepts scheme.now) key.now signature.now message) }
 
     // On success, the status line was written.
-    ensures said { OnOk result (Appends (W.taken errors.old) (W.taken errors.new) (line verified_text)) }
+    ensures errors_received { OnOk result (Appends (W.taken errors.old) (W.taken errors.new)
+        (line verified_text)) }
     ensures no_new_fault { OnOk result (W.sink_faults errors.new ≡ W.sink_faults errors.old) }
 
     // After an error, either the key was too short, or the bytes hold no bare signature, and no data was
@@ -111,8 +112,8 @@ pub fn verify_raw<S: Scheme, R: Rereader, W: Sink>(
     ensures refused { IfErr result (VerifyRawFails (S.accepts scheme.now) key.now signature.now
         (rereader_call R.Source R.steady data_reader.old data_reader.new)
         (sink_call W.Sink errors.old errors.new)) }
-    ensures front { OnErr result (SaysLineFront (sink_call W.Sink errors.old errors.new)) }
-    ensures given { PrefixIsRemoved (R.ahead data_reader.old) (R.ahead data_reader.new) }
+    ensures prefix_received { OnErr result (SaysLineFront (sink_call W.Sink errors.old errors.new)) }
+    ensures prefix_removed { PrefixIsRemoved (R.ahead data_reader.old) (R.ahead data_reader.new) }
 {
     let pk = PublicKey::from_bytes(key)?;
     let bones = SignatureBones::from_bytes(signature)?;

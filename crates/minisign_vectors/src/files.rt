@@ -1,7 +1,7 @@
 //! Tests of verifying and signing files by their paths.
 
 use crate::signatures::calls::{SIGNED_BY_DEFAULT, gives_comment, key_of};
-use crate::unasked::sealed_pair_key;
+use crate::silent_calls::sealed_pair_key;
 use minisign::{Result, SecretKey, sign_file, verify_file};
 use minisign_base::devices::random_sources::FixedRandom;
 use minisign_base::faults::NamedFault::{

@@ -13,9 +13,11 @@
 #![tactic(auto)]
 
 #[cfg(test)]
-mod base;
-#[cfg(test)]
 mod callers;
+#[cfg(test)]
+mod devices_and_errors;
+#[cfg(test)]
+mod display;
 #[cfg(test)]
 mod downloads;
 #[cfg(test)]
@@ -32,10 +34,8 @@ pub mod passwords;
 #[cfg(test)]
 mod releases;
 #[cfg(test)]
-mod shown;
-#[cfg(test)]
 mod signatures;
 #[cfg(test)]
-mod tables;
+mod silent_calls;
 #[cfg(test)]
-mod unasked;
+mod tables;

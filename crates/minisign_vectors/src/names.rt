@@ -3,7 +3,7 @@
 //! values. `hash` tests the names of `minisign_hash`, and `signatures::calls` uses those that sign
 //! and verify.
 
-use crate::shown::displays_as;
+use crate::display::displays_as;
 use crate::signatures::calls::{signed_text, verified_texts};
 use crate::tables::assert_row;
 use minisign::minisign_base::{
@@ -141,9 +141,9 @@ fn library_reexports_helpers(rt: HostRuntime) {
 }
 
 // Returns true if the clock returns a time after November 2023.
-fn is_recent(moment: &Result<u64>) -> bool {
-    match moment {
-        Ok(moment) => *moment > 1700000000,
+fn is_recent(unix_time: &Result<u64>) -> bool {
+    match unix_time {
+        Ok(unix_time) => *unix_time > 1700000000,
         Err(_) => false,
     }
 }

@@ -23,11 +23,11 @@ pub fn sign_with_password<S: Scheme, Z: RandomSource>(
     password: String,
     message: &[u8],
     random: &mut Z,
-    moment: u64,
+    unix_time: u64,
 ) -> Result<String>
     ensures { (key : SecretKeyRecord) → key_with_password sk_text.now (string_bytes password) ≡ Ok key →
         IfOk result (λ t. SigningHeadline (S.accepts scheme.now) (S.public_of scheme.now) key message.now
-        (given_comments None None moment) (string_bytes t)) }
+        (given_comments None None unix_time) (string_bytes t)) }
 {
     sign_texts(
         alloc,
@@ -39,6 +39,6 @@ pub fn sign_with_password<S: Scheme, Z: RandomSource>(
         None,
         None,
         random,
-        moment,
+        unix_time,
     )
 }

@@ -312,7 +312,7 @@ fn decide(alloc: Global, line: &str) -> Result<Option<usize>, Failure> {
         recorded: words.optional(7),
         sig_text: words.bytes(4),
         update: words.bytes(5),
-        most: words.number(6) as usize,
+        max_size: words.number(6) as usize,
     };
     let mut message = vec![in alloc; 0u8; words.bytes(4).len()]?;
     Ok(first_unlawful_line(

@@ -51,7 +51,8 @@ impl<'a> RandomSource for FixedRandom<'a> {
 
     // Fails exactly if fewer bytes are left than `buf` has, and then the bytes that are left are unchanged.
     fn fill(&mut self, buf: &mut [u8]) -> Result<(), DeviceFault>
-        ensures enough { IsOk result ↔ IsSomeAnd (⟦<FixedRandom<'a> as RandomSource>⟧.random_ahead self.old)
+        ensures succeeds_if_enough { IsOk result ↔ IsSomeAnd
+            (⟦<FixedRandom<'a> as RandomSource>⟧.random_ahead self.old)
             (λ xs. length buf.old ≤ length xs) }
         ensures fill { HasFilled ⟦<FixedRandom<'a> as RandomSource>⟧.random_ahead
             ⟦<FixedRandom<'a> as RandomSource>⟧.random_faults self.old self.new buf.new result }

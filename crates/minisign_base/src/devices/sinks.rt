@@ -100,7 +100,7 @@ impl Sink for VecSink {
     // Always succeeds.
     fn flush(&mut self) -> Result<(), DeviceFault>
         ensures succeeds { IsOk result }
-        ensures same { self.new ≡ self.old }
+        ensures unchanged { self.new ≡ self.old }
     {
         Ok(())
     }
@@ -183,7 +183,7 @@ pub fn put_line<S: Sink>(
     ensures no_new_fault { OnOk result (S.sink_faults sink.new ≡ S.sink_faults sink.old) }
     ensures refused { IfErr result (λ e. ((e ≡ Named OutOfMemory) × (sink.new ≡ sink.old))
         ⊎ ((e ≡ Named WritingFailed) × ErrorCountRises (S.sink_faults sink.old) (S.sink_faults sink.new))) }
-    ensures front { OnErr result
+    ensures prefix_received { OnErr result
         (AppendsPrefix (S.taken sink.old) (S.taken sink.new) (label.now ++ text.now ++ 10 ∷ [])) }
 
     // Nothing is flushed.
@@ -208,7 +208,7 @@ pub fn put_and_flush<S: Sink>(sink: &mut S, bytes: &[u8]) -> Result<(), DeviceFa
     // success, the error count is unchanged.
     ensures no_new_fault { OnOk result (S.sink_faults sink.new ≡ S.sink_faults sink.old) }
     ensures refused { OnErr result (ErrorCountRises (S.sink_faults sink.old) (S.sink_faults sink.new)) }
-    ensures front { OnErr result (AppendsPrefix (S.taken sink.old) (S.taken sink.new) bytes.now) }
+    ensures prefix_received { OnErr result (AppendsPrefix (S.taken sink.old) (S.taken sink.new) bytes.now) }
 {
     write_all(sink, bytes)?;
     match sink.flush() {
@@ -226,7 +226,7 @@ pub fn write_all<S: Sink>(sink: &mut S, bytes: &[u8]) -> Result<(), DeviceFault>
     // success, the error count is unchanged.
     ensures no_new_fault { OnOk result (S.sink_faults sink.new ≡ S.sink_faults sink.old) }
     ensures refused { OnErr result (ErrorCountRises (S.sink_faults sink.old) (S.sink_faults sink.new)) }
-    ensures front { OnErr result (AppendsPrefix (S.taken sink.old) (S.taken sink.new) bytes.now) }
+    ensures prefix_received { OnErr result (AppendsPrefix (S.taken sink.old) (S.taken sink.new) bytes.now) }
 
     // Nothing is flushed.
     ensures unflushed { S.flushed sink.new ≡ S.flushed sink.old }
@@ -241,7 +241,7 @@ pub fn write_all<S: Sink>(sink: &mut S, bytes: &[u8]) -> Result<(), DeviceFault>
 // Returns the label, the text and a line feed as one line.
 fn line_of(alloc: Global, label: &[u8], text: &[u8]) -> errors::Result<Vec<u8>>
     ensures line { IfOk result (λ v. v.items ≡ label.now ++ text.now ++ 10 ∷ []) }
-    ensures refused { IfErr result (λ e. e ≡ Named OutOfMemory) }
+    ensures only_out_of_memory { IfErr result (λ e. e ≡ Named OutOfMemory) }
 {
     let mut line = Vec::new(alloc);
     line.extend_from_slice(label)?;

@@ -81,10 +81,10 @@ pub struct SliceSource<'a> {
     // The bytes from the place that was last marked or gone back to, or from the beginning.
     bytes: &'a [u8],
     // The number of these bytes that have been read.
-    given: usize,
+    position: usize,
     is_marked: bool,
     faults: FaultCount,
-    ghost within: { given ≤ length bytes.now },
+    ghost within: { position ≤ length bytes.now },
 }
 
 impl<'a> SliceSource<'a> {
@@ -98,7 +98,7 @@ impl<'a> SliceSource<'a> {
     {
         SliceSource {
             bytes,
-            given: 0,
+            position: 0,
             is_marked: false,
             faults: FaultCount(0),
         }
@@ -106,20 +106,20 @@ impl<'a> SliceSource<'a> {
 }
 
 impl<'a> Source for SliceSource<'a> {
-    ghost ahead = { λ s. Some (drop s.given s.bytes.now) };
+    ghost ahead = { λ s. Some (drop s.position s.bytes.now) };
 
     ghost behind = { λ s. (if s.is_marked then Some s.bytes.now else None) };
 
-    ghost since = { λ s. Some (take s.given s.bytes.now) };
+    ghost since = { λ s. Some (take s.position s.bytes.now) };
 
     ghost is_marked = { λ s. s.is_marked };
 
-    ghost left = { λ s. length s.bytes.now - s.given };
+    ghost left = { λ s. length s.bytes.now - s.position };
 
     ghost faults = { λ s. s.faults.0 };
 
     // Always succeeds, and reads as many bytes as `buf` has space for or as are left, whichever is less.
-    #[tactic(auto, using(crate::proofs::GivenParts::rest_given, crate::proofs::GivenParts::front_given))]
+    #[tactic(auto, using(crate::proofs::ReadParts::unread_bytes_split, crate::proofs::ReadParts::read_bytes_append))]
     fn read(&mut self, buf: &mut [u8]) -> Result<usize, DeviceFault>
         ensures gives { IsOkAnd result
             (λ n. n ≡ min (length buf.new) (⟦<SliceSource<'a> as Source>⟧.left self.old)) }
@@ -128,11 +128,11 @@ impl<'a> Source for SliceSource<'a> {
             ⟦<SliceSource<'a> as Source>⟧.left ⟦<SliceSource<'a> as Source>⟧.faults
             self.old self.new buf.new result }
     {
-        let (_, rest) = self.bytes.split_at(self.given);
+        let (_, rest) = self.bytes.split_at(self.position);
         let n = buf.len().min(rest.len());
         let (front, _) = rest.split_at(n);
         buf[..n].copy_from_slice(front);
-        self.given += n;
+        self.position += n;
         Ok(n)
     }
 }
@@ -148,8 +148,8 @@ impl<'a> Rereader for SliceSource<'a> {
             ⟦<SliceSource<'a> as Source>⟧.is_marked ⟦<SliceSource<'a> as Source>⟧.faults
             self.old self.new result }
     {
-        let (_, rest) = self.bytes.split_at(self.given);
-        self.given = 0;
+        let (_, rest) = self.bytes.split_at(self.position);
+        self.position = 0;
         self.bytes = rest;
         self.is_marked = true;
         Ok(())
@@ -169,7 +169,7 @@ impl<'a> Rereader for SliceSource<'a> {
         if !self.is_marked {
             return Err(self.faults.raise());
         }
-        self.given = 0;
+        self.position = 0;
         Ok(())
     }
 }
@@ -247,10 +247,10 @@ impl<R: Read> Rereader for ReaderSource<R> {
         ensures fails { IsErr result }
         ensures refused { ErrorCountRises (⟦<ReaderSource<R> as Source>⟧.faults self.old)
             (⟦<ReaderSource<R> as Source>⟧.faults self.new) }
-        ensures hides { IsNone (⟦<ReaderSource<R> as Source>⟧.ahead self.new) }
+        ensures unread_unknown { IsNone (⟦<ReaderSource<R> as Source>⟧.ahead self.new) }
     {
-        let no_way_back = self.faults.raise();
-        Err(no_way_back)
+        let fault = self.faults.raise();
+        Err(fault)
     }
 
     // Always fails. Afterwards the unread bytes are no longer known.
@@ -258,7 +258,7 @@ impl<R: Read> Rereader for ReaderSource<R> {
         ensures fails { IsErr result }
         ensures refused { ErrorCountRises (⟦<ReaderSource<R> as Source>⟧.faults self.old)
             (⟦<ReaderSource<R> as Source>⟧.faults self.new) }
-        ensures hides { IsNone (⟦<ReaderSource<R> as Source>⟧.ahead self.new) }
+        ensures unread_unknown { IsNone (⟦<ReaderSource<R> as Source>⟧.ahead self.new) }
     {
         self.mark()
     }
@@ -347,7 +347,7 @@ pub fn fill_from<S: Source>(source: &mut S, buf: &mut [u8]) -> Result<(), Device
     ensures no_new_fault { OnOk result (S.faults source.new ≡ S.faults source.old) }
     ensures refused { OnErr result (ErrorCountRises (S.faults source.old) (S.faults source.new)
         ⊎ IsAtEnd (S.ahead source.new)) }
-    ensures given { OnErr result (PrefixIsRemoved (S.ahead source.old) (S.ahead source.new)) }
+    ensures prefix_removed { OnErr result (PrefixIsRemoved (S.ahead source.old) (S.ahead source.new)) }
 {
     let mut at = 0;
     'rest: while at < buf.len() {

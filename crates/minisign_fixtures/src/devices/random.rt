@@ -19,7 +19,7 @@ impl<'a> FailingRandom<'a> {
     pub fn new(bytes: &'a [u8], calls: usize) -> FailingRandom<'a> {
         FailingRandom {
             random: FixedRandom::new(bytes),
-            turn: Turn::after(calls),
+            turn: Turn::one_failure_after(calls),
             faults: 0,
         }
     }

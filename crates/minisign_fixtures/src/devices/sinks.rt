@@ -42,7 +42,7 @@ impl LimitedSink {
     }
 
     /// Limits each write to this number of bytes.
-    pub fn by(mut self, most: usize) -> LimitedSink
+    pub fn max_per_write(mut self, most: usize) -> LimitedSink
         ensures taken { ⟦<LimitedSink as Sink>⟧.taken result ≡ ⟦<LimitedSink as Sink>⟧.taken self }
     {
         self.most = most;
@@ -62,7 +62,7 @@ impl LimitedSink {
     pub fn failing_after(mut self, calls: usize) -> LimitedSink
         ensures taken { ⟦<LimitedSink as Sink>⟧.taken result ≡ ⟦<LimitedSink as Sink>⟧.taken self }
     {
-        self.turn = Turn::after(calls);
+        self.turn = Turn::one_failure_after(calls);
         self
     }
 

@@ -65,15 +65,15 @@ pub struct FailingSource<'a> {
 impl<'a> FailingSource<'a> {
     /// Returns a source of the slice whose call after this number of calls fails.
     pub fn new(bytes: &'a [u8], calls: usize) -> FailingSource<'a> {
-        FailingSource::by(bytes, Turn::after(calls))
+        FailingSource::with_turn(bytes, Turn::one_failure_after(calls))
     }
 
     /// Returns a source of the slice whose calls all fail after this number of calls.
     pub fn for_good(bytes: &'a [u8], calls: usize) -> FailingSource<'a> {
-        FailingSource::by(bytes, Turn::from(calls))
+        FailingSource::with_turn(bytes, Turn::failures_after(calls))
     }
 
-    fn by(bytes: &'a [u8], turn: Turn) -> FailingSource<'a> {
+    fn with_turn(bytes: &'a [u8], turn: Turn) -> FailingSource<'a> {
         FailingSource {
             source: OneBytePerRead::new(bytes),
             marked: false,

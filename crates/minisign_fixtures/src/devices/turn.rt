@@ -11,7 +11,7 @@ pub struct Turn {
 impl Turn {
     /// Returns a schedule in which this number of calls succeeds, the next one fails, and all later
     /// ones succeed.
-    pub fn after(calls: usize) -> Turn {
+    pub fn one_failure_after(calls: usize) -> Turn {
         Turn {
             passing: Some(calls),
             is_for_good: false,
@@ -19,7 +19,7 @@ impl Turn {
     }
 
     /// Returns a schedule in which this number of calls succeeds, and all later ones fail.
-    pub fn from(calls: usize) -> Turn {
+    pub fn failures_after(calls: usize) -> Turn {
         Turn {
             passing: Some(calls),
             is_for_good: true,

@@ -8,7 +8,7 @@ ghost use Rattle.minisign_install.specs.Decisions.{comment_only_fault, comment_f
 ghost use Rattle.minisign_install.specs.Decisions.{is_named, judge_comment_only, judge_comment};
 ghost use Rattle.minisign_install.specs.Decisions.{is_too_old, number_in, number_of, size_fault, size_in};
 ghost use Rattle.minisign_install.specs.Decisions.{signed_size, unless, version_in};
-ghost use Rattle.minisign_install.specs.Faults.{NoNumber, OlderUpdate, OtherFile, is_own};
+ghost use Rattle.minisign_install.specs.Faults.{NoNumber, OlderUpdate, OtherFile, is_installer_fault};
 ghost use Rattle.minisign_install.specs.Installations.{list_of, options_of};
 
 use crate::comments::{self, Numbering, first_expiry, first_value, value};
@@ -24,8 +24,8 @@ pub(crate) fn comment_fault(
     time: Option<u64>,
     comment: &str,
 ) -> Option<InstallFault>
-    ensures is { result ≡ comment_fault (options_of chosen.now file.now) recorded time comment.now }
-    ensures own { IfSome result (λ e. is_own e ≡ true) }
+    ensures value { result ≡ comment_fault (options_of chosen.now file.now) recorded time comment.now }
+    ensures installer_fault { IfSome result (λ e. is_installer_fault e ≡ true) }
 {
     match name_fault(comment, file) {
         Some(fault) => Some(fault),
@@ -44,8 +44,8 @@ pub(crate) fn comment_fault(
 
 // Returns an error unless the comment names the file.
 fn name_fault(comment: &str, file: &str) -> Option<InstallFault>
-    ensures is { result ≡ unless (is_named file.now (value_of file_label comment.now)) OtherFile }
-    ensures own { IfSome result (λ e. is_own e ≡ true) }
+    ensures value { result ≡ unless (is_named file.now (value_of file_label comment.now)) OtherFile }
+    ensures installer_fault { IfSome result (λ e. is_installer_fault e ≡ true) }
 {
     match value(comment, "file:") {
         Some(name) => {
@@ -61,9 +61,9 @@ fn name_fault(comment: &str, file: &str) -> Option<InstallFault>
 
 // Returns an error unless the comment has a version number.
 fn number_fault(chosen: &Chosen, comment: &str) -> Option<InstallFault>
-    ensures is { (file : List ℕ) → result
+    ensures value { (file : List ℕ) → result
         ≡ unless (is_some (version_in (options_of chosen.now file).numbering comment.now)) NoNumber }
-    ensures own { IfSome result (λ e. is_own e ≡ true) }
+    ensures installer_fault { IfSome result (λ e. is_installer_fault e ≡ true) }
 {
     match version_in(comment, chosen.numbering()) {
         Some(_) => None,
@@ -73,9 +73,9 @@ fn number_fault(chosen: &Chosen, comment: &str) -> Option<InstallFault>
 
 // Returns the error if the fields `expires:` are rejected at this time.
 fn expiry_fault(comment: &str, must_expire: bool, time: Option<u64>) -> Option<InstallFault>
-    ensures is { result ≡ expiry_fault must_expire time (expiries must_expire comment.now)
+    ensures value { result ≡ expiry_fault must_expire time (expiries must_expire comment.now)
         (number_of (value_of expiry_label comment.now)) }
-    ensures own { IfSome result (λ e. is_own e ≡ true) }
+    ensures installer_fault { IfSome result (λ e. is_installer_fault e ≡ true) }
 {
     match first_expiry(comment, must_expire) {
         None => {
@@ -94,9 +94,9 @@ fn expiry_fault(comment: &str, must_expire: bool, time: Option<u64>) -> Option<I
 
 // Returns the error if the only field `expires:` is rejected at this time.
 fn expiry_at(comment: &str, time: Option<u64>) -> Option<InstallFault>
-    ensures is { (must : Bool) (v : List ℕ) → result
+    ensures value { (must : Bool) (v : List ℕ) → result
         ≡ expiry_fault must time (v ∷ []) (number_of (value_of expiry_label comment.now)) }
-    ensures own { IfSome result (λ e. is_own e ≡ true) }
+    ensures installer_fault { IfSome result (λ e. is_installer_fault e ≡ true) }
 {
     match expiry_in(comment) {
         Some(until) => {
@@ -122,8 +122,8 @@ fn expiry_in(comment: &str) -> Option<u64>
 
 // Returns the error if the fields `size:` are rejected.
 fn size_fault(comment: &str) -> Option<InstallFault>
-    ensures is { result ≡ size_fault (values_of size_label comment.now) }
-    ensures own { IfSome result (λ e. is_own e ≡ true) }
+    ensures value { result ≡ size_fault (values_of size_label comment.now) }
+    ensures installer_fault { IfSome result (λ e. is_installer_fault e ≡ true) }
 {
     match first_value(comment, "size:") {
         None => None,
@@ -136,9 +136,9 @@ fn size_fault(comment: &str) -> Option<InstallFault>
 
 // Returns an error if the update is older than the recorded version and `roll_back` is not set.
 fn age_fault(chosen: &Chosen, recorded: Option<u64>, comment: &str) -> Option<InstallFault>
-    ensures is { (file : List ℕ) → result ≡ unless (not (is_too_old (options_of chosen.now file) recorded
+    ensures value { (file : List ℕ) → result ≡ unless (not (is_too_old (options_of chosen.now file) recorded
         (version_in (options_of chosen.now file).numbering comment.now))) OlderUpdate }
-    ensures own { IfSome result (λ e. is_own e ≡ true) }
+    ensures installer_fault { IfSome result (λ e. is_installer_fault e ≡ true) }
 {
     if is_below(version_in(comment, chosen.numbering()), recorded) && !chosen.roll_back() {
         Some(InstallFault::OlderUpdate)

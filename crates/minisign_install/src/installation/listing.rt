@@ -77,7 +77,7 @@ impl Progress {
     pub(crate) fn answer_list(&mut self, accepted: bool) -> Result<(), Refusal<InstallFault>>
         requires { operation_of self.old.due ≡ CheckList }
         ensures steps { (s : State) → HoldsState self.old s → Steps (Answered accepted) s result self.new }
-        ensures proper { IfErr result (λ r. r ≢ WrongUse NotDue) }
+        ensures never_not_due { IfErr result (λ r. r ≢ WrongUse NotDue) }
     {
         if accepted {
             self.accept_list()
@@ -88,10 +88,10 @@ impl Progress {
 
     // Continues after the list was found to be signed.
     fn accept_list(&mut self) -> Result<(), Refusal<InstallFault>>
-        ensures leads { (s : State) → HoldsState self.old s
+        ensures next_state { (s : State) → HoldsState self.old s
             → RunLeadsTo s (after_listing s.listing.listed (record s { is_list_signed = true })) result
             self.new }
-        ensures proper { IfErr result (λ r. r ≢ WrongUse NotDue) }
+        ensures never_not_due { IfErr result (λ r. r ≢ WrongUse NotDue) }
     {
         self.is_list_signed = 1;
         match self.listing.listed() {

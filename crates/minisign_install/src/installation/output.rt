@@ -109,7 +109,7 @@ impl Progress {
             → written_if (record_due s) result to.old to.new }
         ensures reads_back { (s : State) → HoldsState self.now s → 0 < result
             → IsNewRecord s (take result to.new) }
-        ensures rest { drop result to.new ≡ drop result to.old }
+        ensures rest_unchanged { drop result to.new ≡ drop result to.old }
     {
         if !self.due().is_writing_record() {
             return 0;
@@ -126,7 +126,7 @@ impl Progress {
             → IsWritten (new_record s) result to.old to.new }
         ensures reads_back { (s : State) → HoldsState self.now s → key_of s.signers ≡ signer
             → 0 < result → IsNewRecord s (take result to.new) }
-        ensures rest { drop result to.new ≡ drop result to.old }
+        ensures rest_unchanged { drop result to.new ≡ drop result to.old }
     {
         let version = self.new_version();
         let values = KeyAndDigest {
@@ -174,9 +174,9 @@ impl Progress {
     fn signer(&self) -> Option<[u8; 32]>
         ensures { (s : State) → HoldsState self.now s → result ≡ first_key s.signers }
     {
-        if self.by_key == 1 {
+        if self.key_matches == 1 {
             Some(self.chosen.key.key)
-        } else if self.by_other_key == 1 {
+        } else if self.other_key_matches == 1 {
             Some(self.chosen.other.key)
         } else {
             None

@@ -58,7 +58,7 @@ pub struct RecordedValue {
 /// comment is rejected, or 0.
 #[repr(C)]
 #[derive(Clone, Copy)]
-pub struct Judged {
+pub struct Judgment {
     pub(crate) version: u64,
     pub(crate) size: u64,
     pub(crate) signature: [u8; 64],
@@ -79,10 +79,10 @@ pub struct Progress {
     pub(crate) error: u32,
     pub(crate) chosen: Chosen,
     pub(crate) recorded: RecordedValue,
-    pub(crate) judged: Judged,
+    pub(crate) judged: Judgment,
     // 1 if the first key may have signed, and 1 if the other key may have.
-    pub(crate) by_key: u32,
-    pub(crate) by_other_key: u32,
+    pub(crate) key_matches: u32,
+    pub(crate) other_key_matches: u32,
     // 1 if the first of these keys has signed the comment.
     pub(crate) is_signed: u32,
     // 1 if the digest in the record is that of the update.
@@ -116,8 +116,9 @@ impl Progress {
     // Rejects the run. If it has temporary files, removing them is due first. Only the first error of a run
     // is returned.
     pub(crate) fn reject(&mut self, fault: InstallFault) -> Result<(), Refusal<InstallFault>>
-        ensures leads { (s : State) → HoldsState self.old s → RunLeadsTo s (reject fault s) result self.new }
-        ensures proper { IfErr result (λ r. r ≢ WrongUse NotDue) }
+        ensures next_state { (s : State) → HoldsState self.old s
+            → RunLeadsTo s (reject fault s) result self.new }
+        ensures never_not_due { IfErr result (λ r. r ≢ WrongUse NotDue) }
         ensures refused { IfErr result (λ r. r ≡ Refused fault) }
     {
         let is_first = self.error == 0;
@@ -201,9 +202,9 @@ impl Progress {
 
     // Reports that all data was copied.
     fn end_copy(&mut self) -> Result<(), Refusal<InstallFault>>
-        ensures leads { (s : State) → HoldsState self.old s
+        ensures next_state { (s : State) → HoldsState self.old s
             → RunLeadsTo s (after_copy s.left s) result self.new }
-        ensures proper { IfErr result (λ r. r ≢ WrongUse NotDue) }
+        ensures never_not_due { IfErr result (λ r. r ≢ WrongUse NotDue) }
     {
         if self.has_left == 1 && self.left != 0 {
             return self.reject(InstallFault::OtherSize);
@@ -225,9 +226,9 @@ impl Progress {
 
     // Subtracts a copied piece from the signed size, and rejects the run if the data is longer.
     fn count(&mut self, len: u64) -> Result<(), Refusal<InstallFault>>
-        ensures leads { (s : State) → HoldsState self.old s
+        ensures next_state { (s : State) → HoldsState self.old s
             → RunLeadsTo s (after_piece len s.left s) result self.new }
-        ensures proper { IfErr result (λ r. r ≢ WrongUse NotDue) }
+        ensures never_not_due { IfErr result (λ r. r ≢ WrongUse NotDue) }
     {
         if self.has_left != 1 {
             return Ok(());
@@ -341,7 +342,7 @@ impl Progress {
     fn answer_comment(&mut self, accepted: bool) -> Result<(), Refusal<InstallFault>>
         requires { operation_of self.old.due ≡ CheckComment }
         ensures steps { (s : State) → HoldsState self.old s → Steps (Answered accepted) s result self.new }
-        ensures proper { IfErr result (λ r. r ≢ WrongUse NotDue) }
+        ensures never_not_due { IfErr result (λ r. r ≢ WrongUse NotDue) }
     {
         if accepted {
             self.accept_comment()
@@ -354,7 +355,7 @@ impl Progress {
     fn answer_target(&mut self, accepted: bool) -> Result<(), Refusal<InstallFault>>
         requires { operation_of self.old.due ≡ CheckTarget }
         ensures steps { (s : State) → HoldsState self.old s → Steps (Answered accepted) s result self.new }
-        ensures proper { IfErr result (λ r. r ≢ WrongUse NotDue) }
+        ensures never_not_due { IfErr result (λ r. r ≢ WrongUse NotDue) }
     {
         if accepted && self.is_listed() {
             self.accept_target();
@@ -368,7 +369,7 @@ impl Progress {
     fn answer_data(&mut self, accepted: bool) -> Result<(), Refusal<InstallFault>>
         requires { operation_of self.old.due ≡ CheckData }
         ensures steps { (s : State) → HoldsState self.old s → Steps (Answered accepted) s result self.new }
-        ensures proper { IfErr result (λ r. r ≢ WrongUse NotDue) }
+        ensures never_not_due { IfErr result (λ r. r ≢ WrongUse NotDue) }
     {
         if accepted {
             self.accept_data()
@@ -380,9 +381,9 @@ impl Progress {
     // Continues after the signature was found to be valid for the digest of the temporary file, or for that
     // of the list.
     fn accept_data(&mut self) -> Result<(), Refusal<InstallFault>>
-        ensures leads { (s : State) → HoldsState self.old s
+        ensures next_state { (s : State) → HoldsState self.old s
             → RunLeadsTo s (after_data (is_listed s) s) result self.new }
-        ensures proper { IfErr result (λ r. r ≢ WrongUse NotDue) }
+        ensures never_not_due { IfErr result (λ r. r ≢ WrongUse NotDue) }
     {
         if self.is_listed() {
             self.go(Operation::SetPermissions);
@@ -394,9 +395,9 @@ impl Progress {
 
     // Continues after a key was found to have signed the comment.
     fn accept_comment(&mut self) -> Result<(), Refusal<InstallFault>>
-        ensures leads { (s : State) → HoldsState self.old s
+        ensures next_state { (s : State) → HoldsState self.old s
             → RunLeadsTo s (after_comment s.fault (record s { is_signed = true })) result self.new }
-        ensures proper { IfErr result (λ r. r ≢ WrongUse NotDue) }
+        ensures never_not_due { IfErr result (λ r. r ≢ WrongUse NotDue) }
     {
         self.is_signed = 1;
         match self.fault() {
@@ -428,12 +429,12 @@ impl Progress {
 
     // Continues after the key was found not to have signed the comment: with the next key, if there is one.
     fn next_key(&mut self) -> Result<(), Refusal<InstallFault>>
-        ensures leads { (s : State) → HoldsState self.old s
+        ensures next_state { (s : State) → HoldsState self.old s
             → RunLeadsTo s (next_key s.signers s) result self.new }
-        ensures proper { IfErr result (λ r. r ≢ WrongUse NotDue) }
+        ensures never_not_due { IfErr result (λ r. r ≢ WrongUse NotDue) }
     {
-        if self.by_key == 1 && self.by_other_key == 1 {
-            self.by_key = 0;
+        if self.key_matches == 1 && self.other_key_matches == 1 {
+            self.key_matches = 0;
             return Ok(());
         }
         self.reject(NamedFault::CommentSignatureRefused.into())
@@ -468,9 +469,9 @@ impl Progress {
     // Continues after the installed file was found not to be the update: replaces it if the record is that of
     // the update or `again` is set, else rejects the run.
     fn replace_target(&mut self) -> Result<(), Refusal<InstallFault>>
-        ensures leads { (s : State) → HoldsState self.old s
+        ensures next_state { (s : State) → HoldsState self.old s
             → RunLeadsTo s (after_target false s) result self.new }
-        ensures proper { IfErr result (λ r. r ≢ WrongUse NotDue) }
+        ensures never_not_due { IfErr result (λ r. r ≢ WrongUse NotDue) }
     {
         if self.is_recorded == 1 || self.chosen.again == 1 {
             self.install();
@@ -544,7 +545,7 @@ impl Progress {
                 has_digest: 0,
                 reserved: 0,
             },
-            judged: Judged {
+            judged: Judgment {
                 version: 0,
                 size: 0,
                 signature: [0; 64],
@@ -554,8 +555,8 @@ impl Progress {
                 fault: 0,
                 reserved: 0,
             },
-            by_key: 0,
-            by_other_key: 0,
+            key_matches: 0,
+            other_key_matches: 0,
             is_signed: 0,
             is_recorded: 0,
             left: 0,

@@ -49,9 +49,9 @@ impl Progress {
         &mut self,
         judged: Result<RecordedValue, InstallFault>,
     ) -> Result<(), Refusal<InstallFault>>
-        ensures leads { (s : State) → HoldsState self.old s
+        ensures next_state { (s : State) → HoldsState self.old s
             → RunLeadsTo s (after_record (judgment_of judged) s) result self.new }
-        ensures proper { IfErr result (λ r. r ≢ WrongUse NotDue) }
+        ensures never_not_due { IfErr result (λ r. r ≢ WrongUse NotDue) }
     {
         match judged {
             Ok(recorded) => {

@@ -9,7 +9,7 @@ ghost use Rattle.minisign_external.specs.PublicKeys.{read_utf8};
 ghost use Rattle.minisign_external.specs.declared.state.Misuse.TheVariants.{NoRoom, NotDue};
 ghost use Rattle.minisign_external.specs.declared.state.Refusal.TheVariants.{Refused, WrongUse};
 ghost use Rattle.minisign_install.specs.Decisions.{judge_keys};
-ghost use Rattle.minisign_install.specs.Faults.{Library, Named, NotUtf8, is_own};
+ghost use Rattle.minisign_install.specs.Faults.{Library, Named, NotUtf8, is_installer_fault};
 ghost use Rattle.minisign_install.specs.Installations.{HoldsState, RunLeadsTo, SignatureLeads};
 ghost use Rattle.minisign_install.specs.Installations.{SignatureSteps, given};
 ghost use Rattle.minisign_install.specs.Installations.{IsJudgedAs, IsReadAs, judge_form, options_of, plain};
@@ -20,7 +20,7 @@ ghost use Rattle.minisign_install.specs.Step.{State, after_signature, reject};
 use crate::faults::InstallFault;
 use crate::installation::Operation;
 use crate::installation::judging::{comment_fault, signed_size, version_in};
-use crate::installation::progress::{Chosen, Judged, Progress};
+use crate::installation::progress::{Chosen, Judgment, Progress};
 use minisign::{SignatureView, read_signature};
 use minisign_base::{NamedFault, PError};
 use minisign_external::numbers::Numbered;
@@ -41,7 +41,7 @@ impl Progress {
             → SignatureSteps sig_text.now time s result (HoldsState self.new) message.old message.new }
         ensures unchanged { OnErr result (message.new ≡ message.old) }
         ensures misuse { result ≡ Err (WrongUse NotDue) → self.new ≡ self.old }
-        ensures short { result ≡ Err (WrongUse NoRoom) → self.new ≡ self.old }
+        ensures unchanged_if_no_room { result ≡ Err (WrongUse NoRoom) → self.new ≡ self.old }
     {
         if !self.due().is_reading_signature() {
             return Err(Refusal::WrongUse(Misuse::NotDue));
@@ -57,11 +57,11 @@ impl Progress {
         time: Option<u64>,
         message: &mut [u8],
     ) -> Result<usize, Refusal<InstallFault>>
-        ensures leads { (s : State) → HoldsState self.old s → s.options.file ≡ file.now
+        ensures next_state { (s : State) → HoldsState self.old s → s.options.file ≡ file.now
             → SignatureLeads (judged_text s sig_text.now) time s result self.new message.old message.new }
         ensures unchanged { OnErr result (message.new ≡ message.old) }
-        ensures proper { IfErr result (λ r. r ≢ WrongUse NotDue) }
-        ensures short { result ≡ Err (WrongUse NoRoom) → self.new ≡ self.old }
+        ensures never_not_due { IfErr result (λ r. r ≢ WrongUse NotDue) }
+        ensures unchanged_if_no_room { result ≡ Err (WrongUse NoRoom) → self.new ≡ self.old }
     {
         match str::from_utf8(file) {
             Ok(name) => match read_text(sig_text) {
@@ -80,13 +80,13 @@ impl Progress {
         time: Option<u64>,
         message: &mut [u8],
     ) -> Result<usize, Refusal<InstallFault>>
-        ensures leads { (s : State) (t : SignatureTextRecord) → HoldsState self.old s
+        ensures next_state { (s : State) (t : SignatureTextRecord) → HoldsState self.old s
             → s.options.file ≡ file.now → view.now ≡ view_of t
             → SignatureLeads (judge_keys s.options (given self.old.chosen t) t) time s result self.new
             message.old message.new }
         ensures unchanged { OnErr result (message.new ≡ message.old) }
-        ensures proper { IfErr result (λ r. r ≢ WrongUse NotDue) }
-        ensures short { result ≡ Err (WrongUse NoRoom) → self.new ≡ self.old }
+        ensures never_not_due { IfErr result (λ r. r ≢ WrongUse NotDue) }
+        ensures unchanged_if_no_room { result ≡ Err (WrongUse NoRoom) → self.new ≡ self.old }
     {
         match judge_keys(&self.chosen, view) {
             Ok(second) => self.accept_text(view, &second, file, time, message),
@@ -96,9 +96,9 @@ impl Progress {
 
     // Rejects the run with this error. No message is written.
     fn refuse(&mut self, fault: PError) -> Result<usize, Refusal<InstallFault>>
-        ensures leads { (s : State) → HoldsState self.old s
+        ensures next_state { (s : State) → HoldsState self.old s
             → RunLeadsTo s (reject (Library fault) s) (plain result) self.new }
-        ensures none { IfOk result (λ n. n ≡ 0) }
+        ensures is_zero { IfOk result (λ n. n ≡ 0) }
         ensures refused { IfErr result (λ r. r ≡ Refused (Library fault)) }
     {
         match self.reject(fault.into()) {
@@ -116,13 +116,13 @@ impl Progress {
         time: Option<u64>,
         message: &mut [u8],
     ) -> Result<usize, Refusal<InstallFault>>
-        ensures leads { (s : State) (t : SignatureTextRecord) → HoldsState self.old s
+        ensures next_state { (s : State) (t : SignatureTextRecord) → HoldsState self.old s
             → s.options.file ≡ file.now → view.now ≡ view_of t → second.now ≡ take 64 t.comments.signature
             → SignatureLeads (Ok (t, given self.old.chosen t)) time s result self.new
             message.old message.new }
         ensures unchanged { OnErr result (message.new ≡ message.old) }
-        ensures proper { IfErr result (λ r. r ≢ WrongUse NotDue) }
-        ensures short { result ≡ Err (WrongUse NoRoom) → self.new ≡ self.old }
+        ensures never_not_due { IfErr result (λ r. r ≢ WrongUse NotDue) }
+        ensures unchanged_if_no_room { result ≡ Err (WrongUse NoRoom) → self.new ≡ self.old }
     {
         let first = view.signature().sig;
         match write_comment_message(&first, view.trusted_comment().as_bytes(), message) {
@@ -147,16 +147,16 @@ impl Progress {
             → HoldsState self.new (after_signature (Ok (t, given self.old.chosen t)) time s) }
     {
         let recorded = self.recorded.version();
-        self.judged = Judged::of(&self.chosen, view, second, file, recorded, time);
+        self.judged = Judgment::of(&self.chosen, view, second, file, recorded, time);
         self.left = self.judged.size;
         self.has_left = self.judged.has_size;
-        self.by_key = flag(has_key_id(view, &self.chosen.key));
-        self.by_other_key = flag(has_key_id(view, &self.chosen.other));
+        self.key_matches = flag(has_key_id(view, &self.chosen.key));
+        self.other_key_matches = flag(has_key_id(view, &self.chosen.other));
         self.go(Operation::CheckComment);
     }
 }
 
-impl Judged {
+impl Judgment {
     // Checks the comment of a signature file, and returns the result with the signatures of the file.
     fn of(
         chosen: &Chosen,
@@ -165,13 +165,13 @@ impl Judged {
         file: &str,
         recorded: Option<u64>,
         time: Option<u64>,
-    ) -> Judged
+    ) -> Judgment
         ensures { (t : SignatureTextRecord) → view.now ≡ view_of t
             → IsReadAs result (options_of chosen.now file.now) t second.now recorded time }
     {
         let comment = view.trusted_comment();
         let size = signed_size(chosen, comment);
-        Judged {
+        Judgment {
             version: version_in(comment, chosen.numbering()).unwrap_or(0),
             size: size.unwrap_or(0),
             signature: view.signature().sig,
@@ -186,7 +186,7 @@ impl Judged {
 
 // Returns the number of an installation error, or 0.
 fn number_of(fault: Option<InstallFault>) -> u32
-    requires { IfSome fault (λ e. is_own e ≡ true) }
+    requires { IfSome fault (λ e. is_installer_fault e ≡ true) }
     ensures { IsOwnNumber result fault }
 {
     match fault {

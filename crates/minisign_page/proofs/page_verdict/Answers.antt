@@ -51,15 +51,17 @@ returns-in-Err-clause-verdict c = λ v sig_text message legacy accepts by.
     c.number_of.ensures ∙ refused_number (verdict_under accepts v sig_text message legacy) c.in-Err.refusal
     (c.in-Err.ensures.verdict v sig_text message legacy accepts by.asked by.finalized by.answers)
 
-pub returns-in-Err-clause-texts : goal.returns-in-Err-clause-texts
-returns-in-Err-clause-texts c = λ v pk_text sig_text message legacy accepts by keyed.
+pub returns-in-Err-clause-same_verdict_as_texts : goal.returns-in-Err-clause-same_verdict_as_texts
+returns-in-Err-clause-same_verdict_as_texts c = λ v pk_text sig_text message legacy accepts by keyed.
     given_number accepts pk_text sig_text message legacy c.in-Err.refusal _ c.number_of.ensures
-    (c.in-Err.ensures.texts v pk_text sig_text message legacy accepts by.asked by.finalized keyed by.answers)
+    (c.in-Err.ensures.same_verdict_as_texts v pk_text sig_text message legacy accepts by.asked by.finalized
+    keyed by.answers)
 
-pub returns-in-Ok-clause-texts : goal.returns-in-Ok-clause-texts
-returns-in-Ok-clause-texts c = λ v pk_text sig_text message legacy accepts by keyed.
+pub returns-in-Ok-clause-same_verdict_as_texts : goal.returns-in-Ok-clause-same_verdict_as_texts
+returns-in-Ok-clause-same_verdict_as_texts c = λ v pk_text sig_text message legacy accepts by keyed.
     inl (
       refl,
-      c.in-Ok.ensures.texts v pk_text sig_text message legacy accepts by.asked by.finalized keyed
+      c.in-Ok.ensures.same_verdict_as_texts v pk_text sig_text message legacy accepts by.asked by.finalized
+          keyed
           by.answers,
     )

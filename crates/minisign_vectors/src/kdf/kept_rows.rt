@@ -6,8 +6,8 @@
 
 ghost use Rattle.std.specs.Prelude.{◌≡◌, ◌≤◌, length};
 
-use crate::kdf::passed_memory::{OF_NOTHING, OF_PASSWORD};
-use crate::shown::shows;
+use crate::display::shows;
+use crate::kdf::passed_memory::{KEY_OF_EMPTY_PASSWORD, KEY_OF_PASSWORD};
 use crate::tables::assert_row;
 use minisign_kdf::KdfError::{self, InvalidOutputLen, OutOfMemory};
 use minisign_kdf::{Params, Rows, mix_kept, scrypt_keeping};
@@ -50,16 +50,16 @@ type Key = (
 // The smallest test vector, the one with several parts, and one with the default cost, also for k
 // that do not divide N.
 const KEYS: [Key; 12] = [
-    ("", "", (4, 1, 1), 1, 16, OF_NOTHING),
-    ("", "", (4, 1, 1), 2, 8, OF_NOTHING),
-    ("", "", (4, 1, 1), 3, 6, OF_NOTHING),
-    ("", "", (4, 1, 1), 5, 4, OF_NOTHING),
-    ("", "", (4, 1, 1), 7, 3, OF_NOTHING),
-    ("", "", (4, 1, 1), 15, 2, OF_NOTHING),
-    ("", "", (4, 1, 1), 16, 1, OF_NOTHING),
-    ("", "", (4, 1, 1), 17, 1, OF_NOTHING),
-    ("", "", (4, 1, 1), u64::MAX, 1, OF_NOTHING),
-    ("password", "NaCl", (10, 8, 16), 100, 11, OF_PASSWORD),
+    ("", "", (4, 1, 1), 1, 16, KEY_OF_EMPTY_PASSWORD),
+    ("", "", (4, 1, 1), 2, 8, KEY_OF_EMPTY_PASSWORD),
+    ("", "", (4, 1, 1), 3, 6, KEY_OF_EMPTY_PASSWORD),
+    ("", "", (4, 1, 1), 5, 4, KEY_OF_EMPTY_PASSWORD),
+    ("", "", (4, 1, 1), 7, 3, KEY_OF_EMPTY_PASSWORD),
+    ("", "", (4, 1, 1), 15, 2, KEY_OF_EMPTY_PASSWORD),
+    ("", "", (4, 1, 1), 16, 1, KEY_OF_EMPTY_PASSWORD),
+    ("", "", (4, 1, 1), 17, 1, KEY_OF_EMPTY_PASSWORD),
+    ("", "", (4, 1, 1), u64::MAX, 1, KEY_OF_EMPTY_PASSWORD),
+    ("password", "NaCl", (10, 8, 16), 100, 11, KEY_OF_PASSWORD),
     ("", "", (15, 8, 1), 3, 10923, OF_USUAL_COST),
     ("", "", (15, 8, 1), 7, 4682, OF_USUAL_COST),
 ];

@@ -2,7 +2,7 @@
 //! one iteration), and of the parameters that scrypt accepts. The key of 100 bytes is from Python's
 //! hashlib (OpenSSL).
 
-use crate::shown::shows;
+use crate::display::shows;
 use crate::tables::assert_row;
 use minisign_fixtures::outcomes::front;
 use minisign_kdf::{Params, hmac_sha256, pbkdf2_once};

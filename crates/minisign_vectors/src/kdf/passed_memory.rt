@@ -5,16 +5,16 @@
 
 ghost use Rattle.std.specs.Prelude.{◌≡◌, IfOk, vec_len};
 
-use crate::shown::shows;
+use crate::display::shows;
 use crate::tables::assert_row;
 use minisign_kdf::{Params, scrypt_in};
 use std::alloc::{AllocError, Global};
 
 // The keys of the smallest test vector and of the one with several parts.
-pub const OF_NOTHING: &str =
+pub const KEY_OF_EMPTY_PASSWORD: &str =
     "77d6576238657b203b19ca42c18a0497f16b4844e3074ae8dfdffa3fede21442fcd0069ded0948f8326a753a0fc81f17e8d3e0fb2e0d3628cf35e20c38d18906";
 
-pub const OF_PASSWORD: &str =
+pub const KEY_OF_PASSWORD: &str =
     "fdbabe1c9d3472007856e7190d01e9fe7c6ad7cbc8237830e77376634b3731622eaf30d92e22a3886ff109279d9830dac727afb94a83ee6d8360cbdfa2cc0640";
 
 /// Returns this number of words, none of them 0.
@@ -56,10 +56,10 @@ type Row = (
 );
 
 const ROWS: [Row; 4] = [
-    ("", "", (4, 1, 1), 1, OF_NOTHING),
-    ("", "", (4, 1, 1), 3, OF_NOTHING),
-    ("", "", (4, 1, 1), 17, OF_NOTHING),
-    ("password", "NaCl", (10, 8, 16), 3, OF_PASSWORD),
+    ("", "", (4, 1, 1), 1, KEY_OF_EMPTY_PASSWORD),
+    ("", "", (4, 1, 1), 3, KEY_OF_EMPTY_PASSWORD),
+    ("", "", (4, 1, 1), 17, KEY_OF_EMPTY_PASSWORD),
+    ("password", "NaCl", (10, 8, 16), 3, KEY_OF_PASSWORD),
 ];
 
 // Hides the table from proofs, which would otherwise unfold all of it.

@@ -58,8 +58,8 @@ pub fn wrote_sealed_over<R: Source, W: Sink, K: Sink>(
 
 // Returns true if a sink that accepts one byte at a time receives the whole text and one flush.
 fn sink_receives_whole_keys(alloc: Global) -> bool {
-    let mut public = LimitedSink::new(alloc, 114).by(1).flushed(1);
-    let mut secret = LimitedSink::new(alloc, 259).by(1).flushed(1);
+    let mut public = LimitedSink::new(alloc, 114).max_per_write(1).flushed(1);
+    let mut secret = LimitedSink::new(alloc, 259).max_per_write(1).flushed(1);
     let mut prompt = prompt_of(b"p\np\n", 4, LimitedSink::new(alloc, 300));
     let answer = wrote_sealed_over(alloc, &mut prompt, &mut public, &mut secret);
     let matches = is_outcome(answer, Accepted);
@@ -77,12 +77,12 @@ fn writes_pair_to_sinks_of_one_byte_per_write(rt: HostRuntime) {
 // The typed bytes, the number of reads before the reader fails, the space in the prompt's writer,
 // the number of flushes before it fails, the number of bytes that it then shows, and the expected
 // outcome.
-type Fails = (&'static [u8], usize, usize, usize, usize, Outcome);
+type PairFailure = (&'static [u8], usize, usize, usize, usize, Outcome);
 
 // The writer fails at each flush before the derivation, after it received the whole text. It also
 // fails after the derivation, and then the pair is not written. The reader fails at each of its
 // reads, or returns bytes that are not UTF-8.
-const FAILING: [Fails; 12] = [
+const PAIR_FAILURES: [PairFailure; 12] = [
     (b"p\np\n", 9, 300, 0, 51, UNWRITTEN),
     (b"p\np\n", 9, 300, 1, 61, UNWRITTEN),
     (b"p\np\n", 9, 300, 2, 87, UNWRITTEN),
@@ -98,16 +98,18 @@ const FAILING: [Fails; 12] = [
 ];
 
 // Hides the table from proofs, which would otherwise unfold all of it.
-fn failing() -> &'static [Fails] {
-    &FAILING
+fn pair_failures() -> &'static [PairFailure] {
+    &PAIR_FAILURES
 }
 
 // Returns true if generation fails as expected, with this many bytes shown and no key written. A
 // writer that will fail accepts nine bytes for each write.
-fn is_refused(alloc: Global, row: &Fails) -> bool {
+fn is_refused(alloc: Global, row: &PairFailure) -> bool {
     let (typed, reads, room, flushes, length, expected) = *row;
     let most = if expected == UNWRITTEN { 9 } else { usize::MAX };
-    let writer = LimitedSink::new(alloc, room).by(most).flushed(flushes);
+    let writer = LimitedSink::new(alloc, room)
+        .max_per_write(most)
+        .flushed(flushes);
     let mut prompt = prompt_of(typed, reads, writer);
     let mut public = LimitedSink::new(alloc, 300);
     let mut secret = LimitedSink::new(alloc, 300);
@@ -119,7 +121,7 @@ fn is_refused(alloc: Global, row: &Fails) -> bool {
 
 #[test]
 fn rejects_pair_if_prompt_fails(rt: HostRuntime) {
-    for row in failing() {
+    for row in pair_failures() {
         assert_row(&rt, is_refused(rt.alloc(), row), row);
     }
 }

@@ -19,7 +19,7 @@ use minisign_fixtures::outcomes::{
     check_holds_or_out_of_memory, check_holds_or_unwritten, counted,
 };
 use minisign_fixtures::texts::{
-    COUNTED_PUBLIC_TEXT, COUNTED_SEALED_UNDER_NOTHING, KEY_TEXT, SEALED, SECRET_TEXT,
+    COUNTED_PUBLIC_TEXT, COUNTED_SEALED_WITH_EMPTY_PASSWORD, KEY_TEXT, SEALED, SECRET_TEXT,
 };
 use std::alloc::Global;
 
@@ -75,7 +75,7 @@ fn has_records(pair: &KeyPair, public: &[u8], secret: &[u8]) -> Result<bool> {
 /// Returns true if the key has the precomputed text of the pair that is encrypted with the empty
 /// password.
 pub fn has_sealed_text(alloc: Global, key: &SecretKey) -> Result<bool> {
-    has_text(secret_text(alloc, key), COUNTED_SEALED_UNDER_NOTHING)
+    has_text(secret_text(alloc, key), COUNTED_SEALED_WITH_EMPTY_PASSWORD)
 }
 
 // Returns true if an encrypted pair is generated when an empty password is typed.
@@ -97,7 +97,7 @@ fn wrote_sealed(alloc: Global) -> Result<bool> {
     let mut secret = VecSink::new(alloc);
     wrote_sealed_over(alloc, &mut typed(b"\n\n"), &mut public, &mut secret)?;
     let written = public.as_slice() == COUNTED_PUBLIC_TEXT.as_bytes();
-    Ok(written && secret.as_slice() == COUNTED_SEALED_UNDER_NOTHING.as_bytes())
+    Ok(written && secret.as_slice() == COUNTED_SEALED_WITH_EMPTY_PASSWORD.as_bytes())
 }
 
 // Returns true if the key is key A, decrypted.

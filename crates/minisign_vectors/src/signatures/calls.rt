@@ -168,7 +168,7 @@ pub fn signed_from<R: Source, Z: RandomSource>(
     sk: &SecretKey,
     data: &mut R,
     random: &mut Z,
-    moment: u64,
+    unix_time: u64,
 ) -> Result<SignatureBox> {
     sign(
         alloc,
@@ -179,7 +179,7 @@ pub fn signed_from<R: Source, Z: RandomSource>(
         None,
         None,
         random,
-        moment,
+        unix_time,
     )
 }
 

@@ -3,7 +3,7 @@
 //!
 //! The expected base64 is from Python's base64 module.
 
-use crate::shown::displays_as;
+use crate::display::displays_as;
 use crate::signatures::calls::copy_text;
 use minisign::{Result, Signature, SignatureBones, SignatureBox};
 use minisign_base::faults::NamedFault::SignatureBoxIncomplete;

@@ -7,5 +7,6 @@ use Rattle.minisign.proofs.comment_place.trusted_comment_place.Goals as goal
 
 pub returns : goal.returns
 returns c = λ t read. in_text _ _ _ t _ _ (((read_as _).value t).0 read)
-    (c.behind_line-third.ensures.same ∙ ap behind_line c.behind_line.ensures.same) c.first_line.ensures.same
+    (c.behind_line-third.ensures.value
+    ∙ ap behind_line c.behind_line.ensures.value) c.first_line.ensures.value
     c.first_line.ensures.size c.comment_in_line-start.ensures.place

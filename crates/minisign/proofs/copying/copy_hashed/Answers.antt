@@ -19,7 +19,7 @@ returns-in_err-buf-clause-refused g c =
         ahead = ahead;
         left = search rules;
         front = front;
-        given_front = ([], c.requires, AppendsPrefix-keeps _ _ _ (keeps_same _));
+        prefix_read = ([], c.requires, AppendsPrefix-keeps _ _ _ (keeps_same _));
         marked = refl;
         unflushed = refl;
       },

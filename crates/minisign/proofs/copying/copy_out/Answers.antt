@@ -2,7 +2,7 @@
 use Rattle.std.proofs.Common.{[], ◌∷◌, refl}
 use Rattle.minisign.proofs.Common.{rereader_call, sink_call, no_sink}
 use Rattle.minisign.specs.Verifying.{Flush, Put}
-use Rattle.minisign.proofs.Passes.{OneEnds, kept_steps, last_step, next_step}
+use Rattle.minisign.proofs.VerifyingStages.{OneEnds, kept_steps, last_step, next_step}
 use Rattle.minisign.proofs.copying.copy_out.Goals as goal
 
 pub returns-in_ok-put_bytes-in-Message : goal.returns-in_ok-put_bytes-in-Message

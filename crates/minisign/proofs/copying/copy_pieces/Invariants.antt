@@ -13,7 +13,8 @@ invariant-pieces g l = record {
   mark : g.R.Source.behind l.data_reader ≡ g.R.Source.behind l.fn.data_reader;
   unfinished : has_finalized l.hasher ≡ false;
   size : output_length l.hasher ≡ output_length l.fn.hasher;
-  given : (done : List ℕ) × Consumes (g.R.Source.ahead l.fn.data_reader) (g.R.Source.ahead l.data_reader) done
+  bytes_read : (done : List ℕ)
+      × Consumes (g.R.Source.ahead l.fn.data_reader) (g.R.Source.ahead l.data_reader) done
       × Appends (g.O.Sink.taken l.fn.out) (g.O.Sink.taken l.out) done
       × ((m : List ℕ) → IsFed l.fn.hasher m → IsFed l.hasher (m ++ done))
       × KnownBytesAre (g.R.Source.since l.data_reader) done;

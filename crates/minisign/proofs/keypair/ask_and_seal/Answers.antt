@@ -37,7 +37,7 @@ returns-clause-typed g c =
             (choosing_steps first second) sealing_steps (Ok tt) chosen said,
       ),
       rw (c.as_bytes.ensures.value) at sealed,
-    )) c.seal_with_reports.ensures.reported c.seal_with_reports.ensures.sealed
+    )) c.seal_with_reports.ensures.conversation_ends c.seal_with_reports.ensures.sealed
 
 pub returns-clause-refused : goal.returns-clause-refused
 returns-clause-refused g c =

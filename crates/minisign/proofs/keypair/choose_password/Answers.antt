@@ -39,7 +39,7 @@ returns-in_err-password-clause-refused g c =
       [],
       inr (
         c.say.new.self,
-        c.in_ok-say.ensures.ended,
+        c.in_ok-say.ensures.step_ends,
         stopped_first p (asking_steps asking_text first)
             (asking_steps second_question [] ++ Test (password_difference (typed_password first)
             (typed_password []))
@@ -60,7 +60,7 @@ returns-in_err-again-clause-refused g c =
       second,
       inr (
         c.say.new.self,
-        c.in_ok-say.ensures.ended,
+        c.in_ok-say.ensures.step_ends,
         second_ended both c.get_password.new.prompt (asking_steps asking_text first)
             (asking_steps second_question second ++ test) (Err _) asked
             (stopped_first p (asking_steps second_question second) test _ stopped),
@@ -80,7 +80,7 @@ returns-then-ne-clause-refused g c =
       second,
       inr (
         c.say.new.self,
-        c.in_ok-say.ensures.ended,
+        c.in_ok-say.ensures.step_ends,
         second_ended both c.get_password.new.prompt (asking_steps asking_text first)
             (asking_steps second_question second ++ test) (Err _) asked
             (second_ended p _ (asking_steps second_question second) test (Err _) asked_again (inl (
@@ -108,7 +108,7 @@ returns-clause-chosen g c =
       rw same at answered_again,
       (
         c.say.new.self,
-        c.in_ok-say.ensures.ended,
+        c.in_ok-say.ensures.step_ends,
         second_ended both c.get_password.new.prompt (asking_steps asking_text first)
             (asking_steps second_question second ++ test) (Ok tt) asked
             (second_ended p end (asking_steps second_question second) test (Ok tt) asked_again (

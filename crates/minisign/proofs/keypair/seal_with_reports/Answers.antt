@@ -9,20 +9,25 @@ pub returns-in_err-pair-clause-refused : goal.returns-in_err-pair-clause-refused
 unfolding sealing_text
 returns-in_err-pair-clause-refused g c =
     passed_up _ _ _ c.from_residual-in_err-pair.ensures.1
-    (inr (c.say.new.self, c.in_ok-say.ensures.ended, inl ((c.in_err-pair.ensures.refused, tt), refl)))
+    (inr (
+      c.say.new.self,
+      c.in_ok-say.ensures.step_ends,
+      inl
+          ((c.in_err-pair.ensures.only_out_of_memory, tt), refl),
+    ))
 
 pub returns-in_err-say-2-clause-refused : goal.returns-in_err-say-2-clause-refused
 unfolding sealing_text done_text
 returns-in_err-say-2-clause-refused g c =
     let said = c.say.new.self in
     passed_up _ _ _ c.from_residual-in_err-say-2.ensures.1
-    (inr (said, c.in_ok-say.ensures.ended, inr (said, (tt, refl), inl c.in_err-say-2.ensures.ended)))
+    (inr (said, c.in_ok-say.ensures.step_ends, inr (said, (tt, refl), inl c.in_err-say-2.ensures.step_ends)))
 
-pub returns-clause-reported : goal.returns-clause-reported
+pub returns-clause-conversation_ends : goal.returns-clause-conversation_ends
 unfolding sealing_text done_text
-returns-clause-reported g c =
+returns-clause-conversation_ends g c =
     let said = c.say.new.self in (
       said,
-      c.in_ok-say.ensures.ended,
-      (said, (tt, refl), (c.say-2.new.self, c.in_ok-say-2.ensures.ended, refl)),
+      c.in_ok-say.ensures.step_ends,
+      (said, (tt, refl), (c.say-2.new.self, c.in_ok-say-2.ensures.step_ends, refl)),
     )

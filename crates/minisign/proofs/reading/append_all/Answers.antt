@@ -5,14 +5,14 @@ use Rattle.minisign.proofs.reading.append_all.Goals as goal
 
 pub pieces-preserved : goal.pieces-preserved
 pieces-preserved g c =
-    let (done, given, received) = c.pieces.invariant.given in
+    let (done, bytes_read, received) = c.pieces.invariant.bytes_read in
     record {
       no_new_fault = c.in-Ok.ensures.no_new_fault ∙ c.pieces.invariant.no_new_fault;
       marked = c.in-Ok.ensures.marked ∙ c.pieces.invariant.marked;
       mark = c.in-Ok.ensures.mark ∙ c.pieces.invariant.mark;
-      given = (
+      bytes_read = (
         _,
-        Consumes-trans _ _ _ _ _ given c.in-Ok.ensures.bytes,
+        Consumes-trans _ _ _ _ _ bytes_read c.in-Ok.ensures.bytes,
         rw (c.in_ok-extend_from_slice-in-Ok.ensures.items, received, append_assoc) refl,
       );
     }

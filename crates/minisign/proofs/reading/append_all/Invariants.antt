@@ -8,7 +8,7 @@ invariant-pieces g l = record {
   no_new_fault : g.S.Source.faults l.source ≡ g.S.Source.faults l.fn.source;
   marked : g.S.Source.is_marked l.source ≡ g.S.Source.is_marked l.fn.source;
   mark : g.S.Source.behind l.source ≡ g.S.Source.behind l.fn.source;
-  given : (done : List ℕ) × Consumes (g.S.Source.ahead l.fn.source) (g.S.Source.ahead l.source) done
+  bytes_read : (done : List ℕ) × Consumes (g.S.Source.ahead l.fn.source) (g.S.Source.ahead l.source) done
       × (l.received.items ≡ l.fn.received.items ++ done);
 }
 

@@ -10,7 +10,7 @@ invariant-pieces g l = record {
   mark : g.S.Source.behind l.source ≡ g.S.Source.behind l.fn.source;
   unfinished : has_finalized l.hasher ≡ false;
   size : output_length l.hasher ≡ output_length l.fn.hasher;
-  given : (done : List ℕ) × Consumes (g.S.Source.ahead l.fn.source) (g.S.Source.ahead l.source) done
+  bytes_read : (done : List ℕ) × Consumes (g.S.Source.ahead l.fn.source) (g.S.Source.ahead l.source) done
       × ((m : List ℕ) → IsFed l.fn.hasher m → IsFed l.hasher (m ++ done));
 }
 

@@ -14,16 +14,16 @@ graphic_digits [] d = tt
 graphic_digits (c ∷ cs) d =
     ((omega (arith, digit_from_value c d.0), omega (arith, digit_from_value c d.0)), graphic_digits cs d.1)
 
-graphic_moment : (moment : ℕ) → moment < 2 ^ 64 → AllGraphic (default_trusted_comment moment)
+graphic_unix_time : (unix_time : ℕ) → unix_time < 2 ^ 64 → AllGraphic (default_trusted_comment unix_time)
 unfolding default_trusted_comment
-graphic_moment moment small =
+graphic_unix_time unix_time small =
     each_append _ (codes "timestamp:") _ (graphic_codes (codes "timestamp:") refl)
-    (graphic_digits _ (decimal_is_IsNumeral moment small).0.1)
+    (graphic_digits _ (decimal_is_IsNumeral unix_time small).0.1)
 
-defaults_kept : (moment : ℕ) → moment < 2 ^ 64 → AreChosenReadBack (given_comments None None moment)
+defaults_kept : (unix_time : ℕ) → unix_time < 2 ^ 64 → AreChosenReadBack (given_comments None None unix_time)
 unfolding default_untrusted_comment
 defaults_kept _ small =
-    let graphic = graphic_moment _ small in
+    let graphic = graphic_unix_time _ small in
     let trusted = shown_one_line _ (shown_graphic _ graphic) in
     let untrusted = shown_one_line default_untrusted_comment (shown_codes default_untrusted_comment refl) in
     record {
@@ -36,4 +36,4 @@ defaults_kept _ small =
     }
 
 pub returns : goal.returns
-returns c = defaults_kept _ (omega (arith, c.ranges.moment))
+returns c = defaults_kept _ (omega (arith, c.ranges.unix_time))

@@ -21,7 +21,7 @@ returns-clause-signed g c = λ message same_digest.
     let global = c.in_ok-from_slice.ensures.items ∙ rw (signed, secret) at c.signature-global_sig.ensures in
     let digest_bytes : IsBytes c.args.digest.now = search rules in
     let signed_bytes : IsBytes (c.signature-sig.result ++ trusted) = rw (← signed, c.deref.ensures.value)
-    c.in_ok-signed.ensures.each in
+    c.in_ok-signed.ensures.are_bytes in
     let long : length c.in_ok-from_slice.field-0.items ≡ 64 = grind (arith, common_steps) in (
       record {
         first = c.in_ok-first.first;

@@ -14,7 +14,7 @@ returns-clause-headline g c =
     IfOk-weaker c.sign_opened.result _ _ (λ t (message, read, (signed, headline)). (
       c.in_ok-sk.sk,
       message,
-      read.given,
+      read.known_bytes,
       key_of_given p _ _ _ gives,
       headline,
     )) c.sign_opened.ensures.signed

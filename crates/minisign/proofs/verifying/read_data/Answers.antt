@@ -2,7 +2,7 @@
 use Rattle.std.proofs.Common.{[], refl}
 use Rattle.minisign.proofs.Common.{MatchResult-weaker}
 use Rattle.minisign.proofs.Beginnings.{passed_up}
-use Rattle.minisign.proofs.Passes.{mark_stops, read_ends}
+use Rattle.minisign.proofs.VerifyingStages.{mark_stops, read_ends}
 use Rattle.minisign.proofs.verifying.read_data.Goals as goal
 
 pub returns-in_err-mark_place-clause-refused : goal.returns-in_err-mark_place-clause-refused
@@ -17,7 +17,8 @@ returns-clause-held g c =
       message,
       holds,
       read_ends g.R.Source g.R.Rereader.steady c.args.data_reader.now _ _ _ c.mark_place.ensures.unmarked
-          c.in_ok-mark_place.ensures.marked _ _ ((whole, c.read_signed_data.ensures.marked), refl, refl),
+          c.in_ok-mark_place.ensures.marked _ _
+          ((whole, c.read_signed_data.ensures.is_marked_unchanged), refl, refl),
     )) (λ _ _. tt))
 
 pub returns-clause-refused : goal.returns-clause-refused
@@ -26,6 +27,12 @@ returns-clause-refused g c =
     (λ _ _. tt) (λ e failed. (
       [],
       read_ends g.R.Source g.R.Rereader.steady c.args.data_reader.now _ _ _ c.mark_place.ensures.unmarked
-          c.in_ok-mark_place.ensures.marked [] _
-          (((failed, c.read_signed_data.ensures.given), c.read_signed_data.ensures.marked), refl, refl),
+          c.in_ok-mark_place.ensures.marked [] _ (
+            (
+              (failed, c.read_signed_data.ensures.prefix_removed),
+              c.read_signed_data.ensures.is_marked_unchanged,
+            ),
+            refl,
+            refl,
+          ),
     )))

@@ -16,28 +16,28 @@ one_line : (x : SignatureBoxRecord) → x.comments ≡ None → codes "Signature
 unfolding verified_text
 one_line x bare = rw bare refl
 
-pub returns-in-Some-clause-said : goal.returns-in-Some-clause-said
-returns-in-Some-clause-said g c =
+pub returns-in-Some-clause-status_received : goal.returns-in-Some-clause-status_received
+returns-in-Some-clause-status_received g c =
     let lines = both_lines c.args.signature_box.now _ _
     (sym (ap (λ b. b.comments) c.signature_box.view_is) ∙ c.in-Some.is)
     (c.as_bytes.ensures.value ∙ ap (λ x. x.trusted) c.comments.view_is) in
     rw lines at c.put_line.ensures.bytes
 
-pub returns-in-Some-clause-front : goal.returns-in-Some-clause-front
-returns-in-Some-clause-front g c =
+pub returns-in-Some-clause-prefix_received : goal.returns-in-Some-clause-prefix_received
+returns-in-Some-clause-prefix_received g c =
     let lines = both_lines c.args.signature_box.now _ _
     (sym (ap (λ b. b.comments) c.signature_box.view_is) ∙ c.in-Some.is)
     (c.as_bytes.ensures.value ∙ ap (λ x. x.trusted) c.comments.view_is) in
-    rw lines at c.put_line.ensures.front
+    rw lines at c.put_line.ensures.prefix_received
 
-pub returns-in-None-clause-said : goal.returns-in-None-clause-said
-returns-in-None-clause-said g c =
+pub returns-in-None-clause-status_received : goal.returns-in-None-clause-status_received
+returns-in-None-clause-status_received g c =
     let lines = one_line c.args.signature_box.now
     (sym (ap (λ b. b.comments) c.signature_box.view_is) ∙ c.in-None.is) in
     rw lines at c.put_line-in-None.ensures.bytes
 
-pub returns-in-None-clause-front : goal.returns-in-None-clause-front
-returns-in-None-clause-front g c =
+pub returns-in-None-clause-prefix_received : goal.returns-in-None-clause-prefix_received
+returns-in-None-clause-prefix_received g c =
     let lines = one_line c.args.signature_box.now
     (sym (ap (λ b. b.comments) c.signature_box.view_is) ∙ c.in-None.is) in
-    rw lines at c.put_line-in-None.ensures.front
+    rw lines at c.put_line-in-None.ensures.prefix_received

@@ -10,7 +10,7 @@ use Rattle.minisign_base.proofs.helpers.get_password.Goals as goal
 pub returns-in_err-say-clause-refused : goal.returns-in_err-say-clause-refused
 returns-in_err-say-clause-refused g c =
     handed_on c.from_residual-in_err-say.result c.in_err-say.field-0.0 _ c.from_residual-in_err-say.ensures.1
-    ([], inr (c.args.prompt.now, (tt, refl), inl c.in_err-say.ensures.ended))
+    ([], inr (c.args.prompt.now, (tt, refl), inl c.in_err-say.ensures.step_ends))
 
 pub returns-in_err-password-clause-refused : goal.returns-in_err-password-clause-refused
 returns-in_err-password-clause-refused g c =
@@ -22,7 +22,7 @@ returns-in_err-password-clause-refused g c =
     (λ (is, failed). (
       [],
       inr
-          (begun, (tt, refl), inr (said, c.in_ok-say.ensures.ended, inl ((is, failed), writer))),
+          (begun, (tt, refl), inr (said, c.in_ok-say.ensures.step_ends, inl ((is, failed), writer))),
     ))
     (λ (bytes, read, none). (
       bytes,
@@ -31,7 +31,7 @@ returns-in_err-password-clause-refused g c =
         (tt, refl),
         inr (
           said,
-          c.in_ok-say.ensures.ended,
+          c.in_ok-say.ensures.step_ends,
           inr
               (c.read_password.new.self, (read, writer), inl (ap result_err none, refl)),
         ),
@@ -42,7 +42,7 @@ returns-in_err-password-clause-refused g c =
 pub returns-in_err-mark_empty-clause-refused : goal.returns-in_err-mark_empty-clause-refused
 returns-in_err-mark_empty-clause-refused g c =
     let (bytes, read, answered) = c.in_ok-password.ensures.password in
-    let failed = rw c.deref.ensures at c.in_err-mark_empty.ensures.ended in
+    let failed = rw c.deref.ensures at c.in_err-mark_empty.ensures.conversation_ends in
     let said = c.say.new.self in
     let heard = c.read_password.new.self in
     handed_on c.from_residual-in_err-mark_empty.result c.in_err-mark_empty.field-0.0 _
@@ -53,7 +53,7 @@ returns-in_err-mark_empty-clause-refused g c =
         (tt, refl),
         inr (
           said,
-          c.in_ok-say.ensures.ended,
+          c.in_ok-say.ensures.step_ends,
           inr (
             heard,
             (read, c.read_password.ensures.writer),
@@ -73,7 +73,7 @@ returns-in_err-mark_empty-clause-refused g c =
 pub returns-clause-asked : goal.returns-clause-asked
 returns-clause-asked g c =
     let (bytes, read, answered) = c.in_ok-password.ensures.password in
-    let marked = rw c.deref.ensures at c.in_ok-mark_empty.ensures.ended in
+    let marked = rw c.deref.ensures at c.in_ok-mark_empty.ensures.conversation_ends in
     let heard = c.read_password.new.self in (
       bytes,
       answered,
@@ -82,7 +82,7 @@ returns-clause-asked g c =
         (tt, refl),
         (
           c.say.new.self,
-          c.in_ok-say.ensures.ended,
+          c.in_ok-say.ensures.step_ends,
           (
             heard,
             (read, c.read_password.ensures.writer),

@@ -24,8 +24,8 @@ returns-in-Some-eq10-clause-read g c =
     let feed = subst (λ (b : ℕ). Consumes (g.R.Source.ahead c.bytes.source)
     (g.R.Source.ahead c.next_byte.new.source) (b ∷ [])) c.in-Some-eq10.field-0-test byte.0 in
     let (rest, ahead, unread) = consumed_front _ _ _
-    (Consumes-trans _ _ _ _ _ c.bytes.invariant.given feed) in
-    let given : length (done ++ 10 ∷ []) ≡ used + 1 = length-append done (10 ∷ [])
+    (Consumes-trans _ _ _ _ _ c.bytes.invariant.bytes_read feed) in
+    let bytes_read : length (done ++ 10 ∷ []) ≡ used + 1 = length-append done (10 ∷ [])
     ∙ ap (λ (k : ℕ). k + 1) size in
     let stands : line_length ((done ++ 10 ∷ []) ++ rest)
     ≡ length done = line_length-feed done rest unfinished in
@@ -34,8 +34,8 @@ returns-in-Some-eq10-clause-read g c =
       (done ++ 10 ∷ []) ++ rest,
       read_front (source_call g.R.Source c.args.source.now c.next_byte.new.source)
           (done ++ 10 ∷ []) rest ahead unread
-          (omega (arith, given, stands, size, short))
-          (omega (arith, given, byte.1, c.bytes.invariant.left))
+          (omega (arith, bytes_read, stands, size, short))
+          (omega (arith, bytes_read, byte.1, c.bytes.invariant.left))
           (c.in_ok-next_byte.ensures.no_new_fault ∙ c.bytes.invariant.no_new_fault),
       omega (arith, bound),
       password_of-feed done rest unfinished (omega (arith, size, short))
@@ -46,9 +46,9 @@ pub returns-in-None-clause-refused : goal.returns-in-None-clause-refused
 returns-in-None-clause-refused g c =
     let byte = rw c.in-None.is at c.in_ok-next_byte.ensures.byte in
     let none : take c.bytes.used c.bytes.line ≡ [] = ap (λ (k : ℕ). take k c.bytes.line) c.if-used-eq0.true in
-    let given = subst (λ (done : List ℕ). Consumes (g.R.Source.ahead c.args.source.now)
-    (g.R.Source.ahead c.bytes.source) done) none c.bytes.invariant.given in
-    let (ahead, unread) = consumed_all _ _ _ (Consumes-trans _ _ _ _ _ given byte.0) byte.1 in
+    let bytes_read = subst (λ (done : List ℕ). Consumes (g.R.Source.ahead c.args.source.now)
+    (g.R.Source.ahead c.bytes.source) done) none c.bytes.invariant.bytes_read in
+    let (ahead, unread) = consumed_all _ _ _ (Consumes-trans _ _ _ _ _ bytes_read byte.0) byte.1 in
     inr (
       [],
       read_whole (source_call g.R.Source c.args.source.now c.next_byte.new.source) [] ahead unread
@@ -68,7 +68,7 @@ returns-in-None-2-clause-read g c =
     let some : 0 < used = omega (arith, c.if-used-eq0.false) in
     let byte = rw c.in-None.is at c.in_ok-next_byte.ensures.byte in
     let (ahead, unread) = consumed_all _ _ _
-    (Consumes-trans _ _ _ _ _ c.bytes.invariant.given byte.0) byte.1 in
+    (Consumes-trans _ _ _ _ _ c.bytes.invariant.bytes_read byte.0) byte.1 in
     let all : done ++ [] ≡ done = append-nil done in (
       done,
       read_whole (source_call g.R.Source c.args.source.now c.next_byte.new.source) done
@@ -88,7 +88,7 @@ returns-clause-refused g c =
     let done : List ℕ = take used line in
     let size : length done ≡ used = length-take-le used line (omega arith) in
     let unfinished : line_length done ≡ length done = c.bytes.invariant.unfinished ∙ sym size in
-    let (rest, ahead, unread) = consumed_front _ _ _ c.bytes.invariant.given in
+    let (rest, ahead, unread) = consumed_front _ _ _ c.bytes.invariant.bytes_read in
     let count : length done ≡ read_count (done ++ rest) = omega
     (arith, size, all, line_length-append done rest unfinished) in
     inr (

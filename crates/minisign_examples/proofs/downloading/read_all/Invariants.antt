@@ -10,7 +10,7 @@ invariant-pieces g l = record {
   no_new_fault : g.R.Source.faults l.source ≡ g.R.Source.faults l.fn.source;
   mark : g.R.Source.behind l.source ≡ g.R.Source.behind l.fn.source;
   usable : IsOpen l.file;
-  given : (done : List ℕ) × Consumes (g.R.Source.ahead l.fn.source) (g.R.Source.ahead l.source) done
+  bytes_read : (done : List ℕ) × Consumes (g.R.Source.ahead l.fn.source) (g.R.Source.ahead l.source) done
       × ((verdict : List ℕ → Result (List ℕ) ListFault) (m : List ℕ) → IsFedFile l.fn.file verdict m
       → IsFedFile l.file verdict (m ++ done));
 }

@@ -12,7 +12,7 @@ use Rattle.minisign_examples.proofs.releasing.sign_release.Goals as goal
 
 pub returns-in_err-sk-clause-refused : goal.returns-in_err-sk-clause-refused
 returns-in_err-sk-clause-refused g c =
-    let (pk, sk, texts) = c.in_ok-pk_text.ensures.made in
+    let (pk, sk, texts) = c.in_ok-pk_text.ensures.are_pair_texts in
     let only = subst (λ text. OpensTo text c.args.password.now 1 sk) (sym c.as_str.ensures.value) texts.secret
     in
     passed_up c.from_residual-in_err-sk.result c.in_err-sk.field-0.0 _ c.from_residual-in_err-sk.ensures.1
@@ -20,7 +20,7 @@ returns-in_err-sk-clause-refused g c =
 
 pub returns-in_err-sig_text-clause-refused : goal.returns-in_err-sig_text-clause-refused
 returns-in_err-sig_text-clause-refused g c =
-    let (pk, sk, texts) = c.in_ok-pk_text.ensures.made in
+    let (pk, sk, texts) = c.in_ok-pk_text.ensures.are_pair_texts in
     let only = subst (λ text. OpensTo text c.args.password.now 1 sk) (sym c.as_str.ensures.value) texts.secret
     in
     let same = same_key _ _ c.in_ok-sk.sk sk c.in_ok-sk.ensures (only None) in
@@ -31,7 +31,7 @@ returns-in_err-sig_text-clause-refused g c =
 
 pub returns-in_err-verify_bytes-clause-refused : goal.returns-in_err-verify_bytes-clause-refused
 returns-in_err-verify_bytes-clause-refused g c =
-    let (pk, sk, texts) = c.in_ok-pk_text.ensures.made in
+    let (pk, sk, texts) = c.in_ok-pk_text.ensures.are_pair_texts in
     let only = subst (λ text. OpensTo text c.args.password.now 1 sk) (sym c.as_str.ensures.value) texts.secret
     in
     let same = same_key _ _ c.in_ok-sk.sk sk c.in_ok-sk.ensures (only None) in

@@ -1,7 +1,7 @@
 use Rattle.std.proofs.Common.{◌≡◌, length, arith}
 use Rattle.std.proofs.lemmas.Str.{IsUtf8-string_bytes}
 use Rattle.minisign_external.specs.Signing.{comments_of}
-use Rattle.minisign_external.proofs.AnsweredBoxes.{answered_text}
+use Rattle.minisign_external.proofs.BoxesOfSignatures.{answered_text}
 use Rattle.minisign_external.proofs.signed_texts.signed_text.Goals as goal
 
 pub returns-clause-text : goal.returns-clause-text

@@ -34,10 +34,10 @@ ahead-preserved c =
           next ∙ rw (c.counted-taken_in.ensures, all, (start first).0, (start first).1) refl,
     )
 
-pub returns-clause-whole : goal.returns-clause-whole
-returns-clause-whole c = λ flag step fits n m behind i ahead state count.
+pub returns-clause-whole_blocks : goal.returns-clause-whole_blocks
+returns-clause-whole_blocks c = λ flag step fits n m behind i ahead state count.
     let done : c.ahead.k ≡ length c.args.blocks.now / 128 = omega arith in
     rw done at (c.ahead.invariant.0 flag step n m behind i ahead state count).0
 
-pub returns-clause-one : goal.returns-clause-one
-returns-clause-one c = λ len. c.ahead.invariant.2 (omega arith) len
+pub returns-clause-single_block : goal.returns-clause-single_block
+returns-clause-single_block c = λ len. c.ahead.invariant.2 (omega arith) len

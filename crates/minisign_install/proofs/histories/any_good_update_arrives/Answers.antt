@@ -7,5 +7,5 @@ pub returns : goal.returns
 returns c = record {
   installed = good_update_is_installed;
   finished = interrupted_run_is_finished;
-  own = own_record;
+  record_of_update = own_record;
 }

@@ -1,18 +1,18 @@
 use Rattle.std.proofs.Common.{◌∙◌, ap, drop, length, sym, take}
-use Rattle.minisign_install.proofs.FullTraces.{are_same, piece_cut}
+use Rattle.minisign_install.proofs.FullTraces.{equal_bytes, piece_cut}
 use Rattle.minisign_install.proofs.traces.extended.Goals as goal
 use Rattle.minisign_install.proofs.traces.extended.Goals.{else-eq-via-else-eq}
 use Rattle.minisign_install.proofs.traces.extended.Goals.{else-eq-via-then-eq+else-eq-2}
 
-pub returns-else-eq-clause-finds : goal.returns-else-eq-clause-finds
-returns-else-eq-clause-finds c = λ is.
+pub returns-else-eq-clause-complete : goal.returns-else-eq-clause-complete
+returns-else-eq-clause-complete c = λ is.
     let (front, piece) = piece_cut c.args.whole.now c.args.front.now c.args.piece.now is in
     let grown = c.split_at.ensures.front in
     elim c.else-eq.branch [
       | else-eq-via-then-eq+else-eq-2 w ↦ sym w.if-eq-2.false ∙ w.eq-then-eq.ensures
-          ∙ are_same _ c.args.piece.now
+          ∙ equal_bytes _ c.args.piece.now
           (c.split_at-2.ensures.back ∙ ap (drop (length c.args.front.now)) grown ∙ piece)
       | else-eq-via-else-eq w ↦ sym w.if-eq.false ∙ c.eq.ensures
-          ∙ are_same _ c.args.front.now
+          ∙ equal_bytes _ c.args.front.now
           (c.split_at-2.ensures.front ∙ ap (take (length c.args.front.now)) grown ∙ front)
     ]

@@ -24,7 +24,7 @@ lines-preserved c =
       omega (arith, c.lines-test.true),
       λ m present. goes_on_at c.args.inputs.now _ m c.lines.follower c.line.new.self c.lines.message
           c.line.new.message c.args.trace.now c.lines.at c.lines-test.true (reached m present)
-          (c.line.ensures.follows (search rules)),
+          (c.line.ensures.sound (search rules)),
     )
 
 pub returns-then-not-line-clause-before : goal.returns-then-not-line-clause-before
@@ -37,7 +37,7 @@ returns-then-not-line-clause-unlawful c = λ valid room m present.
     unlawful c.args.inputs.now o m c.lines.follower c.lines.message c.args.trace.now c.lines.at
     c.lines-test.true (c.lines.invariant.1 m present)
     (same_room (world_of c.args.inputs.now) c.lines.message c.args.message.now c.lines.auto.message room)
-    c.if-not-line.ensures.finds
+    c.if-not-line.ensures.complete
 
 pub returns-clause-lawful : goal.returns-clause-lawful
 returns-clause-lawful c = λ is m present.

@@ -3,14 +3,14 @@ use Rattle.minisign_install.proofs.FullTraces.{taken_result}
 use Rattle.minisign_install.proofs.Tracing.{fits}
 use Rattle.minisign_install.proofs.traces.has_reported.Goals as goal
 
-pub returns-in-Failed-clause-taken : goal.returns-in-Failed-clause-taken
-returns-in-Failed-clause-taken c = λ is s held.
+pub returns-in-Failed-clause-sound : goal.returns-in-Failed-clause-sound
+returns-in-Failed-clause-sound c = λ is s held.
     let (stored, same) = c.failed.ensures.steps s held in
     rw c.in-Failed.is
     (stored, fits s (Failed c.in-Failed.fault) _ _ same c.was_due-in-Failed.ensures.wrong is)
 
-pub returns-in-Failed-clause-fits : goal.returns-in-Failed-clause-fits
-returns-in-Failed-clause-fits c = λ s held fitting is.
+pub returns-in-Failed-clause-complete : goal.returns-in-Failed-clause-complete
+returns-in-Failed-clause-complete c = λ s held fitting is.
     c.was_due-in-Failed.ensures.due
     (taken_result s (Failed c.in-Failed.fault) _ (c.failed.ensures.steps s held).1
     (rw c.in-Failed.is at fitting))

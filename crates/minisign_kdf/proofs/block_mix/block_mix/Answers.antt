@@ -4,14 +4,15 @@ use Rattle.minisign_kdf.specs.Diagonal.{block_words, diagonal_bytes}
 use Rattle.minisign_kdf.specs.Salsa20.{bytes_of_words32}
 use Rattle.minisign_kdf.specs.Scrypt.{mixed_block}
 use Rattle.minisign_kdf.proofs.Joined.{joined_lists_none}
-use Rattle.minisign_kdf.proofs.Mixing.{before, before_next, before_first, mixed_next, written_all}
+use Rattle.minisign_kdf.proofs.Mixing.{previous_block, previous_block_next, previous_block_first, mixed_next}
+use Rattle.minisign_kdf.proofs.Mixing.{written_all}
 use Rattle.minisign_kdf.proofs.Mixing.{written_next}
 use Rattle.minisign_kdf.proofs.Ordered.{diagonal_bytes-none}
 use Rattle.minisign_kdf.proofs.block_mix.block_mix.Goals as goal
 
 pub pairs-init : goal.pairs-init
 pairs-init c = (
-  before_first c.args.r c.args.from.now _ _ _ c.requires.from_len c.requires.some
+  previous_block_first c.args.r c.args.from.now _ _ _ c.requires.from_len c.requires.r_positive
       (omega arith) refl c.load-x.ensures,
   diagonal_bytes-none ∙ sym (joined_lists_none _),
   diagonal_bytes-none ∙ sym (joined_lists_none _),
@@ -31,10 +32,10 @@ pairs-preserved c =
     let second : bytes_of_words32 (block_words c.mix_block-x-in-pairs.result) ≡ mixed_block r b (2 * i + 1) =
     mixed_next r xs (bytes_of_words32 (block_words c.mix_block-x.result))
     (bytes_of_words32 (block_words c.mix_block-x-in-pairs.result)) _ (2 * i + 1) _ _ (omega arith)
-    (omega arith) (first ∙ sym (before_next r b (2 * i))) (omega arith)
+    (omega arith) (first ∙ sym (previous_block_next r b (2 * i))) (omega arith)
     (omega arith) c.load-in-pairs.ensures c.mix_block-x-in-pairs.ensures in
     let e : 2 * (i + 1) ≡ 2 * i + 1 + 1 = omega arith in (
-      second ∙ sym (before_next r b (2 * i + 1)) ∙ ap (before r b) (sym e),
+      second ∙ sym (previous_block_next r b (2 * i + 1)) ∙ ap (previous_block r b) (sym e),
       written_next (λ (j : ℕ). mixed_block r b (2 * j)) i _ c.pairs.even _ _ even c.store.ensures first
           (omega arith) (omega arith),
       written_next (λ (j : ℕ). mixed_block r b (2 * j + 1)) i _ c.pairs.odd _ _ odd c.store-in-pairs.ensures

@@ -6,7 +6,8 @@ use Rattle.minisign_kdf.specs.Diagonal.{block_words, diagonal_bytes}
 use Rattle.minisign_kdf.specs.Salsa20.{bytes_of_words32}
 use Rattle.minisign_kdf.specs.Scrypt.{mixed_block}
 use Rattle.minisign_kdf.proofs.Joined.{joined_lists_none}
-use Rattle.minisign_kdf.proofs.Mixing.{before, before_next, before_first, mixed_next, written_all}
+use Rattle.minisign_kdf.proofs.Mixing.{previous_block, previous_block_next, previous_block_first, mixed_next}
+use Rattle.minisign_kdf.proofs.Mixing.{written_all}
 use Rattle.minisign_kdf.proofs.Mixing.{written_next, xored_block}
 use Rattle.minisign_kdf.proofs.Ordered.{diagonal_bytes-none}
 use Rattle.minisign_kdf.proofs.block_mix.xor_block_mix.Goals as goal
@@ -17,7 +18,8 @@ pairs-init c =
     let row : List ℕ = c.args.row.now in
     let len : length (zip2 bit_xor from row) ≡ 32 * c.args.r = length-zip2 bit_xor from row (omega arith)
     ∙ c.requires.from_len in (
-      before_first c.args.r (zip2 bit_xor from row) _ 16 (32 * c.args.r - 16) len c.requires.some refl refl
+      previous_block_first c.args.r (zip2 bit_xor from row) _ 16
+          (32 * c.args.r - 16) len c.requires.r_positive refl refl
           (xored_block from row _ (32 * c.args.r - 16) _ _ (omega arith) (omega arith)
           (omega arith) c.load_xored-x.ensures),
       diagonal_bytes-none ∙ sym (joined_lists_none _),
@@ -44,11 +46,11 @@ pairs-preserved c =
     let second : bytes_of_words32 (block_words c.mix_block-x-in-pairs.result) ≡ mixed_block r b (2 * i + 1) =
     mixed_next r xs (bytes_of_words32 (block_words c.mix_block-x.result))
     (bytes_of_words32 (block_words c.mix_block-x-in-pairs.result)) _ (2 * i + 1) 16 (32 * i + 16) len
-    (omega arith) (first ∙ sym (before_next r b (2 * i))) refl (omega arith)
+    (omega arith) (first ∙ sym (previous_block_next r b (2 * i))) refl (omega arith)
     (xored_block from row _ (32 * i + 16) _ _ same (omega arith) (omega arith) c.load_xored-in-pairs.ensures)
     c.mix_block-x-in-pairs.ensures in
     let e : 2 * (i + 1) ≡ 2 * i + 1 + 1 = omega arith in (
-      second ∙ sym (before_next r b (2 * i + 1)) ∙ ap (before r b) (sym e),
+      second ∙ sym (previous_block_next r b (2 * i + 1)) ∙ ap (previous_block r b) (sym e),
       written_next (λ (j : ℕ). mixed_block r b (2 * j)) i _ c.pairs.even _ _ even c.store.ensures first
           (omega arith) (omega arith),
       written_next (λ (j : ℕ). mixed_block r b (2 * j + 1)) i _ c.pairs.odd _ _ odd c.store-in-pairs.ensures

@@ -4,7 +4,7 @@ use Rattle.minisign_kdf.specs.Blocks.{block}
 use Rattle.minisign_kdf.specs.Diagonal.{diagonal_bytes}
 use Rattle.minisign_kdf.specs.Scrypt.{row_at}
 use Rattle.minisign_kdf.proofs.Blocks.{block_end, length_end, row_before}
-use Rattle.minisign_kdf.proofs.Remade.{kept_first, kept_next}
+use Rattle.minisign_kdf.proofs.Remade.{first_kept_row, next_kept_row}
 use Rattle.minisign_kdf.proofs.kept_rows.fill_rows.Goals as goal
 
 pub rows-init : goal.rows-init
@@ -14,7 +14,7 @@ rows-init g c =
     ∙ ap (λ (l : List ℕ). l ++ x) c.clear.ensures.words in
     record {
       len = omega arith;
-      rows = λ j lt. kept_first c.args.r c.args.k j (g.S.RowMemory.words c.push.new.self) x items
+      rows = λ j lt. first_kept_row c.args.r c.args.k j (g.S.RowMemory.words c.push.new.self) x items
           c.requires.x_len lt;
       room = omega arith;
     }
@@ -60,7 +60,7 @@ rows-preserved g c =
     record {
       len = omega arith;
       rows = λ j lt. ap (λ (l : List ℕ). diagonal_bytes (block (32 * r) l j)) c.push-in-rows.ensures.words
-          ∙ kept_next r k i j (diagonal_bytes c.args.x.now) xs c.mix_times.new.into made.rows len
+          ∙ next_kept_row r k i j (diagonal_bytes c.args.x.now) xs c.mix_times.new.into made.rows len
           (omega arith) wide mixed lt;
       room = omega arith;
     }

@@ -64,11 +64,11 @@ parts-preserved g c =
           (c.rom_mix.auto.part ∙ size)
           (c.rom_mix.ensures.mixed ∙ ap (λ (m : ℕ). rom_mix m n this) block_size),
       omega arith,
-      λ _. c.rom_mix.ensures.held ∙ ap (λ (m : ℕ). 32 * m * div_ceil n c.args.k) block_size,
+      λ _. c.rom_mix.ensures.words_len ∙ ap (λ (m : ℕ). 32 * m * div_ceil n c.args.k) block_size,
     )
 
-pub returns-clause-held : goal.returns-clause-held
-returns-clause-held g c = c.parts.invariant.2 (omega arith)
+pub returns-clause-words_len : goal.returns-clause-words_len
+returns-clause-words_len g c = c.parts.invariant.2 (omega arith)
 
 pub returns-clause-mixed : goal.returns-clause-mixed
 returns-clause-mixed g c = changed_all (rom_mix c.args.r (2 ^ c.args.n_log2)) (128 * c.args.r) c.parts.i

@@ -6,5 +6,6 @@ use Rattle.minisign_kdf.proofs.rom_mix.integerify.Goals as goal
 pub returns : goal.returns
 returns c =
     let fits : (k : ℕ) → slice_index c.args.x.now k < 2 ^ 32 = search rules in
-    integerify_low c.args.r c.args.x.now c.from.result c.from-2.result c.requires.some c.requires.x_len fits
+    integerify_low c.args.r c.args.x.now c.from.result c.from-2.result c.requires.r_positive c.requires.x_len
+    fits
     c.from.ensures c.from-2.ensures

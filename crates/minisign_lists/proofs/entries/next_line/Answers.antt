@@ -9,16 +9,17 @@ use Rattle.minisign_lists.specs.Pieces.{is_feed}
 use Rattle.minisign_lists.proofs.entries.next_line.Goals as goal
 
 -- If other parts follow the part x, then x is a line, without its carriage return.
-first : (x : List ℕ) (parts : List (List ℕ)) → 0 < length parts
+first_part_is_line : (x : List ℕ) (parts : List (List ℕ)) → 0 < length parts
     → lines_of_parts (x ∷ parts) ≡ strip_carriage_return x ∷ lines_of_parts parts
-first x [] l = absurd (omega arith)
-first x (y ∷ _) l = refl
+first_part_is_line x [] l = absurd (omega arith)
+first_part_is_line x (y ∷ _) l = refl
 
 pub returns-in-Some-clause-some : goal.returns-in-Some-clause-some
 returns-in-Some-clause-some c =
     let more = c.in-Some.more.now in
     rw c.without_return.ensures (ap lines_of_parts c.in-Some.ensures.some
-    ∙ first c.in-Some.line.now (slice_split is_feed more) (omega (arith, length-slice_split is_feed more)))
+    ∙ first_part_is_line c.in-Some.line.now (slice_split is_feed more) (omega
+    (arith, length-slice_split is_feed more)))
 
 pub returns-in-None-clause-some : goal.returns-in-None-clause-some
 returns-in-None-clause-some c =

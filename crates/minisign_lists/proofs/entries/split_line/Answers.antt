@@ -22,15 +22,15 @@ returns-in-None-clause-none c =
     slice_split_none is_feed text
     (λ k d m. fails_before_first is_feed text k d (omega (arith, none, m)))
 
-pub returns-in-Some-clause-rest : goal.returns-in-Some-clause-rest
-returns-in-Some-clause-rest c =
+pub returns-in-Some-clause-text_after_line : goal.returns-in-Some-clause-text_after_line
+returns-in-Some-clause-text_after_line c =
     let text = c.args.text.now in
     let at = c.in-Some.at in
     let found = position_or_len_is is_feed text at 0 (search rules) (search rules) (search rules) in
     take_rest text (c.in-Some.at + 1) ∙ ap (λ n. drop (n + 1) text) (sym found)
 
-pub returns-in-None-clause-last : goal.returns-in-None-clause-last
-returns-in-None-clause-last c =
+pub returns-in-None-clause-nothing_after_line : goal.returns-in-None-clause-nothing_after_line
+returns-in-None-clause-nothing_after_line c =
     let text = c.args.text.now in
     let none = position_or_len_is is_feed text (length text) 0 (omega arith) (search rules) (search rules) in
     ap (λ n. drop (n + 1) text) none ∙ drop_all (length text + 1) text (omega arith)

@@ -24,7 +24,8 @@ lines-preserved c =
     ∙ ap (λ r. put_entry r (length text - length c.lines.rest.now) c.lines.to c.lines.count)
     c.read_line.ensures in (
       omega (arith, numbered, shorter),
-      c.in-Some.ensures.rest ∙ ap after_line at ∙ sym (one_more n text) ∙ ap (λ k. without_lines k text) next,
+      c.in-Some.ensures.text_after_line ∙ ap after_line at ∙ sym (one_more n text)
+          ∙ ap (λ k. without_lines k text) next,
       search rules,
       λ es read fits. line_written c.args.long text c.args.to.now c.lines.to n c.lines.count c.lines.rest.now
           c.in-Some.more.now es c.in-Some.line.now c.put_entry-count.result c.put_entry-count.new.to

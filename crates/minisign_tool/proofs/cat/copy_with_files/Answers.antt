@@ -14,9 +14,9 @@ returns-clause-accepted g c =
         pk_text = c.deref.result.now;
         sig_text = c.deref-2.result.now;
         message = h.verified.message;
-        pk_held = rw c.deref.ensures texts.first_read.given;
-        sig_held = rw c.deref-2.ensures texts.second_read.given;
-        given = h.verified.given;
+        pk_known = rw c.deref.ensures texts.first_read.known_bytes;
+        sig_known = rw c.deref-2.ensures texts.second_read.known_bytes;
+        known_bytes = h.verified.known_bytes;
         vouched = record {
           key = h.key;
           box = h.box;
@@ -25,12 +25,12 @@ returns-clause-accepted g c =
           vouches =
               h.verified.vouches;
         };
-        said = h.verified.status_received;
+        lines_received = h.verified.status_received;
       };
       copied = copied;
       copy = record {
         copy = copied.copy;
-        taken = copied.received;
+        copy_received = copied.received;
         flushed = copied.flushed;
         vouched = record {
           key = h.key;
@@ -48,7 +48,8 @@ pub returns-clause-refused : goal.returns-clause-refused
 returns-clause-refused g c =
     let texts = c.in_ok-pk_text.ensures.texts in
     MatchResult-weaker c.verify_texts.result
-    (if_err_both _ _ c.verify_texts.result c.verify_texts.ensures.refused c.verify_texts.ensures.said_front)
+    (if_err_both _ _ c.verify_texts.result c.verify_texts.ensures.refused
+    c.verify_texts.ensures.status_prefix_received)
     (λ x ok. ok)
     (λ e both. inr (
       c.deref.result.now,

@@ -10,11 +10,11 @@ returns-in-Ok-clause-accepted g c ended =
         pk_text = read.pk_text;
         sig_text = read.sig_text;
         message = read.message;
-        pk_held = read.pk_held;
-        sig_held = read.sig_held;
-        given = read.given;
+        pk_known = read.pk_known;
+        sig_known = read.sig_known;
+        known_bytes = read.known_bytes;
         vouched = read.vouched;
-        said = (_, c.warn.ensures, read.said, c.in-Ok.ensures.no_new_fault);
+        lines_received = (_, c.warn.ensures, read.lines_received, c.in-Ok.ensures.no_new_fault);
       };
       copied = all.copied;
       copy = all.copy;

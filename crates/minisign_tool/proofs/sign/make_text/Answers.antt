@@ -13,9 +13,9 @@ returns-clause-headline g c =
       sk_text = c.deref.result.now;
       message = h.1;
       key = h.0;
-      held = read.given;
-      signed = h.2;
-      given = h.3;
+      sk_text_known = read.known_bytes;
+      message_known = h.2;
+      key_of_text = h.3;
       vouched = λ seed genuine. h.4 seed genuine c.default_comments_are_read_back.ensures.one_line;
     })
     c.sign_texts.ensures.headline
@@ -29,7 +29,7 @@ returns-clause-signed g c =
       signs = record {
         key = h.0;
         message = h.2.0;
-        given = h.1;
+        key_given = h.1;
         read = h.2.1;
         signed = h.2.2.0;
         vouched = λ seed genuine. h.2.2.1 seed genuine c.default_comments_are_read_back.ensures.one_line;

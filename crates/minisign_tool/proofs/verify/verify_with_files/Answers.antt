@@ -14,9 +14,9 @@ returns-clause-accepted g c =
       pk_text = c.deref.result.now;
       sig_text = c.deref-2.result.now;
       message = h.verified.message;
-      pk_held = rw c.deref.ensures texts.first_read.given;
-      sig_held = rw c.deref-2.ensures texts.second_read.given;
-      given = h.verified.given;
+      pk_known = rw c.deref.ensures texts.first_read.known_bytes;
+      sig_known = rw c.deref-2.ensures texts.second_read.known_bytes;
+      known_bytes = h.verified.known_bytes;
       vouched = record {
         key = h.key;
         box = h.box;
@@ -25,7 +25,7 @@ returns-clause-accepted g c =
         vouches =
             h.verified.vouches;
       };
-      said = h.verified.status_received;
+      lines_received = h.verified.status_received;
     })
     c.verify_texts.ensures.accepted
 
@@ -37,7 +37,7 @@ returns-clause-refused g c =
     (texts_fail (g.S.Scheme.accepts c.args.scheme.now) c.deref.result.now c.deref-2.result.now
     (rereader_call g.R.Source g.R.Rereader.steady _ _)
     (sink_call g.W.Sink _ _) (silent _ _) c.verify_texts.result c.verify_texts.ensures.refused)
-    c.verify_texts.ensures.said_front)
+    c.verify_texts.ensures.status_prefix_received)
     (λ x ok. ok)
     (λ e both. inr (
       c.deref.result.now,

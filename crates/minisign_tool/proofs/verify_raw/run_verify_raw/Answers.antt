@@ -11,5 +11,5 @@ returns-in-Ok-clause-accepted g c ended =
       held = read.held;
       read = read.read;
       vouched = read.vouched;
-      said = (_, c.warn.ensures, read.said, c.in-Ok.ensures.no_new_fault);
+      line_received = (_, c.warn.ensures, read.line_received, c.in-Ok.ensures.no_new_fault);
     }

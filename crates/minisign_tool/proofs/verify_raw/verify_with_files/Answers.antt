@@ -17,14 +17,14 @@ returns-clause-accepted g c =
       };
       read = both.0.1;
       vouched = both.0.2;
-      said = both.1;
+      line_received = both.1;
     })
-    (on_ok_both _ _ c.verify_raw.result c.verify_raw.ensures.accepted c.verify_raw.ensures.said)
+    (on_ok_both _ _ c.verify_raw.result c.verify_raw.ensures.accepted c.verify_raw.ensures.errors_received)
 
 pub returns-clause-refused : goal.returns-clause-refused
 returns-clause-refused g c =
     MatchResult-weaker c.verify_raw.result
-    (if_err_both _ _ c.verify_raw.result c.verify_raw.ensures.refused c.verify_raw.ensures.front)
+    (if_err_both _ _ c.verify_raw.result c.verify_raw.ensures.refused c.verify_raw.ensures.prefix_received)
     (λ x ok. ok)
     (λ e both. inr (
       c.deref.result.now,

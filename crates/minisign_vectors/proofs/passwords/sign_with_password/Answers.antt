@@ -30,7 +30,7 @@ pub returns : goal.returns
 returns g c = λ key opened.
     IfOk-weaker c.sign_texts.result _ _
     (λ t (sk, given, (message, read, (signed, headline))).
-    let same = subst (λ known. KnownBytesAre known message) c.new.ensures.ahead read.given in
+    let same = subst (λ known. KnownBytesAre known message) c.new.ensures.ahead read.known_bytes in
     let this = same_key _ _ c.args.sk_text.now (string_bytes c.args.password) sk key given opened in
     subst (λ k. SigningHeadline (g.S.Scheme.accepts c.args.scheme.now)
     (g.S.Scheme.public_of c.args.scheme.now) k c.args.message.now _ _) this

@@ -5,7 +5,7 @@ use crate::tables::assert_row;
 use minisign::SecretKeyBox;
 use minisign_base::faults::NamedFault::WorkTooHigh;
 use minisign_fixtures::outcomes::Outcome::{self, Accepted, Refused};
-use minisign_fixtures::texts::COUNTED_SEALED_UNDER_NOTHING;
+use minisign_fixtures::texts::COUNTED_SEALED_WITH_EMPTY_PASSWORD;
 use std::alloc::Global;
 
 const TOO_MUCH_WORK: Outcome = Refused(WorkTooHigh);
@@ -40,8 +40,8 @@ const BOUNDED: [Bounded; 6] = [
     (SEALED_IN_PARTS, "password", 511, TOO_MUCH_WORK),
     (SEALED_IN_PARTS, "password", 512, Accepted),
     (SEALED_IN_PARTS, "password", u32::MAX, Accepted),
-    (COUNTED_SEALED_UNDER_NOTHING, "", 0, TOO_MUCH_WORK),
-    (COUNTED_SEALED_UNDER_NOTHING, "", 1, Accepted),
+    (COUNTED_SEALED_WITH_EMPTY_PASSWORD, "", 0, TOO_MUCH_WORK),
+    (COUNTED_SEALED_WITH_EMPTY_PASSWORD, "", 1, Accepted),
 ];
 
 // Hides the table from proofs, which would otherwise unfold all of it.

@@ -2,7 +2,7 @@
 
 use crate::kdf::passed_memory::{are_zeros, bytes, words};
 use crate::keys::refused_allocations::secret_text;
-use crate::keys::sealed::less_memory::{MADE, OPENED};
+use crate::keys::sealed::less_memory::{OPENED, SEALED_FROM_NINES};
 use crate::tables::assert_row;
 use minisign::{Result, SecretKey, read_secret_key};
 use minisign_base::faults::NamedFault::{WorkTooHigh, WrongPassword};
@@ -12,7 +12,7 @@ use std::alloc::Global;
 
 // Returns the encrypted key.
 fn sealed() -> Result<SecretKey> {
-    SecretKey::from_bytes(&read_secret_key(MADE)?)
+    SecretKey::from_bytes(&read_secret_key(SEALED_FROM_NINES)?)
 }
 
 // A password, a bound on the parallelization, and the expected outcome.

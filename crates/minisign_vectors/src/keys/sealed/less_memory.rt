@@ -15,19 +15,26 @@ const PROMPTED: &str =
 
 // A pair from random bytes that are all 9, encrypted under `password` with Python's hashlib. N is
 // 32768 and p is 1.
-pub const MADE: &str =
+pub const SEALED_FROM_NINES: &str =
     "c\nRWRTY0IyCQkJCQkJCQkJCQkJCQkJCQkJCQkJCQkJCQkJCQkJCQkAABAAAAAAAAAAAAIAAAAAdY1HWKBn010LeW41YGMTziKGY5Pm20tfKSqKx1RaT1NVOm7mrYQStRXjCDlaDbjJt6my7s8HA1hNnc81ePgmYR40irkegWz1I4xX4mKUEhI8fTRSfYSEcdd1W1ItYg79QyqNCekYjxw=\n";
 
 // The text of this key, decrypted.
 pub const OPENED: &str =
     "untrusted comment: rsign encrypted secret key\nRWRTY0IyCQkJCQkJCQkJCQkJCQkJCQkJCQkJCQkJCQkJCQkJCQkAABAAAAAAAAAAAAIAAAAACQkJCQkJCQkJCQkJCQkJCQkJCQkJCQkJCQkJCQkJCQkJCQkJCQkJCVNTU1NTU1NTU1NTU1NTU1NTU1NTU1NTU1NTU1NTU1NTl01hHj4yTh1EA1233vng2mdcEMYAlvnZumxtDRWM800=\n";
 
-// Returns true if `MADE` decrypts to the expected key with every k-th row kept, with a given and
+// Returns true if `SEALED_FROM_NINES` decrypts to the expected key with every k-th row kept, with a given and
 // with a typed password.
 fn opens(alloc: Global, k: u64) -> bool {
     let call = OpeningCall::FromBoxKeeping(k);
-    let passed = gives(alloc, MADE, Some("password"), b"", call, OPENED);
-    let typed = gives(alloc, MADE, None, b"password\n", call, OPENED);
+    let passed = gives(
+        alloc,
+        SEALED_FROM_NINES,
+        Some("password"),
+        b"",
+        call,
+        OPENED,
+    );
+    let typed = gives(alloc, SEALED_FROM_NINES, None, b"password\n", call, OPENED);
     passed && typed
 }
 

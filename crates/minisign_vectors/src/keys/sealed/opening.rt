@@ -22,7 +22,7 @@ use std::alloc::Global;
 const DERIVING: &str =
     "Password: Deriving a key from the password and decrypting the secret key... ";
 
-const DONE: &str =
+const WHOLE_OUTPUT: &str =
     "Password: Deriving a key from the password and decrypting the secret key... done\n";
 
 // The decrypted texts of the keys with the default limits and with those of the C program.
@@ -177,7 +177,7 @@ fn fills(alloc: Global, row: &(usize, u64, &str, Outcome)) -> bool {
     let mut prompt = Prompt::new(SliceSource::new(line.as_bytes()), writer);
     let answer = opened(alloc, sk_box, None, &mut prompt, OpeningCall::FromBox);
     let matches = is_outcome(answer, outcome);
-    matches && prompt.writer.as_slice() == front(DONE.as_bytes(), room)
+    matches && prompt.writer.as_slice() == front(WHOLE_OUTPUT.as_bytes(), room)
 }
 
 // The error of a failing writer is returned at the point where it writes, between the errors of earlier and

@@ -1,7 +1,7 @@
 //! Tests that converting a key box to a text gives the text that it was made from.
 //! `tests/rows/public_keys.py` and `tests/rows/secret_keys.py` test parsing and writing.
 
-use crate::shown::displays_as;
+use crate::display::displays_as;
 use minisign::{PublicKeyBox, Result, SecretKeyBox};
 use minisign_fixtures::outcomes::{gives_record, gives_text};
 use minisign_fixtures::texts::{KEY_TEXT, SECRET_TEXT};

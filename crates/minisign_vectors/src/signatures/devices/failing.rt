@@ -25,7 +25,7 @@ use minisign_fixtures::outcomes::Outcome::{self, Accepted, Refused};
 use minisign_fixtures::outcomes::{front, gives_record, is_outcome};
 use minisign_fixtures::prompts::bytes_left;
 use minisign_fixtures::texts::{
-    KEY_TEXT, LEGACY_TEXT, SEALED, SEALED_WITH_NOTHING, SIGNATURE_TEXT, STATUS_LINES,
+    KEY_TEXT, LEGACY_TEXT, SEALED, SEALED_WITH_EMPTY_PASSWORD, SIGNATURE_TEXT, STATUS_LINES,
 };
 use std::alloc::Global;
 
@@ -33,7 +33,7 @@ const UNREAD: Outcome = Refused(ReadingFailed);
 
 const UNWRITTEN: Outcome = Refused(WritingFailed);
 
-const UNDRAWN: Outcome = Refused(RandomSourceFailed);
+const NO_RANDOM_BYTES: Outcome = Refused(RandomSourceFailed);
 
 const CHANGED: Outcome = Refused(DataChanged);
 
@@ -42,7 +42,7 @@ const ASKED_AND_DONE: &[u8] =
     b"Password: Deriving a key from the password and decrypting the secret key... done\n";
 
 // The prompt's output if an empty password is typed.
-const MARKED_AND_DONE: &[u8] =
+const EMPTY_AND_DONE: &[u8] =
     b"Password: <empty>\nDeriving a key from the password and decrypting the secret key... done\n";
 
 // The random bytes of the precomputed signatures.
@@ -95,12 +95,12 @@ fn returns_error_if_going_back_fails(rt: HostRuntime) {
 // status sink accepts in each write if it is the sink that fails, or 0 if the output is; the number
 // of calls that the failing sink has to allow for the run to succeed; and the outcome if it allows
 // them.
-type Failing = (&'static str, &'static [u8], usize, usize, Outcome);
+type SinkFailure = (&'static str, &'static [u8], usize, usize, Outcome);
 
 // The status is written and never flushed: 60 bytes one at a time, or all at once. The output is
 // written one byte at a time and then flushed. Data that changed is not flushed; the flush would be
 // the fourth call.
-const FAILING: [Failing; 7] = [
+const SINK_FAILURES: [SinkFailure; 7] = [
     (SIGNATURE_TEXT, b"abc", 1, 60, Accepted),
     (SIGNATURE_TEXT, b"abc", 100, 1, Accepted),
     (LEGACY_TEXT, b"abc", 1, 60, Accepted),
@@ -111,32 +111,32 @@ const FAILING: [Failing; 7] = [
 ];
 
 // Hides the table from proofs, which would otherwise unfold all of it.
-fn failing() -> &'static [Failing] {
-    &FAILING
+fn sink_failures() -> &'static [SinkFailure] {
+    &SINK_FAILURES
 }
 
 // Returns sinks, one of which fails after this number of calls.
 fn sinks(alloc: Global, most: usize, calls: usize) -> Sinks {
     let mut sinks = ample(alloc);
     if most == 0 {
-        sinks.out = sinks.out.by(1).failing_after(calls);
+        sinks.out = sinks.out.max_per_write(1).failing_after(calls);
     } else {
-        sinks.status = sinks.status.by(most).failing_after(calls);
+        sinks.status = sinks.status.max_per_write(most).failing_after(calls);
     }
     sinks
 }
 
 // Returns the expected result if the sink fails after this number of calls. A legacy signature is
 // for the first reading, and the copy of prehashed data is the second reading.
-fn result_for(row: &Failing, calls: usize) -> Expected<'static> {
+fn result_for(row: &SinkFailure, calls: usize) -> Expected<'static> {
     let (text, second, most, writes, answer) = *row;
     let whole = if text == LEGACY_TEXT {
         b"abc".as_slice()
     } else {
         second
     };
-    let is_made = calls >= writes;
-    let outcome = if is_made { answer } else { UNWRITTEN };
+    let succeeds = calls >= writes;
+    let outcome = if succeeds { answer } else { UNWRITTEN };
     if most == 0 {
         return Expected {
             outcome,
@@ -147,28 +147,35 @@ fn result_for(row: &Failing, calls: usize) -> Expected<'static> {
     Expected {
         outcome,
         status_lines: front(STATUS_LINES, calls.saturating_mul(most)),
-        copied: if is_made { whole } else { b"" },
+        copied: if succeeds { whole } else { b"" },
     }
 }
 
 // Returns true if verifying `abc` by both calls has the expected result.
-fn gives_expected(alloc: Global, row: &Failing, calls: usize) -> bool {
+fn gives_expected(alloc: Global, row: &SinkFailure, calls: usize) -> bool {
     let (text, second, most, _, _) = *row;
     let expected_result = result_for(row, calls);
     let texts = (KEY_TEXT, text);
     let mut data = Changes::new(b"abc", second);
-    let failing = sinks(alloc, most, calls);
-    let by_texts = texts_give_expected(alloc, texts, &mut data, COPYING, failing, expected_result);
+    let sink_failures = sinks(alloc, most, calls);
+    let by_texts = texts_give_expected(
+        alloc,
+        texts,
+        &mut data,
+        COPYING,
+        sink_failures,
+        expected_result,
+    );
     let mut data = Changes::new(b"abc", second);
-    let failing = sinks(alloc, most, calls);
-    let by_box = box_gives_expected(alloc, text, &mut data, failing, expected_result);
+    let sink_failures = sinks(alloc, most, calls);
+    let by_box = box_gives_expected(alloc, text, &mut data, sink_failures, expected_result);
     by_texts && by_box
 }
 
 // The sink fails at each of its calls, at most 60, and then at none.
 #[test]
 fn returns_error_if_status_or_output_fails(rt: HostRuntime) {
-    for row in failing() {
+    for row in sink_failures() {
         for calls in 0..62usize {
             assert_row(&rt, gives_expected(rt.alloc(), row, calls), &(calls, row));
         }
@@ -180,7 +187,7 @@ type Typed<'a> = Prompt<FailingSource<'a>, LimitedSink>;
 // The calls after which the devices fail when signing with the text of a key: the number of calls
 // of the prompt's reader, the number of flushes and the number of calls of its writer, the number
 // of reads of the data, and the number of fills of the random source.
-type Fails = (usize, usize, usize, usize, usize);
+type FailurePoints = (usize, usize, usize, usize, usize);
 
 // The expected outcome, the number of bytes that the prompt shows, the unread bytes of the typed
 // input and of the data, and whether no random bytes were taken.
@@ -190,7 +197,7 @@ type ExpectedUse = (Outcome, usize, usize, usize, bool);
 // feed, so the `x` after it is unread. Its writer writes and flushes three texts. If the number of
 // flushes is 0, the writer has space for only four bytes. Then signing reads four times and fills
 // twice.
-const SIGNINGS: [(Fails, ExpectedUse); 23] = [
+const SIGNINGS: [(FailurePoints, ExpectedUse); 23] = [
     ((0, ALL, ALL, ALL, ALL), (UNREAD, 10, 10, 3, true)),
     ((1, ALL, ALL, ALL, ALL), (UNREAD, 10, 9, 3, true)),
     ((2, ALL, ALL, ALL, ALL), (UNREAD, 10, 8, 3, true)),
@@ -211,13 +218,13 @@ const SIGNINGS: [(Fails, ExpectedUse); 23] = [
     ((ALL, ALL, 6, 1, 0), (UNREAD, 81, 1, 2, true)),
     ((ALL, ALL, 6, 2, 0), (UNREAD, 81, 1, 1, true)),
     ((ALL, ALL, 6, 3, 0), (UNREAD, 81, 1, 0, true)),
-    ((ALL, ALL, 6, 4, 0), (UNDRAWN, 81, 1, 0, true)),
-    ((ALL, ALL, 6, 4, 1), (UNDRAWN, 81, 1, 0, false)),
+    ((ALL, ALL, 6, 4, 0), (NO_RANDOM_BYTES, 81, 1, 0, true)),
+    ((ALL, ALL, 6, 4, 1), (NO_RANDOM_BYTES, 81, 1, 0, false)),
     ((ALL, ALL, 6, 4, 2), (Accepted, 81, 1, 0, false)),
 ];
 
 // Hides the table from proofs, which would otherwise unfold all of it.
-fn signings() -> &'static [(Fails, ExpectedUse)] {
+fn signings() -> &'static [(FailurePoints, ExpectedUse)] {
     &SIGNINGS
 }
 
@@ -244,16 +251,16 @@ fn devices_are_as_expected(
     random: &mut FailingRandom,
     expected_use: &ExpectedUse,
 ) -> bool {
-    let (_, prompted, typed_left, left, is_undrawn) = *expected_use;
+    let (_, prompted, typed_left, left, is_random_unused) = *expected_use;
     let is_prompted = prompt.writer.as_slice() == front(ASKED_AND_DONE, prompted);
     let typed = bytes_left(&mut prompt.reader) == typed_left;
     let read = bytes_left(data) == left;
-    let undrawn = random.random.fill(&mut [0; 128]).is_ok();
-    is_prompted && typed && read && undrawn == is_undrawn
+    let is_unused = random.random.fill(&mut [0; 128]).is_ok();
+    is_prompted && typed && read && is_unused == is_random_unused
 }
 
 // Returns true if signing has the expected result.
-fn is_signed(alloc: Global, row: &(Fails, ExpectedUse)) -> bool {
+fn is_signed(alloc: Global, row: &(FailurePoints, ExpectedUse)) -> bool {
     let ((reads, flushes, writes, data_reads, draws), expected_use) = *row;
     let mut prompt = prompt_of(alloc, b"password\nx", reads, flushes, writes);
     let mut data = FailingSource::new(b"abc", data_reads);
@@ -272,31 +279,31 @@ fn returns_error_if_device_of_signing_fails(rt: HostRuntime) {
 
 // Returns true if signing with a raw key fails when the random source fails after this number of
 // fills.
-fn is_undrawn(alloc: Global, draws: usize) -> bool {
+fn fails_without_random_bytes(alloc: Global, draws: usize) -> bool {
     let Ok(secret) = key_a() else {
         return false;
     };
     let mut data = SliceSource::new(b"abc");
     let mut random = FailingRandom::new(&ZEROS, draws);
     let answer = signed_from(alloc, None, &secret, &mut data, &mut random, 0);
-    let matches = is_outcome(answer, UNDRAWN);
-    let undrawn = random.random.fill(&mut [0; 128]).is_ok();
-    matches && undrawn == (draws == 0)
+    let matches = is_outcome(answer, NO_RANDOM_BYTES);
+    let is_unused = random.random.fill(&mut [0; 128]).is_ok();
+    matches && is_unused == (draws == 0)
 }
 
 // A fill that failed is not repeated.
 #[test]
 fn returns_error_if_random_source_fails(rt: HostRuntime) {
-    assert!(rt; is_undrawn(rt.alloc(), 0));
-    assert!(rt; is_undrawn(rt.alloc(), 1));
+    assert!(rt; fails_without_random_bytes(rt.alloc(), 0));
+    assert!(rt; fails_without_random_bytes(rt.alloc(), 1));
 }
 
 // An encrypted key, the typed input, and all that the prompt then shows.
-const TYPED: (&str, &str, &[u8]) = (SEALED, "password\n", ASKED_AND_DONE);
+const PASSWORD_TYPED: (&str, &str, &[u8]) = (SEALED, "password\n", ASKED_AND_DONE);
 
 // The key, the typed input and the prompt's output for an empty password, which the prompt reports
 // in a fourth text.
-const NOTHING: (&str, &str, &[u8]) = (SEALED_WITH_NOTHING, "\n", MARKED_AND_DONE);
+const EMPTY_TYPED: (&str, &str, &[u8]) = (SEALED_WITH_EMPTY_PASSWORD, "\n", EMPTY_AND_DONE);
 
 // A case of opening a key: true if a password is typed; the numbers of calls before the prompt's reader and
 // writer fail; the expected outcome; and the number of bytes that the writer shows.
@@ -343,7 +350,11 @@ fn openings() -> &'static [Opening] {
 // Returns true if decrypting has the expected result.
 fn opens(alloc: Global, row: &Opening) -> bool {
     let (is_typed, reads, writes, expected, prompted) = *row;
-    let (text, typed, whole) = if is_typed { TYPED } else { NOTHING };
+    let (text, typed, whole) = if is_typed {
+        PASSWORD_TYPED
+    } else {
+        EMPTY_TYPED
+    };
     let sk_box = SecretKeyBox::from_string(alloc, text);
     let mut prompt = prompt_of(alloc, typed.as_bytes(), reads, ALL, writes);
     let answer = opened(alloc, sk_box, None, &mut prompt, OpeningCall::FromBox);

@@ -5,8 +5,8 @@ use Rattle.minisign.specs.Generation.{IsSealedPair}
 use Rattle.minisign.proofs.GeneratedKeys.{sealed_pair}
 use Rattle.minisign.proofs.keypair.KeyPair.generate_encrypted_keypair.Goals as goal
 
-pub returns-clause-made : goal.returns-clause-made
-returns-clause-made g c =
+pub returns-clause-is_new_pair : goal.returns-clause-is_new_pair
+returns-clause-is_new_pair g c =
     let public_of = g.S.Scheme.public_of c.args.scheme.now in
     let z = random_call g.Z.RandomSource c.args.random.now c.draw_with_salt.new.random in
     let seed = c.in_ok-drawn.drawn.seed in

@@ -40,4 +40,4 @@ returns-clause-refused g c =
         },
         memory,
       ),
-    )) c.make_sealed_pair.ensures.refused
+    )) c.make_sealed_pair.ensures.only_out_of_memory

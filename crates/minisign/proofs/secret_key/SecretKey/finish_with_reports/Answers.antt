@@ -15,4 +15,4 @@ tested_last p _ _ v (Err e) said refused = inr (p.new, said, inl (ap result_err 
 pub returns-clause-ended : goal.returns-clause-ended
 returns-clause-ended g c =
     tested_last (prompt_call g.R.Source g.W.Sink c.args.prompt.now c.say_done.new.prompt) _ _ _
-    _ c.in_ok-say_done.ensures.ended c.check_restored.ensures
+    _ c.in_ok-say_done.ensures.step_ends c.check_restored.ensures

@@ -20,7 +20,7 @@ pub returns-clause-opened : goal.returns-clause-opened
 returns-clause-opened g c =
     let (bytes, answered, asked) = c.in_ok-password.ensures.asked in
     let opened = rw c.as_bytes.ensures.value at c.open_with_reports.ensures.opened in
-    let ended = rw c.as_bytes.ensures.value at c.open_with_reports.ensures.ended in
+    let ended = rw c.as_bytes.ensures.value at c.open_with_reports.ensures.conversation_ends in
     let p = prompt_call g.R.Source g.W.Sink c.args.prompt.now c.open_with_reports.new.prompt in
     let telling = decrypting_steps c.args.self (string_bytes c.in_ok-password.password)
     c.args.derivation.bound in
@@ -41,7 +41,7 @@ returns-clause-opened g c =
 pub returns-clause-refused : goal.returns-clause-refused
 returns-clause-refused g c =
     let (bytes, answered, asked) = c.in_ok-password.ensures.asked in
-    let ended = rw c.as_bytes.ensures.value at c.open_with_reports.ensures.ended in
+    let ended = rw c.as_bytes.ensures.value at c.open_with_reports.ensures.conversation_ends in
     let p = prompt_call g.R.Source g.W.Sink c.args.prompt.now c.open_with_reports.new.prompt in
     let telling = decrypting_steps c.args.self (string_bytes c.in_ok-password.password)
     c.args.derivation.bound in

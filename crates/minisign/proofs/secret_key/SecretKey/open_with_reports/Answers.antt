@@ -10,26 +10,28 @@ returns-in_err-apply_stream-clause-ended g c =
     let said = c.say_deriving.new.prompt in
     rw (err_is _ _ c.from_residual-in_err-apply_stream.ensures.1) (⊎_elim (λ (memory, work). inr (
       said,
-      c.in_ok-say_deriving.ensures.ended,
+      c.in_ok-say_deriving.ensures.step_ends,
       inr (said, (no_fault _ work, refl), inl ((memory, tt), refl)),
-    )) (λ work. inr (said, c.in_ok-say_deriving.ensures.ended, inl (ap result_err work, refl)))
+    )) (λ work. inr (said, c.in_ok-say_deriving.ensures.step_ends, inl (ap result_err work, refl)))
     c.in_err-apply_stream.ensures.refused)
 
 pub returns-in_err-finish_with_reports-clause-ended : goal.returns-in_err-finish_with_reports-clause-ended
 returns-in_err-finish_with_reports-clause-ended g c =
     let said = c.say_deriving.new.prompt in
-    let refused = rw c.in_ok-apply_stream.ensures.xored at c.in_err-finish_with_reports.ensures.ended in
+    let refused =
+    rw c.in_ok-apply_stream.ensures.xored at c.in_err-finish_with_reports.ensures.conversation_ends in
     rw (err_is _ _ c.from_residual-in_err-finish_with_reports.ensures.1) (inr (
       said,
-      c.in_ok-say_deriving.ensures.ended,
+      c.in_ok-say_deriving.ensures.step_ends,
       inr (said, (no_fault _ c.in_ok-apply_stream.ensures.allowed, refl), inr (said, (tt, refl), refused)),
     ))
 
 pub returns-clause-ended : goal.returns-clause-ended
 returns-clause-ended g c =
     let said = c.say_deriving.new.prompt in
-    let ended = rw c.in_ok-apply_stream.ensures.xored at c.in_ok-finish_with_reports.ensures.ended in (
+    let ended =
+    rw c.in_ok-apply_stream.ensures.xored at c.in_ok-finish_with_reports.ensures.conversation_ends in (
       said,
-      c.in_ok-say_deriving.ensures.ended,
+      c.in_ok-say_deriving.ensures.step_ends,
       (said, (no_fault _ c.in_ok-apply_stream.ensures.allowed, refl), (said, (tt, refl), ended)),
     )

@@ -2,6 +2,6 @@
 use Rattle.minisign_base.proofs.SinkLaws.{AppendsPrefix-whole}
 use Rattle.minisign_base.proofs.devices.sinks.put_and_flush.Goals as goal
 
-pub returns-in-Err-clause-front : goal.returns-in-Err-clause-front
-returns-in-Err-clause-front g c = AppendsPrefix-whole _ _ _ _ c.in_ok-write_all.ensures.bytes
+pub returns-in-Err-clause-prefix_received : goal.returns-in-Err-clause-prefix_received
+returns-in-Err-clause-prefix_received g c = AppendsPrefix-whole _ _ _ _ c.in_ok-write_all.ensures.bytes
     c.flush.ensures.bytes

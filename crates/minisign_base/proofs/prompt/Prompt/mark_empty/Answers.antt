@@ -19,7 +19,7 @@ returns g c =
     let none : c.args.password.now ≡ [] = nil_from_length c.args.password.now
     (eqb-true (length c.args.password.now) 0 (sym c.if-not-is_empty.ensures)) in
     record {
-      ended = rw none
+      conversation_ends = rw none
           (marked (prompt_call g.R.Source g.W.Sink c.args.self.now c.say.new.self) c.say.result
-          c.say.ensures.ended);
+          c.say.ensures.step_ends);
     }

@@ -19,8 +19,8 @@ returns-in-Ok-clause-read c =
     from_text c.read_text.result c.in-Ok.text.now c.args.sig_text.now c.read_text.ensures.value same utf8
     c.read_text.ensures.read
 
-pub returns-in-Ok-clause-texts : goal.returns-in-Ok-clause-texts
-returns-in-Ok-clause-texts c = λ v legacy.
+pub returns-in-Ok-clause-same_error_as_texts : goal.returns-in-Ok-clause-same_error_as_texts
+returns-in-Ok-clause-same_error_as_texts c = λ v legacy.
     let (same, utf8) = c.in-Ok.ensures.cases in
     unread_texts v legacy c.args.sig_text.now c.read_text.result
     (c.read_text.ensures.value ∙ ap (λ x. map_ok (signature_value x) (read_signature x)) same

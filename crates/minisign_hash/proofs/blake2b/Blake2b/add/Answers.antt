@@ -2,7 +2,7 @@
 use Rattle.std.proofs.Common.{◌+◌, length, refl, arith}
 use Rattle.std.proofs.lemmas.Slice.{take-put_mid}
 use Rattle.minisign_hash.specs.Fed.{Holds}
-use Rattle.minisign_hash.proofs.Feeding.{held_more}
+use Rattle.minisign_hash.proofs.Feeding.{holds_appended}
 use Rattle.minisign_hash.proofs.blake2b.Blake2b.add.Goals as goal
 
 pub returns-clause-holds : goal.returns-clause-holds
@@ -10,7 +10,7 @@ unfolding Holds
 returns-clause-holds c = λ m (i, held).
     let s = c.args.self.now in (
       i,
-      held_more s.outlen s.h s.count s.buffer _ s.used m c.args.piece.now i held
+      holds_appended s.outlen s.h s.count s.buffer _ s.used m c.args.piece.now i held
           (rw c.copy_from_slice.ensures.after
           (take-put_mid s.used _ s.buffer c.args.piece.now (s.used + length c.args.piece.now) refl
           (omega arith))),

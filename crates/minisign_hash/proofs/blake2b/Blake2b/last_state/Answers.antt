@@ -4,7 +4,7 @@ use Rattle.std.proofs.Common.{take, arith, sym, ap, ◌∙◌}
 use Rattle.std.proofs.lemmas.List.{length-take-le}
 use Rattle.minisign_hash.specs.Words.{bytes_of_words64}
 use Rattle.minisign_hash.specs.Fed.{Holds, IsFed}
-use Rattle.minisign_hash.proofs.Feeding.{last_taken}
+use Rattle.minisign_hash.proofs.Feeding.{last_block_gives_digest}
 use Rattle.minisign_hash.proofs.blake2b.Blake2b.last_state.Goals as goal
 
 pub returns : goal.returns
@@ -22,9 +22,10 @@ returns c = λ m ((i, held), lazy).
     let whole = c.split_last_block.ensures.whole in
     let counted : ((s.count + length blocks) % 2 ^ 128 + length last) % 2 ^ 128 ≡ length m % 2 ^ 128 =
     omega (arith, held.len, held.counted, joined, length-append blocks last) in
-    let before = c.after_blocks-h.ensures.whole refl refl whole s.outlen m last i ahead held.state
+    let before = c.after_blocks-h.ensures.whole_blocks refl refl whole s.outlen m last i ahead held.state
     held.counted in
     ap (λ (h : List ℕ). take s.outlen (bytes_of_words64 h))
-    (rw c.padded.ensures at (c.after_blocks.ensures.one (omega arith)))
-    ∙ last_taken s.outlen _ m blocks last i _ ahead (rw joined held.len) whole c.split_last_block.ensures.fits
+    (rw c.padded.ensures at (c.after_blocks.ensures.single_block (omega arith)))
+    ∙ last_block_gives_digest s.outlen _ m blocks last i _ ahead
+    (rw joined held.len) whole c.split_last_block.ensures.fits
     some before counted

@@ -3,7 +3,7 @@ use Rattle.std.proofs.Common.{◌≡◌, ◌+◌, ◌*◌, ◌/◌, ◌++◌, �
 use Rattle.std.proofs.Common.{length-append}
 use Rattle.std.proofs.lemmas.List.{append-nil, drop_at}
 use Rattle.minisign_hash.specs.Fed.{Holds}
-use Rattle.minisign_hash.proofs.Feeding.{held_taken, state_after-append}
+use Rattle.minisign_hash.proofs.Feeding.{holds_after_blocks, state_after-append}
 use Rattle.minisign_hash.proofs.blake2b.Blake2b.take_in.Goals as goal
 
 pub returns-clause-holds : goal.returns-clause-holds
@@ -16,8 +16,9 @@ returns-clause-holds c = λ m (i, held).
     ∙ sym (append-nil blocks) in
     let before = held.state ∙ sym (state_after-append s.outlen m blocks i (omega (arith, len))) in (
       i + length blocks / 128,
-      held_taken s.outlen _ s.count _ s.buffer s.used (m ++ blocks) i (length blocks) c.requires.empty
+      holds_after_blocks s.outlen _ s.count _ s.buffer s.used (m ++ blocks) i (length blocks) c.requires.empty
           (omega (arith, len, length-append m blocks)) c.requires.whole held.counted refl
-          (c.after_blocks-self.ensures.whole refl refl c.requires.whole s.outlen (m ++ blocks) [] i ahead
+          (c.after_blocks-self.ensures.whole_blocks refl refl c.requires.whole s.outlen
+          (m ++ blocks) [] i ahead
           before held.counted),
     )

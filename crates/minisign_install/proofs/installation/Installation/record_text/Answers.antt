@@ -1,5 +1,5 @@
 use Rattle.std.proofs.Common.{◌∙◌, refl, sym}
-use Rattle.minisign_install.specs.Step as due
+use Rattle.minisign_install.specs.Step as fsm
 use Rattle.minisign_install.proofs.HeldStates.{not_writing, stored, unbegun}
 use Rattle.minisign_install.proofs.installation.Installation.record_text.Goals as goal
 
@@ -11,7 +11,7 @@ returns-then-is_begun-clause-written c = λ s held.
 pub returns-else-is_begun-clause-written : goal.returns-else-is_begun-clause-written
 returns-else-is_begun-clause-written c = λ s held.
     let is = sym c.is_begun.ensures ∙ c.if-is_begun.false in
-    not_writing s due.Nothing _ _ _ (unbegun c.args.self.now s is held).0 refl refl refl
+    not_writing s fsm.Nothing _ _ _ (unbegun c.args.self.now s is held).0 refl refl refl
 
 pub returns-then-is_begun-clause-reads_back : goal.returns-then-is_begun-clause-reads_back
 returns-then-is_begun-clause-reads_back c = λ s held some.

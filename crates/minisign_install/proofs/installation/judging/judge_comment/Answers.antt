@@ -1,5 +1,5 @@
 use Rattle.std.proofs.Common.{◌∙◌}
-use Rattle.minisign_install.proofs.Judged.{both_utf8, comment_not_utf8, file_not_utf8}
+use Rattle.minisign_install.proofs.CommentFaults.{both_utf8, comment_not_utf8, file_not_utf8}
 use Rattle.minisign_install.proofs.installation.judging.judge_comment.Goals as goal
 
 pub returns-in-Ok-from_utf8 : goal.returns-in-Ok-from_utf8

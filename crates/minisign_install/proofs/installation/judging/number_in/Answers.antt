@@ -1,4 +1,4 @@
-use Rattle.minisign_install.proofs.Judged.{number_is}
+use Rattle.minisign_install.proofs.CommentFaults.{number_is}
 use Rattle.minisign_install.proofs.installation.judging.number_in.Goals as goal
 
 pub returns : goal.returns

@@ -3,4 +3,4 @@ use Rattle.minisign_install.proofs.installation.recorded.fault_for.Goals as goal
 
 pub returns : goal.returns
 returns c = fault_is c.args.numbering c.args.bytes.now c.unfit_record_fault.result
-    c.unfit_record_fault.ensures.why
+    c.unfit_record_fault.ensures.reason

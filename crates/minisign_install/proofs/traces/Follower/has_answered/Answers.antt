@@ -8,8 +8,8 @@ use Rattle.minisign_install.proofs.traces.Follower.has_answered.Goals.{
 }
 use Rattle.minisign_install.proofs.traces.Follower.has_answered.Goals.{then-self-eq0-via-then-self-eq0}
 
-pub returns-then-self-eq0-clause-finds : goal.returns-then-self-eq0-clause-finds
-returns-then-self-eq0-clause-finds c = λ file s m knows follows performs some.
+pub returns-then-self-eq0-clause-complete : goal.returns-then-self-eq0-clause-complete
+returns-then-self-eq0-clause-complete c = λ file s m knows follows performs some.
     let w = world_of c.args.inputs.now in
     let (written, fits, same) =
     comment_asked w file s c.args.self.now.message_len c.args.message.now c.in-Some.question c.args.accepted m
@@ -21,8 +21,8 @@ returns-then-self-eq0-clause-finds c = λ file s m knows follows performs some.
           absurd (omega (arith, fits, w.if-self-message.true))
     ]
 
-pub returns-clause-finds : goal.returns-clause-finds
-returns-clause-finds c = λ file s m knows follows performs some.
+pub returns-clause-complete : goal.returns-clause-complete
+returns-clause-complete c = λ file s m knows follows performs some.
     let w = world_of c.args.inputs.now in
     let q = c.in-Some.question in
     let (written, fits, same) =

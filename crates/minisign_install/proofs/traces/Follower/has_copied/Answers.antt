@@ -2,8 +2,9 @@ use Rattle.std.proofs.Common.{◌∙◌, sym}
 use Rattle.minisign_install.proofs.Tracing.{some_of}
 use Rattle.minisign_install.proofs.traces.Follower.has_copied.Goals as goal
 
-pub returns-in-DataGrown-clause-is : goal.returns-in-DataGrown-clause-is
-returns-in-DataGrown-clause-is c = λ is w message s m same follows.
+pub returns-in-DataGrown-clause-sound : goal.returns-in-DataGrown-clause-sound
+returns-in-DataGrown-clause-sound c = λ is w message s m same follows.
     rw c.in-DataGrown.is
-    ((some_of c.next_data.result _ c.next_data.ensures.is (sym c.is_some.ensures ∙ is)).1 w message s m same
+    ((some_of c.next_data.result _ c.next_data.ensures.sound (sym c.is_some.ensures
+    ∙ is)).1 w message s m same
     follows).1

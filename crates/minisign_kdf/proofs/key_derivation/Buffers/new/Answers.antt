@@ -20,11 +20,13 @@ overflow_mul-r-3 c = omega (
       (rw (c.r-r.ensures.number, c.p-p.ensures.number) c.r-r.ensures.accepted.product),
 )
 
-pub returns-clause-room : goal.returns-clause-room
-returns-clause-room c = rw (← c.r-r.ensures.number, ← c.n_log2.ensures.number) c.in_ok-rows.ensures.room
+pub returns-clause-capacity : goal.returns-clause-capacity
+returns-clause-capacity c =
+    rw (← c.r-r.ensures.number, ← c.n_log2.ensures.number) c.in_ok-rows.ensures.capacity
 
-pub returns-clause-fits : goal.returns-clause-fits
-returns-clause-fits c = rw (← c.r-r.ensures.number, ← c.n_log2.ensures.number) c.in_ok-rows.ensures.fits
+pub returns-clause-rows_fit : goal.returns-clause-rows_fit
+returns-clause-rows_fit c =
+    rw (← c.r-r.ensures.number, ← c.n_log2.ensures.number) c.in_ok-rows.ensures.rows_fit
 
 pub returns-clause-parts : goal.returns-clause-parts
 returns-clause-parts c = rw (← c.r-r.ensures.number, ← c.p-p.ensures.number) c.in_ok-parts.ensures

@@ -4,15 +4,15 @@ use Rattle.minisign_install.specs.Step.{after_comment}
 use Rattle.minisign_install.proofs.HeldStates.{comment_error, quiet, signed}
 use Rattle.minisign_install.proofs.installation.progress.Progress.accept_comment.Goals as goal
 
-pub returns-in-Some-clause-leads : goal.returns-in-Some-clause-leads
-returns-in-Some-clause-leads c = λ s state_held.
+pub returns-in-Some-clause-next_state : goal.returns-in-Some-clause-next_state
+returns-in-Some-clause-next_state c = λ s state_held.
     let now = signed c.args.self.now s state_held in
     subst (λ f. RunLeadsTo s (after_comment f
     (record s { is_signed = true })) c.reject.result c.reject.new.self)
-    (c.in-Some.ensures _ now) (c.reject.ensures.leads _ now)
+    (c.in-Some.ensures _ now) (c.reject.ensures.next_state _ now)
 
-pub returns-in-None-clause-leads : goal.returns-in-None-clause-leads
-returns-in-None-clause-leads c = λ s state_held.
+pub returns-in-None-clause-next_state : goal.returns-in-None-clause-next_state
+returns-in-None-clause-next_state c = λ s state_held.
     let now = signed c.args.self.now s state_held in
     subst (λ f. RunLeadsTo s (after_comment f (record s { is_signed = true })) (Ok tt)
     c.accept_signed.new.self)

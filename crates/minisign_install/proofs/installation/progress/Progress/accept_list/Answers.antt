@@ -21,4 +21,4 @@ returns-in-Err-clause-leads c = λ s state_held.
     let now = list_signed c.args.self.now s state_held in
     subst (λ f. RunLeadsTo s (after_listing f
     (record s { is_list_signed = true })) c.reject.result c.reject.new.self)
-    (c.in-Err.ensures ∙ sym (listed_at c.args.self.now s state_held)) (c.reject.ensures.leads _ now)
+    (c.in-Err.ensures ∙ sym (listed_at c.args.self.now s state_held)) (c.reject.ensures.next_state _ now)

@@ -4,4 +4,4 @@ use Rattle.minisign_install.proofs.installation.progress.Progress.copied.Goals a
 pub returns-clause-steps : goal.returns-clause-steps
 returns-clause-steps c = λ s state_held.
     let is = rw (c.is_copying.ensures, c.due.ensures) at c.if-not-is_copying.false in
-    fits s _ _ c.args.self.now _ _ state_held (piece_at _ _ s is) (c.count.ensures.leads s state_held)
+    fits s _ _ c.args.self.now _ _ state_held (piece_at _ _ s is) (c.count.ensures.next_state s state_held)

@@ -6,4 +6,5 @@ use Rattle.minisign_install.proofs.installation.progress.Progress.fault.Goals as
 pub returns : goal.returns
 returns c = λ s state_held.
     fault_found state_held.fault c.args.self.now.judged.fault c.of_number.result state_held.fault_number
-    c.of_number.ensures.found c.of_number.ensures.own ∙ sym (ap (λ (x : State). x.fault) state_held.state)
+    c.of_number.ensures.found c.of_number.ensures.installer_fault
+    ∙ sym (ap (λ (x : State). x.fault) state_held.state)

@@ -18,7 +18,7 @@ returns-in-Ok-read_text-clause-leads c = λ s state_held file.
     (read_ok s c.args.sig_text.now t c.args.self.now.chosen state_held.file
     (options_are c.args.self.now s state_held)
     (ap is_utf8 file ∙ is_utf8-from_IsUtf8 c.args.file.now utf8) read))
-    (c.judge_view.ensures.leads s t state_held (file ∙ sym same) view)
+    (c.judge_view.ensures.next_state s t state_held (file ∙ sym same) view)
 
 pub returns-in-Err-read_text-clause-leads : goal.returns-in-Err-read_text-clause-leads
 returns-in-Err-read_text-clause-leads c = λ s state_held file.
@@ -27,7 +27,8 @@ returns-in-Err-read_text-clause-leads c = λ s state_held file.
     SignatureLeads j c.args.time s c.refuse.result c.refuse.new.self c.args.message.now c.args.message.now)
     (sym (read_err s c.args.sig_text.now _ (ap is_utf8 file ∙ is_utf8-from_IsUtf8 c.args.file.now utf8)
     (failed _ _ c.in-Err-read_text.ensures)))
-    (refused _ _ s _ _ _ (c.refuse.ensures.leads s state_held) c.refuse.ensures.none c.refuse.ensures.refused)
+    (refused _ _ s _ _ _
+    (c.refuse.ensures.next_state s state_held) c.refuse.ensures.is_zero c.refuse.ensures.refused)
 
 pub returns-in-Err-clause-leads : goal.returns-in-Err-clause-leads
 returns-in-Err-clause-leads c = λ s state_held file.
@@ -37,5 +38,5 @@ returns-in-Err-clause-leads c = λ s state_held file.
     (sym (no_name s c.args.sig_text.now
     (ap is_utf8 file ∙ not_utf8 c.args.file.now c.in-Err.ensures.cases.0)
     ∙ ap (λ e. Err e) (sym c.into.ensures)))
-    (refused _ _ s _ _ _ (c.refuse-in-Err.ensures.leads s state_held) c.refuse-in-Err.ensures.none
+    (refused _ _ s _ _ _ (c.refuse-in-Err.ensures.next_state s state_held) c.refuse-in-Err.ensures.is_zero
     c.refuse-in-Err.ensures.refused)

@@ -11,4 +11,4 @@ returns-in-Ok-clause-leads c = λ s t state_held file view.
     SignatureLeads j c.args.time s c.accept_text.result c.accept_text.new.self c.args.message.now
     c.accept_text.new.message)
     (sym (ap (λ o. judge_keys o (given c.args.self.now.chosen t) t) (options_are c.args.self.now s state_held)
-    ∙ judged)) (c.accept_text.ensures.leads s t state_held file view whole)
+    ∙ judged)) (c.accept_text.ensures.next_state s t state_held file view whole)

@@ -8,4 +8,4 @@ returns-clause-steps c = λ s state_held.
     let is = rw (c.is_reading_record.ensures, c.due.ensures) at c.if-not-is_reading_record.false in
     fits s _ _ c.args.self.now _ _ state_held
     (record_at _ _ s _ is (ap (λ o. judge_record o (Some c.args.bytes.now)) (options_are _ s state_held)
-    ∙ c.judge_record-judged.ensures state_held.file)) (c.take_record.ensures.leads s state_held)
+    ∙ c.judge_record-judged.ensures state_held.file)) (c.take_record.ensures.next_state s state_held)

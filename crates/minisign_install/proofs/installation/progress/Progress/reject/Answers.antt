@@ -3,8 +3,8 @@ use Rattle.minisign_install.specs.Installations.{error_number}
 use Rattle.minisign_install.proofs.HeldStates.{error_is, first_error, later_error, rejected, with_error}
 use Rattle.minisign_install.proofs.installation.progress.Progress.reject.Goals as goal
 
-pub returns-then-is_first-clause-leads : goal.returns-then-is_first-clause-leads
-returns-then-is_first-clause-leads c = λ s state_held.
+pub returns-then-is_first-clause-next_state : goal.returns-then-is_first-clause-next_state
+returns-then-is_first-clause-next_state c = λ s state_held.
     let none : error_number s.error ≡ 0 =
     omega (arith, error_is c.args.self.now s state_held, c.if-is_first.true) in (
       rejected c.args.self.now c.go.new.self s c.args.fault _ state_held
@@ -13,8 +13,8 @@ returns-then-is_first-clause-leads c = λ s state_held.
       first_error s.error c.args.fault none,
     )
 
-pub returns-else-is_first-clause-leads : goal.returns-else-is_first-clause-leads
-returns-else-is_first-clause-leads c = λ s state_held.
+pub returns-else-is_first-clause-next_state : goal.returns-else-is_first-clause-next_state
+returns-else-is_first-clause-next_state c = λ s state_held.
     let some : error_number s.error ≢ 0 =
     λ z. omega (arith, error_is c.args.self.now s state_held, c.if-is_first.false, z) in (
       rejected c.args.self.now c.go.new.self s c.args.fault _ state_held

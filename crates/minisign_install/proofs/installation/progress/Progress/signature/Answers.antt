@@ -4,4 +4,5 @@ use Rattle.minisign_install.proofs.installation.progress.Progress.signature.Goal
 pub returns-clause-steps : goal.returns-clause-steps
 returns-clause-steps c = λ s state_held file.
     let is = rw (c.is_reading_signature.ensures, c.due.ensures) at c.if-not-is_reading_signature.false in
-    signature_steps c.args.self.now _ s _ _ _ _ _ state_held is (c.judge_text.ensures.leads s state_held file)
+    signature_steps c.args.self.now _ s _ _ _ _ _ state_held is
+    (c.judge_text.ensures.next_state s state_held file)

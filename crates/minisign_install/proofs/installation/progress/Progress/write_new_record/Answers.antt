@@ -8,7 +8,7 @@ returns-clause-written c = λ s state_held first.
     written _ _ _ _ _ (record_same (c.numbering.ensures ∙ sym (numbering_is c.args.self.now s state_held))
     (c.new_version-version.ensures s state_held) (c.new_key.ensures s state_held first)
     (c.digest.ensures s state_held))
-    c.write_record.ensures.written c.write_record.ensures.rest c.write_record.ensures.unwritten
+    c.write_record.ensures.written c.write_record.ensures.rest_unchanged c.write_record.ensures.unwritten
 
 pub returns-clause-reads_back : goal.returns-clause-reads_back
 returns-clause-reads_back c =

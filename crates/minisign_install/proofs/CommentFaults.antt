@@ -1,0 +1,54 @@
+-- Lemmas for the functions that check a trusted comment: they return what the definitions say.
+use Rattle.std.specs.Prelude.{◌≡◌, ℕ, List, [], ◌∷◌, Option, Some, None, Err, MatchOption}
+use Rattle.std.specs.Str.{IsUtf8}
+use Rattle.std.proofs.Common.{refl, sym, ap, ◌∙◌}
+use Rattle.std.proofs.lemmas.Str.{is_utf8-from_IsUtf8}
+use Rattle.minisign_install.specs.Comments.{IsNumberText, Numbering}
+use Rattle.minisign_install.specs.Decisions.{first_of, judge_comment_only, judge_comment, number_in}
+use Rattle.minisign_install.specs.Faults.{InstallFault, Library, Named, NotUtf8}
+use Rattle.minisign_install.proofs.Decisions.{number_reads, reads_number}
+use Rattle.minisign_install.proofs.SignatureFiles.{not_utf8}
+
+none_read : (text : List ℕ) (o : Option ℕ) → number_in text ≡ o → ((n : ℕ) → ¬ (IsNumberText text n))
+    → None ≡ o
+none_read text None is none = refl
+none_read text (Some n) is none = absurd (none n (reads_number text n is))
+
+pub number_is : (text : List ℕ) (r : Option ℕ)
+    → MatchOption r ((n : ℕ) → ¬ (IsNumberText text n)) (IsNumberText text) → r ≡ number_in text
+number_is text None none = none_read text _ refl none
+number_is text (Some n) is = sym (number_reads text n is)
+
+-- == The first of several errors ==
+
+pub first_fails : (first : Option InstallFault) (more : List (Option InstallFault)) (e : InstallFault)
+    → Some e ≡ first → Some e ≡ first_of (first ∷ more)
+first_fails first more e is = ap (λ (o : Option InstallFault). first_of (o ∷ more)) is
+
+pub first_passes : (first : Option InstallFault) (more : List (Option InstallFault)) (r : Option InstallFault)
+    → None ≡ first → r ≡ first_of more → r ≡ first_of (first ∷ more)
+first_passes first more r none is = is ∙ ap (λ (o : Option InstallFault). first_of (o ∷ more)) none
+
+only_check : (o : Option InstallFault) → o ≡ first_of (o ∷ [])
+only_check None = refl
+only_check (Some e) = refl
+
+pub last_check : (o r : Option InstallFault) → r ≡ o → r ≡ first_of (o ∷ [])
+last_check o r is = only_check r ∙ ap (λ (x : Option InstallFault). first_of (x ∷ [])) is
+
+-- == A comment alone ==
+
+pub both_utf8 : (numbering : Numbering) (time least : ℕ) (file comment name text : List ℕ) → text ≡ comment
+    → IsUtf8 comment → name ≡ file → IsUtf8 file
+    → judge_comment_only name numbering time least text ≡ judge_comment file numbering time least comment
+both_utf8 numbering time least file comment name text same utf8 named name_utf8 =
+    rw (same, named, is_utf8-from_IsUtf8 comment utf8, is_utf8-from_IsUtf8 file name_utf8) refl
+
+pub comment_not_utf8 : (numbering : Numbering) (time least : ℕ) (file comment : List ℕ) → ¬ (IsUtf8 comment)
+    → Err (Library (Named NotUtf8)) ≡ judge_comment file numbering time least comment
+comment_not_utf8 numbering time least file comment is = rw (not_utf8 comment is) refl
+
+pub file_not_utf8 : (numbering : Numbering) (time least : ℕ) (file comment : List ℕ) → IsUtf8 comment
+    → ¬ (IsUtf8 file) → Err (Library (Named NotUtf8)) ≡ judge_comment file numbering time least comment
+file_not_utf8 numbering time least file comment utf8 is =
+    rw (is_utf8-from_IsUtf8 comment utf8, not_utf8 file is) refl

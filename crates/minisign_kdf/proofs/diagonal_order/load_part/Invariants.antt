@@ -1,0 +1,7 @@
+-- The loop invariant of `load_part`.
+use Rattle.std.proofs.Common.{◌≡◌, ◌*◌, take}
+use Rattle.minisign_kdf.specs.Diagonal.{diagonal_bytes}
+use Rattle.minisign_kdf.proofs.diagonal_order.load_part.Given as goal
+
+abbrev pub invariant-block : goal.invariant-block
+invariant-block l = diagonal_bytes (take (16 * l.i) l.words) ≡ take (64 * l.i) l.bytes
