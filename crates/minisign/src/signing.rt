@@ -220,7 +220,7 @@ fn trusted_or_default(alloc: Global, comment: Option<&str>, unix_time: u64) -> R
 {
     match comment {
         Some(trusted) => Ok(String::from_str(alloc, trusted)?),
-        None => Ok(format!(in alloc; "timestamp:{moment}")?),
+        None => Ok(format!(in alloc; "timestamp:{unix_time}")?),
     }
 }
 
