@@ -12,7 +12,7 @@ tested_last : {R W V : Type 0} (p : PromptCall R W) (text : List ℕ) (test : Re
 tested_last p _ _ v (Ok _) said held = (p.new, said, (p.new, (ap result_err held, refl), refl))
 tested_last p _ _ v (Err e) said refused = inr (p.new, said, inl (ap result_err refused, refl))
 
-pub returns-clause-ended : goal.returns-clause-ended
-returns-clause-ended g c =
+pub returns-clause-conversation_ends : goal.returns-clause-conversation_ends
+returns-clause-conversation_ends g c =
     tested_last (prompt_call g.R.Source g.W.Sink c.args.prompt.now c.say_done.new.prompt) _ _ _
     _ c.in_ok-say_done.ensures.step_ends c.check_restored.ensures

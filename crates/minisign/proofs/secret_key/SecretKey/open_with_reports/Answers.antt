@@ -5,8 +5,8 @@ use Rattle.minisign.proofs.Openings.{no_fault}
 use Rattle.minisign.proofs.Beginnings.{err_is}
 use Rattle.minisign.proofs.secret_key.SecretKey.open_with_reports.Goals as goal
 
-pub returns-in_err-apply_stream-clause-ended : goal.returns-in_err-apply_stream-clause-ended
-returns-in_err-apply_stream-clause-ended g c =
+pub returns-in_err-apply_stream-clause-conversation_ends : goal.returns-in_err-apply_stream-clause-conversation_ends
+returns-in_err-apply_stream-clause-conversation_ends g c =
     let said = c.say_deriving.new.prompt in
     rw (err_is _ _ c.from_residual-in_err-apply_stream.ensures.1) (⊎_elim (λ (memory, work). inr (
       said,
@@ -15,8 +15,8 @@ returns-in_err-apply_stream-clause-ended g c =
     )) (λ work. inr (said, c.in_ok-say_deriving.ensures.step_ends, inl (ap result_err work, refl)))
     c.in_err-apply_stream.ensures.refused)
 
-pub returns-in_err-finish_with_reports-clause-ended : goal.returns-in_err-finish_with_reports-clause-ended
-returns-in_err-finish_with_reports-clause-ended g c =
+pub returns-in_err-finish_with_reports-clause-conversation_ends : goal.returns-in_err-finish_with_reports-clause-conversation_ends
+returns-in_err-finish_with_reports-clause-conversation_ends g c =
     let said = c.say_deriving.new.prompt in
     let refused =
     rw c.in_ok-apply_stream.ensures.xored at c.in_err-finish_with_reports.ensures.conversation_ends in
@@ -26,8 +26,8 @@ returns-in_err-finish_with_reports-clause-ended g c =
       inr (said, (no_fault _ c.in_ok-apply_stream.ensures.allowed, refl), inr (said, (tt, refl), refused)),
     ))
 
-pub returns-clause-ended : goal.returns-clause-ended
-returns-clause-ended g c =
+pub returns-clause-conversation_ends : goal.returns-clause-conversation_ends
+returns-clause-conversation_ends g c =
     let said = c.say_deriving.new.prompt in
     let ended =
     rw c.in_ok-apply_stream.ensures.xored at c.in_ok-finish_with_reports.ensures.conversation_ends in (

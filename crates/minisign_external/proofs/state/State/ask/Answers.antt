@@ -15,8 +15,8 @@ returns-in-Err-clause-text c = λ t from.
     value ∙ asking_as a.signature.now a.sig_text.now t from a.self.now a.key.now a.allow_legacy
     (length a.message.now)
 
-pub returns-in-Err-clause-texts : goal.returns-in-Err-clause-texts
-returns-in-Err-clause-texts c = λ t from.
+pub returns-in-Err-clause-same_error_as_texts : goal.returns-in-Err-clause-same_error_as_texts
+returns-in-Err-clause-same_error_as_texts c = λ t from.
     let a = c.args in
     opening_refusal_under a.key.now a.sig_text.now a.allow_legacy (length a.message.now) c.in-Err.refusal
     (sym (asked_as a.signature.now a.sig_text.now t from a.key.now a.allow_legacy (length a.message.now))

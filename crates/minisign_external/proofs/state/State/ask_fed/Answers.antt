@@ -5,8 +5,8 @@ use Rattle.minisign_external.proofs.ReadValues.{asked_as}
 use Rattle.minisign_external.proofs.Verdicts.{opening_refusal_under}
 use Rattle.minisign_external.proofs.state.State.ask_fed.Goals as goal
 
-pub returns-in_err-comment-clause-texts : goal.returns-in_err-comment-clause-texts
-returns-in_err-comment-clause-texts c = λ t from.
+pub returns-in_err-comment-clause-same_error_as_texts : goal.returns-in_err-comment-clause-same_error_as_texts
+returns-in_err-comment-clause-same_error_as_texts c = λ t from.
     let a = c.args in
     let p = err_from_is_err_and c.from_residual-in_err-comment.result
     c.from_residual-in_err-comment.ensures.1 in

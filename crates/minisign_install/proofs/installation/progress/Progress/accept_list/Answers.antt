@@ -5,8 +5,8 @@ use Rattle.minisign_install.proofs.HeldStates.{compare_error, quiet}
 use Rattle.minisign_install.proofs.HeldListings.{list_signed, listed_at}
 use Rattle.minisign_install.proofs.installation.progress.Progress.accept_list.Goals as goal
 
-pub returns-in-Ok-clause-leads : goal.returns-in-Ok-clause-leads
-returns-in-Ok-clause-leads c = λ s state_held.
+pub returns-in-Ok-clause-next_state : goal.returns-in-Ok-clause-next_state
+returns-in-Ok-clause-next_state c = λ s state_held.
     let now = list_signed c.args.self.now s state_held in
     subst (λ f. RunLeadsTo s (after_listing f (record s { is_list_signed = true })) (Ok tt)
     c.compare.new.self)
@@ -16,8 +16,8 @@ returns-in-Ok-clause-leads c = λ s state_held.
           (compare_error (record s { is_list_signed = true })),
     )
 
-pub returns-in-Err-clause-leads : goal.returns-in-Err-clause-leads
-returns-in-Err-clause-leads c = λ s state_held.
+pub returns-in-Err-clause-next_state : goal.returns-in-Err-clause-next_state
+returns-in-Err-clause-next_state c = λ s state_held.
     let now = list_signed c.args.self.now s state_held in
     subst (λ f. RunLeadsTo s (after_listing f
     (record s { is_list_signed = true })) c.reject.result c.reject.new.self)

@@ -7,8 +7,8 @@ use Rattle.minisign_install.proofs.SignatureFiles.{failed, no_name, not_utf8, re
 use Rattle.minisign_install.proofs.SignatureFiles.{refused}
 use Rattle.minisign_install.proofs.installation.progress.Progress.judge_text.Goals as goal
 
-pub returns-in-Ok-read_text-clause-leads : goal.returns-in-Ok-read_text-clause-leads
-returns-in-Ok-read_text-clause-leads c = λ s state_held file.
+pub returns-in-Ok-read_text-clause-next_state : goal.returns-in-Ok-read_text-clause-next_state
+returns-in-Ok-read_text-clause-next_state c = λ s state_held file.
     let (same, utf8) = c.in-Ok.ensures.cases in
     let (t, read, view) = reads_view c.args.sig_text.now _ c.in-Ok-read_text.ensures in
     subst (λ j.
@@ -20,8 +20,8 @@ returns-in-Ok-read_text-clause-leads c = λ s state_held file.
     (ap is_utf8 file ∙ is_utf8-from_IsUtf8 c.args.file.now utf8) read))
     (c.judge_view.ensures.next_state s t state_held (file ∙ sym same) view)
 
-pub returns-in-Err-read_text-clause-leads : goal.returns-in-Err-read_text-clause-leads
-returns-in-Err-read_text-clause-leads c = λ s state_held file.
+pub returns-in-Err-read_text-clause-next_state : goal.returns-in-Err-read_text-clause-next_state
+returns-in-Err-read_text-clause-next_state c = λ s state_held file.
     let (same, utf8) = c.in-Ok.ensures.cases in
     subst (λ j.
     SignatureLeads j c.args.time s c.refuse.result c.refuse.new.self c.args.message.now c.args.message.now)
@@ -30,8 +30,8 @@ returns-in-Err-read_text-clause-leads c = λ s state_held file.
     (refused _ _ s _ _ _
     (c.refuse.ensures.next_state s state_held) c.refuse.ensures.is_zero c.refuse.ensures.refused)
 
-pub returns-in-Err-clause-leads : goal.returns-in-Err-clause-leads
-returns-in-Err-clause-leads c = λ s state_held file.
+pub returns-in-Err-clause-next_state : goal.returns-in-Err-clause-next_state
+returns-in-Err-clause-next_state c = λ s state_held file.
     subst (λ j.
     SignatureLeads j c.args.time s c.refuse-in-Err.result c.refuse-in-Err.new.self c.args.message.now
     c.args.message.now)

@@ -4,8 +4,8 @@ use Rattle.minisign_install.specs.Installations.{SignatureLeads, given}
 use Rattle.minisign_install.proofs.HeldStates.{options_are}
 use Rattle.minisign_install.proofs.installation.progress.Progress.judge_view.Goals as goal
 
-pub returns-in-Ok-clause-leads : goal.returns-in-Ok-clause-leads
-returns-in-Ok-clause-leads c = λ s t state_held file view.
+pub returns-in-Ok-clause-next_state : goal.returns-in-Ok-clause-next_state
+returns-in-Ok-clause-next_state c = λ s t state_held file view.
     let (judged, whole) = c.in-Ok.ensures t state_held.file view in
     subst (λ j.
     SignatureLeads j c.args.time s c.accept_text.result c.accept_text.new.self c.args.message.now
