@@ -45,7 +45,7 @@ abbrev pub meaning_of : Option LongDigest → Result LongDigest (Refusal ListFau
 meaning_of None = Err (WrongUse BadHash)
 meaning_of (Some long) = Ok long
 
--- The only entry of the name in the list, or the first check that fails.
+-- The only entry of the name in the list, or the error of the first check that fails.
 abbrev pub looked_up : Lookup → Result Entry (Refusal ListFault)
 looked_up x =
     go_on (meaning_of x.long) (λ long.

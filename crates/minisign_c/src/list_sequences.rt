@@ -100,7 +100,7 @@ pub fn listed_verdicts_agree()
     // If the two files, the list and the name are UTF-8, and the number that says which hash function
     // digests of 128 digits belong to is valid, then `listed_with`, the verdict that
     // `check_listed_in_sequence` returns as a number, equals `listed_verdict`: the trusted comment, or the
-    // first check that fails.
+    // error of the first check that fails.
     ensures { (accepts : Verifier) (pk_text sig_text : List ℕ) (x : Lookup) (long : LongDigest) (m : List ℕ)
         → x.long ≡ Some long → AreUtf8 pk_text sig_text x.text x.name
         → listed_with accepts (read_utf8 read_public_key pk_text) sig_text x m

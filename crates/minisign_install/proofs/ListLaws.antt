@@ -1,4 +1,5 @@
--- What a run installs if the signature is that of a list, and the line at fault.
+-- Proves the laws about runs whose signature is that of a list: the installed data has the digest that the
+-- signed list has for its name, and a reported line is the line at fault.
 use Rattle.std.specs.Prelude.{◌≡◌, ◌⊎◌, ◌&&◌, ◌||◌, ◌==◌, Bool, true, false, not, nat_le, if◌then◌else◌}
 use Rattle.std.specs.Prelude.{List, [], ◌∷◌, ℕ, is_some, IfSome, Option, Some, None, Result, Ok, Err}
 use Rattle.std.specs.Str.{is_utf8}

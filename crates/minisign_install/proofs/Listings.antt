@@ -101,7 +101,7 @@ pub list_digest : (mode : Option LongDigest) (list m : List ℕ) (h : LongDigest
     → digest_to_sign mode list m ≡ blake2b_digest 64 list
 list_digest mode list m h is = rw is refl
 
--- What the list has for the name.
+-- Looking up the name in the list gives the digest in the state, or the error there.
 pub listed_as : (w : World) (o : Options) (s : State) (h : LongDigest) → o.list ≡ Some h → HasListing w o s
     → digest_found (entry_in h w.list w.name) ≡ s.listing.listed
 listed_as w o s h is listing =

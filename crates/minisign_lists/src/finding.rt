@@ -66,7 +66,8 @@ fn read_to_end(entries: &mut Entries<'_>, name: &[u8]) -> Result<()>
 #[tactic(auto, unfolding(crate::specs::Lists::listed_entry))]
 pub fn find_listed<'a>(long: LongDigest, list: &'a str, name: &str) -> Result<EntryView<'a>>
     // The result is the entry with this name if the name can be looked up, every line of the list is well
-    // formed, and exactly one entry has the name. Otherwise the error is the first check that fails.
+    // formed, and exactly one entry has the name. Otherwise the error is that of the first check that
+    // fails.
     ensures { result ≡ listed_entry long list.now name.now }
 {
     if !is_name(name.as_bytes()) {

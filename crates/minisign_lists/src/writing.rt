@@ -135,7 +135,7 @@ pub fn append_entry(
     name: &[u8],
 ) -> std::result::Result<usize, Refusal<ListFault>>
     // On success, the line of the entry is written after the list, and the rest of the buffer is unchanged.
-    // Otherwise the error is the first check that fails, and the buffer is unchanged.
+    // Otherwise the error is that of the first check that fails, and the buffer is unchanged.
     ensures { (result, text.new) ≡ appended text.old len digest name.now }
 {
     if let Err(refusal) = test_append(text, len, name) {
