@@ -144,8 +144,8 @@ impl Algorithm {
 }
 
 impl LongDigest {
-    /// Returns what 128 digits mean for this number: 0 rejects them, 2 is SHA-512, and 3 is
-    /// BLAKE2b.
+    /// Returns the hash function of 128 digits with this number: 2 is SHA-512, 3 is BLAKE2b, and 0
+    /// rejects such digits.
     pub fn of_number(number: u32) -> Option<LongDigest>
         ensures { result ≡ long_numbered number }
     {
@@ -285,7 +285,7 @@ impl ListValue {
             (asked_under (read_under key.now false sig_text.now) (length message.old))) }
 
         // **If the result is true and the signature was read from this text, the questions are those about
-        // the key and the text, with the digest of the list, and the list records the digest, whether the
+        // the key and the text, with the digest of the list. The struct records the digest, whether the
         // comment signature has at least 64 bytes, and whether the trusted comment names the list.**
         ensures asked { result ≡ Ok true → (t : SignatureTextRecord) → IsReadFrom signature.now sig_text.now t
             → (read_under key.now false sig_text.now ≡ Ok t)
@@ -833,8 +833,8 @@ impl FileValue {
         ensures fed { (d : ListedDigest) (m : List ℕ) → IsFedValue self.old d m
             → result ≡ (if has_digest d m then Ok tt else Err (Refused DigestMismatch)) }
 
-        // If no check was begun, the call fails with that error, and the state is unchanged. Otherwise the
-        // state is finished.
+        // If no check was begun, the error is `NotBegun`, and the state is unchanged. Otherwise the state is
+        // finished.
         ensures finished { OnOk result (IsFinished self.old self.new) }
         ensures refused { IfErr result (IsFinishRefusal self.old self.new) }
     {
