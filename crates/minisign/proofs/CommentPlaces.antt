@@ -88,7 +88,7 @@ placed bytes line part text at n h front fits is =
     let l = ap length is ∙ length-drop n text in
     record {
       within = omega (arith, many, fits, l);
-      same =
+      bytes_at_offset =
           ap (take (length bytes)) (drop-behind text part at n is)
           ∙ sym (drop-take at _ _)
           ∙ ap (drop at) (sym (take-take _ _ _ many)

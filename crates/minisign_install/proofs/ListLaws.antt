@@ -62,7 +62,7 @@ pub update_is_listed : (w : World) (o : Options) (s : State) → IsUpdate w o s 
     × (w.accepts (blake2b_digest 64 w.list) (key_of s.signers) s.signature ≡ true)
 update_is_listed w o s update long is =
     let (entry, there, has) = listed_with o.list w.list w.name s.read long is update.listed in
-    let digest = digest_is w o s update.same update.listing ∙ list_digest o.list w.list s.read long is in (
+    let digest = digest_is w o s update.same_options update.listing ∙ list_digest o.list w.list s.read long is in (
       entry,
       there,
       has,

@@ -64,7 +64,7 @@ IsDigest digest = (length digest ≡ 64) × IsBytes digest
 -- The digest that an update is signed with, and that its record has.
 pub update_digest : (w : World) (o : Options) (s : State) → IsUpdate w o s → IsDigest (signed_digest s)
 update_digest w o s update =
-    rw (digest_is w o s update.same update.listing) (length_digest _, digest_bytes _)
+    rw (digest_is w o s update.same_options update.listing) (length_digest _, digest_bytes _)
 
 -- The key that has signed the comment is the first signer.
 pub signer_is : (w : World) (t : SignatureTextRecord) (key : List ℕ) (signers : List PublicKeyValue)

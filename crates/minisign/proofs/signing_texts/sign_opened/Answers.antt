@@ -17,7 +17,7 @@ returns-clause-signed g c =
           box = c.in_ok-signature_box.signature_box;
           comments = _;
           signed = made;
-          both =
+          has_comments =
               both;
           written = written;
         },
