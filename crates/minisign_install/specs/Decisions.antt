@@ -197,7 +197,7 @@ comment_fault o recorded time comment = first_of
     ∷ unless (not (is_too_old o recorded (version_in o.numbering comment))) OlderUpdate
     ∷ [])
 
--- == A trusted comment alone ==
+-- == Checking only a trusted comment ==
 
 -- The error if a comment is rejected by an application that checks only a comment, and no files. The version
 -- must not be below `least`. The comment need not have a field `expires:`, and `size:` is not checked.
