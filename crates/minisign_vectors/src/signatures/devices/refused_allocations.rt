@@ -15,7 +15,7 @@ use minisign_base::devices::sinks::VecSink;
 use minisign_base::devices::sources::SliceSource;
 use minisign_base::prompt::Prompt;
 use minisign_fixtures::devices::sinks::Counting;
-use minisign_fixtures::keys::{KEY_ID, PUBLIC_BYTES, TIED_TO_ABC, signature_record};
+use minisign_fixtures::keys::{ABC_SECOND_HALF, KEY_ID, PUBLIC_BYTES, signature_record};
 use minisign_fixtures::outcomes::{check_holds_or_out_of_memory, check_holds_or_unwritten};
 use minisign_fixtures::texts::{
     KEY_TEXT, LEGACY_TEXT, SEALED, SECRET_TEXT, SIGNATURE_TEXT, STATUS_LINES,
@@ -67,7 +67,7 @@ fn made(alloc: Global) -> Result<bool> {
 fn has_record(alloc: Global, sig_text: &str) -> Result<bool> {
     let signature_box = read_box(alloc, sig_text)?;
     let bytes = SignatureBones::from(signature_box).to_bytes(alloc)?;
-    let record = signature_record(b"ED", &KEY_ID, &TIED_TO_ABC);
+    let record = signature_record(b"ED", &KEY_ID, &ABC_SECOND_HALF);
     Ok(bytes.as_slice() == record.as_slice())
 }
 
