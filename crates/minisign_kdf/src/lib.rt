@@ -5,7 +5,7 @@
 //! costs time. [`scrypt_in`] does so too, in memory that the caller provides. All three derive the same
 //! key. [`Rows`] are the kept rows, and [`mix_kept`] is the step of scrypt that looks rows up.
 //!
-//! The definitions in `specs/` say what each call computes, in the words of its RFC.
+//! The definitions in `specs/` define the result of each call, with the names of its RFC.
 
 #![tactic(auto)]
 
