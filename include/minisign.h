@@ -269,14 +269,14 @@ enum minisign_error {
     MINISIGN_TARGET_IN_USE = 46,
     /* No version is recorded for this target, and is_first is not set. */
     MINISIGN_NO_RECORD = 47,
-    /* The version record of this target contains no number, and is_first is not set. */
+    /* The version record of this target contains no version number, and is_first is not set. */
     MINISIGN_DAMAGED_RECORD = 48,
     /* The trusted comment does not name the file that the caller expects. */
     MINISIGN_OTHER_FILE = 49,
     /* The trusted comment lacks the field that was chosen for the version number, or the value of the first such
      * field is not a decimal number below 2^64. */
     MINISIGN_NO_NUMBER = 50,
-    /* The version number of the update is below the recorded one. */
+    /* The version number of the update is below the recorded one, and roll_back is not set. */
     MINISIGN_OLDER_UPDATE = 51,
     /* The update is installed but could not be synced, so a crash may bring back the previous file. */
     MINISIGN_DIRECTORY_NOT_SYNCED = 52,

@@ -3,11 +3,14 @@
 //!
 //!     LONG LIST NAME DATA
 //!
-//! LONG is `-`, `sha512` or `blake2b`: what 128 digits mean on a line that does not name its hash
-//! function. LIST, NAME and DATA are hexadecimal digits between brackets, so that no word is empty.
-//! The answer is `ok N`, `mismatch N`, `bad_name`, `malformed N`, `not_listed`, `twice N` or
-//! `not_utf8`. N is the number of a line. The program stops with exit status 3 if a request is
-//! malformed or there is not enough memory.
+//! LONG says how to read a digest of 128 digits on a line that does not name its hash function: as
+//! SHA-512 (`sha512`), as BLAKE2b (`blake2b`), or not at all, so that the line is malformed (`-`).
+//! LIST, NAME and DATA are hexadecimal digits between brackets, so that no word is empty.
+//!
+//! The answer is `ok N` or `mismatch N` if line N of the list has the name, and the data has or does
+//! not have the digest there. Otherwise it is `bad_name`, `malformed N`, `not_listed`, `twice N` or
+//! `not_utf8`, where N is the number of the line at fault. The program stops with exit status 3 if a
+//! request is malformed or there is not enough memory.
 
 #![tactic(auto)]
 
@@ -82,6 +85,7 @@ fn bytes_of(alloc: Global, word: &str) -> Result<Vec<u8>, Answer> {
     }
 }
 
+// Returns the answer to the request in this line.
 fn answer_to(alloc: Global, line: &str) -> Answer {
     let long = match word(line, 0) {
         "-" => LongDigest::Rejected,
@@ -95,7 +99,8 @@ fn answer_to(alloc: Global, line: &str) -> Answer {
     }
 }
 
-// Looks up the name of a request, and compares the data with the digest.
+// Decodes the other words of the request, looks up its name in its list, and compares its data with
+// the digest there.
 fn looked_up(alloc: Global, long: LongDigest, line: &str) -> Result<Answer, Answer> {
     let list = bytes_of(alloc, word(line, 1))?;
     let name = bytes_of(alloc, word(line, 2))?;

@@ -339,7 +339,8 @@ pub kept_steps : (output : Bool) (signed : SignedData) (bytes : Vec ℕ _) (seco
     → Put bytes.items ∷ Flush ∷ [] ≡ held_copy_stages output signed second
 kept_steps _ _ _ _ is_requested is = rw (is_requested, is) refl
 
--- What holds after copying, for a call that had read the data before and whose reader was then mid.
+-- The effects of a call after it has copied the data. `mid` is its reader after the data was read, before it
+-- is read again for the copy.
 record Copied {R O : Type 0} (accepts : Verifier) (pk : PublicKeyRecord) (x : SignatureBoxRecord)
     (output legacy : Bool) (reader : RereaderCall R) (mid : R) (out : SinkCall O) (message : List ℕ)
     : Type 0 where

@@ -1,5 +1,5 @@
--- Lemmas about lines that are written and read back: first lines, graphic characters, and lines
--- with labels.
+-- Lemmas about texts that are written as lines and split into lines again: first lines, graphic characters,
+-- and lines with labels.
 use Rattle.std.proofs.Common.{◌≡◌, ◌≢◌, ◌==◌, subst, ℕ, zero, suc, ◌+◌, ◌-◌, ◌<◌, ◌≤◌, Bool, true, false}
 use Rattle.std.proofs.Common.{◌&&◌, List, [], ◌∷◌, ◌++◌, length, take, slice_index, refl, sym, ap, ◌∙◌}
 use Rattle.std.proofs.Common.{arith, eqb, leb, ⊎_elim, ◌^◌, ◌*◌, ◌/◌, ◌%◌, replicate, nat_lt, get_or}
@@ -76,7 +76,7 @@ IsGraphic c = IsInRange 33 126 c
 abbrev pub AllGraphic : List ℕ → Type 0
 AllGraphic xs = AllByRecursion IsGraphic xs
 
--- If each character of two texts has a property, so has each character of both joined.
+-- If each character of two texts has a property, each character of their concatenation has it too.
 pub each_append : (P : ℕ → Type 0) (xs ys : List ℕ) → AllByRecursion P xs → AllByRecursion P ys
     → AllByRecursion P (xs ++ ys)
 each_append P [] _ h k = k
@@ -104,7 +104,8 @@ is_graphic c = leb 33 c && leb c 126
 graphic_from : (c : ℕ) → is_graphic c ≡ true → IsGraphic c
 graphic_from c h = grind (arith, common_steps)
 
--- A constant text whose characters pass the test for graphic characters has only graphic characters.
+-- If `is_graphic` is true for all characters of a text, AllGraphic holds. For a literal text, `refl` proves
+-- the premise.
 pub graphic_codes : (xs : List ℕ) → all_pass is_graphic xs ≡ true → AllGraphic xs
 graphic_codes = each_passes _ _ graphic_from
 
@@ -249,7 +250,8 @@ shown_one_line (x ∷ xs) h = record {
   no_return = λ e. absurd (omega (arith, e, shown_at (x ∷ xs) (length (x ∷ xs) - 1) h (omega arith)));
 }
 
--- A constant text whose characters all pass `leb 32` satisfies AllShown.
+-- If `leb 32` is true for all characters of a text, AllShown holds. For a literal text, `refl` proves the
+-- premise.
 pub shown_codes : (xs : List ℕ) → all_pass (leb 32) xs ≡ true → AllShown xs
 shown_codes = each_passes _ _ (leb-true 32)
 
@@ -313,8 +315,9 @@ strip_labelled label (y ∷ ys) shown some =
         (length (y ∷ ys) - 1)
     step false = refl
 
--- The lines of a label, a text without a line feed, a line feed and a rest: the first is the label and
--- the text without a carriage return at its end.
+-- If a text begins with a label, a text x without a line feed, and a line feed, its first line is the label
+-- followed by x, without the carriage return at the end of x if there is one. Its other lines are those of
+-- the rest.
 pub lines_labelled : (label x rest : List ℕ) → AllShown label → 0 < length label → LacksByte 10 x
     → lines (line (label ++ x) ++ rest) ≡ (label ++ strip_carriage_return x) ∷ lines rest
 lines_labelled label x rest shown some lacks =

@@ -57,7 +57,7 @@ judge_answers signature comments =
     (Ok tt))
 
 -- All checks of a signature box, in order: success if the box is valid for the message under the
--- public key, and otherwise the first check that fails.
+-- public key, and otherwise the error of the first check that fails.
 abbrev pub judge : Verifier → PublicKeyRecord → SignatureBoxRecord → List ℕ → Bool → Result ⊤ Fault
 judge accepts pk x message legacy =
     and_then (judge_key pk.keynum x.signature legacy) (λ _.

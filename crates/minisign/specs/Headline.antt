@@ -13,9 +13,9 @@ use Rattle.minisign.specs.declared.options.VerifyOptions.{VerifyOptions}
 use Rattle.minisign.specs.Verifying.{ReadsTwice}
 
 -- The verdict on two texts and a message: the trusted comment if the signature is valid, and
--- otherwise the first check that fails. The public key text is parsed first, then the signature
--- text, and then the signature is checked. `legacy` is true if legacy signatures, which sign the
--- message itself, are allowed.
+-- otherwise the error of the first check that fails. The public key text is parsed first, then
+-- the signature text, and then the signature is checked. `legacy` is true if legacy signatures,
+-- which sign the message itself, are allowed.
 unfoldable pub verdict : Verifier → List ℕ → List ℕ → List ℕ → Bool → Result (List ℕ) Fault
 verdict accepts pk_text sig_text message legacy =
     and_then (read_public_key pk_text) (λ key.

@@ -36,12 +36,12 @@ key_in_lines (comment ∷ encoded ∷ later) =
     require (length encoded == 56) named.PublicKeyLineLength
     (decoded_key named.PublicKeyLineNotBase64 (trim encoded))
 
--- The public key in a text, or the first check that fails.
+-- The public key in a text, or the error of the first check that fails.
 unfoldable pub read_public_key : List ℕ → Result PublicKeyRecord Fault
 read_public_key text = key_in_lines (lines text)
 
--- The public key in bare base64, or the first check that fails. The text without white space at its
--- ends has 56 bytes, but the whole text must be base64.
+-- The public key in bare base64, or the error of the first check that fails. The text without white
+-- space at its ends has 56 bytes, but the whole text must be base64.
 unfoldable pub read_bare_public_key : List ℕ → Result PublicKeyRecord Fault
 read_bare_public_key text =
     require (length (trim text) == 56) named.BarePublicKeyLength
@@ -105,7 +105,7 @@ secret_key_in_lines (comment ∷ []) = Err (Named named.MissingEncodedSecretKey)
 secret_key_in_lines (comment ∷ encoded ∷ later) =
     require (is_base64 encoded) named.SecretKeyNotBase64 (read_secret_key_bytes (base64_bytes encoded))
 
--- The secret key in a text, encrypted or not, or the first check that fails.
+-- The secret key in a text, encrypted or not, or the error of the first check that fails.
 unfoldable pub read_secret_key : List ℕ → Result SecretKeyRecord Fault
 read_secret_key text = secret_key_in_lines (lines text)
 

@@ -132,8 +132,8 @@ done_text = codes "done" ++ 10 ∷ []
 abbrev pub read_sealed_key : List ℕ → Result SecretKeyRecord Fault
 read_sealed_key text = and_then (read_secret_key text) sealed_by_scrypt
 
--- The key in a text, decrypted under the password, or the first check that fails. The bound on the
--- parallelization may be absent.
+-- The key in a text, decrypted under the password, or the error of the first check that fails. The
+-- bound on the parallelization may be absent.
 unfoldable pub open_key : List ℕ → List ℕ → Option ℕ → Result SecretKeyRecord Fault
 open_key text password bound = and_then (read_sealed_key text) (λ k. open_sealed k password bound)
 

@@ -61,11 +61,11 @@ signature_in_lines (first ∷ second ∷ third ∷ fourth ∷ later) =
       };
     })))))))
 
--- The signature and its comments in a text, or the first check that fails.
+-- The signature and its comments in a text, or the error of the first check that fails.
 unfoldable pub read_signature : List ℕ → Result SignatureTextRecord Fault
 read_signature text = signature_in_lines (lines text)
 
--- The signature box in a text, or the first check that fails.
+-- The signature box in a text, or the error of the first check that fails.
 abbrev pub read_signature_box : List ℕ → Result SignatureBoxRecord Fault
 read_signature_box text = map_ok box_of (read_signature text)
 

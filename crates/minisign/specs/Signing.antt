@@ -146,7 +146,7 @@ TextSigningHeadline accepts public_of sk_text ahead chosen text = (sk : SecretKe
 
 -- The result of reading a secret key for signing from a text. If the text contains a key that needs
 -- a password, the result is that of decrypting it. Otherwise the prompt is unchanged, and the result
--- is a key that was never encrypted, or the first check that fails.
+-- is a key that was never encrypted, or the error of the first check that fails.
 abbrev pub GivesKey : {R W : Type 0} → PromptCall R W → Option (List ℕ) → List ℕ
     → Result SecretKeyRecord Fault → Type 0
 GivesKey p password text answer = ((is_sealed_text text ≡ true) × IsOpening p password text None answer)

@@ -206,8 +206,8 @@ abbrev pub VerifyingFails : {R W O : Type 0} → Verifier → PublicKeyRecord �
 VerifyingFails accepts pk x options reader status out e = (message : List ℕ) × (second : List ℕ)
     × StagesEnd reader status out (verifying_stages accepts pk x options message second) (Err e)
 
--- The public key and the signature box in two texts, or the first check that fails. The public key
--- is parsed first.
+-- The public key and the signature box in two texts, or the error of the first check that fails.
+-- The public key is parsed first.
 abbrev pub read_texts : List ℕ → List ℕ → Result (PublicKeyRecord × SignatureBoxRecord) Fault
 read_texts pk_text sig_text =
     and_then (read_public_key pk_text) (λ key. map_ok (λ box. (key, box)) (read_signature_box sig_text))

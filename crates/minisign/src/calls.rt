@@ -49,8 +49,8 @@ pub fn verify_with<S: Scheme, R: Rereader, W: Sink, O: Sink>(
     out: &mut O,
 ) -> Result<String>
     // Provided that the source's bytes are known, that no device fails and, if the data is copied, that the
-    // source is steady, the result is out of memory or exactly the verdict on the two texts and the data: the
-    // trusted comment if the signature is valid, and otherwise the first check that fails.
+    // source is steady, the result is out of memory or exactly the verdict on the two texts and the data:
+    // the trusted comment if the signature is valid, and otherwise the error of the first check that fails.
     ensures headline { IsVerdictIfNothingFails (S.accepts scheme.now) pk_text.now sig_text.now options
         (rereader_call R.Source R.steady data_reader.old data_reader.new) (sink_call W.Sink status.old
         status.new) (sink_call O.Sink out.old out.new) (map_ok string_bytes result) }
@@ -128,7 +128,7 @@ pub fn verify_bytes<S: Scheme>(
     message: &[u8],
 ) -> Result<String>
     // The result is out of memory or exactly the verdict on the two texts and the message: the trusted
-    // comment if the signature is valid, and otherwise the first check that fails.
+    // comment if the signature is valid, and otherwise the error of the first check that fails.
     ensures { IsValueOrNoMemory (map_ok string_bytes result)
         (verdict (S.accepts scheme.now) pk_text.now sig_text.now message.now false) }
 {
@@ -161,8 +161,8 @@ pub fn verify_in_place<'a, S: Scheme>(
     requires { length sig_text.now ≤ length room.old }
 
     // For every scheme, all texts and every message, the result is exactly the verdict: the trusted comment
-    // if the signature is valid, and otherwise the first check that fails. The verdict is a function of the
-    // two texts, the message and `allow_legacy`.
+    // if the signature is valid, and otherwise the error of the first check that fails. The verdict is a
+    // function of the two texts, the message and `allow_legacy`.
     ensures { map_ok (λ t. t.now) result
         ≡ verdict (S.accepts scheme.now) pk_text.now sig_text.now message.now allow_legacy }
 {
@@ -234,7 +234,7 @@ pub fn verify_reader<S: Scheme, R: Rereader>(
 ) -> Result<String>
     // Provided that the source's bytes are known and that it does not fail, the result is out of memory or
     // exactly the verdict on the two texts and the data: the trusted comment if the signature is valid, and
-    // otherwise the first check that fails.
+    // otherwise the error of the first check that fails.
     ensures headline { IsVerdictIfNothingFails (S.accepts scheme.now) pk_text.now sig_text.now
         (options_of true false false) (rereader_call R.Source R.steady data_reader.old data_reader.new)
         no_sink
@@ -319,7 +319,7 @@ pub fn copy_verified<S: Scheme, R: Rereader, O: Sink>(
 ) -> Result<String>
     // Provided that the source is steady, that its bytes are known and that no device fails, the result is
     // out of memory or exactly the verdict on the two texts and the data: the trusted comment if the
-    // signature is valid, and otherwise the first check that fails.
+    // signature is valid, and otherwise the error of the first check that fails.
     ensures headline { IsVerdictIfNothingFails (S.accepts scheme.now) pk_text.now sig_text.now
         (options_of true true false) (rereader_call R.Source R.steady data_reader.old data_reader.new) no_sink
         (sink_call O.Sink out.old out.new) (map_ok string_bytes result) }

@@ -97,7 +97,7 @@ impl<'a> SignatureView<'a> {
 /// second line that is not base64, fewer than 42 bytes. Does not allocate.
 pub fn read_public_key(text: &str) -> Result<PublicKey>
     // The result depends only on the text: it is the public key in the text, as the grammar defines it, or
-    // the first check that fails.
+    // the error of the first check that fails.
     ensures { result ≡ read_public_key text.now }
 {
     let mut lines = text.lines();
@@ -116,8 +116,8 @@ pub fn read_public_key(text: &str) -> Result<PublicKey>
 /// text that is not base64, which includes one with white space at its ends; fewer than 42 decoded bytes.
 /// Does not allocate.
 pub fn read_bare_public_key(text: &str) -> Result<PublicKey>
-    // The result depends only on the text: it is the public key whose base64 is the text, or the first
-    // check that fails.
+    // The result depends only on the text: it is the public key whose base64 is the text, or the error
+    // of the first check that fails.
     ensures { result ≡ read_bare_public_key text.now }
 {
     if text.trim().len() != ENCODED_BYTES {
@@ -137,8 +137,8 @@ pub fn read_bare_public_key(text: &str) -> Result<PublicKey>
 /// algorithm other than `Ed` and `ED`; a fourth line that is not base64. Does not allocate.
 pub fn read_signature(text: &str) -> Result<SignatureView<'_>>
     // The result depends only on the text: it is the signature in the text with its comments, as the
-    // grammar defines them, or the first check that fails. Only the first 64 bytes of the comment signature
-    // are returned.
+    // grammar defines them, or the error of the first check that fails. Only the first 64 bytes of the
+    // comment signature are returned.
     ensures view { result ≡ map_ok view_of (read_signature text.now) }
 
     // On success, the trusted comment is at least 64 bytes shorter than the text.

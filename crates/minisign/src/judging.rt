@@ -20,7 +20,8 @@ use minisign_hash::blake2b::Blake2b;
 /// signature must be prehashed unless `allow_legacy` is set (`LegacyNotAccepted`). Does not allocate.
 pub fn judge_key(key_id: &[u8; 8], signature: &Signature, allow_legacy: bool) -> Result<()>
     // Succeeds exactly if the signature has this key ID and is prehashed or `allow_legacy` is set.
-    // Otherwise the error is the first check that fails: the key ID, then the kind of signature.
+    // Otherwise the error is that of the first check that fails: the key ID, then the kind of
+    // signature.
     ensures { result ≡ judge_key key_id.now signature.now allow_legacy }
 {
     if signature.keynum != *key_id {

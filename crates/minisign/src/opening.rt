@@ -157,14 +157,14 @@ impl SecretKey {
         max_p: u32,
     ) -> Result<SecretKey>
         // With a given password, the result is the key in the text, decrypted under this password within
-        // the bound, or the first check that fails; or it is out of memory, which is possible only for a
-        // key whose derivation is allowed. The prompt is unchanged.
+        // the bound, or the error of the first check that fails; or it is out of memory, which is
+        // possible only for a key whose derivation is allowed. The prompt is unchanged.
         //
         // Without a given password, a text that no password can decrypt is rejected with the prompt
         // unchanged. Otherwise the prompt asks for the password and writes what docs/FORMATS.md says, and
         // on success the key is decrypted with the password that was typed. An error is one of the prompt
-        // or the first check that fails for the key and the password, after what was written up to that
-        // point.
+        // or the error of the first check that fails for the key and the password, after what was written
+        // up to that point.
         ensures opens { IsOpening (prompt_call R.Source W.Sink prompt.old prompt.new)
             (option_map string_bytes password) sk_box (Some max_p) result }
 
@@ -215,7 +215,7 @@ impl SecretKey {
     /// allocate.
     pub fn from_unencrypted_box(sk_box: SecretKeyBox) -> Result<SecretKey>
         // Succeeds exactly if the text parses to a key that names no key derivation and whose checksum
-        // matches. Otherwise the error is the first check that fails.
+        // matches. Otherwise the error is that of the first check that fails.
         ensures { result ≡ read_unencrypted_key sk_box }
     {
         let sk = SecretKey::from_text(sk_box.as_str())?;
@@ -270,8 +270,8 @@ impl SecretKey {
         requires k_positive { 1 ≤ k }
 
         // For every k, the result is out of memory or exactly what the key decrypts to under the password:
-        // the decrypted key, or the first check that fails. Out of memory is possible only for a key that
-        // is encrypted with scrypt, with limits that are allowed and p within the bound.
+        // the decrypted key, or the error of the first check that fails. Out of memory is possible only
+        // for a key that is encrypted with scrypt, with limits that are allowed and p within the bound.
         ensures { (result ≡ and_then (sealed_by_scrypt self) (λ sealed. open_sealed sealed password.now
             (Some max_p))) ⊎ ((result ≡ Err (Named OutOfMemory)) × IsOk
             (and_then (sealed_by_scrypt self) (λ sealed. allowed_work sealed (Some max_p)))) }
@@ -321,7 +321,8 @@ impl SecretKey {
         requires bytes { (opening_memory self k).1 ≤ length bytes.old }
 
         // Whatever the caller's memory held, the result is exactly what the key decrypts to under the
-        // password: the decrypted key, or the first check that fails. It is never out of memory.
+        // password: the decrypted key, or the error of the first check that fails. It is never out of
+        // memory.
         ensures opens { (text : List ℕ) → read_secret_key text ≡ Ok self
             → result ≡ open_key text password.now (Some max_p) }
         ensures result { result ≡ and_then (sealed_by_scrypt self)

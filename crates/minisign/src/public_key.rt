@@ -76,7 +76,7 @@ impl PublicKey {
     /// second line that is not base64, fewer than 42 bytes. Does not allocate.
     pub fn from_box(_alloc: Global, public_key_box: PublicKeyBox) -> Result<PublicKey>
         // The result depends only on the text: it is the public key in the text, as the grammar defines it,
-        // or the first check that fails.
+        // or the error of the first check that fails.
         ensures { result ≡ read_public_key public_key_box }
     {
         read_public_key(public_key_box.as_str())
@@ -103,8 +103,8 @@ impl PublicKey {
     /// trimmed; a text that is not base64, which includes one with white space at its ends; fewer than 42
     /// decoded bytes. Does not allocate.
     pub fn from_base64(_alloc: Global, text: &str) -> Result<PublicKey>
-        // The result depends only on the text: it is the public key whose base64 is the text, or the first
-        // check that fails.
+        // The result depends only on the text: it is the public key whose base64 is the text, or the error
+        // of the first check that fails.
         ensures { result ≡ read_bare_public_key text.now }
     {
         read_bare_public_key(text)

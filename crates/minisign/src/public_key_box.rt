@@ -59,7 +59,8 @@ impl PublicKeyBox {
 
     /// Parses the public key in the text, as `PublicKey::from_box` does.
     pub fn into_public_key(self, alloc: Global) -> Result<PublicKey>
-        // The text is parsed as `PublicKey::from_box` promises.
+        // The result is the public key in the text, or the error of the first check that
+        // fails.
         ensures { result ≡ read_public_key self }
     {
         PublicKey::from_box(alloc, self)

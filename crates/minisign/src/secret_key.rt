@@ -213,7 +213,7 @@ impl SecretKey {
     /// than 158 bytes. Does not allocate.
     pub fn from_text(text: &str) -> Result<SecretKey>
         // The result depends only on the text: it is the secret key in the text, encrypted or not, as the
-        // grammar defines it, or the first check that fails.
+        // grammar defines it, or the error of the first check that fails.
         ensures { result ≡ read_secret_key text.now }
     {
         let record = read_secret_key(text)?;

@@ -39,9 +39,9 @@ pub fn verify_texts<S: Scheme, R: Rereader, W: Sink, O: Sink>(
     out: &mut O,
 ) -> Result<()>
     // Provided that the source's bytes are known, that no device fails and, if the data is copied, that the
-    // source is steady, the result is out of memory or exactly the verdict: success if the signature is valid
-    // for the data under the public key, and otherwise the first check that fails. The verdict is a function
-    // of the two texts, the data and `allow_legacy`.
+    // source is steady, the result is out of memory or exactly the verdict: success if the signature is
+    // valid for the data under the public key, and otherwise the error of the first check that fails. The
+    // verdict is a function of the two texts, the data and `allow_legacy`.
     ensures headline { IfNothingFails output (rereader_call R.Source R.steady data_reader.old
         data_reader.new) (sink_call W.Sink status.old status.new) (sink_call O.Sink out.old out.new) result
         (λ bytes. map_ok (λ _. tt)

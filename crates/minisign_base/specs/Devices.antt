@@ -74,7 +74,8 @@ pub record HasGoneBack {S A E : Type 0} (ahead_of behind_of since_of : S → Opt
   pub unmarked : OnErr answer (is_marked_of new ≡ false)
   pub since : OnOk answer (IsEmptyIfKnown (since_of new))
 
--- Filling a buffer: it holds the next bytes.
+-- Filling a buffer: on success, it holds the next bytes of the source. After an error, a prefix of the unread
+-- bytes may be lost.
 pub record HasFilled {S A E : Type 0} (ahead_of : S → Option (List ℕ)) (faults_of : S → ℕ)
     (old new : S) (buffer : List ℕ) (answer : Result A E) : Type 0 where
   pub bytes : OnOk answer (Consumes (ahead_of old) (ahead_of new) buffer)

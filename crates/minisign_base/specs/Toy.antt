@@ -26,20 +26,20 @@ abbrev pub random_half : Option (List ℕ) → List ℕ
 random_half (Some z) = take 32 z
 random_half None = replicate 32 0
 
--- The second half of a signature: the xor of the random half, the public key and the folded
--- message.
-abbrev pub tied_half : List ℕ → List ℕ → List ℕ → List ℕ
-tied_half random key m = zip2 bit_xor (zip2 bit_xor random key) (fold_of m)
+-- The second half of a signature, which the check computes again: the xor of the random half, the public key
+-- and the folded message.
+abbrev pub checked_half : List ℕ → List ℕ → List ℕ → List ℕ
+checked_half random key m = zip2 bit_xor (zip2 bit_xor random key) (fold_of m)
 
 -- A signature: the random half and the second half. The public key is the last 32 of the secret
 -- bytes.
 abbrev pub toy_signature_of : List ℕ → List ℕ → Option (List ℕ) → List ℕ
-toy_signature_of m secret z = random_half z ++ tied_half (random_half z) (drop 32 secret) m
+toy_signature_of m secret z = random_half z ++ checked_half (random_half z) (drop 32 secret) m
 
 -- The check of the toy scheme: the second half of the signature is the xor of the first half, the
 -- public key and the folded message.
 abbrev pub toy_accepts : List ℕ → List ℕ → List ℕ → Bool
-toy_accepts m key signature = bytes_eq (drop 32 signature) (tied_half (take 32 signature) key m)
+toy_accepts m key signature = bytes_eq (drop 32 signature) (checked_half (take 32 signature) key m)
 
 -- The table contains this message, public key and signature as one triple.
 abbrev pub is_listed : List Triple → List ℕ → List ℕ → List ℕ → Bool

@@ -6,7 +6,7 @@ use Rattle.std.proofs.lemmas.List.{drop_at, length-replicate, length-take-le, ta
 use Rattle.std.proofs.lemmas.Slice.Eq.{bytes_eq-Decides}
 use Rattle.minisign_base.specs.Scheme.{IsBytes, AreRandomBytes}
 use Rattle.minisign_base.specs.Toy.{toy_public_of, toy_signature_of, toy_accepts, toy_accepts_with, is_listed}
-use Rattle.minisign_base.specs.Toy.{random_half, tied_half}
+use Rattle.minisign_base.specs.Toy.{random_half, checked_half}
 use Rattle.minisign_base.specs.declared.toy.Triple.{Triple}
 
 -- The random half has 32 bytes.
@@ -21,9 +21,9 @@ tied_accepted seed m z bytes len message nonce =
     let random = random_half z in
     let size = length-random_half z nonce in
     let key = toy_public_of seed in
-    let tied = tied_half random (drop 32 (seed ++ key)) m in
+    let tied = checked_half random (drop 32 (seed ++ key)) m in
     rw (take_at random tied 32 size, drop_at random tied 32 size, drop_at seed key 32 len)
-    ((bytes_eq-Decides (tied_half random key m) (tied_half random key m)).1 refl)
+    ((bytes_eq-Decides (checked_half random key m) (checked_half random key m)).1 refl)
 
 pub own_accepted : (table : List Triple) (seed m : List ℕ) (z : Option (List ℕ)) → IsBytes seed
     → length seed ≡ 32

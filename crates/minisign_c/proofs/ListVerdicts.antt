@@ -1,5 +1,9 @@
--- Lemmas about the error number of checking a file against a signed list with several calls
--- (`check_listed_in_sequence`).
+-- Lemmas about `check_listed_in_sequence`, which checks a file against a signed list by calling the library
+-- for C several times: it verifies the list, finds the entry, and compares the digest. The lemmas show that
+-- the error number at which it stops is strict_listed_number, the number of the verdict of the whole check.
+--
+-- To verify the list, the application first calls `minisign_list_ask`, which returns the two signatures that
+-- its scheme must check (the "questions"), and passes the two results to `minisign_list_verdict`.
 use Rattle.std.proofs.Common.{◌≡◌, ◌∙◌, ◌<◌, ◌≤◌, ◌+◌, ◌==◌, ◌&&◌, ℕ, Bool, true, false, if◌then◌else◌, List}
 use Rattle.std.proofs.Common.{[]}
 use Rattle.std.proofs.Common.{Option, Some, None, Result, Ok, Err, length, take, ap, sym, refl, arith, subst}
@@ -93,9 +97,9 @@ module _ (accepts : Verifier) (v : PublicKeyValue) (sig_text text : List ℕ) (n
         none ∙ weak_number_if_positive (is_strict_text v u) _ (subst (λ (k : ℕ). 0 < k) none some)
     number_of_failed_ask (Err e) is some = rw is refl
 
-    -- If `minisign_list_ask_any` fails for another reason than misuse, so that Ed25519 is not called, the
-    -- verdict on the list under the strict scheme (which rejects weak keys and signatures) has the same error
-    -- number.
+    -- If `minisign_list_ask_any` fails for a reason other than misuse, the verdict on the list under the
+    -- strict scheme (which rejects weak keys and signatures) has the same error number. The scheme is then
+    -- not called.
     pub failed_ask_number : (n : ℕ) → is_public_key v ≡ true → n ≡ asking_list_number v sig_text t room
         → 0 < n
         → n ≡ strict_read v (read_under v false sig_text) (list_verdict_number strict_list)
@@ -120,8 +124,9 @@ module _ (accepts : Verifier) (v : PublicKeyValue) (sig_text text : List ℕ) (n
       (λ comment. and_then (check_list_name name comment) (λ _. Ok comment))))
       (strict_same accepts v sig_text text t read h))
 
--- The scheme's results for the questions about a list are the results of the two checks on which its verdict
--- depends.
+-- If `first` and `second` are the scheme's results for the two questions about a list, they are the results
+-- of the two signature checks on which the verdict on the list depends: of the digest of the list, and of
+-- the message of the comment signature.
 pub list_answered : (accepts : Verifier) (v : PublicKeyValue) (sig_text text room : List ℕ)
     (t : SignatureTextRecord) (q : Questions) → read_under v false sig_text ≡ Ok t → AreQuestions q room v t
     → q.digest ≡ blake2b_digest 64 text
@@ -153,7 +158,8 @@ same_bytes : (b : Bool) → b ≡ true → ◌≡◌ {A = Result ⊤ Misuse} (if
 same_bytes true h = refl
 same_bytes false h = cc h
 
--- If the verdict on a list has the number 0, the list is verified, and `text` is accepted as its text.
+-- If `minisign_list_verdict` returns 0, the list is marked as verified, and later calls accept `text`, whose
+-- digest it has, as its text.
 pub verified_text_of : (l new : ListValue) (first second n : ℕ) (text : List ℕ)
     → ◌≡◌ {A = ℕ × ListValue} (n, new) (list_outcome_number l first second) → n ≡ 0
     → l.text_digest ≡ blake2b_digest 64 text → text_check new text ≡ Ok tt
@@ -171,7 +177,7 @@ weak_chosen : (s : Bool) (n m : ℕ) → n ≡ (if s then 0 else weak_number) �
 weak_chosen true n m is some = absurd (omega (arith, is, some))
 weak_chosen false n m is some = is
 
--- If checking the list returns a number other than 0, the whole check returns the same number.
+-- If verifying the list fails, the whole check fails with the same error number.
 pub failed_list : (v : PublicKeyValue) (r : Result SignatureTextRecord Fault) (l : Result (List ℕ) ListFault)
     (more : List ℕ → Result (List ℕ) (Refusal ListFault)) (n : ℕ)
     → n ≡ strict_read v r (list_verdict_number l) → 0 < n
@@ -207,7 +213,8 @@ contradiction_if_positive : (s : Bool) (n m : ℕ) → 0 < n → 0 ≡ (if s the
 contradiction_if_positive true n m some none = absurd (omega (arith, some, none))
 contradiction_if_positive false n m some none = absurd (omega (arith, none))
 
--- If the list is verified, the number of the whole check is that of checking the data against its entry.
+-- If the list is verified, the error number of the whole check is that of finding the entry and comparing the
+-- digest of the data with it.
 pub passed_list : (v : PublicKeyValue) (r : Result SignatureTextRecord Fault) (l : Result (List ℕ) ListFault)
     (e : Result Entry (Refusal ListFault)) (m : List ℕ) → 0 ≡ strict_read v r (list_verdict_number l)
     → data_number e m ≡ strict_read v r (listed_number (go_on (of_lists l) (λ comment. go_on e (λ entry.
@@ -223,6 +230,7 @@ passed_list v (Err f) (Err x) e m none = absurd (omega (arith, none, list_positi
 -- == Looking up a name ==
 
 module _ (l : ListValue) (x : Lookup) (verified : text_check l x.text ≡ Ok tt) where
+  -- In a verified list, finding an entry is looking up its name in the text.
   pub found_as : (long : LongDigest) → found_entry l x.text long x.name
       ≡ go_on (utf8_text x.text) (λ list. go_on (utf8_text x.name) (λ name.
       of_lists (listed_entry long list name)))
@@ -238,7 +246,7 @@ error_of (Ok e) text old new n line m returned some =
     let none : n ≡ 0 = ap (λ p. p.0) returned in absurd (omega (arith, none, some))
 error_of (Err r) text old new n line m returned some = ap (λ p. p.0) returned
 
--- If finding the entry fails, checking the data fails with the same error number.
+-- If finding the entry fails, the check of the data fails with the same error number.
 pub not_found_number : (l : ListValue) (x : Lookup) → text_check l x.text ≡ Ok tt → (long : Option LongDigest)
     → x.long ≡ long → (old new : EntryValue) (n line : ℕ) (m : List ℕ)
     → ◌≡◌ {A = ℕ × (EntryValue × ℕ)} (n, (new, line)) (finding_number long l x.text x.name old) → 0 < n
@@ -284,8 +292,8 @@ number_of_digest : (b : Bool) → (if b then 0 else list_number DigestMismatch)
 number_of_digest true = refl
 number_of_digest false = refl
 
--- If the entry was found, the number of checking the data is 0 or, if its digest differs, that of
--- DigestMismatch.
+-- If the entry was found, the error number of the check of the data is 0 or, if its digest is different, that
+-- of DigestMismatch.
 pub data_of_found : (l : ListValue) (x : Lookup) (m : List ℕ) → text_check l x.text ≡ Ok tt → (f : Found l x)
     → (if has_digest f.entry.digest m then 0 else list_number DigestMismatch) ≡ data_number (looked_up x) m
 data_of_found l x m verified f =
@@ -325,8 +333,8 @@ module _ (accepts : Verifier) (v : PublicKeyValue) (sig_text : List ℕ) (x : Lo
   pub accepted_list : (strict_listed_number accepts v sig_text x m == 0) ≡ is_ok whole
   accepted_list = read_of (read_under v false sig_text) refl
 
--- The number is 0 exactly if the verdict is success for the scheme that also rejects weak keys and
--- signatures.
+-- The error number is 0 exactly if the verdict is success under the strict scheme, which also rejects weak
+-- keys and signatures.
 pub accepted_listed : (accepts : Verifier) (sig_text : List ℕ) (x : Lookup) (m : List ℕ)
     (key : Result PublicKeyRecord Fault)
     → (number_with_key key (λ k. strict_listed_number accepts (value_of k) sig_text x m) == 0)

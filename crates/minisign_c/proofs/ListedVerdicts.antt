@@ -1,5 +1,5 @@
--- If all texts are UTF-8, the verdict that the calls for lists return is `listed_verdict`, the verdict of the
--- definition.
+-- Proves that the verdict of the calls for lists is `listed_verdict`, if all texts are UTF-8. The calls make
+-- the checks one after another, and the definition chains them in another way.
 use Rattle.std.proofs.Common.{◌≡◌, ◌∙◌, ◌==◌, ℕ, false, List, Option, Some, Result, Ok, Err, refl, ap}
 use Rattle.std.specs.Prelude.{⊤, is_ok}
 use Rattle.minisign_base.specs.Fault.{Fault}
@@ -25,21 +25,21 @@ use Rattle.minisign_c.proofs.ListVerdicts.{accepted_listed}
 
 -- == The order of the checks ==
 
--- Comparing the digest has the same result in both forms.
+-- The calls and the definition have the same result for comparing the digest.
 checked_digest : (d : Result ⊤ ListFault) (comment : List ℕ)
     → ◌≡◌ {A = Result (List ℕ) (Refusal ListFault)} (go_on (of_lists d) (λ _. Ok comment))
     (of_lists (and_then d (λ _. Ok comment)))
 checked_digest (Ok t) comment = refl
 checked_digest (Err e) comment = refl
 
--- Finding the entry and the checks after that have the same result in both forms.
+-- They have the same result for finding the entry and the checks after that.
 checked_entry : (e : Result Entry ListFault) (m comment : List ℕ)
     → go_on (of_lists e) (λ entry. go_on (of_lists (check_digest entry.digest m)) (λ _. Ok comment))
     ≡ of_lists (and_then e (λ entry. and_then (check_digest entry.digest m) (λ _. Ok comment)))
 checked_entry (Ok e) m comment = checked_digest (check_digest e.digest m) comment
 checked_entry (Err f) m comment = refl
 
--- Checking the name of the list and the checks after that have the same result in both forms.
+-- They have the same result for checking the name of the list and the checks after that.
 checked_name : (c : Result ⊤ ListFault) (e : Result Entry ListFault) (m comment : List ℕ)
     → go_on (of_lists (and_then c (λ _. Ok comment))) (λ comment. go_on (of_lists e) (λ entry.
     go_on (of_lists (check_digest entry.digest m)) (λ _. Ok comment)))

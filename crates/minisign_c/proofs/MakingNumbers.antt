@@ -1,5 +1,5 @@
--- If the password and the sealing are allowed, the error number of writing a secret key file is that of an
--- error of IsMakingRefusal.
+-- Proves that, if the password and the sealing are allowed, the error number of writing a secret key file is
+-- that of an error of IsMakingRefusal.
 use Rattle.std.proofs.Common.{◌≡◌, ℕ, List, Option, Some, None, refl}
 use Rattle.minisign_base.specs.Fault.{Fault}
 use Rattle.minisign.specs.declared.making.Sealing.{Sealing}

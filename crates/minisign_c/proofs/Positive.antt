@@ -1,4 +1,4 @@
--- No error of the library has the number 0, which means success.
+-- Proves that no error of the library has the number 0, which means success.
 use Rattle.std.proofs.Common.{◌<◌, lit<}
 use Rattle.minisign_base.specs.Fault.{Fault, Named, Custom}
 use Rattle.minisign_base.specs.Faults.{fault_row}

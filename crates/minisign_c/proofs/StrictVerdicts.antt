@@ -1,4 +1,5 @@
--- Lemmas about the number of the verdict of a scheme that also rejects weak public keys and signatures.
+-- Lemmas about the error number of the verdict under the strict scheme, which also rejects weak public keys
+-- and signatures.
 use Rattle.std.proofs.Common.{◌≡◌, ◌∙◌, ◌<◌, ◌≤◌, ◌+◌, ◌==◌, ◌&&◌, ◌||◌, not, ℕ, Bool, true, false}
 use Rattle.std.proofs.Common.{if◌then◌else◌, List, length, Result, Ok, Err, ap, sym, refl, arith, subst}
 use Rattle.std.proofs.Common.{ne_eqb, le-leb, nat_le, take, [], ◌++◌}
@@ -168,11 +169,11 @@ module _ (accepts : Verifier) (v : PublicKeyValue) (text message : List ℕ) (ro
       none ∙ weak_number_if_positive (is_strict_text v u) _ (subst (λ (k : ℕ). 0 < k) none some)
   number_of_failed_ask (Err e) is some = rw is refl
 
-  -- If asking a new state fails, the verdict has the same number.
-  pub unasked : (s : State) (n : ℕ) → is_public_key v ≡ true → IsFedState s [] → IsBlank s
+  -- If asking a new state fails (`minisign_ask`), the verdict has the same error number.
+  pub failed_ask_number : (s : State) (n : ℕ) → is_public_key v ≡ true → IsFedState s [] → IsBlank s
       → n ≡ asked_number (asked_strictly (is_strict_text v t) (asking_under s v text false room)) → 0 < n
       → n ≡ strict_verdict_number accepts v text message false
-  unasked s n public fed blank is some =
+  failed_ask_number s n public fed blank is some =
       let may : may_ask s ≡ true = rw (fed.mark, blank.asked) refl in
       let returned : n ≡ asked_number (asked_strictly (is_strict_text v t)
       (asked_under (read_under v false text) room)) =

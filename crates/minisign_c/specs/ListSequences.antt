@@ -21,8 +21,8 @@ use Rattle.minisign_lists.specs.Values.{go_on, list_verdict_under, long_numbered
 use Rattle.minisign_lists.specs.Verdicts.{check_digest}
 use Rattle.minisign_c.specs.ListCalls.{list_refusal}
 
--- The lookup of a file in a signed list: the name of the list, its text, the hash function that 128 digits
--- stand for, and the name of the file.
+-- The lookup of a file in a signed list: the name of the list, its text, the hash function of 128 digits on a
+-- line that does not name it, and the name of the file.
 pub record Lookup : Type 0 where
   pub list_name : List ℕ
   pub text : List ℕ
@@ -40,12 +40,12 @@ pub record AreUtf8 (pk_text sig_text list name : List ℕ) : Type 0 where
   pub text : is_utf8 list ≡ true
   pub called : is_utf8 name ≡ true
 
--- The hash function that 128 digits stand for, or BadHash if the caller passed an unknown number.
+-- The hash function of 128 digits, or BadHash if the caller passed an unknown number.
 abbrev pub meaning_of : Option LongDigest → Result LongDigest (Refusal ListFault)
 meaning_of None = Err (WrongUse BadHash)
 meaning_of (Some long) = Ok long
 
--- The only entry of the name in the list, or the first check that fails.
+-- The only entry of the name in the list, or the error of the first check that fails.
 abbrev pub looked_up : Lookup → Result Entry (Refusal ListFault)
 looked_up x =
     go_on (meaning_of x.long) (λ long.

@@ -7,8 +7,8 @@ use Rattle.minisign_external.specs.States.{HasAsked, is_begun}
 use Rattle.minisign_external.specs.declared.public_keys.PublicKeyValue.{PublicKeyValue}
 use Rattle.minisign_external.specs.declared.state.State.{State}
 
--- The state was asked about the key and the signature file and is not finished, and the number is the
--- scheme's result of the second check.
+-- The state was asked about the key and the signature file (`minisign_ask`), no verdict has finished it, and
+-- the number is the scheme's result of the second check.
 pub record CommentIsAnswered (s : State) (accepts : Verifier) (v : PublicKeyValue) (sig_text : List ℕ)
     (legacy : Bool) (second : ℕ) : Type 0 where
   pub asked : HasAsked s v sig_text legacy

@@ -368,8 +368,8 @@ pub extern "C" fn minisign_judge_comment(
     number: &mut u64,
 ) -> u32
     // If all checks pass, the result is 0, and `number` is the version number. Otherwise the result is the
-    // number of the first check that fails, and `number` is unchanged. If `numbering` is neither 0 nor 1, the
-    // error is `BadNumbering`.
+    // error number of the first check that fails, and `number` is unchanged. If `numbering` is neither 0 nor
+    // 1, the error is `BadNumbering`.
     ensures { ReturnsVersionOf comment.now file.now numbering now kept result number.old number.new }
 {
     let Some(numbering) = Numbering::of_number(numbering) else {

@@ -215,8 +215,8 @@ pub extern "C" fn minisign_digest(state: &mut State, digest: &mut [u8; 64]) -> u
 #[unsafe(no_mangle)]
 pub extern "C" fn minisign_read_public_key(pk_text: &[u8], key: &mut PublicKeyValue) -> u32
     // On success, `key` holds the key and the key ID of the public key file, and is marked as read. The file
-    // must be UTF-8. Otherwise, or if it does not parse, the result is the number of the first check that
-    // fails, and `key` is unchanged.
+    // must be UTF-8. Otherwise, or if it does not parse, the result is the error number of the first check
+    // that fails, and `key` is unchanged.
     ensures { (result, key.new) ≡ key_outcome_number (read_utf8 read_public_key pk_text.now) key.old }
 {
     number_of!(store_public_key(pk_text, key))
@@ -225,9 +225,9 @@ pub extern "C" fn minisign_read_public_key(pk_text: &[u8], key: &mut PublicKeyVa
 /// Reads the bare base64 of a public key, as updaters embed it. Does not allocate.
 #[unsafe(no_mangle)]
 pub extern "C" fn minisign_read_bare_public_key(base64: &[u8], key: &mut PublicKeyValue) -> u32
-    // On success, `key` holds the key and the key ID of the base64 text, and is marked as read. The text must
-    // be UTF-8. Otherwise, or if it does not parse, the result is the number of the first check that fails,
-    // and `key` is unchanged.
+    // On success, `key` holds the key and the key ID of the base64 text, and is marked as read. The text
+    // must be UTF-8. Otherwise, or if it does not parse, the result is the error number of the first check
+    // that fails, and `key` is unchanged.
     ensures { (result, key.new) ≡ key_outcome_number (read_utf8 read_bare_public_key base64.now) key.old }
 {
     number_of!(store_bare_public_key(base64, key))
@@ -259,7 +259,7 @@ pub extern "C" fn minisign_public_key_record(key: &PublicKeyValue, bytes: &mut [
 pub extern "C" fn minisign_read_signature(sig_text: &[u8], signature: &mut SignatureValue) -> u32
     // On success, `signature` holds the key ID, the algorithm and both signatures of the text, and the
     // position at which the trusted comment is in the text. The text must be UTF-8. Otherwise, or if it does
-    // not parse, the result is the number of the first check that fails, and `signature` is unchanged.
+    // not parse, the result is the error number of the first check that fails, and `signature` is unchanged.
     ensures number { (result, signature.new)
         ≡ signature_outcome (read_signature_value sig_text.now) signature.old }
     ensures read { result ≡ 0 → (t : SignatureTextRecord) × IsReadFrom signature.new sig_text.now t }
@@ -280,8 +280,8 @@ pub extern "C" fn minisign_read_signature_record(
     signature: &mut SignatureValue,
 ) -> u32
     // On success, `signature` holds the key ID, the algorithm and the signature that the first 74 bytes of
-    // `bytes` contain, and no comments. Otherwise the result is the number of the first check that fails,
-    // fewer bytes and then an algorithm other than `Ed` and `ED`, and `signature` is unchanged.
+    // `bytes` contain, and no comments. Otherwise the result is the error number of the first check that
+    // fails, fewer bytes and then an algorithm other than `Ed` and `ED`, and `signature` is unchanged.
     ensures { (result, signature.new) ≡ signature_outcome (read_bare_value bytes.now) signature.old }
 {
     match SignatureValue::read_record(bytes) {
@@ -398,9 +398,9 @@ pub extern "C" fn minisign_verdict(state: &mut State, first: u32, second: u32) -
         → IsAnswered state.old accepts v sig_text message legacy first second
         → result ≡ verdict_number (verdict_under accepts v sig_text message legacy) }
 
-    // **So for every public key file that contains this key: the result is 0 exactly if the signature file is
-    // a valid signature of the message under that public key. Otherwise it is the number of the first check
-    // that fails.**
+    // **So for every public key file that contains this key: the result is 0 exactly if the signature file
+    // is a valid signature of the message under that public key. Otherwise it is the error number of the
+    // first check that fails.**
     ensures same_verdict_as_texts { (v : PublicKeyValue) (pk_text sig_text message : List ℕ) (legacy : Bool)
         (accepts : Verifier) → IsAnswered state.old accepts v sig_text message legacy first second
         → IsKeyText pk_text v → GivesNumber accepts pk_text sig_text message legacy result }
@@ -455,7 +455,7 @@ pub extern "C" fn minisign_ask_bare(
 pub extern "C" fn minisign_bare_verdict(state: &mut State, first: u32) -> u32
     // **After a successful `minisign_ask_bare` and the digest, for every scheme and every message for which
     // `first` is the result of the check: the result is 0 exactly if the bare signature is valid for the
-    // message under the key. Otherwise it is the number of the first check that fails.**
+    // message under the key. Otherwise it is the error number of the first check that fails.**
     ensures verdict { (v : PublicKeyValue) (s : SignatureRecord) (message : List ℕ) (legacy : Bool)
         (accepts : Verifier) → HasAskedBare state.old v s legacy → IsMarkedFinalized state.old
         → IsAnswer first
@@ -477,7 +477,7 @@ pub extern "C" fn minisign_bare_verdict(state: &mut State, first: u32) -> u32
 #[unsafe(no_mangle)]
 pub extern "C" fn minisign_read_secret_key(sk_text: &[u8], unopened: &mut UnopenedKeyValue) -> u32
     // The result is 0 exactly if the text is UTF-8 and a well-formed secret key file. Otherwise it is the
-    // number of the first check that fails, and `unopened` is unchanged.
+    // error number of the first check that fails, and `unopened` is unchanged.
     ensures number { result ≡ reading_number (read_utf8 read_secret_key sk_text.now) }
     ensures unchanged { 0 < result → unopened.new ≡ unopened.old }
 
@@ -542,7 +542,8 @@ pub extern "C" fn minisign_encode_unopened_key(
 #[unsafe(no_mangle)]
 pub extern "C" fn minisign_test_sealed_key(unopened: &UnopenedKeyValue, most_rows: u64) -> u32
     // The result is 0 exactly if the key was read and is encrypted with scrypt, with limits that are
-    // allowed and need at most `most_rows` rows. Otherwise it is the number of the first check that fails.
+    // allowed and need at most `most_rows` rows. Otherwise it is the error number of the first check that
+    // fails.
     ensures { result ≡ result_number (checked_sealed_key unopened.now most_rows) }
 {
     number_of!(test_sealed_key(unopened, most_rows))
@@ -554,9 +555,9 @@ pub extern "C" fn minisign_open_unsealed_key(
     unopened: &UnopenedKeyValue,
     key: &mut SecretKeyValue,
 ) -> u32
-    // The result is 0 exactly if the key was read, is not encrypted, and has a checksum that matches or is 32
-    // zeros. Then `key` holds it and is marked as open. Otherwise the result is the number of the first check
-    // that fails, and `key` is unchanged.
+    // The result is 0 exactly if the key was read, is not encrypted, and has a checksum that matches or is
+    // 32 zeros. Then `key` holds it and is marked as open. Otherwise the result is the error number of the
+    // first check that fails, and `key` is unchanged.
     ensures { (result, key.new) ≡ opened_outcome (opened_unsealed unopened.now) key.old }
 {
     number_of!(open_unsealed_key(unopened, key))
@@ -572,10 +573,10 @@ pub extern "C" fn minisign_open_sealed_key(
     most_rows: u64,
     key: &mut SecretKeyValue,
 ) -> u32
-    // If the result is 0, the key was read, the password decrypts it with at most `most_rows` rows, and `key`
-    // holds the decrypted key and is marked as open. Otherwise the result is the number of the first check
-    // that fails or, once a key is derived from the password, possibly out of memory; and `key` is unchanged.
-    // Apart from out of memory, the result does not depend on `keep_every`.
+    // If the result is 0, the key was read, the password decrypts it with at most `most_rows` rows, and
+    // `key` holds the decrypted key and is marked as open. Otherwise the result is the error number of the
+    // first check that fails or, once a key is derived from the password, possibly out of memory; and `key`
+    // is unchanged. Apart from out of memory, the result does not depend on `keep_every`.
     ensures { ((result, key.new) ≡ opened_outcome (opened_sealed unopened.now password.now most_rows) key.old)
         ⊎ (((result, key.new) ≡ opened_outcome (Err (Refused (Named OutOfMemory))) key.old)
         × DerivesWithin unopened.now password.now most_rows) }
@@ -1078,10 +1079,10 @@ pub extern "C" fn minisign_list_ask_any(
 /// Returns the verdict on a list from the results of the two Ed25519 checks.
 #[unsafe(no_mangle)]
 pub extern "C" fn minisign_list_verdict(list: &mut ListValue, first: u32, second: u32) -> u32
-    // **After a successful `minisign_list_ask` or `minisign_list_ask_any`, for every scheme for which `first`
-    // and `second` are the results of the two checks: the result is 0 exactly if the signature file is a
-    // valid prehashed signature of the list under the key, and the trusted comment names the list if it must.
-    // Otherwise it is the number of the first check that fails.**
+    // **After a successful `minisign_list_ask` or `minisign_list_ask_any`, for every scheme for which
+    // `first` and `second` are the results of the two checks: the result is 0 exactly if the signature file
+    // is a valid prehashed signature of the list under the key, and the trusted comment names the list if it
+    // must. Otherwise it is the error number of the first check that fails.**
     ensures verdict { (v : PublicKeyValue) (sig_text text : List ℕ) (name : Option (List ℕ))
         (accepts : Verifier) → IsAnsweredList list.old accepts v sig_text name text first second
         → result ≡ list_verdict_number (list_verdict_under accepts v sig_text name text) }
@@ -1108,10 +1109,10 @@ pub extern "C" fn minisign_list_find(
     entry: &mut EntryValue,
     line: &mut u64,
 ) -> u32
-    // **The result is 0 exactly if the list was verified and this is its text, every line is well formed, and
-    // exactly one entry has the name.** Then `entry` is that entry, and `line` is 0. Otherwise the result is
-    // the number of the first check that fails, `entry` is unchanged, and `line` is the number of the line at
-    // fault, or 0 if no line is at fault.
+    // **The result is 0 exactly if the list was verified and this is its text, every line is well formed,
+    // and exactly one entry has the name.** Then `entry` is that entry, and `line` is 0. Otherwise the
+    // result is the error number of the first check that fails, `entry` is unchanged, and `line` is the
+    // number of the line at fault, or 0 if no line is at fault.
     ensures number { (result, (entry.new, line.new))
         ≡ finding_number (long_numbered long_digest) list.now text.now name.now entry.old }
 
@@ -1144,9 +1145,9 @@ pub extern "C" fn minisign_list_entries(
 ) -> u32
     // The result is 0 exactly if the list was verified and this is its text, every line is well formed, and
     // the buffer is long enough for all entries. Then the buffer begins with them, in the order of their
-    // lines, its rest is unchanged, and `count` is their number. Otherwise the result is the number of the
-    // first check that fails, and the buffer and `count` are unchanged. `line` is the number of the line at
-    // fault, or 0.
+    // lines, its rest is unchanged, and `count` is their number. Otherwise the result is the error number
+    // of the first check that fails, and the buffer and `count` are unchanged. `line` is the number of the
+    // line at fault, or 0.
     ensures { (result, (entries.new, (count.new, line.new)))
         ≡ all_entries_number (long_numbered long_digest) list.now text.now entries.old count.old }
 {
@@ -1233,7 +1234,8 @@ pub extern "C" fn minisign_list_compare_trusting_your_hash(
     digest: &[u8],
 ) -> u32
     // The result is 0 exactly if the entry was read, this is its hash function, and these bytes are its
-    // digest. Otherwise it is the number of the first check that fails. Nothing is said about any data.
+    // digest. Otherwise it is the error number of the first check that fails. Nothing is said about any
+    // data.
     ensures { result ≡ list_result (compared entry.now hash digest.now) }
 {
     number_of!(entry.compare_trusting_your_hash(hash, digest))
@@ -1249,8 +1251,8 @@ pub extern "C" fn minisign_list_append(
     text_len: &mut usize,
 ) -> u32
     // On success, the line of the entry is written after the list, the rest of the buffer is unchanged, and
-    // `text_len` is the new length of the list. Otherwise the result is the number of the first check that
-    // fails, and the buffer and `text_len` are unchanged.
+    // `text_len` is the new length of the list. Otherwise the result is the error number of the first check
+    // that fails, and the buffer and `text_len` are unchanged.
     ensures { (result, (text.new, text_len.new))
         ≡ appending_number (given_digest hash digest.now) text.old text_len.old name.now }
 {

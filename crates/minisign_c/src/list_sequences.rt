@@ -38,7 +38,8 @@ use minisign_lists::values::{EntryValue, FileValue, ListValue};
 
 /// Checks the concatenated pieces against the entry of a name in a signed list, with a public key file and
 /// the signature file of the list, whose trusted comment must name the list. Returns the first error number
-/// that a call returns, or 0. `room` must have at least as many bytes as the signature file.
+/// other than 0 that a call returns, or else 0. `room` is a buffer for the message of the comment signature.
+/// It must have at least as many bytes as the signature file.
 pub fn check_listed_in_sequence<S: Scheme>(
     scheme: &S,
     pk_text: &[u8],
@@ -96,9 +97,10 @@ pub fn check_listed_in_sequence<S: Scheme>(
 /// nothing, and exists only for its contract.
 #[tactic(auto, using(crate::proofs::ListedVerdicts::agree))]
 pub fn listed_verdicts_agree()
-    // If the two files, the list and the name are UTF-8, and the number for the meaning of digests of 128
-    // digits is valid, then `listed_with`, the verdict that `check_listed_in_sequence` returns as a number,
-    // equals `listed_verdict`: the trusted comment, or the first check that fails.
+    // If the two files, the list and the name are UTF-8, and the number that says which hash function
+    // digests of 128 digits belong to is valid, then `listed_with`, the verdict that
+    // `check_listed_in_sequence` returns as a number, equals `listed_verdict`: the trusted comment, or the
+    // error of the first check that fails.
     ensures { (accepts : Verifier) (pk_text sig_text : List ℕ) (x : Lookup) (long : LongDigest) (m : List ℕ)
         → x.long ≡ Some long → AreUtf8 pk_text sig_text x.text x.name
         → listed_with accepts (read_utf8 read_public_key pk_text) sig_text x m

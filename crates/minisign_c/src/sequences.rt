@@ -49,8 +49,9 @@ use minisign_external::unopened_keys::{KeyText, UnopenedKeyValue};
 use std::alloc::Global;
 
 /// Verifies the concatenated pieces with a public key file and a signature file. Returns the first error
-/// number that a call returns, or else that of the verdict. `room` must have at least as many bytes as the
-/// signature file.
+/// number other than 0 that a call returns, or else the number that `minisign_verdict` returns. `room` is a
+/// buffer for the message of the comment signature. It must have at least as many bytes as the signature
+/// file.
 pub fn verify_in_sequence<S: Scheme>(
     scheme: &S,
     pk_text: &[u8],
@@ -62,8 +63,9 @@ pub fn verify_in_sequence<S: Scheme>(
 
     // **For every scheme, files and data, however the data is split: the result is 0 exactly if the signature
     // file is a valid prehashed signature of the concatenated data under the public key file, and neither the
-    // key nor a signature in it is weak. Otherwise it is the error number of the first check that fails. A
-    // weak key or signature has an error number of its own, whatever the scheme returns.**
+    // public key nor a signature in the signature file is weak. Otherwise it is the error number of the first
+    // check that fails. A weak key or signature has an error number of its own, whatever the scheme
+    // returns.**
     ensures number { result ≡ number_with_key (read_utf8 read_public_key pk_text.now) (λ k.
         strict_verdict_number (S.accepts scheme.now) (value_of k) sig_text.now (joined pieces.now) false) }
 
@@ -170,7 +172,7 @@ fn feed(state: &mut State, pieces: &[&[u8]]) -> u32
     0
 }
 
-// Computes the digest, lets the scheme make both checks, and returns the number of the verdict.
+// Computes the digest, lets the scheme check both signatures, and returns the error number of the verdict.
 fn answer<S: Scheme>(scheme: &S, state: &mut State, questions: &Questions, room: &[u8]) -> u32
     requires { questions.now.message_len ≤ length room.now }
     ensures { (v : PublicKeyValue) (text m : List ℕ) (t : SignatureTextRecord) → IsFedState state.old m
@@ -178,6 +180,7 @@ fn answer<S: Scheme>(scheme: &S, state: &mut State, questions: &Questions, room:
         → AreQuestionsWithoutDigest questions.now room.now v
         t → result ≡ verdict_number (verdict_under (S.accepts scheme.now) v text m false) }
 {
+    // Does nothing when the program runs: it gives the prover a law that the contract needs.
     results_decide_verdict();
     let mut digest = [0u8; 64];
     let number = minisign_digest(state, &mut digest);
@@ -193,7 +196,7 @@ fn answer<S: Scheme>(scheme: &S, state: &mut State, questions: &Questions, room:
     minisign_verdict(state, answer_of(first), answer_of(second))
 }
 
-// Converts a result of the scheme to the number that the calls accept.
+// Converts a result of the scheme to the answer that `minisign_verdict` takes.
 pub(crate) fn answer_of(is_accepted: bool) -> u32
     ensures is_answer { IsAnswer result }
     ensures yes_if_accepted { (result == answer_yes) ≡ is_accepted }
@@ -201,9 +204,10 @@ pub(crate) fn answer_of(is_accepted: bool) -> u32
     if is_accepted { ANSWER_YES } else { ANSWER_NO }
 }
 
-/// Signs the concatenated pieces with a secret key file, which it opens with its password if there is one,
-/// and writes the signature file. Returns the first error number that a call returns, or 0. `room` must have
-/// at least 64 bytes more than the trusted comment.
+/// Signs the concatenated pieces with a secret key file, which it opens with its password if there is one.
+/// Writes the signature file to `text`, and its length to `text_len`. Returns the first error number other
+/// than 0 that a call returns, or else 0. `room` is a buffer for the message of the comment signature. It
+/// must have at least 64 bytes more than the trusted comment.
 pub fn sign_in_sequence<S: Scheme>(
     alloc: Global,
     scheme: &S,
@@ -234,9 +238,10 @@ pub fn sign_in_sequence<S: Scheme>(
         (comments_of trusted.now untrusted.now) (joined pieces.now) text.new text_len.new }
     ensures rest_unchanged { result ≡ 0 → drop text_len.new text.new ≡ drop text_len.new text.old }
 
-    // Any other result is the number of an error of opening the key file or, if the file opens to a key, of
-    // an error of `minisign_signed_text` for the public key of this key, the comments, the two signatures and
-    // the buffer. After an error the buffer and the length are unchanged.
+    // Any other result is an error number. If the key file does not open, it is the number of an error of
+    // opening it. If it opens, it is the number of an error of `minisign_signed_text` for the public half of
+    // the key, the comments, the two signatures and the buffer. After an error the buffer and the length are
+    // unchanged.
     ensures refused { 0 < result → IsSigningNumber S.Scheme scheme.now key_text.now
         (comments_of trusted.now untrusted.now) (joined pieces.now) text.old result }
     ensures unchanged { 0 < result → (text.new ≡ text.old) × (text_len.new ≡ text_len.old) }
@@ -269,6 +274,7 @@ fn no_secret_key() -> SecretKeyValue {
     }
 }
 
+// Returns a struct into which no secret key was read.
 fn no_unopened_key() -> UnopenedKeyValue {
     UnopenedKeyValue {
         mark: 0,
@@ -348,6 +354,7 @@ fn sign_with<S: Scheme>(
         (joined pieces.now) text.old r }
     ensures unchanged { 0 < result → (text.new ≡ text.old) × (text_len.new ≡ text_len.old) }
 {
+    // Does nothing when the program runs: it gives the prover a law that the clause `verifies` needs.
     results_decide_verdict();
     let mut public_key = no_public_key();
     let number = public_half(key, &mut public_key);

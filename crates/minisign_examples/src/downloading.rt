@@ -41,7 +41,7 @@ pub fn verify_download<'a, S: Scheme, R: Source>(
     requires not_empty { 0 < length buf.old }
     requires room { length list.sig_text.now ≤ length buf.old }
     // Unless reading fails, the result is the verdict on the whole download under its name in the list: the
-    // trusted comment, or the first check that fails.
+    // trusted comment, or the error of the first check that fails.
     ensures { IsDownloadVerdict R.Source download.old download.new (listed_verdict (S.accepts scheme.now)
         pk_text.now list.entry.sig_text.now (Some list.entry.name.now) Rejected list.entry.text.now name.now)
         (map_ok (λ t. t.now) result) }

@@ -14,7 +14,7 @@ const ROWS_PER_KEPT_ROW: u64 = 8;
 /// with the default limits. The result and the errors are those of a call that keeps every row.
 pub fn open_in_little_memory(alloc: Global, sk_text: &str, password: &str) -> Result<SecretKey>
     // The result is out of memory, or exactly what the text decrypts to under the password: the key, or the
-    // first check that fails.
+    // error of the first check that fails.
     ensures { IsValueOrNoMemory result (open_key sk_text.now password.now None) }
 {
     let sk_box = SecretKeyBox::from_string(alloc, sk_text)?;

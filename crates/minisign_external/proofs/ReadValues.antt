@@ -1,5 +1,5 @@
--- Lemmas about a struct into which a signature file was read: asking about the struct gives the same result
--- as asking about the file.
+-- Lemmas about a struct into which a signature file was read: asking a state about the struct gives the same
+-- result as parsing the file and checking it under the key.
 use Rattle.std.proofs.Common.{◌≡◌, ◌∙◌, ◌==◌, ◌+◌, ℕ, Bool, true, false, if◌then◌else◌, List, length, take}
 use Rattle.std.proofs.Common.{drop, Result, Ok, Err, ap, sym, refl, subst, le-leb, IfOk, IfErr, ◌≤◌, ◌++◌}
 use Rattle.std.proofs.Common.{◌&&◌}

@@ -266,8 +266,7 @@ opening_refusal v sig_text legacy room (Refused e) h = λ utf8 pk_text message a
     refuse accepts pk_text sig_text message legacy v keyed utf8 e
     (rw (refused_text true (read_under v legacy sig_text) room NotBegun e h) refl)
 
--- If asking fails after the checks of the state, with the check that the public key was read first, the same
--- holds.
+-- The same for the check that the public key was read, followed by the checks after it.
 refusal_of_asking : (b : Bool) (v : PublicKeyValue) (sig_text : List ℕ) (legacy : Bool) (room : ℕ)
     (r : Refusal Fault)
     → (if b then asked_under (read_under v legacy sig_text) room else Err (WrongUse PublicKeyNotRead)) ≡ Err r

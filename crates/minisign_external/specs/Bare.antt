@@ -1,5 +1,6 @@
--- Verifying with a bare signature, which is one without comments: the state is asked for the only Ed25519
--- check (the question), which the caller's signature scheme makes, and gives the verdict from its result.
+-- Verifying with a bare signature, which is one without comments. The call that asks the state about a key
+-- and a bare signature returns the inputs of the only Ed25519 check (the question). The caller's signature
+-- scheme makes this check, and a second call returns the verdict from its result.
 use Rattle.std.specs.Prelude.{◌≡◌, ⊤, ◌==◌, ◌&&◌, nat_le, ℕ, Bool, true, if◌then◌else◌, List, replicate}
 use Rattle.std.specs.Prelude.{None, Result, Ok, Err}
 use Rattle.minisign_base.specs.Fault.{Fault}
@@ -29,8 +30,8 @@ use Rattle.minisign_external.specs.declared.state.Questions.{Questions}
 abbrev pub bare_box : SignatureRecord → SignatureBoxRecord
 bare_box s = record { signature = s; comments = None }
 
--- The verdict on a key, a bare signature and a message: success if the signature is valid, or the first check
--- that fails.
+-- The verdict on a key, a bare signature and a message: success if the signature is valid, or the error of
+-- the first check that fails.
 abbrev pub bare_verdict_under : Verifier → PublicKeyValue → SignatureRecord → List ℕ → Bool → Result ⊤ Fault
 bare_verdict_under accepts v s message legacy = judge accepts (key_of v) (bare_box s) message legacy
 
@@ -64,7 +65,7 @@ bare_asked s = record s { asked = record { mark = bare_asked_mark; whole = 0 } }
 abbrev pub with_signature : SignatureValue → Result Unit (Refusal Fault) → Result Unit (Refusal Fault)
 with_signature s more = if has_signature s then more else Err (WrongUse SignatureNotRead)
 
--- The result of the checks of asking, without those of the state and without that for weak keys and
+-- The result of the checks that asking makes, without the checks of the state and the check for weak keys and
 -- signatures. The errors are, in this order: the public key was not read; the signature was not read; those
 -- of checking the signature under the key.
 abbrev pub bare_asking_checks : PublicKeyValue → SignatureValue → Bool → Result Unit (Refusal Fault)
@@ -101,7 +102,7 @@ bare_verdict_outcome s first =
 
 -- == With numbers as results ==
 
--- The outcome of asking for other languages: 0 or the error number, and the state and the questions
+-- The outcome, for other languages, of asking: 0 or the error number, and the state and the questions
 -- afterwards. The flag that allows legacy signatures is checked first; it must be 0 or 1.
 abbrev pub numbered_asking : Result Bool (Refusal Fault) × State × Questions → ℕ × State × Questions
 numbered_asking (r, s, q) = (asked_number r, s, q)

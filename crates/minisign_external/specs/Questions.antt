@@ -16,7 +16,7 @@ use Rattle.minisign_external.specs.declared.public_keys.PublicKeyValue.{PublicKe
 
 -- Parses a signature file and makes all checks that need no scheme: the file must be UTF-8 and well formed,
 -- the key IDs must match, and the signature must be prehashed unless legacy ones are allowed. The result is
--- the parsed signature, or the first check that fails.
+-- the parsed signature, or the error of the first check that fails.
 abbrev pub read_under : PublicKeyValue → Bool → List ℕ → Result SignatureTextRecord Fault
 read_under v legacy sig_text =
     and_then (read_utf8 read_signature sig_text) (λ t.
@@ -24,7 +24,7 @@ read_under v legacy sig_text =
     Ok t))
 
 -- The verdict on a key, a signature file and a message: the trusted comment, if the signature is valid, or
--- the first check that fails.
+-- the error of the first check that fails.
 abbrev pub verdict_under : Verifier → PublicKeyValue → List ℕ → List ℕ → Bool → Result (List ℕ) Fault
 verdict_under accepts v sig_text message legacy =
     and_then (read_under v legacy sig_text) (λ t.
@@ -32,8 +32,8 @@ verdict_under accepts v sig_text message legacy =
     (accepts_comments accepts (key_of v) (box_of t))) (λ _.
     Ok t.comments.trusted))
 
--- The verdict of the second check only: the trusted comment, if the comment signature is valid for it and the
--- first signature, or the first check that fails. It says nothing about the message.
+-- The verdict of the second check only: the trusted comment, if the comment signature is valid for it and
+-- the first signature, or the error of the first check that fails. It says nothing about the message.
 abbrev pub comment_verdict_under : Verifier → PublicKeyValue → List ℕ → Bool → Result (List ℕ) Fault
 comment_verdict_under accepts v sig_text legacy =
     and_then (read_under v legacy sig_text) (λ t.

@@ -80,10 +80,12 @@ pub record IsPairOf (public_of : List ℕ → List ℕ) (seed : List ℕ) (v : S
   pub seed_bytes : IsBytes seed
   pub secret : v.secret ≡ seed ++ public_of seed
 
--- The text is the signature file of the two signatures: it is UTF-8 and parses to their box. For every scheme
--- that made the two signatures, this is the box that signing makes. If a scheme accepts them under a public
--- key, the box is a valid signature of the message under that key. So the promises on signature files that
--- the library writes also hold for this file.
+-- The text is the signature file of the two signatures: it is UTF-8 and parses to their box.
+--
+-- `signed`: for every scheme that makes these two signatures, this is the box that signing with the scheme
+-- gives. `vouched`: if a scheme accepts the two signatures under a public key, the box is a valid signature
+-- of the message under this public key. `headline`: so SigningHeadline, the promise on the files that the
+-- library signs itself, holds for this file too.
 pub record IsSignatureFileOf (key_id : List ℕ) (chosen : ChosenComments) (first second text : List ℕ)
     : Type 0 where
   pub written : text ≡ signature_text (signature_with_key_id key_id first)

@@ -270,7 +270,7 @@ IsTextRefusal v sig_text legacy (Refused e) =
     → verdict accepts pk_text sig_text message legacy ≡ Err e
 
 -- The result r is the verdict on the public key file, the signature file and the message: success if the
--- signature is valid, otherwise the first check that fails.
+-- signature is valid, otherwise the error of the first check that fails.
 abbrev pub GivesVerdict : {T : Type 0} → Verifier → List ℕ → List ℕ → List ℕ → Bool → Result T (Refusal Fault)
     → Type 0
 GivesVerdict accepts pk_text sig_text message legacy r =
@@ -308,7 +308,7 @@ result_number (Ok t) = 0
 result_number (Err r) = refusal_number fault_number r
 
 -- n is the number of the verdict on the public key file, the signature file and the message: 0 if the
--- signature is valid, otherwise the number of the first check that fails.
+-- signature is valid, otherwise the error number of the first check that fails.
 abbrev pub GivesNumber : Verifier → List ℕ → List ℕ → List ℕ → Bool → ℕ → Type 0
 GivesNumber accepts pk_text sig_text message legacy n =
     ((n ≡ 0) × TextsVouchFor accepts pk_text sig_text message legacy)
@@ -329,7 +329,7 @@ asking_number s v signature text legacy room =
     if nat_le 2 legacy then misuse_number BadLegacyFlag else result_number
     (asking_result s v signature text (legacy == 1) room)
 
--- The number of a verdict: 0, or the number of the first check that fails.
+-- The number of a verdict: 0, or the error number of the first check that fails.
 abbrev pub verdict_number : Result (List ℕ) Fault → ℕ
 verdict_number (Ok trusted) = 0
 verdict_number (Err e) = fault_number e

@@ -67,8 +67,8 @@ strict_read v (Ok t) n = if is_strict_text v t then n else weak_number
 strict_read v (Err e) n = n
 
 -- The number of the verdict of the scheme that also rejects weak public keys and signatures: 0 if the
--- signature is valid, otherwise the number of the first check that fails. One of these checks is that neither
--- the key nor a signature is weak; its error has a number that no other error has.
+-- signature is valid, otherwise the error number of the first check that fails. One of these checks is that
+-- neither the key nor a signature is weak; its error has a number that no other error has.
 abbrev pub strict_verdict_number : Verifier → PublicKeyValue → List ℕ → List ℕ → Bool → ℕ
 strict_verdict_number accepts v sig_text message legacy =
     strict_read v (read_under v legacy sig_text)

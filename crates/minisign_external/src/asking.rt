@@ -285,8 +285,8 @@ impl State {
     /// finishes the state.
     ///
     /// Succeeds exactly if the signature is valid for the data that the state was fed, under the scheme with
-    /// these results. Otherwise the error is the first check that fails. It is API misuse if nothing was
-    /// asked or the digest was not returned; then the state is unchanged. Does not allocate.
+    /// these results. Otherwise the error is that of the first check that fails. It is API misuse if nothing
+    /// was asked or the digest was not returned; then the state is unchanged. Does not allocate.
     pub fn verdict(&mut self, first: bool, second: bool) -> Result<(), Refusal>
         // After a successful `ask` and the digest, for every scheme and every message for which `first` and
         // `second` are the results of the two checks: the result is the verdict on the key, the signature
@@ -297,8 +297,8 @@ impl State {
             second → result ≡ given_verdict (verdict_under accepts v sig message legacy) }
 
         // So for every public key file that contains this key: the call succeeds exactly if the signature
-        // file is a valid signature of the message under that public key. Otherwise the error is the first
-        // check that fails.
+        // file is a valid signature of the message under that public key. Otherwise the error is that of
+        // the first check that fails.
         ensures same_verdict_as_texts { (v : PublicKeyValue) (pk sig message : List ℕ) (legacy : Bool)
             (accepts : Verifier)
             → HasAsked self.old v sig legacy → IsMarkedFinalized self.old → IsKeyText pk v

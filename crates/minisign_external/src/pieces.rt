@@ -48,8 +48,8 @@ pub fn verify_pieces<S: Scheme>(
 
     // **For every scheme, public key that was read, signature file and data, however the data is split: the
     // result is the verdict on the key, the file and the concatenated data. The call succeeds exactly if the
-    // signature is valid and prehashed; otherwise the error is the first check that fails. A public key that
-    // was not read is API misuse.**
+    // signature is valid and prehashed; otherwise the error is that of the first check that fails. A public
+    // key that was not read is API misuse.**
     ensures { result ≡ with_public_key key.now (given_verdict
         (verdict_under (S.accepts scheme.now) key.now sig_text.now (joined pieces.now)
         false)) }

@@ -38,8 +38,8 @@ impl PublicKeyValue {
 /// the value is unchanged.
 pub fn store_public_key(text: &[u8], value: &mut PublicKeyValue) -> Result<()>
     // On success, `value` holds the key and the key ID of the public key file, and is marked as read. The
-    // file must be UTF-8. Otherwise, or if it does not parse, the error is the first check that fails, and
-    // `value` is unchanged.
+    // file must be UTF-8. Otherwise, or if it does not parse, the error is that of the first check that
+    // fails, and `value` is unchanged.
     ensures { (result, value.new) ≡ key_outcome (read_utf8 read_public_key text.now) value.old }
 {
     store_key(read(text), value)
@@ -51,8 +51,8 @@ pub fn store_public_key(text: &[u8], value: &mut PublicKeyValue) -> Result<()>
 /// error the value is unchanged.
 pub fn store_bare_public_key(text: &[u8], value: &mut PublicKeyValue) -> Result<()>
     // On success, `value` holds the key and the key ID of the base64 text, and is marked as read. The text
-    // must be UTF-8. Otherwise, or if it does not parse, the error is the first check that fails, and `value`
-    // is unchanged.
+    // must be UTF-8. Otherwise, or if it does not parse, the error is that of the first check that fails,
+    // and `value` is unchanged.
     ensures { (result, value.new) ≡ key_outcome (read_utf8 read_bare_public_key text.now) value.old }
 {
     store_key(read_bare(text), value)

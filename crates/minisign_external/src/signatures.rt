@@ -24,11 +24,11 @@ use minisign::{Result, Signature, SignatureView, read_signature, trusted_comment
 use minisign_base::NamedFault;
 use minisign_hash::blake2b::Blake2b;
 
-// The mark of a signature that was read: the letters `minisigv`.
+// The mark of a signature that was read: the letters `minisigv`, in little-endian order.
 pub(crate) const READ: u64 = 8531903963487693165;
 
 /// A signature as its file contains it, 200 bytes with the layout of C. The mark and the digest are only for
-/// `State::ask`; callers may also read the other fields.
+/// `State::ask`; callers may read the other fields.
 #[repr(C)]
 #[derive(Clone, Copy)]
 pub struct SignatureValue {
@@ -63,7 +63,7 @@ impl SignatureValue {
     pub fn read(sig_text: &[u8]) -> Result<SignatureValue>
         // On success, the result holds the key ID, the algorithm and both signatures of the text, the
         // position of the trusted comment in it, and the digest of the text. The text must be UTF-8.
-        // Otherwise, or if it does not parse, the error is the first check that fails.
+        // Otherwise, or if it does not parse, the error is that of the first check that fails.
         ensures value { result ≡ read_signature_value sig_text.now }
 
         // On success, the trusted comment is in the text at the position that the result gives.

@@ -96,8 +96,8 @@ impl<'a> KeyText<'a> {
     /// without a password, by `open_unsealed_key`.
     pub fn open(&self, alloc: Global) -> std::result::Result<SecretKeyValue, Refusal>
         // On success, the result is the key of the file, decrypted if it was encrypted, and marked as open.
-        // The error is the first check that fails, or out of memory, which is possible only once a key is
-        // derived from the password.
+        // The error is that of the first check that fails, or out of memory, which is possible only once a
+        // key is derived from the password.
         ensures { MatchResult result (λ v. (k : SecretKeyRecord) × (opened_text self.now.text.now
             (option_copied self.now.password) self.now.most_rows ≡ Ok k)
             × (v ≡ opened_key_value k.keynum k.secret))
@@ -224,7 +224,7 @@ fn summary_of_key(key: &SecretKey) -> (u8, u8, u32)
 /// unchanged. Does not allocate.
 pub fn read_unopened_key(sk_text: &[u8], value: &mut UnopenedKeyValue) -> Result<()>
     // The call succeeds exactly if the text is UTF-8 and a well-formed secret key file. Otherwise the error
-    // is the first check that fails, and `value` is unchanged.
+    // is that of the first check that fails, and `value` is unchanged.
     ensures result { result ≡ without_value (read_utf8 read_secret_key sk_text.now) }
     ensures unchanged { OnErr result (value.new ≡ value.old) }
 
@@ -272,7 +272,8 @@ pub fn test_sealed_key(
     most_rows: u64,
 ) -> std::result::Result<(), Refusal>
     // The call succeeds exactly if the key was read and is encrypted with scrypt, with limits that are
-    // allowed and need at most `most_rows` rows. Otherwise the error is the first check that fails.
+    // allowed and need at most `most_rows` rows. Otherwise the error is that of the first check that
+    // fails.
     ensures { result ≡ checked_sealed_key unopened.now most_rows }
 {
     if !unopened.is_read() {
@@ -354,8 +355,8 @@ pub fn open_unsealed_key(
     value: &mut SecretKeyValue,
 ) -> std::result::Result<(), Refusal>
     // The call succeeds exactly if the key was read, is not encrypted, and has a checksum that matches or is
-    // 32 zeros. On success, `value` holds the key and is marked as open. Otherwise the error is the first
-    // check that fails, and `value` is unchanged.
+    // 32 zeros. On success, `value` holds the key and is marked as open. Otherwise the error is that of the
+    // first check that fails, and `value` is unchanged.
     ensures { (result, value.new) ≡ opened_or_unchanged (opened_unsealed unopened.now) value.old }
 {
     if unopened.is_read() {
@@ -385,10 +386,10 @@ pub fn open_sealed_key(
     most_rows: u64,
     value: &mut SecretKeyValue,
 ) -> std::result::Result<(), Refusal>
-    // On success, the key was read, the password decrypts it with at most `most_rows` rows, and `value` holds
-    // the decrypted key and is marked as open. Otherwise the error is the first check that fails or, once a
-    // key is derived from the password, possibly out of memory; and `value` is unchanged. Apart from out of
-    // memory, the result does not depend on `keep_every`.
+    // On success, the key was read, the password decrypts it with at most `most_rows` rows, and `value`
+    // holds the decrypted key and is marked as open. Otherwise the error is that of the first check that
+    // fails or, once a key is derived from the password, possibly out of memory; and `value` is unchanged.
+    // Apart from out of memory, the result does not depend on `keep_every`.
     ensures { ((result, value.new) ≡ opened_or_unchanged (opened_sealed unopened.now password.now most_rows)
         value.old) ⊎ (((result, value.new) ≡ opened_or_unchanged (Err (Refused (Named OutOfMemory)))
         value.old)
@@ -472,8 +473,8 @@ pub fn open_sealed_key_in_place(
 ) -> std::result::Result<(), Refusal>
     // The call succeeds exactly if the key was read, the memory is sufficient, and the password decrypts the
     // key with at most `most_rows` rows. Then `value` holds the decrypted key and is marked as open.
-    // Otherwise the error is the first check that fails, never out of memory, and `value` is unchanged. The
-    // previous contents of the memory make no difference.
+    // Otherwise the error is that of the first check that fails, never out of memory, and `value` is
+    // unchanged. The previous contents of the memory make no difference.
     ensures opened { (result, value.new) ≡ opened_or_unchanged (opened_in_place unopened.now password.now
         keep_every most_rows (length words.old) (length bytes.old)) value.old }
 

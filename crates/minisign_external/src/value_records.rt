@@ -116,9 +116,9 @@ impl SignatureValue {
     ///
     /// The errors are, in this order: `RecordTooShort`, for fewer bytes; `UnsupportedSignatureAlgorithm`.
     pub fn read_record(bytes: &[u8]) -> Result<SignatureValue>
-        // On success, the result holds the key ID, the algorithm and the signature that the first 74 bytes of
-        // `bytes` contain, and no comments. Otherwise the error is the first check that fails: fewer bytes,
-        // and then an algorithm other than `Ed` and `ED`.
+        // On success, the result holds the key ID, the algorithm and the signature that the first 74 bytes
+        // of `bytes` contain, and no comments. Otherwise the error is that of the first check that fails:
+        // fewer bytes, and then an algorithm other than `Ed` and `ED`.
         ensures { result ≡ read_bare_value bytes.now }
     {
         match signature_in(bytes) {

@@ -67,7 +67,8 @@ last_true w o n s m (d ∷ more) t end c known (others, fits, is, run) later fit
     last_true w o (count n d.event) (step s d.event).1 d.after more t end c
     (next w o ⊤ ⊥ n s m d known others (λ q. absurd q) fits is (λ found. tt)) run later fit done
 
--- If a call returns an error, its event is a failure, the lock is in use, or the run has found the cause.
+-- If a call returns an error, IsReason holds: the event is a failure, the lock is in use, or an input is the
+-- cause of the error.
 pub reported_errors_are_true : (w : World) (o : Options) (times : Option ℕ → Bool) (m : Snapshot)
     (calls : List Call) (s : State) (end : Snapshot) (c : Call) (fault : InstallFault)
     → Applies w (begin o) m calls s end → AllEvents (IsAtTimeIn times) calls → IsAtTimeIn times c.event

@@ -1,4 +1,5 @@
--- Lemmas for the functions that check a trusted comment: they return what the definitions say.
+-- Lemmas for the contracts of the functions that check a trusted comment: each returns the result of the
+-- definition with its name.
 use Rattle.std.specs.Prelude.{◌≡◌, ℕ, List, [], ◌∷◌, Option, Some, None, Err, MatchOption}
 use Rattle.std.specs.Str.{IsUtf8}
 use Rattle.std.proofs.Common.{refl, sym, ap, ◌∙◌}
@@ -36,7 +37,7 @@ only_check (Some e) = refl
 pub last_check : (o r : Option InstallFault) → r ≡ o → r ≡ first_of (o ∷ [])
 last_check o r is = only_check r ∙ ap (λ (x : Option InstallFault). first_of (x ∷ [])) is
 
--- == A comment alone ==
+-- == Checking only a comment ==
 
 pub both_utf8 : (numbering : Numbering) (time least : ℕ) (file comment name text : List ℕ) → text ≡ comment
     → IsUtf8 comment → name ≡ file → IsUtf8 file

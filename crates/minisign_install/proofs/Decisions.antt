@@ -49,7 +49,7 @@ is_number_text (c ∷ text) is =
     and_parts (are_digits (c ∷ text)) (nat_lt (digits_value 10 (c ∷ text)) (2 ^ 64)) is in
     record {
       numeral = (omega arith, digits_are (c ∷ text) digits);
-      is = refl;
+      value_is = refl;
       bound = ltb-true (digits_value 10 (c ∷ text)) (2 ^ 64) bound;
     }
 

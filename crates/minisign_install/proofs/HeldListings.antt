@@ -1,4 +1,4 @@
--- The struct and its state, if the signature is that of a list.
+-- Lemmas about the struct Progress and the state that it represents, if the signature is that of a list.
 use Rattle.std.specs.Prelude.{◌≡◌, ◌==◌, ◌++◌, Bool, true, false, if◌then◌else◌, List, [], ℕ, is_some}
 use Rattle.std.specs.Prelude.{length, take}
 use Rattle.std.specs.Prelude.{Option, Some, None, Result, Ok, Err}
@@ -30,7 +30,7 @@ use Rattle.minisign_lists.specs.Values.{algorithm_numbered, algorithm_of, digest
 use Rattle.minisign_lists.specs.declared.lines.LongDigest.TheVariants as long
 use Rattle.minisign_lists.specs.declared.digests.Algorithm.TheVariants as algorithm
 
--- == The mode ==
+-- == The options for a list ==
 
 pub mode_is : (p : Progress) (s : State) → HoldsState p s
     → s.options.list ≡ list_of p.chosen.is_list p.chosen.long_digest
@@ -48,7 +48,8 @@ listing_is p s held = ap (λ (x : State). x.listing) held.state
 
 -- == The list ==
 
--- The list was read, and the state of the hash function begins anew.
+-- Storing the contents of a list and a new state of the hash function: the struct represents the state with
+-- this listing and no bytes read.
 pub with_listing : (p : Progress) (s : State) (l : ListingValue) (r : Reading) → HoldsState p s
     → WasRead (reading_for p.chosen l) r []
     → HoldsState (record p { listing = l; reading = r }) (record s { listing = listing_of l; read = [] })
@@ -63,7 +64,8 @@ with_listing p s l r held begun = record {
   fed = begun;
 }
 
--- The state of the hash function is that after these bytes.
+-- Storing the state of the hash function after these bytes: the struct represents the state in which they
+-- were read.
 pub with_reading : (p : Progress) (s : State) (r : Reading) (read : List ℕ) → HoldsState p s
     → WasRead (reading_for p.chosen p.listing) r read
     → HoldsState (record p { reading = r }) (record s { read = read })
@@ -170,12 +172,12 @@ line_is p s held =
 
 -- == Buffers ==
 
--- The front of a longer buffer.
+-- If a longer buffer begins with n bytes, its first n bytes are these bytes.
 pub front_is : (n : ℕ) (bytes wide rest : List ℕ) → length bytes ≡ n → wide ≡ bytes ++ rest
     → take n wide ≡ bytes
 front_is n bytes wide rest size is = rw (is, sym size) (take-append_seam bytes rest)
 
--- Before a list was read, files are read for BLAKE2b.
+-- Before a list was read, no hash function of a listed digest is stored, so files are hashed with BLAKE2b.
 pub no_algorithm : (b : Bool) (n : ℕ) → n ≡ 0 → (if b then algorithm_numbered n else None) ≡ None
 no_algorithm true n is = rw is refl
 no_algorithm false n is = refl

@@ -85,13 +85,13 @@ positive (Library f) = library_positive f
 positive TargetInUse = lit< tt
 positive _ = lit< tt
 
--- If the run had no error yet, an error is returned.
+-- If the run had no error before, the step returns the error that it finds.
 pub first_error : (e : Option InstallFault) (fault : InstallFault) → error_number e ≡ 0
     → Err (Refused fault) ≡ result_of e (Some fault)
 first_error None fault none = refl
 first_error (Some f) fault none = absurd (omega (arith, none, positive f))
 
--- If the run already had an error, a further error is not returned.
+-- If the run already had an error, the result of the step is Ok.
 pub later_error : (e : Option InstallFault) (fault : InstallFault) → error_number e ≢ 0
     → Ok tt ≡ result_of e (Some fault)
 later_error None fault some = absurd (some refl)

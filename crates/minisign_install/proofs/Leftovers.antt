@@ -1,4 +1,5 @@
--- Proves that a lawful application whose run has ended without a failure has no temporary files.
+-- Proves that a run of a lawful application (Applies), if it has ended and no operation failed, leaves no
+-- temporary files. The lemmas show that each step keeps the invariant Lacks.
 use Rattle.std.specs.Prelude.{◌≡◌, ◌==◌, ◌&&◌, ◌||◌, ◌-◌, ⊤, ℕ, Bool, true, false, not, List, [], ◌∷◌, Option}
 use Rattle.std.specs.Prelude.{Some, None, Result, Ok, Err, IfSome, is_some, nat_le, if◌then◌else◌}
 use Rattle.std.proofs.Common.{refl, sym, ◌∙◌, true≢false}
@@ -38,6 +39,8 @@ Lacks fsm.RenameFile m = NoRecord m
 Lacks fsm.RemoveFiles m = ⊤
 Lacks op m = HasNoFiles m
 
+-- Lacks holds for the result of a conditional if it holds for both branches, states here and operations in
+-- either_op.
 either : (is : Bool) (x y : State) (m : Snapshot) → Lacks x.due m → Lacks y.due m
     → Lacks (if is then x else y).due m
 either true x y m one other = one
@@ -48,6 +51,8 @@ either_op : (is : Bool) (x y : Operation) (m : Snapshot) → Lacks x m → Lacks
 either_op true x y m one other = one
 either_op false x y m one other = other
 
+-- Lacks holds after each function that chooses the next operation, up to after_copy. The lemmas have the
+-- names of these functions.
 reject : (fault : InstallFault) (s : State) (m : Snapshot) → HasNoFiles m → Lacks (fsm.reject fault s).due m
 reject fault s m none = either_op (fsm.has_files s.due) fsm.RemoveFiles fsm.Rejected m tt none
 
@@ -106,7 +111,6 @@ after_target false s m none =
     either (s.is_recorded || s.options.again) (fsm.install s) (fsm.reject SameNumber s) m (install s m none)
     (reject SameNumber s m none)
 
--- Lacks still holds after a piece was copied.
 after_piece : (k : ℕ) (left : Option ℕ) (s : State) (m : Snapshot) → s.due ≡ fsm.CopyData → NoRecord m
     → Lacks (fsm.after_piece k left s).due m
 after_piece k None s m at none = rw at none
@@ -126,6 +130,7 @@ unchanged_has_no_files old new is none = rw is none
 same_record : (old new : Snapshot) → new ≡ old → NoRecord old → NoRecord new
 same_record old new is none = rw is none
 
+-- If Lacks holds before an operation that succeeds, it holds afterwards for the next operation.
 op_keeps : (w : World) (op : Operation) (e : Event) (s : State) (old new : Snapshot) → s.due ≡ op
     → Lacks op old
     → Performs w s op e old new → Succeeds e → IfSome (after op e s) (λ t. Lacks t.due new)
@@ -188,6 +193,7 @@ op_keeps w fsm.WouldInstall e s old new at none is fine = tt
 op_keeps w fsm.Rejected e s old new at none is fine = tt
 op_keeps w op e s old new at none is fine = tt
 
+-- The same for the state that `step` returns, if the installer accepts the event.
 answer_keeps : (s : State) (new : Snapshot) (next : Option State) → is_some next ≡ true
     → IfSome next (λ t. Lacks t.due new) → Lacks (answer s next).1.due new
 answer_keeps s new (Some t) fits holds = holds
@@ -209,6 +215,7 @@ stays fsm.RenameFile old new others none = others.record_stays ∙ none
 stays fsm.RemoveFiles old new others none = tt
 stays op old new others none = (others.data_stays ∙ none.0, others.record_stays ∙ none.1)
 
+-- Lacks still holds after a run in which no operation failed.
 lacks_from : (w : World) (s : State) (m : Snapshot) (calls : List Call) (t : State) (end : Snapshot)
     → Lacks s.due m → Applies w s m calls t end → AllEvents Succeeds calls → Lacks t.due end
 lacks_from w s m [] t end none (is, same) fine = rw (is, same) none
@@ -217,6 +224,7 @@ lacks_from w s m (c ∷ more) t end none (others, fits, is, run) (fine, rest) =
     (answer_keeps s c.after (after s.due c.event s) fits
     (op_keeps w s.due c.event s c.before c.after refl (stays s.due m c.before others none) is fine)) run rest
 
+-- After a run that has ended, Lacks says that there are no temporary files.
 at_end : (op : Operation) (m : Snapshot) → has_ended op ≡ true → Lacks op m → HasNoFiles m
 at_end fsm.Installed m is none = none
 at_end fsm.AlreadyInstalled m is none = none
@@ -224,12 +232,12 @@ at_end fsm.WouldInstall m is none = none
 at_end fsm.Rejected m is none = none
 at_end op m is none = absurd (true≢false (sym is))
 
--- If no operation fails and the lock is free, a run that has ended has no temporary files.
+-- If no operation fails and the lock is free, a run that has ended leaves no temporary files.
 pub no_files_left : (w : World) (o : Options) (m : Snapshot) (calls : List Call) (t : State) (end : Snapshot)
     → IsBeforeRun m → Applies w (begin o) m calls t end → AllEvents Succeeds calls → has_ended t.due ≡ true
     → HasNoFiles end
-no_files_left w o m calls t end rest run fine over =
+no_files_left w o m calls t end unstarted run fine over =
     at_end t.due end over
     (lacks_from w (begin o) m calls t end
-    (either_op o.check fsm.ReadRecord fsm.Lock m (rest.no_data, rest.no_record)
-    (rest.no_data, rest.no_record)) run fine)
+    (either_op o.check fsm.ReadRecord fsm.Lock m (unstarted.no_data, unstarted.no_record)
+    (unstarted.no_data, unstarted.no_record)) run fine)

@@ -1,4 +1,5 @@
--- What a run installs if the signature is that of a list, and the line at fault.
+-- Proves the laws about runs whose signature is that of a list: the installed data has the digest that the
+-- signed list has for its name, and a reported line is the line at fault.
 use Rattle.std.specs.Prelude.{◌≡◌, ◌⊎◌, ◌&&◌, ◌||◌, ◌==◌, Bool, true, false, not, nat_le, if◌then◌else◌}
 use Rattle.std.specs.Prelude.{List, [], ◌∷◌, ℕ, is_some, IfSome, Option, Some, None, Result, Ok, Err}
 use Rattle.std.specs.Str.{is_utf8}
@@ -30,7 +31,8 @@ use Rattle.std.specs.Prelude.{⊤}
 
 -- == The installed data ==
 
--- The data has the digest of the entry that was found.
+-- If data has the digest that looking up the name gives, then the list has an entry for the name, and the
+-- data has its digest.
 entry_of : (r : Result Entry ListFault) (m : List ℕ) → has_listed (digest_found r) m ≡ true
     → (entry : Entry) × (r ≡ Ok entry) × (has_digest entry.digest m ≡ true)
 entry_of (Ok entry) m is = (entry, refl, is)
@@ -40,7 +42,7 @@ abbrev found : Result Entry ListFault → Bool
 found (Ok entry) = true
 found (Err fault) = false
 
--- Only texts in UTF-8 have entries.
+-- If looking up a name finds an entry, the texts are UTF-8, and the entry is that of the list.
 looked_up : (utf8 : Bool) (r : Result Entry ListFault) (fault : ListFault) (entry : Entry)
     → (if utf8 then r else Err fault) ≡ Ok entry → r ≡ Ok entry
 looked_up true r fault entry is = is
@@ -61,7 +63,8 @@ pub update_is_listed : (w : World) (o : Options) (s : State) → IsUpdate w o s 
     × (w.accepts (blake2b_digest 64 w.list) (key_of s.signers) s.signature ≡ true)
 update_is_listed w o s update long is =
     let (entry, there, has) = listed_with o.list w.list w.name s.read long is update.listed in
-    let digest = digest_is w o s update.same update.listing ∙ list_digest o.list w.list s.read long is in (
+    let digest = digest_is w o s update.same_options update.listing
+    ∙ list_digest o.list w.list s.read long is in (
       entry,
       there,
       has,
@@ -129,7 +132,8 @@ after_copy None s = refl
 after_copy (Some left) s =
     either (left == 0) s.is_list_signed (fsm.go fsm.ReadBack s) (fsm.reject OtherSize s) refl refl
 
--- The list is as it was, or Ed25519 has accepted its signature.
+-- The event does not change `is_list_signed`, or it is the event that Ed25519 has accepted the signature of
+-- the list.
 abbrev Kept : State → Event → Option State → Type 0
 Kept s e next =
     IfSome next (λ t. (t.is_list_signed ≡ s.is_list_signed) ⊎ ((s.due ≡ fsm.CheckList) × (e ≡ Answered true)))
@@ -198,13 +202,14 @@ becomes : (s t : State) (e : Event)
 becomes s t e (inl same) not is = absurd (true≢false (sym is ∙ same ∙ not))
 becomes s t e (inr why) not is = why
 
--- A list is found to be signed only by the answer of Ed25519 to the question about its digest.
+-- `is_list_signed` becomes true only if Ed25519 accepts the signature in the question about the digest of
+-- the list.
 pub list_is_signed : (s : State) (e : Event) → s.is_list_signed ≡ false → (step s e).1.is_list_signed ≡ true
     → (s.due ≡ fsm.CheckList) × (e ≡ Answered true)
 list_is_signed s e not is =
     becomes s (step s e).1 e (moved s e (after s.due e s) (op_keeps s.due e s refl)) not is
 
--- Until then, no line is at fault.
+-- Until the list is found to be signed, no line is at fault.
 pub no_line : (s : State) → s.is_list_signed ≡ false → fsm.line_at_fault s ≡ 0
 no_line s not = rw not refl
 
@@ -216,7 +221,7 @@ no_list_at w o fsm.ReadList s known none = absurd (true≢false (sym known.1 ∙
 no_list_at w o fsm.CheckList s known none = absurd (true≢false (sym known.1 ∙ ap is_some none))
 no_list_at w o op s known none = refl
 
--- Without a list, no operation for it becomes due.
+-- If the signature is that of the data, reading a list or checking its signature never becomes due.
 pub no_list_read : (w : World) (o : Options) (m : Snapshot) (calls : List Call) (t : State) (end : Snapshot)
     → o.list ≡ None → Applies w (begin o) m calls t end → is_for_list t.due ≡ false
 no_list_read w o m calls t end none run =

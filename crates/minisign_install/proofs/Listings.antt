@@ -1,4 +1,4 @@
--- The list that a run has read.
+-- Lemmas about the list that a run has read: its digest, and the digest that it has for the name.
 use Rattle.std.specs.Prelude.{◌≡◌, ◌&&◌, ◌++◌, Bool, true, false, if◌then◌else◌, List, [], ◌∷◌, ℕ}
 use Rattle.std.specs.Prelude.{is_some, length, take}
 use Rattle.std.specs.Prelude.{Option, Some, None, Result, Ok, Err}
@@ -20,7 +20,7 @@ use Rattle.minisign_lists.specs.declared.digests.ListedDigest.{ListedDigest}
 use Rattle.minisign_lists.specs.declared.lines.LongDigest.{LongDigest}
 use Rattle.minisign_lists.specs.declared.lines.LongDigest.TheVariants as long
 
--- The listing is that of this list, if there is one.
+-- If the signature is that of a list, the listing has the contents of this list for this name.
 abbrev IsOf : Option LongDigest → Listing → List ℕ → List ℕ → Type 0
 IsOf mode l list name = is_some mode ≡ true → l ≡ judge_list (unwrap_or mode long.Rejected) list name
 
@@ -57,14 +57,14 @@ both_true false b is = absurd (true≢false (sym is))
 pub and_true : (a b : Bool) → a ≡ true → b ≡ true → (a && b) ≡ true
 and_true a b one other = rw (one, other) refl
 
--- This is a digest of BLAKE2b.
+-- The list of numbers has the form of a BLAKE2b digest: 64 bytes.
 abbrev pub IsDigest : List ℕ → Type 0
 IsDigest digest = (length digest ≡ 64) × IsBytes digest
 
--- The digest that an update is signed with, and that its record has.
+-- The digest that has to be signed has this form. It is also written to the record.
 pub update_digest : (w : World) (o : Options) (s : State) → IsUpdate w o s → IsDigest (signed_digest s)
 update_digest w o s update =
-    rw (digest_is w o s update.same update.listing) (length_digest _, digest_bytes _)
+    rw (digest_is w o s update.same_options update.listing) (length_digest _, digest_bytes _)
 
 -- The key that has signed the comment is the first signer.
 pub signer_is : (w : World) (t : SignatureTextRecord) (key : List ℕ) (signers : List PublicKeyValue)
@@ -101,7 +101,7 @@ pub list_digest : (mode : Option LongDigest) (list m : List ℕ) (h : LongDigest
     → digest_to_sign mode list m ≡ blake2b_digest 64 list
 list_digest mode list m h is = rw is refl
 
--- What the list has for the name.
+-- Looking up the name in the list gives the digest in the state, or the error there.
 pub listed_as : (w : World) (o : Options) (s : State) (h : LongDigest) → o.list ≡ Some h → HasListing w o s
     → digest_found (entry_in h w.list w.name) ≡ s.listing.listed
 listed_as w o s h is listing =

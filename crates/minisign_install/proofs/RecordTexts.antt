@@ -132,7 +132,7 @@ pub record_reads : (numbering : Numbering) (n : ℕ) → n < 2 ^ 64 → (key dig
     → length digest ≡ 64 → IsNumberFor numbering (record_of numbering n key digest) n
 record_reads numbering n bound key digest key_whole digest_whole =
     let (numeral, value) = decimal_is_IsNumeral n bound in
-    let number : IsNumberText (decimal n) n = record { numeral = numeral; is = value; bound = bound } in
+    let number : IsNumberText (decimal n) n = record { numeral = numeral; value_is = value; bound = bound } in
     let same = sym (text_of numbering n bound key digest key_whole digest_whole) in record {
       utf8 = subst IsUtf8 same
           (IsUtf8-append (number_label numbering) (decimal n) (label_utf8 numbering)

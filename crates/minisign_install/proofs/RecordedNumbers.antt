@@ -11,7 +11,7 @@ use Rattle.minisign_install.specs.Histories.{AppliesAs, used_record_for}
 use Rattle.minisign_install.proofs.Recorded.{recorded_holds}
 use Rattle.minisign_install.proofs.StepRecords.{recorded_reads}
 
--- The record is accepted, and the update is compared with this version number (None: with none).
+-- The record is accepted, and the update is compared with this version number, or with none if it is None.
 abbrev version_of : Result Recorded InstallFault → Option ℕ → Type 0
 version_of judged applicable = (r : Recorded) × (judged ≡ Ok r) × (r.version ≡ applicable)
 
@@ -19,7 +19,7 @@ module _ (o : Options) (no_new_key : o.new_key ≡ false) where
   abbrev Same : Option (List ℕ) → Option ℕ → Type 0
   Same found applicable = version_of (judge_record o found) applicable
 
-  -- For a record with a version number for the field.
+  -- The lemma applies_as_before for a record that has a version number for the field.
   with_number : (bytes : List ℕ) (first new other : Bool) (n : ℕ) (key digest : Option (List ℕ))
       (applicable : Option ℕ) → new ≡ false → recorded_version o.numbering bytes ≡ Some n
       → AppliesAs o.numbering first (if first && other then None else Some bytes) applicable
@@ -46,7 +46,7 @@ module _ (o : Options) (no_new_key : o.new_key ≡ false) where
         sym reads ∙ ap (recorded_version o.numbering) same ∙ recorded_reads o.numbering all k holds,
       )
 
-  -- For a record without a version number for the field.
+  -- The lemma applies_as_before for a record that has no version number for the field.
   without_number : (bytes : List ℕ) (first other : Bool) (fault : InstallFault) (applicable : Option ℕ)
       → recorded_version o.numbering bytes ≡ None
       → AppliesAs o.numbering first (if first && other then None else Some bytes) applicable

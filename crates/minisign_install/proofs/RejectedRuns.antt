@@ -93,7 +93,7 @@ leaves w s fsm.CheckComment (Answered accepted) old new d is fine none = (none, 
 leaves w s op (Answered accepted) old new d is fine none = (none, unchanged old new is.1)
 leaves w s op e old new d is fine none = absurd is
 
--- The same for a run: if the disk is empty at its end, each operation leaves the content of the target and of
+-- If the disk is empty at the end of a run, each of its operations leaves the content of the target and of
 -- the record unchanged.
 changes_nothing_from : (w : World) (n : ℕ) (s : State) (d : Disk) (m : Snapshot) (calls : List Call)
     (t : State)

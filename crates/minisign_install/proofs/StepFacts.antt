@@ -1,5 +1,5 @@
--- Whole runs of the installer. Each fact gives the options and the events of a run, and says which operations
--- were due and how the run ended. The expected results are those of docs/INSTALLING.md. The keys, digests and
+-- Whole runs of the installer. Each fact gives the options and the events of a run, the operations that were
+-- due, and the end of the run. The expected results are those of docs/INSTALLING.md. The keys, digests and
 -- signatures are not real: the events say whether Ed25519 accepts a signature.
 use Rattle.std.proofs.Common.{◌≡◌, refl, ℕ, true, false, List, [], ◌∷◌, ◌++◌, codes}
 use Rattle.std.specs.Prelude.{Option, Some, None, Result, Ok, Err, replicate, take}

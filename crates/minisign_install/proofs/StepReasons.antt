@@ -89,7 +89,7 @@ module _ (w : World) (o : Options) (times : Option ℕ → Bool) where
       × (s.version ≡ unwrap_or (version_in o.numbering g.text.comments.trusted) 0)
       × (s.signature ≡ g.text.signature.signature) × (key_of s.signers ≡ g.key)
 
-  -- And the list, if there is one, was read, is signed, and has the name.
+  -- In addition, the list, if there is one, was read, is signed, and has an entry for the name.
   abbrev IsAccepted : State → Type 0
   IsAccepted s =
       (g : IsSigned w o) × (time : TimeIn times) × (s.options ≡ o) × (s.recorded ≡ g.recorded)
@@ -271,13 +271,13 @@ module _ (w : World) (o : Options) (times : Option ℕ → Bool) where
   left_at n size None is none = tt
   left_at n size (Some left) is none = sym is ∙ ap (λ (x : ℕ). Some x) (omega (arith, none))
 
-  -- The answer is about the key and the signature of the update.
+  -- The result of Ed25519 for this digest is that for the key and the signature of the update.
   of_update : (s : State) (known : IsCommented s) (digest : List ℕ) (accepted : Bool)
       → accepted ≡ w.accepts digest (key_of s.signers) s.signature → accepts_digest known.0 digest ≡ accepted
   of_update s (g, time, same, recorded, none, version, signature, key) digest accepted is =
       sym (rw (key, signature) at is)
 
-  -- The answer about the digest that has to be signed.
+  -- The result of Ed25519 for the digest of the data, or of the list, is that for the update.
   answered : (s : State) (known : IsCommented s) (accepted : Bool) → HasListing w o s
       → accepted ≡ w.accepts (signed_digest s) (key_of s.signers) s.signature
       → accepts_digest known.0 (digest_to_sign o.list w.list s.read) ≡ accepted
@@ -424,7 +424,8 @@ module _ (w : World) (o : Options) (times : Option ℕ → Bool) where
         calm s (Answered false),
       )
 
-  -- The result of Ed25519 about the data is about the key and the signature of the update.
+  -- The data that was read is accepted for the update if Ed25519 accepts the signature and the data is
+  -- listed.
   data_answered : (s : State) (known : IsAccepted s) (accepted : Bool)
       → accepted ≡ w.accepts (signed_digest s) (key_of s.signers) s.signature
       → accepts_data known.0 s.read ≡ (accepted && fsm.is_listed s)
@@ -433,7 +434,7 @@ module _ (w : World) (o : Options) (times : Option ℕ → Bool) where
       let listed = listed_is w o s known.2 known.8 in
       λ i. signed i && sym listed i
 
-  -- After Ed25519 accepted the list.
+  -- The invariant holds after Ed25519 has accepted the signature of the list.
   after_listing : (n : ℕ) (s : State) (listed : Result ListedDigest InstallFault) (known : IsCommented s)
       → Left n (signed_size o.list known.0.text.comments.trusted) s.left → is_some o.list ≡ true
       → HasListing w o s → s.listing.listed ≡ listed

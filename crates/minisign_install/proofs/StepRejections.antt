@@ -27,6 +27,8 @@ module _ (old : Disk) where
   Holds fsm.Installed d = ⊤
   Holds op d = d ≡ old
 
+  -- Holds is true of the result of a conditional if it is true of both branches, states here and operations
+  -- in either_op.
   either : (b : Bool) (s t : State) (d : Disk) → Holds s.due d → Holds t.due d
       → Holds (if b then s else t).due d
   either true s t d one other = one
@@ -36,6 +38,8 @@ module _ (old : Disk) where
   either_op true x y d one other = one
   either_op false x y d one other = other
 
+  -- If the files are unchanged, Holds is true after each function that chooses the next operation, up to
+  -- after_copy. The lemmas have the names of these functions.
   reject : (fault : InstallFault) (s : State) (d : Disk) → d ≡ old → Holds (fsm.reject fault s).due d
   reject fault s d is = either_op (fsm.has_files s.due) fsm.RemoveFiles fsm.Rejected d is is
 
@@ -101,6 +105,7 @@ module _ (old : Disk) where
   after_copy s d (Some left) is =
       either (left == 0) (fsm.go fsm.ReadBack s) (fsm.reject OtherSize s) d is (reject OtherSize s d is)
 
+  -- If Holds is true before an operation that succeeds, it is true afterwards for the next operation.
   op_keeps : (op : Operation) (e : Event) (s : State) (mid new : Disk) → s.due ≡ op → Holds op mid
       → Changes op s e mid new → Succeeds e → IfSome (after op e s) (λ t. Holds t.due new)
   op_keeps op (Failed f) s mid new at holds change fine = absurd fine
@@ -152,11 +157,13 @@ module _ (old : Disk) where
   op_keeps op Done s mid new at same change fine = change ∙ same
   op_keeps op e s mid new at holds change fine = tt
 
+  -- The same for the state that `step` returns, if the installer accepts the event.
   answer_keeps : (s : State) (new : Disk) (next : Option State) → is_some next ≡ true
       → IfSome next (λ t. Holds t.due new) → Holds (answer s next).1.due new
   answer_keeps s new (Some t) fits holds = holds
   answer_keeps s new None fits holds = absurd (true≢false (sym fits))
 
+  -- Holds is true after a run in which no operation failed.
   run_holds : (w : World) (n : ℕ) (s : State) (mid : Disk) (events : List (Event × Disk)) (t : State)
       (new : Disk) → Holds s.due mid → Runs w n s mid events t new → AllSucceed events → Holds t.due new
   run_holds w n s mid [] t new holds (is, same) fine = rw (is, same) holds

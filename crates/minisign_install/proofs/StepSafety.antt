@@ -318,7 +318,7 @@ module _ (w : World) (o : Options) where
         )
     after_signature s new (Err fault) time known is passed = reject (Library fault) s new (inl is)
 
-    -- If the invariant holds for both states, it holds for whichever comes next.
+    -- If the invariant holds for both branches of a conditional, it holds for its result.
     either : (is : Bool) (s t : State) (new : Disk) → Holds s.due s new → Holds t.due t new
         → Holds (if is then s else t).due (if is then s else t) new
     either true s t new one other = one
@@ -441,7 +441,8 @@ module _ (w : World) (o : Options) where
     after_copy s new (Some left) known is =
         either (left == 0) _ _ new (known, is) (reject OtherSize s new (inl is))
 
-    -- The invariant holds after a failure with a possible reason; after another failure there is no state.
+    -- The invariant holds after a failure with an error that an operation can have. Other failures do not
+    -- fit, so there is no state after them.
     holds_if_some : (is : Bool) (t : State) (new : Disk) → Holds t.due t new
         → IfSome (if is then Some t else None) (λ x. Holds x.due x new)
     holds_if_some true t new holds = holds

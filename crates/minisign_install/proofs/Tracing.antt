@@ -529,7 +529,7 @@ starts g o m f message follows none = (
   λ more is. rw none is,
 )
 
--- Appending a line to the front does not change the trace.
+-- Moving the next line from the rest of a trace to its front does not change the trace.
 longer : (g : RunInputs) (s : State) (m : Snapshot) (source : List ℕ) (front : List Line) (line : Line)
     (more : List Line) → IsRecorded g s m source ((front ++ line ∷ []) ++ more)
     → IsRecorded g s m source (front ++ line ∷ more)

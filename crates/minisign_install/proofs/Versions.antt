@@ -142,7 +142,8 @@ module _ (w : World) (o : Options) (accepts_whole : AcceptsWholeKeys w.accepts) 
       next_run_reads o s not_first not_new (sym (ap (λ (x : Options). x.numbering) update.same_options))
       (next_bound s update) (next_key_length s update) (update_digest w o s update)
 
-  -- So does a run with other options and other keys.
+  -- A later run reads them too, even with other keys and other options, unless these include --first or
+  -- --new-key.
   pub later_record : (p : Options) (s : State) → IsUpdate w o s → p.numbering ≡ o.numbering → p.first ≡ false
       → p.new_key ≡ false
       → judge_record p (Some (new_record s)) ≡ Ok (record {

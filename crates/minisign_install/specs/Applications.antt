@@ -17,7 +17,7 @@ use Rattle.minisign_install.specs.StepRuns.{IsAnswer, World}
 -- == Files ==
 
 -- A file. Files with the same number are the same file. If a file is not synced, it may have any content
--- after a crash. `permissions` says whether it has the permissions of the installed file.
+-- after a crash. `permissions` is true if it has the permissions of the installed file.
 pub record File : Type 0 where
   pub number : ℕ
   pub bytes : List ℕ

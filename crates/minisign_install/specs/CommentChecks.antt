@@ -1,5 +1,5 @@
--- States, in terms of the fields of a trusted comment, what it means that the comment is accepted or that it
--- is rejected with an error. The law `any_comment_is_judged` says this of the results of `comment_fault`.
+-- Conditions on the fields of a trusted comment under which the comment is accepted, or rejected with an
+-- error. The law `any_comment_is_judged` says that the results of `comment_fault` satisfy these conditions.
 use Rattle.std.specs.Prelude.{◌≡◌, ◌≢◌, ◌⊎◌, ◌<◌, ◌-◌, ◌^◌, ℕ, List, Option, Some}
 use Rattle.std.specs.Option.{unwrap_or}
 use Rattle.minisign_install.specs.Comments.{HasNumber, HasSize, IsBadlySized, IsExpiryRefused, IsNumberText}
@@ -7,8 +7,8 @@ use Rattle.minisign_install.specs.Comments.{IsUnexpired, file_label, number_labe
 use Rattle.minisign_install.specs.Decisions.{Options}
 use Rattle.minisign_install.specs.Faults.{BadSize, InstallFault, NoNumber, OlderUpdate, OtherFile}
 
--- The time at which the comment is checked. At a time before 1970, every update that has an expiry time has
--- expired.
+-- The time at which the comment is checked. A time before 1970 (None) is replaced by the latest time, so that
+-- every update that has an expiry time has expired.
 abbrev pub time_that_applies : Option ℕ → ℕ
 time_that_applies time = unwrap_or time (2 ^ 64 - 1)
 

@@ -27,8 +27,8 @@ use Rattle.minisign_lists.specs.declared.lines.LongDigest.{LongDigest}
 -- The options of a run. `keys` are the public keys that were given, one or two. `file` is the name that the
 -- trusted comment must contain, and `numbering` its field with the version number. `list` is None if the
 -- signature is that of the data. Otherwise it is that of a signed list, in which the data must be listed, and
--- `list` is the meaning of 128 digits on a line that does not name its hash function. Each other field says
--- whether the option of minisign-install with this name is given, such as --must-expire.
+-- `list` is the hash function of 128 digits on a line that does not name it. Each other field is true if the
+-- option of minisign-install with its name is given: `must_expire` belongs to --must-expire.
 pub record Options : Type 0 where
   pub keys : List PublicKeyValue
   pub file : List ℕ
@@ -197,7 +197,7 @@ comment_fault o recorded time comment = first_of
     ∷ unless (not (is_too_old o recorded (version_in o.numbering comment))) OlderUpdate
     ∷ [])
 
--- == A trusted comment alone ==
+-- == Checking only a trusted comment ==
 
 -- The error if a comment is rejected by an application that checks only a comment, and no files. The version
 -- must not be below `least`. The comment need not have a field `expires:`, and `size:` is not checked.

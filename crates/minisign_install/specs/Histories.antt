@@ -219,7 +219,7 @@ AllEvents P (c ∷ more) = P c.event × AllEvents P more
 -- == Records of version 0.2 ==
 
 -- A run of version 0.2 compares the update with this version number, which the record has with or without a
--- label. None: it compares nothing, because --first is given, and there is no record or the record has no
+-- label. With None, it compares nothing: --first is given, and either there is no record or the record has no
 -- version number for this field.
 abbrev pub AppliesAs : Numbering → Bool → Option (List ℕ) → Option ℕ → Type 0
 AppliesAs numbering first found (Some version) =

@@ -60,7 +60,7 @@ use Rattle.minisign_sha2.specs.declared.stored.StoredSha512.{StoredSha512}
 abbrev pub operation_of : ℕ → Operation
 operation_of n = get_or operations n Nothing
 
--- The number of a field, and the field with a number.
+-- The number of the field that has the version number, and the field with a number.
 abbrev pub numbering_number : Numbering → ℕ
 numbering_number Timestamp = 0
 numbering_number Version = 1
@@ -71,7 +71,8 @@ numbering_of n = if n == numbering_number Version then Version else Timestamp
 abbrev pub when : {A : Type 0} → Bool → A → Option A
 when holds value = if holds then Some value else None
 
--- What 128 digits mean in a list, if the signature is that of a list.
+-- If the signature is that of a list: the hash function of 128 digits on a line that does not name it.
+-- Otherwise None.
 abbrev pub list_of : ℕ → ℕ → Option LongDigest
 list_of is_list number = when (is_list == 1) (unwrap_or (long_numbered number) long.Rejected)
 
@@ -176,7 +177,8 @@ stored_512 r = record {
   count_high = r.blake2b.count_high;
 }
 
--- The state of this hash function was fed these bytes. Without a listed digest it is BLAKE2b.
+-- The struct has the state of this hash function after these bytes. None stands for BLAKE2b, which is used if
+-- there is no listed digest.
 abbrev pub WasRead : Option Algorithm → Reading → List ℕ → Type 0
 WasRead (Some algorithm.Sha256) r m = WasFed256 (stored_256 r) m
 WasRead (Some algorithm.Sha512) r m = WasFed512 (stored_512 r) m
@@ -329,9 +331,6 @@ options_by key other c file = record {
   list = list_of c.is_list c.long_digest;
 }
 
--- The API misuse if the options are rejected: BadOption if an option is neither 0 nor 1 or if two options
--- must not be combined, BadNumbering if there is no field with this number, and otherwise BadHash if 128
--- digits cannot have this meaning.
 abbrev pub is_flag : ℕ → Bool
 is_flag n = nat_le n 1
 

@@ -1,5 +1,5 @@
--- A signed list of files, and what it says about the file to install. The name is looked up as minisign_lists
--- does it.
+-- The entry of the file to install in a signed list, and the errors of looking it up. minisign_lists defines
+-- how names are looked up.
 use Rattle.std.specs.Prelude.{ℕ, Bool, true, false, ◌&&◌, if◌then◌else◌, List, replicate, is_some}
 use Rattle.std.specs.Prelude.{Option, Some, None, Result, Ok, Err}
 use Rattle.std.specs.Str.{is_utf8}
@@ -15,7 +15,8 @@ use Rattle.minisign_lists.specs.declared.lines.LongDigest.{LongDigest}
 use Rattle.minisign_lists.specs.Lists.{listed_entry}
 use Rattle.minisign_lists.specs.declared.faults.ListFault.TheVariants as lists
 
--- The entry of the name in the list, both of which must be UTF-8, or the first check that fails.
+-- The entry of the name in the list, both of which must be UTF-8, or the error of the first
+-- check that fails.
 abbrev pub entry_in : LongDigest → List ℕ → List ℕ → Result Entry ListFault
 entry_in long list name =
     if is_utf8 list && is_utf8 name then listed_entry long list name else Err (lists.Library (Named NotUtf8))
@@ -53,7 +54,7 @@ judge_list long list name = record {
   line = line_found (entry_in long list name);
 }
 
--- Before the list is read.
+-- The value of the state's `listing` before the list is read.
 abbrev pub nothing_listed : Listing
 nothing_listed = record { digest = replicate 64 0; listed = Err NotListed; line = 0 }
 
@@ -67,7 +68,7 @@ abbrev pub fits_listed : Option LongDigest → Result ListedDigest InstallFault 
 fits_listed None listed m = true
 fits_listed (Some long) listed m = has_listed listed m
 
--- The same, for a list and a name.
+-- fits_listed for the entry of this name in this list.
 abbrev pub fits_list : Option LongDigest → List ℕ → List ℕ → List ℕ → Bool
 fits_list None list name m = true
 fits_list (Some long) list name m = has_listed (digest_found (entry_in long list name)) m

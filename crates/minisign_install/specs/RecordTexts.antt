@@ -60,8 +60,8 @@ abbrev pub is_foreign_key : List (List ℕ) → Option (List ℕ) → Bool
 is_foreign_key keys (Some named) = not (list_any (λ key. bytes_eq named key) keys)
 is_foreign_key keys None = false
 
--- The record that version 0.2 used, or None if there is none or it was ignored. `first` says whether --first
--- is given: a record that names none of these keys is then ignored.
+-- The record that version 0.2 used, or None if there is none or it was ignored. `first` is true if --first is
+-- given; then a record that names a key other than these is ignored.
 abbrev pub used_record : Bool → List (List ℕ) → Option (List ℕ) → Option (List ℕ)
 used_record first keys (Some bytes) =
     if first && is_foreign_key keys (record_key bytes) then None else Some bytes

@@ -100,11 +100,11 @@ operations =
 -- the data, and `comment_signature` is that of the trusted comment. The comment has then been checked:
 -- `fault` is the error for which it is rejected, `version` its version number (0 if it has none), and `size`
 -- the signed size. None of these may be relied on before `is_signed` is true; then the first of the signers
--- has signed the comment. After the list was read, `listing` says what it has. It may not be relied on
--- before `is_list_signed` is true; then this signer has signed the list. `is_recorded` says whether the
--- digest in the record is that of the update. `read` holds the bytes of the file that is being read, `left`
--- is the number of bytes of the signed size that were not copied yet, and `error` is the error for which the
--- run is rejected.
+-- has signed the comment. After the list was read, `listing` has its digest and the entry of the name. It
+-- may not be relied on before `is_list_signed` is true; then this signer has signed the list. `is_recorded`
+-- is true if the digest in the record is that of the update. `read` holds the bytes of the file that is
+-- being read, `left` is the number of bytes of the signed size that were not copied yet, and `error` is the
+-- error for which the run is rejected.
 pub record State : Type 0 where
   pub due : Operation
   pub options : Options
@@ -148,9 +148,9 @@ begin o = record {
 
 -- The events that the application reports. RecordRead: the bytes of the record, or None if there is none.
 -- SignatureRead: the result of parsing the signature file, and the time in seconds since the beginning of
--- 1970, or None for a time before 1970. ListRead: the list, and the name to look up in it. Answered: whether
--- Ed25519 accepts. PieceRead: the next bytes of the file. PieceCopied: the number of bytes that were copied.
--- Failed: out of memory, or an operation of the system failed.
+-- 1970, or None for a time before 1970. ListRead: the list, and the name to look up in it. Answered: true if
+-- Ed25519 accepts the signature. PieceRead: the next bytes of the file. PieceCopied: the number of bytes
+-- that were copied. Failed: out of memory, or an operation of the system failed.
 pub data Event : Type 0 where
   Done : Event
   InUse : Event
@@ -188,7 +188,8 @@ comment_question s comment = record {
 abbrev pub signed_digest : State → List ℕ
 signed_digest s = if is_some s.options.list then s.listing.digest else blake2b_digest 64 s.read
 
--- The digest in the record, or the one that the update must be signed with.
+-- The message of the question at this operation: at CheckRecord the digest in the record, otherwise
+-- signed_digest.
 abbrev pub digest_due : Operation → State → List ℕ
 digest_due CheckRecord s = unwrap_or s.recorded.digest []
 digest_due op s = signed_digest s
@@ -309,15 +310,15 @@ abbrev pub next_key : List PublicKeyValue → State → State
 next_key (v ∷ w ∷ more) s = record s { signers = w ∷ more }
 next_key signers s = reject (Library (Named named.CommentSignatureRefused)) s
 
--- Ed25519 has said whether the digest in the record is that of the update. If it is not, and the update is
--- older, it is installed: this is a roll-back.
+-- The result of Ed25519 for the digest in the record was reported: true if this is the digest of the update.
+-- If it is false and the update is older, the update is installed, which is a roll-back.
 abbrev pub after_digest : Bool → State → State
 after_digest accepted s =
     if not accepted && is_rolling_back s then install s
     else record s { due = ReadTarget; is_recorded = accepted }
 
--- Ed25519 has said whether the installed file is the update. If it is not, the update replaces it only if the
--- record is that of the update, or if --again is given.
+-- The result of Ed25519 for the installed file was reported: true if this file is the update. If it is
+-- false, the update replaces the file only if the record is that of the update, or if --again is given.
 abbrev pub after_target : Bool → State → State
 after_target true s = go (if s.options.check then AlreadyInstalled else SyncTarget) s
 after_target false s =

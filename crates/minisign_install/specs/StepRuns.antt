@@ -53,9 +53,9 @@ IsAnswer w s CheckComment accepted =
     (t : SignatureTextRecord) → w.text ≡ Ok t → accepted ≡ says_yes w (comment_question s t.comments.trusted)
 IsAnswer w s op accepted = accepted ≡ says_yes w (data_question op s)
 
--- The event is true at this operation; a lawful application reports no other. n is the number of bytes that
--- were copied so far. A piece is not empty, and not longer than the rest of the file. Copying ends at the end
--- of the data. The temporary file has the bytes that were copied.
+-- The event is true at this operation: it reports what happened. A lawful application reports only true
+-- events. n is the number of bytes that were copied so far. A piece is not empty, and not longer than the
+-- rest of the file. Copying ends at the end of the data. The temporary file has the bytes that were copied.
 abbrev pub IsTrueEvent : World → ℕ → State → Operation → Event → Type 0
 IsTrueEvent w n s op (RecordRead found) = found ≡ w.found_record
 IsTrueEvent w n s op (SignatureRead text time) = text ≡ w.text

@@ -44,7 +44,7 @@ impl Numbering {
         }
     }
 
-    // Returns the other one of the two fields.
+    // Returns the other field.
     pub(crate) fn other(self) -> Numbering
         ensures { result ≡ other_field self }
     {
@@ -103,7 +103,7 @@ fn begins_loosely(text: &[u8], label: &[u8]) -> bool
     label.is_empty()
 }
 
-// Returns true if a letter is this lower-case letter or its upper-case form.
+// Returns true if `letter` is the lower-case letter `lower` or its upper-case form.
 fn is_letter(letter: u8, lower: u8) -> bool
     ensures { result ≡ (to_ascii_lowercase letter == lower) }
 {
@@ -174,8 +174,8 @@ pub(crate) fn number_of(text: &str) -> Option<u64>
     }
 }
 
-/// States which trusted comments are accepted, and what each error says about a rejected one. This function
-/// is a law: it does nothing, and exists only for its contract.
+/// States which trusted comments are accepted, and for each error, which comments are rejected with it. This
+/// function is a law: it does nothing, and exists only for its contract.
 pub fn any_comment_is_judged()
     // A comment that is not rejected names the file, has a version number, has not expired, and has no
     // field `size:`, or only one, with a number. The version number is not below the recorded one, unless

@@ -22,14 +22,14 @@ pub enum InstallFault {
     TargetInUse,
     /// No version is recorded for this target, and `is_first` is not set.
     NoRecord,
-    /// The version record of this target contains no number, and `is_first` is not set.
+    /// The version record of this target contains no version number, and `is_first` is not set.
     DamagedRecord,
     /// The trusted comment does not name the file that the caller expects.
     OtherFile,
     /// The trusted comment lacks the field that was chosen for the version number, or the value of the first
     /// such field is not a decimal number below 2^64.
     NoNumber,
-    /// The version number of the update is below the recorded one.
+    /// The version number of the update is below the recorded one, and `roll_back` is not set.
     OlderUpdate,
     /// The update is installed but could not be synced, so a crash may bring back the previous
     /// file.

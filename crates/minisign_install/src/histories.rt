@@ -37,13 +37,13 @@ ghost use Rattle.minisign_lists.specs.Lines.{Entry};
 ghost use Rattle.minisign_lists.specs.declared.lines.LongDigest.{LongDigest};
 ghost use Rattle.minisign_lists.specs.Lists.{listed_entry};
 
-/// States what is true of every run of a lawful application, complete or cut off anywhere. This function is a
+/// States properties of every run of a lawful application, complete or cut off anywhere. This function is a
 /// law: it does nothing, and exists only for its contract.
 pub fn any_application_is_safe()
     // After each operation, a process finds at the target, at once or after a crash, only what it could have
-    // found there before, or an update that a given key has signed, or that is listed in a signed list; in
-    // the second case, the only record that it can find is that of this update. At the record, it finds only
-    // what it could have found there before, or the record of such an update.
+    // found there before, or an update that a given key has signed or that is listed in a list that a given
+    // key has signed. If it finds such an update, the only record that it can find is that of this update. At
+    // the record, it finds only what it could have found there before, or the record of such an update.
     ensures safe { (w : World) (o : Options) (m : Snapshot) (calls : List Call) (t : State) (end : Snapshot)
         → Applies w (begin o) m calls t end → AllCalls (IsSafeCall w o) calls }
 
@@ -63,7 +63,7 @@ pub fn any_application_is_safe()
     ensures check { (w : World) (o : Options) (m : Snapshot) (calls : List Call) (t : State) (end : Snapshot)
         → o.check ≡ true → Applies w (begin o) m calls t end → AllCalls LeavesAll calls }
 
-    // If no operation fails and the lock is free, a run that has ended has no temporary files.
+    // If no operation fails and the lock is free, a run that has ended leaves no temporary files.
     ensures files { (w : World) (o : Options) (m : Snapshot) (calls : List Call) (t : State) (end : Snapshot)
         → IsBeforeRun m → Applies w (begin o) m calls t end → AllEvents Succeeds calls
         → has_ended t.due ≡ true → HasNoFiles end }
@@ -144,8 +144,8 @@ pub fn any_good_update_arrives()
         }) }
 {}
 
-/// States what the installed data is if the signature is that of a list. This function is a law: it does
-/// nothing, and exists only for its contract.
+/// States that the installed data is listed, if the signature is that of a list. This function is a law: it
+/// does nothing, and exists only for its contract.
 pub fn any_listed_update_is_listed()
     // The data that a run installs has the digest of the only entry of the name in the list, and a given key
     // has signed the list.
@@ -182,8 +182,8 @@ pub fn any_history_keeps_the_version()
         → (r : Recorded) × (judge_record o found ≡ Ok r) × (r.version ≡ applicable) }
 {}
 
-/// States what `--new-key` and `--roll-back` do to the record. This function is a law: it does nothing, and
-/// exists only for its contract.
+/// States the effects of `--new-key` and `--roll-back` on the record. This function is a law: it does
+/// nothing, and exists only for its contract.
 pub fn any_record_is_judged()
     // With --new-key or --first, a record with a version number for the field is ignored if it names a key
     // that was not given.

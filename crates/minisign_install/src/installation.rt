@@ -85,8 +85,8 @@ pub struct Choices {
     pub roll_back: u32,
     /// The signature is that of a signed list of files, in which the data must be listed.
     pub is_list: u32,
-    /// The meaning of 128 hexadecimal digits on a line of the list that does not name its hash function: 0 if
-    /// such a line is malformed, 2 for SHA-512, 3 for BLAKE2b.
+    /// The hash function of 128 hexadecimal digits on a line of the list that does not name it: 2 for
+    /// SHA-512, 3 for BLAKE2b, or 0 if such a line is malformed.
     pub long_digest: u32,
 }
 
@@ -509,8 +509,9 @@ impl Choices {
         self.is_first != 1 || (self.new_key != 1 && self.roll_back != 1)
     }
 
-    // Returns `BadOption` if an option is not 0 or 1 or two options must not be combined, else `BadNumbering`
-    // if there is no such field, else `BadHash` if 128 digits cannot have this meaning.
+    // Returns an error if the options are rejected: `BadOption` if an option is neither 0 nor 1 or two
+    // options must not be combined, else `BadNumbering` if no field has the number `numbering`, else
+    // `BadHash` if `long_digest` is not valid.
     fn test(&self) -> Result<(), Misuse>
         ensures { MatchResult result (λ _. choices_misuse self.now ≡ None)
             (λ m. choices_misuse self.now ≡ Some m) }

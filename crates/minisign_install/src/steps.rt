@@ -9,7 +9,7 @@ ghost use Rattle.minisign_install.specs.StepRuns.{IsSynced, Runs, World, as_chec
 ghost use Rattle.minisign_install.specs.StepRuns.{decides, nothing_owned, nothing_synced, owned_by};
 ghost use Rattle.minisign_install.specs.StepRuns.{synced_by};
 
-/// States what is true of every sequence of events of which each fits the operation that is due. This
+/// States properties of every sequence of events in which each event fits the operation that is due. This
 /// function is a law: it does nothing, and exists only for its contract.
 pub fn any_run_of_steps()
     // A run that has ended has renamed each temporary file that it made, or has tried to remove it.

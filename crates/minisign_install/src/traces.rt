@@ -784,7 +784,7 @@ impl<'a> Follower<'a> {
     }
 }
 
-// Returns true if both are the same bytes, or none.
+// Returns true if both have the same bytes, or both are `None`.
 fn same(one: Option<&[u8]>, other: Option<&[u8]>) -> bool
     ensures sound { result ≡ true → option_map (λ r. r.now) one.entry ≡ option_map (λ r. r.now) other.entry }
     ensures complete { option_map (λ r. r.now) one.entry ≡ option_map (λ r. r.now) other.entry
@@ -816,8 +816,8 @@ fn bytes_at<'a>(file: &Option<FileView<'a>>) -> Option<&'a [u8]>
 ///
 /// Some lawful runs are rejected: a trace must not record the bytes that a failed operation leaves in a
 /// temporary file, and the pieces that are read must be those of the file that is at the target when reading
-/// begins. No line of a trace says that a signed list was read, so a run with a list is lawful only until it
-/// reads the list.
+/// begins. A trace cannot record that a signed list was read, so a run with a list is accepted only up to the
+/// operation that reads the list.
 pub fn first_unlawful_line<'a>(
     key: &PublicKeyValue,
     other: &PublicKeyValue,

@@ -1,6 +1,11 @@
 //! Key derivation: HMAC and PBKDF2 with SHA-256, and scrypt (RFC 2104, RFC 8018, RFC 7914).
 //!
-//! The definitions in `specs/` say what each call computes, in the words of its RFC.
+//! scrypt fills a large memory with N rows and then looks rows up. [`scrypt`] keeps all rows in memory.
+//! [`scrypt_keeping`] keeps only every k-th row and computes the others again, which saves memory and
+//! costs time. [`scrypt_in`] does so too, in memory that the caller provides. All three derive the same
+//! key. [`Rows`] are the kept rows, and [`mix_kept`] is the step of scrypt that looks rows up.
+//!
+//! The definitions in `specs/` define the result of each call, with the names of its RFC.
 
 #![tactic(auto)]
 

@@ -1,4 +1,4 @@
--- Lemmas about asking about a list, and about its verdict.
+-- Lemmas about asking a list about a key and a signature, and about the verdict on the list.
 use Rattle.std.proofs.Common.{◌≡◌, ◌∙◌, ◌==◌, ◌+◌, ◌≤◌, ◌++◌, ℕ, Bool, true, false, if◌then◌else◌, List, []}
 use Rattle.std.proofs.Common.{Option, Some, None, Result, Ok, Err, length, take, drop, ap, sym, refl, arith}
 use Rattle.std.proofs.Common.{nat_le, ◌&&◌, length-append}

@@ -87,7 +87,7 @@ pub tagged_line_of_blake2b : read_line long.Rejected 1 (codes "BLAKE2b (a b) = "
 unfolding decode_pairs
 tagged_line_of_blake2b = refl
 
--- sha512sum and b2sum: the caller says what 128 digits mean
+-- Lines of sha512sum and b2sum, for which the caller chooses the hash function of 128 digits.
 pub long_line_of_sha512 : read_line long.Sha512 1 (sha512_digits ++ codes "  a") ≡
     entry (listed.Sha512 sha512_of_abc) (codes "a") 130
 unfolding decode_pairs

@@ -155,8 +155,8 @@ lines_more list x is some clean =
 
 -- == Entries of a list whose lines all name their hash functions ==
 
--- This setting rejects 128 digits on lines that do not name their hash function, so a line that is
--- well formed with it is well formed whatever 128 digits mean.
+-- This setting rejects 128 digits on lines that do not name their hash function. So a line that is well
+-- formed with it is well formed with every setting.
 abbrev strict : LongDigest
 strict = long.Rejected
 

@@ -43,7 +43,7 @@ path_kept (a ∷ b ∷ m) h = elim (cases_Bool (a == 46)) [
 
 -- == Control characters ==
 
--- Each byte of a text without control characters is no control character.
+-- No byte of a text without control characters is a control character.
 clean_at : (x : List ℕ) (i : ℕ) → list_any is_control x ≡ false → i < length x
     → is_control (slice_index x i) ≡ false
 clean_at [] i h within = absurd (omega (arith, within))

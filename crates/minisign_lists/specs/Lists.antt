@@ -30,8 +30,8 @@ only_entry [] = Err NotListed
 only_entry (e ∷ []) = Ok e
 only_entry (_ ∷ second ∷ _) = Err (ListedTwice second.line)
 
--- The entry of a name in a list, or the first check that fails. Every line of the list must be well
--- formed. A name on two lines is an error, even if both lines have the same digest.
+-- The entry of a name in a list, or the error of the first check that fails. Every line of the list
+-- must be well formed. A name on two lines is an error, even if both lines have the same digest.
 unfoldable pub listed_entry : LongDigest → List ℕ → List ℕ → Result Entry ListFault
 listed_entry long list name =
     if is_name name

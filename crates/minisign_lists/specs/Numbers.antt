@@ -10,8 +10,7 @@ hash_number Sha256 = 1
 hash_number Sha512 = 2
 hash_number Blake2b = 3
 
--- The number of the meaning of 128 digits: 0 if they are rejected, and otherwise that of the hash
--- function.
+-- The number for a hash function of 128 digits, or 0 if lines with 128 digits are rejected.
 abbrev pub long_number : LongDigest → ℕ
 long_number long.Rejected = 0
 long_number long.Sha512 = 2

@@ -1,4 +1,4 @@
--- Data that is fed in pieces, and a list that is read entry by entry, as contracts see them.
+-- Definitions for contracts of calls that take data in pieces or read a list entry by entry.
 use Rattle.std.specs.Prelude.{◌≡◌, ◌==◌, ⊤, ℕ, Bool, ◌+◌, ◌-◌, ◌≤◌, ◌^◌, false, List, length, filter}
 use Rattle.std.specs.Prelude.{Result, Ok, Err, if◌then◌else◌}
 use Rattle.std.specs.Str.Lines.{lines}

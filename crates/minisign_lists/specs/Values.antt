@@ -1,4 +1,6 @@
--- The structs that a program in another language holds, and the effect of each call on them.
+-- The structs that a program in another language holds, and the effect of each call on them. To ask a list
+-- about a key and a signature means to get the two signatures that the caller's scheme must check
+-- (`ListValue::ask`).
 use Rattle.std.specs.Prelude.{◌≡◌, ⊤, ◌==◌, ◌&&◌, ℕ, Bool, false, List, ◌++◌, length}
 use Rattle.std.specs.Prelude.{replicate}
 use Rattle.std.specs.Prelude.{Option, Some, None, Result, Ok, Err, bytes_eq, if◌then◌else◌, take, drop}
@@ -58,7 +60,7 @@ abbrev pub named_number : Option (List ℕ) → List ℕ → ℕ
 named_number None comment = 1
 named_number (Some list_name) comment = if names_list list_name comment then 1 else 0
 
--- The list after it was asked about, with the trusted comment of its signature.
+-- The list after it was asked about this key and this signature, which has this trusted comment.
 abbrev pub asked_list : PublicKeyValue → SignatureValue → Option (List ℕ) → List ℕ → List ℕ → ListValue
 asked_list v s list_name text comment = record {
   mark = asked_list_mark;
@@ -103,7 +105,7 @@ abbrev pub judged_list : Result ⊤ ListFault → ListValue → Result ⊤ (Refu
 judged_list (Ok t) l = (Ok tt, record l { mark = verified_mark })
 judged_list (Err e) l = (Err (Refused e), record l { mark = 0 })
 
--- The outcome of the call that returns the verdict. If the list was not asked about, this is API misuse, and
+-- The outcome of the call that returns the verdict. If the list was not asked before, this is API misuse, and
 -- the list is unchanged.
 abbrev pub list_verdict_outcome : ListValue → Bool → Bool → Result ⊤ (Refusal ListFault) × ListValue
 list_verdict_outcome l first second =
@@ -146,18 +148,18 @@ text_check l text =
 abbrev pub utf8_text : List ℕ → Result (List ℕ) (Refusal ListFault)
 utf8_text text = if is_utf8 text then Ok text else Err not_utf8
 
--- The text of a verified list, or the first check that fails.
+-- The text of a verified list, or the error of the first check that fails.
 abbrev pub verified_text : ListValue → List ℕ → Result (List ℕ) (Refusal ListFault)
 verified_text l text = go_on (of_misuse (text_check l text)) (λ _. utf8_text text)
 
--- The only entry of a name in a verified list, or the first check that fails.
+-- The only entry of a name in a verified list, or the error of the first check that fails.
 abbrev pub found_entry : ListValue → List ℕ → LongDigest → List ℕ → Result Entry (Refusal ListFault)
 found_entry l text long name =
     go_on (verified_text l text) (λ list.
     go_on (utf8_text name) (λ n.
     of_lists (listed_entry long list n)))
 
--- All entries of a verified list, or the first check that fails.
+-- All entries of a verified list, or the error of the first check that fails.
 abbrev pub all_entries : ListValue → List ℕ → LongDigest → Result (List Entry) (Refusal ListFault)
 all_entries l text long = go_on (verified_text l text) (λ list. of_lists (read_list long list))
 
@@ -237,7 +239,7 @@ abbrev pub entry_digest : EntryValue → Result ListedDigest Misuse
 entry_digest v =
     if v.mark == entry_mark then digest_numbered (algorithm_numbered v.hash) v.digest else Err EntryNotRead
 
--- The meaning of 128 digits with this number.
+-- The hash function of 128 digits with this number, or the rejection of such digits.
 abbrev pub long_numbered : ℕ → Option LongDigest
 long_numbered n =
     if n == 0 then Some long.Rejected

@@ -34,8 +34,8 @@ written_line digest name = label (algorithm_of digest) ++ (name ++ line_end dige
 abbrev pub is_ended : List ℕ → Bool
 is_ended list = (length list == 0) || (slice_index list (length list - 1) == 10)
 
--- Succeeds if the name is not in the list, by the result of looking it up, and the list ends with a
--- line feed.
+-- Succeeds if the result of looking up the name is that it is not in the list, and the list is empty or ends
+-- with a line feed.
 abbrev pub free_name : Result Entry ListFault → List ℕ → Result ⊤ ListFault
 free_name (Ok e) list = Err (ListedTwice e.line)
 free_name (Err NotListed) list = if is_ended list then Ok tt else Err (MalformedLine 0)
@@ -60,7 +60,8 @@ appended_line (Ok t) buffer len line =
     else (Err (WrongUse NoRoom), buffer)
 appended_line (Err r) buffer len line = (Err r, buffer)
 
--- The outcome of appending an entry: the new length or the first check that fails, and the buffer.
+-- The outcome of appending an entry: the new length or the error of the first check that fails,
+-- and the buffer.
 abbrev pub appended : List ℕ → ℕ → ListedDigest → List ℕ → Result ℕ (Refusal ListFault) × List ℕ
 appended buffer len digest name =
     appended_line (append_check buffer len name) buffer len (written_line digest (without_dot name))
@@ -81,8 +82,9 @@ digest_size (listed.Sha256 digest) = 32
 digest_size (listed.Sha512 digest) = 64
 digest_size (listed.Blake2b digest) = 64
 
--- The longer list parses to the entries of the list and one more, with this digest and this name, whatever
--- 128 digits mean. No other entry has the name, so looking it up finds the new entry.
+-- The longer list parses to the entries of the list and one more, with this digest and this name, for each
+-- choice of the hash function of 128 digits. No other entry has the name, so looking it up finds the new
+-- entry.
 pub record IsReadBack (l : LongDigest) (list longer : List ℕ) (digest : ListedDigest) (name : List ℕ) : Type 0
   where
     pub before : List Entry

@@ -23,8 +23,8 @@ pub struct Entries<'a> {
 }
 
 impl<'a> Entries<'a> {
-    /// Returns all entries of a list. `long` says what 128 digits mean on a line that does not name
-    /// its hash function.
+    /// Returns all entries of a list. `long` is the hash function of 128 digits on a line that does
+    /// not name it.
     pub fn new(long: LongDigest, list: &'a str) -> Entries<'a>
         // The entries that are still to be returned are all entries of the list, in the order of
         // their lines.

@@ -55,8 +55,8 @@ fn read_to_end(entries: &mut Entries<'_>, name: &[u8]) -> Result<()>
 /// A list is UTF-8, and its lines end with LF or CR LF. A line is empty, a comment that begins with
 /// `#`, or an entry. An entry has the form of sha256sum, sha512sum and b2sum (`HEX  NAME` or `HEX
 /// *NAME`) or that of the BSD tools (`SHA256 (NAME) = HEX`, or with SHA512 or BLAKE2b). Digits may
-/// have either case. `long` says what 128 digits mean on a line that does not name its hash
-/// function. A backslash at the beginning of an entry means that its name contains escapes; no name
+/// have either case. `long` is the hash function of 128 digits on a line that does not name it.
+/// A backslash at the beginning of an entry means that its name contains escapes; no name
 /// that can be looked up matches it. The name of an entry is a relative path without empty, `.` or
 /// `..` parts. One leading `./` is ignored, in the list and in `name`.
 ///
@@ -66,7 +66,8 @@ fn read_to_end(entries: &mut Entries<'_>, name: &[u8]) -> Result<()>
 #[tactic(auto, unfolding(crate::specs::Lists::listed_entry))]
 pub fn find_listed<'a>(long: LongDigest, list: &'a str, name: &str) -> Result<EntryView<'a>>
     // The result is the entry with this name if the name can be looked up, every line of the list is well
-    // formed, and exactly one entry has the name. Otherwise the error is the first check that fails.
+    // formed, and exactly one entry has the name. Otherwise the error is that of the first check that
+    // fails.
     ensures { result ≡ listed_entry long list.now name.now }
 {
     if !is_name(name.as_bytes()) {

@@ -16,7 +16,7 @@ use crate::faults::{ListFault, Result};
 use crate::names::{has_backslash, has_control, is_path, same, without_dot};
 use std::marker::Model;
 
-/// The hash function that 128 digits stand for on a line that does not name its hash function.
+/// The hash function of 128 digits on a line that does not name it.
 #[derive(Clone, Copy, Debug, PartialEq, Eq)]
 pub enum LongDigest {
     /// The line is malformed.

@@ -72,7 +72,7 @@ const BEGUN: u64 = 7308332183891896685;
 #[repr(C)]
 #[derive(Clone, Copy)]
 pub struct ListValue {
-    /// The mark of a list that was asked about, or verified.
+    /// The mark of a list that was asked about a signature, or verified.
     pub mark: u64,
     /// The Blake2b digest of the list, of 64 bytes.
     pub text_digest: [u8; 64],
@@ -144,8 +144,8 @@ impl Algorithm {
 }
 
 impl LongDigest {
-    /// Returns what 128 digits mean for this number: 0 rejects them, 2 is SHA-512, and 3 is
-    /// BLAKE2b.
+    /// Returns the hash function of 128 digits with this number: 2 is SHA-512, 3 is BLAKE2b, and 0
+    /// rejects such digits.
     pub fn of_number(number: u32) -> Option<LongDigest>
         ensures { result ≡ long_numbered number }
     {
@@ -285,7 +285,7 @@ impl ListValue {
             (asked_under (read_under key.now false sig_text.now) (length message.old))) }
 
         // **If the result is true and the signature was read from this text, the questions are those about
-        // the key and the text, with the digest of the list, and the list records the digest, whether the
+        // the key and the text, with the digest of the list. The struct records the digest, whether the
         // comment signature has at least 64 bytes, and whether the trusted comment names the list.**
         ensures asked { result ≡ Ok true → (t : SignatureTextRecord) → IsReadFrom signature.now sig_text.now t
             → (read_under key.now false sig_text.now ≡ Ok t)
@@ -321,16 +321,16 @@ impl ListValue {
         // **After a successful `ask` about a signature that was read from its file, for every scheme for
         // which `first` and `second` are the results of the two checks: the result is success exactly if the
         // signature file is a valid prehashed signature of the list under the key, and its trusted comment
-        // names the list if a name was given. Otherwise the error is the first check that fails.**
+        // names the list if a name was given. Otherwise the error is that of the first check that fails.**
         ensures verdict { (v : PublicKeyValue) (sig_text text : List ℕ) (name : Option (List ℕ))
             (accepts : Verifier) → HasAskedList self.old v sig_text name text
             → Answers accepts v sig_text text first second
             → result ≡ given_list (list_verdict_under accepts v sig_text name text) }
 
         // The list is verified exactly if it was asked about, both checks succeed, the comment signature has
-        // at least 64 bytes, and the trusted comment names the list if it must. Otherwise the error is the
-        // first check that fails. After `NotAsked` the list is unchanged, and after any other error it is
-        // finished.
+        // at least 64 bytes, and the trusted comment names the list if it must. Otherwise the error is that
+        // of the first check that fails. After `NotAsked` the list is unchanged, and after any other error
+        // it is finished.
         ensures value { (result, self.new) ≡ list_verdict_outcome self.old first second }
     {
         self.decide(first, second)
@@ -403,8 +403,8 @@ impl ListValue {
         entry: &mut EntryValue,
     ) -> std::result::Result<(), Refusal<ListFault>>
         // On success, the entry is the only one of the name in the list that was verified, and every line of
-        // the list is well formed. Otherwise the error is the first check that fails, and the entry is
-        // unchanged.
+        // the list is well formed. Otherwise the error is that of the first check that fails, and the entry
+        // is unchanged.
         ensures value { (result, entry.new)
             ≡ entry_outcome (found_entry self.now text.now long name.now) text.now entry.old }
 
@@ -430,8 +430,8 @@ impl ListValue {
         to: &mut [EntryValue],
     ) -> std::result::Result<usize, Refusal<ListFault>>
         // On success, every line of the list that was verified is well formed, the buffer begins with all
-        // entries, in the order of their lines, and its rest is unchanged. Otherwise the error is the first
-        // check that fails, and the buffer is unchanged.
+        // entries, in the order of their lines, and its rest is unchanged. Otherwise the error is that of
+        // the first check that fails, and the buffer is unchanged.
         ensures { (result, to.new) ≡ entries_outcome (all_entries self.now text.now long) text.now to.old }
     {
         match self.count(text, long) {
@@ -644,8 +644,8 @@ impl EntryValue {
         hash: u32,
         digest: &[u8],
     ) -> std::result::Result<(), Refusal<ListFault>>
-        // On success, these bytes are the digest of the entry, and this is its hash function. Nothing is said
-        // about any data. Otherwise the error is the first check that fails.
+        // On success, these bytes are the digest of the entry, and this is its hash function. Nothing is
+        // said about any data. Otherwise the error is that of the first check that fails.
         ensures { result ≡ compared self.now hash digest.now }
     {
         match given_digest(hash, digest) {
@@ -833,8 +833,8 @@ impl FileValue {
         ensures fed { (d : ListedDigest) (m : List ℕ) → IsFedValue self.old d m
             → result ≡ (if has_digest d m then Ok tt else Err (Refused DigestMismatch)) }
 
-        // If no check was begun, the call fails with that error, and the state is unchanged. Otherwise the
-        // state is finished.
+        // If no check was begun, the error is `NotBegun`, and the state is unchanged. Otherwise the state is
+        // finished.
         ensures finished { OnOk result (IsFinished self.old self.new) }
         ensures refused { IfErr result (IsFinishRefusal self.old self.new) }
     {

@@ -135,7 +135,7 @@ pub fn append_entry(
     name: &[u8],
 ) -> std::result::Result<usize, Refusal<ListFault>>
     // On success, the line of the entry is written after the list, and the rest of the buffer is unchanged.
-    // Otherwise the error is the first check that fails, and the buffer is unchanged.
+    // Otherwise the error is that of the first check that fails, and the buffer is unchanged.
     ensures { (result, text.new) ≡ appended text.old len digest name.now }
 {
     if let Err(refusal) = test_append(text, len, name) {
@@ -156,8 +156,8 @@ pub fn append_entry(
 #[tactic(auto, using(crate::proofs::RoundTrip::appended_is_read_back))]
 pub fn appended_entries_are_read_back()
     // After a successful `append_entry` of a digest with the bytes of its hash function, the list parses to
-    // the entries that it had and one more, with this digest and this name, for every hash function that 128
-    // digits may stand for. No other entry has the name, so looking it up finds the new entry.
+    // the entries that it had and one more, with this digest and this name, for every choice of the hash
+    // function of 128 digits. No other entry has the name, so looking it up finds the new entry.
     ensures { (long : LongDigest) (buffer : List ℕ) (len n : ℕ) (digest : ListedDigest) (name new : List ℕ)
         → IsBytes (bytes_of digest) → length (bytes_of digest) ≡ digest_size digest
         → appended buffer len digest name ≡ (Ok n, new)

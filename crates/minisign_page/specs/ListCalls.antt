@@ -48,9 +48,9 @@ list_result (Err r) = list_refusal r
 
 -- == The verdict on a list ==
 
--- The result as a number of asking about a list with a signature file that parses to t. The errors are, in
--- this order: the public key was not read; those of parsing the file and checking it under the key; the
--- buffer is too short; the key or a signature is weak.
+-- The result, as a number, of asking a list about a key and a signature file that parses to t. The errors
+-- are, in this order: the public key was not read; those of parsing the file and checking it under the key;
+-- the buffer is too short; the key or a signature is weak.
 abbrev pub asking_list_number : PublicKeyValue → List ℕ → SignatureTextRecord → ℕ → ℕ
 asking_list_number v sig_text t room =
     asked_number (asked_strictly (is_strict_text v t)
@@ -61,8 +61,8 @@ asking_list_number v sig_text t room =
 abbrev pub AreListQuestions : Questions → List ℕ → PublicKeyValue → SignatureTextRecord → List ℕ → Type 0
 AreListQuestions q bytes v t text = AreQuestions q bytes v t × (q.digest ≡ blake2b_digest 64 text)
 
--- The list was asked about this key, signature file, name (if one is given) and text, and the two numbers are
--- the scheme's results of both checks.
+-- The list was asked about this key, this signature file, its name (if one is given) and its text, and the
+-- two numbers are the scheme's results for the two questions.
 pub record IsAnsweredList (l : ListValue) (accepts : Verifier) (v : PublicKeyValue) (sig_text : List ℕ)
     (name : Option (List ℕ)) (text : List ℕ)
     (first second : ℕ) : Type 0 where
@@ -97,8 +97,8 @@ found_number (Err r) entry = (list_refusal r, (entry, line_at_fault r))
 abbrev pub entry_outcome_number : Result ⊤ (Refusal ListFault) × EntryValue → ℕ × (EntryValue × ℕ)
 entry_outcome_number p = found_number p.0 p.1
 
--- The outcome of finding an entry. The caller's number for the meaning of digests of 128 digits is checked
--- first.
+-- The outcome of finding an entry. The number with which the caller chooses the hash function of digests of
+-- 128 digits is checked first.
 abbrev pub finding_number : Option LongDigest → ListValue → List ℕ → List ℕ → EntryValue
     → ℕ × (EntryValue × ℕ)
 finding_number None l text name old = (misuse_number BadHash, (old, 0))
@@ -116,8 +116,8 @@ abbrev pub entries_outcome_number : Result ℕ (Refusal ListFault) × List Entry
     → ℕ × (List EntryValue × (ℕ × ℕ))
 entries_outcome_number p count = entries_number p.0 p.1 count
 
--- The outcome of getting all entries. The caller's number for the meaning of digests of 128 digits is checked
--- first.
+-- The outcome of getting all entries. The number with which the caller chooses the hash function of digests
+-- of 128 digits is checked first.
 abbrev pub all_entries_number : Option LongDigest → ListValue → List ℕ → List EntryValue → ℕ
     → ℕ × (List EntryValue × (ℕ × ℕ))
 all_entries_number None l text old count = (misuse_number BadHash, (old, (count, 0)))

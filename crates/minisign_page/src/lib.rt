@@ -130,8 +130,8 @@ pub extern "C" fn page_digest(state: &mut State, digest: &mut [u8; 64]) -> u32
 #[unsafe(no_mangle)]
 pub extern "C" fn page_read_public_key(pk_text: &[u8], key: &mut PublicKeyValue) -> u32
     // On success, `key` holds the key and the key ID of the public key file, and is marked as read. The file
-    // must be UTF-8. Otherwise, or if it does not parse, the result is the number of the first check that
-    // fails, and `key` is unchanged.
+    // must be UTF-8. Otherwise, or if it does not parse, the result is the error number of the first check
+    // that fails, and `key` is unchanged.
     ensures { (result, key.new) ≡ key_outcome_number (read_utf8 read_public_key pk_text.now) key.old }
 {
     match store_public_key(pk_text, key) {
@@ -143,9 +143,9 @@ pub extern "C" fn page_read_public_key(pk_text: &[u8], key: &mut PublicKeyValue)
 /// Reads the bare base64 of a public key, as updaters embed it. Does not allocate.
 #[unsafe(no_mangle)]
 pub extern "C" fn page_read_bare_public_key(base64: &[u8], key: &mut PublicKeyValue) -> u32
-    // On success, `key` holds the key and the key ID of the base64 text, and is marked as read. The text must
-    // be UTF-8. Otherwise, or if it does not parse, the result is the number of the first check that fails,
-    // and `key` is unchanged.
+    // On success, `key` holds the key and the key ID of the base64 text, and is marked as read. The text
+    // must be UTF-8. Otherwise, or if it does not parse, the result is the error number of the first check
+    // that fails, and `key` is unchanged.
     ensures { (result, key.new) ≡ key_outcome_number (read_utf8 read_bare_public_key base64.now) key.old }
 {
     match store_bare_public_key(base64, key) {
@@ -159,7 +159,7 @@ pub extern "C" fn page_read_bare_public_key(base64: &[u8], key: &mut PublicKeyVa
 pub extern "C" fn page_read_signature(sig_text: &[u8], signature: &mut SignatureValue) -> u32
     // On success, `signature` holds the key ID, the algorithm and both signatures of the text, and the
     // position at which the trusted comment is in the text. The text must be UTF-8. Otherwise, or if it does
-    // not parse, the result is the number of the first check that fails, and `signature` is unchanged.
+    // not parse, the result is the error number of the first check that fails, and `signature` is unchanged.
     ensures number { (result, signature.new)
         ≡ signature_outcome (read_signature_value sig_text.now) signature.old }
     ensures read { result ≡ 0 → (t : SignatureTextRecord) × IsReadFrom signature.new sig_text.now t }
@@ -246,9 +246,9 @@ pub extern "C" fn page_verdict(state: &mut State, first: u32, second: u32) -> u3
         → IsAnswered state.old accepts v sig_text message legacy first second
         → result ≡ verdict_number (verdict_under accepts v sig_text message legacy) }
 
-    // **So for every public key file that contains this key: the result is 0 exactly if the signature file is
-    // a valid signature of the message under that public key. Otherwise it is the number of the first check
-    // that fails.**
+    // **So for every public key file that contains this key: the result is 0 exactly if the signature file
+    // is a valid signature of the message under that public key. Otherwise it is the error number of the
+    // first check that fails.**
     ensures same_verdict_as_texts { (v : PublicKeyValue) (pk_text sig_text message : List ℕ) (legacy : Bool)
         (accepts : Verifier) → IsAnswered state.old accepts v sig_text message legacy first second
         → IsKeyText pk_text v → GivesNumber accepts pk_text sig_text message legacy result }
@@ -366,10 +366,10 @@ pub extern "C" fn page_list_ask_any(
 /// Returns the verdict on a list from the results of the two Ed25519 checks.
 #[unsafe(no_mangle)]
 pub extern "C" fn page_list_verdict(list: &mut ListValue, first: u32, second: u32) -> u32
-    // **After a successful `page_list_ask` or `page_list_ask_any`, for every scheme for which `first`
-    // and `second` are the results of the two checks: the result is 0 exactly if the signature file is a
-    // valid prehashed signature of the list under the key, and the trusted comment names the list if it must.
-    // Otherwise it is the number of the first check that fails.**
+    // **After a successful `page_list_ask` or `page_list_ask_any`, for every scheme for which
+    // `first` and `second` are the results of the two checks: the result is 0 exactly if the signature file
+    // is a valid prehashed signature of the list under the key, and the trusted comment names the list if it
+    // must. Otherwise it is the error number of the first check that fails.**
     ensures verdict { (v : PublicKeyValue) (sig_text text : List ℕ) (name : Option (List ℕ))
         (accepts : Verifier) → IsAnsweredList list.old accepts v sig_text name text first second
         → result ≡ list_verdict_number (list_verdict_under accepts v sig_text name text) }
@@ -399,10 +399,10 @@ pub extern "C" fn page_list_find(
     entry: &mut EntryValue,
     line: &mut u64,
 ) -> u32
-    // **The result is 0 exactly if the list was verified and this is its text, every line is well formed, and
-    // exactly one entry has the name.** Then `entry` is that entry, and `line` is 0. Otherwise the result is
-    // the number of the first check that fails, `entry` is unchanged, and `line` is the number of the line at
-    // fault, or 0 if no line is at fault.
+    // **The result is 0 exactly if the list was verified and this is its text, every line is well formed,
+    // and exactly one entry has the name.** Then `entry` is that entry, and `line` is 0. Otherwise the
+    // result is the error number of the first check that fails, `entry` is unchanged, and `line` is the
+    // number of the line at fault, or 0 if no line is at fault.
     ensures number { (result, (entry.new, line.new))
         ≡ finding_number (long_numbered long_digest) list.now text.now name.now entry.old }
 
@@ -435,9 +435,9 @@ pub extern "C" fn page_list_entries(
 ) -> u32
     // The result is 0 exactly if the list was verified and this is its text, every line is well formed, and
     // the buffer is long enough for all entries. Then the buffer begins with them, in the order of their
-    // lines, its rest is unchanged, and `count` is their number. Otherwise the result is the number of the
-    // first check that fails, and the buffer and `count` are unchanged. `line` is the number of the line at
-    // fault, or 0.
+    // lines, its rest is unchanged, and `count` is their number. Otherwise the result is the error number
+    // of the first check that fails, and the buffer and `count` are unchanged. `line` is the number of the
+    // line at fault, or 0.
     ensures { (result, (entries.new, (count.new, line.new)))
         ≡ all_entries_number (long_numbered long_digest) list.now text.now entries.old count.old }
 {
@@ -465,7 +465,8 @@ pub extern "C" fn page_list_compare_trusting_your_hash(
     digest: &[u8],
 ) -> u32
     // The result is 0 exactly if the entry was read, this is its hash function, and these bytes are its
-    // digest. Otherwise it is the number of the first check that fails. Nothing is said about any data.
+    // digest. Otherwise it is the error number of the first check that fails. Nothing is said about any
+    // data.
     ensures { result ≡ list_result (compared entry.now hash digest.now) }
 {
     match entry.compare_trusting_your_hash(hash, digest) {

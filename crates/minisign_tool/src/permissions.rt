@@ -12,7 +12,7 @@ use std::os::unix::fs::{MetadataExt, PermissionsExt, fchown};
 // The nine permission bits of a file's mode.
 const ALL: u32 = 0o777;
 
-// The maximum number of retries of a system call that signals interrupt.
+// How often a system call is made at most while signals interrupt it.
 const MAX_INTERRUPTIONS: u32 = 1_000_000;
 
 /// Returns the permission bits for a new file that replaces one with this mode.
@@ -30,9 +30,9 @@ pub fn permissions_after(older: u32) -> u32
     owner * 64 + others + (group & others) * 8
 }
 
-/// Returns the permission bits to use instead of these if the new file could not get the group of
-/// the old one. Members of the old group now have the permissions of all others, so all others get
-/// only bits that the old group had too.
+/// Returns the permission bits for a new file that could not get the group of the old one. `older` are the
+/// bits that it would have with this group. Members of the old group now have the permissions of all others,
+/// so all others get only bits that the old group had too.
 #[tactic(auto, using(std::proofs::lemmas::Nat::and_le_r))]
 pub fn without_group(older: u32) -> u32
     // The result has the bits of the owner, none for the group, and for all others those bits that the group

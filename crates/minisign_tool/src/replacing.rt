@@ -12,7 +12,7 @@ use std::os::unix::fs::{MetadataExt, OpenOptionsExt};
 use std::random::RandomSource;
 use std::{fs, io};
 
-/// Mode of a new file that everybody may read and write, as far as the umask allows.
+/// The mode of a new file: everybody may read and write it, except for the bits that the umask removes.
 pub const MODE_FOR_ALL: u32 = 0o666;
 
 /// Mode of a new file that only its owner may read and write.

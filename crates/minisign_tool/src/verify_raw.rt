@@ -1,4 +1,5 @@
-//! The command `verify-raw`: verifies the data from a reader with a raw public key and a raw signature.
+//! The command `verify-raw`: verifies the data from a reader with a raw public key and a raw signature, which
+//! are files of bytes without base64 and comments.
 
 ghost use Rattle.std.specs.Prelude.{◌≡◌, ℕ, ◌≤◌, List, OnOk, OnErr, IfErr};
 ghost use Rattle.std.specs.Io.KnownBytes.{Appends};
@@ -19,11 +20,11 @@ use minisign::reading::read_to_end;
 use minisign::{PublicKey, Result, SignatureBones, SignatureBox, verify};
 use std::alloc::Global;
 
-/// Verifies all the unread data of `data_reader` with the public key of 42 bytes in `pk_file` and
-/// the signature of 74 bytes in `sig_file`; later bytes of both are ignored. Both files are read
-/// whole, the key first, before the data is read. Writes to `errors` the warning that the toy scheme is
-/// not secure, and after it the status line or the line of an error. Returns the exit status: 0 if the
-/// signature is valid, otherwise 1.
+/// Verifies all the unread data of `data_reader` with the public key in the first 42 bytes of `pk_file` and
+/// the signature in the first 74 bytes of `sig_file`; later bytes of both are ignored. Both files are read
+/// whole, the key file first, before the data is read. Writes to `errors` the warning that the toy scheme is
+/// not secure, and after it the status line or an error line. Returns the exit status: 0 if the signature is
+/// valid, otherwise 1.
 pub fn run_verify_raw<S: Scheme, P: Source, Q: Source, R: Rereader, W: Sink>(
     alloc: Global,
     scheme: &S,
@@ -42,13 +43,15 @@ pub fn run_verify_raw<S: Scheme, P: Source, Q: Source, R: Rereader, W: Sink>(
         pk_file.new) (source_call Q.Source sig_file.old sig_file.new) (rereader_call R.Source R.steady
         data_reader.old data_reader.new) (SaysAfterWarning W.Sink errors.old errors.new) }
 
-    // With exit status 1, either the key's file was not read whole, because an allocation or the file
-    // failed, and the signature's file is unchanged; or the signature's file was not read whole; in both
-    // cases no data was read. Otherwise verification failed, as `verify_raw` promises. Between the warning
-    // and the error line at most a prefix of the status line was written.
+    // With exit status 1, one of these failed: reading the key file, and then nothing was read from the
+    // signature file and the data; reading the signature file, and then no data was read; or `verify_raw`
+    // with the bytes of both files. Reading a file fails if the file or an allocation fails. Between the
+    // warning and the error line at most a prefix of the status line was written.
     ensures refused { result ≡ 1 → EndsWithFault W.Sink errors.old errors.new (RawFilesFail
         (S.accepts scheme.now) (source_call P.Source pk_file.old pk_file.new) (source_call Q.Source
         sig_file.old sig_file.new) (rereader_call R.Source R.steady data_reader.old data_reader.new)) }
+
+    // The unread data is a suffix of the data that was unread before, if both are known.
     ensures prefix_removed { PrefixIsRemoved (R.ahead data_reader.old) (R.ahead data_reader.new) }
 {
     warn(errors);
@@ -58,7 +61,7 @@ pub fn run_verify_raw<S: Scheme, P: Source, Q: Source, R: Rereader, W: Sink>(
     }
 }
 
-// Reads the public key and the signature, and then verifies the data.
+// Reads the key file and the signature file whole, and then verifies the data.
 fn verify_with_files<S: Scheme, P: Source, Q: Source, R: Rereader, W: Sink>(
     alloc: Global,
     scheme: &S,
@@ -82,10 +85,11 @@ fn verify_with_files<S: Scheme, P: Source, Q: Source, R: Rereader, W: Sink>(
 }
 
 /// Verifies all the unread data of `data_reader` with the public key in the first 42 bytes of `key`
-/// and the bare signature in the first 74 bytes of `signature`; later bytes of both are ignored. A
-/// key or a signature that is too short, or a signature of an unknown algorithm, is rejected before
-/// any data is read, the key first. On success `errors` receives the status line. If `errors`
-/// fails, it may have received a prefix of that line. After any other error it is unchanged.
+/// and the signature in the first 74 bytes of `signature`; later bytes of both are ignored.
+///
+/// Before any data is read, a key that is too short is rejected, and then a signature that is too short
+/// or has an unknown algorithm. On success `errors` receives the status line. If `errors` fails, it may
+/// have received a prefix of that line. After any other error it is unchanged.
 pub fn verify_raw<S: Scheme, R: Rereader, W: Sink>(
     alloc: Global,
     scheme: &S,
@@ -94,9 +98,8 @@ pub fn verify_raw<S: Scheme, R: Rereader, W: Sink>(
     data_reader: &mut R,
     errors: &mut W,
 ) -> Result<()>
-    // On success, `key` begins with a public key, `signature` begins with a bare signature of a known
-    // algorithm, and the signature is valid for the digest of all the unread data. Legacy signatures are
-    // rejected.
+    // On success, `key` begins with a public key, `signature` begins with a signature of a known algorithm,
+    // and this is a valid signature of the digest of all the unread data. Legacy signatures are rejected.
     ensures accepted { OnOk result ((message : List ℕ)
         × ReadsWhole R.Source data_reader.old data_reader.new message
         × VouchesRaw (S.accepts scheme.now) key.now signature.now message) }
@@ -106,9 +109,9 @@ pub fn verify_raw<S: Scheme, R: Rereader, W: Sink>(
         (line verified_text)) }
     ensures no_new_fault { OnOk result (W.sink_faults errors.new ≡ W.sink_faults errors.old) }
 
-    // After an error, either the key was too short, or the bytes hold no bare signature, and no data was
-    // read; or verification failed for the key and the signature. At most a prefix of the status line was
-    // written.
+    // After an error, either `key` is too short, or `signature` is too short or has an unknown algorithm, and
+    // in these cases no data was read; or verification with the key and the signature failed. At most a
+    // prefix of the status line was written.
     ensures refused { IfErr result (VerifyRawFails (S.accepts scheme.now) key.now signature.now
         (rereader_call R.Source R.steady data_reader.old data_reader.new)
         (sink_call W.Sink errors.old errors.new)) }

@@ -29,7 +29,7 @@ use std::alloc::Global;
 const REFUSED: Outcome = Refused(SignatureRefused);
 
 // The precomputed texts, which are valid for `abc` with the comment `t`.
-const WORKED: (&str, &str) = (KEY_TEXT, SIGNATURE_TEXT);
+const PRECOMPUTED: (&str, &str) = (KEY_TEXT, SIGNATURE_TEXT);
 
 fn verified(alloc: Global, texts: (&str, &str), message: &[u8]) -> Result<String> {
     let (pk_text, sig_text) = texts;
@@ -159,7 +159,7 @@ fn record(alloc: Global, opened: Result<SecretKey>) -> Result<Vec<u8>> {
 }
 
 // Returns true if decrypting in little memory gives the same key.
-fn is_opened_alike(alloc: Global) -> bool {
+fn opens_to_same_key(alloc: Global) -> bool {
     let Ok(whole) = record(alloc, key_of(alloc, SEALED, "password")) else {
         return false;
     };
@@ -170,7 +170,7 @@ fn is_opened_alike(alloc: Global) -> bool {
 #[test]
 fn opens_same_key_in_little_memory(rt: HostRuntime) {
     let alloc = rt.alloc();
-    assert!(rt; is_opened_alike(alloc));
+    assert!(rt; opens_to_same_key(alloc));
     assert!(rt; is_outcome(key_of(alloc, SEALED, "passwore"), Refused(WrongPassword)));
     assert!(rt; is_outcome(opened_in_little(alloc, "passwore"), Refused(WrongPassword)));
 }
@@ -211,7 +211,7 @@ fn is_refused_for_its_name(answer: &Result<()>) -> bool {
 // Returns true if checking the update has the expected outcome.
 fn is_checked_as_expected(alloc: Global, row: &Update) -> bool {
     let (update, name, expected) = *row;
-    let answer = checked(alloc, WORKED, update.as_bytes(), name);
+    let answer = checked(alloc, PRECOMPUTED, update.as_bytes(), name);
     match expected {
         Some(outcome) => matches_outcome(&answer, outcome),
         None => is_refused_for_its_name(&answer),
@@ -240,7 +240,7 @@ fn is_checked(alloc: Global, sig_text: &str, update: &[u8], expected: Outcome) -
 
 // Returns true if checking the update with a new key, whose text the old key has signed, has this
 // outcome.
-fn is_vouched_by_the_old(alloc: Global, update: &[u8], expected: Outcome) -> bool {
+fn new_key_gives_expected(alloc: Global, update: &[u8], expected: Outcome) -> bool {
     let old = (SECRET_TEXT, "");
     let text = signed_with(alloc, old, KEY_TEXT.as_bytes(), "key of 2027");
     let Ok(text) = text else {
@@ -252,8 +252,8 @@ fn is_vouched_by_the_old(alloc: Global, update: &[u8], expected: Outcome) -> boo
 // A new key is accepted only if the old key signed its text.
 #[test]
 fn accepts_new_key_only_if_old_key_signed_it(rt: HostRuntime) {
-    assert!(rt; is_vouched_by_the_old(rt.alloc(), b"abc", Accepted));
-    assert!(rt; is_vouched_by_the_old(rt.alloc(), b"abd", REFUSED));
+    assert!(rt; new_key_gives_expected(rt.alloc(), b"abc", Accepted));
+    assert!(rt; new_key_gives_expected(rt.alloc(), b"abd", REFUSED));
     assert!(rt; is_checked(rt.alloc(), SIGNATURE_TEXT, b"abc", REFUSED));
 }
 
@@ -267,7 +267,7 @@ fn signed_under(alloc: Global, password: &str) -> Result<String> {
 }
 
 // Returns true if the signature is valid under the key's public key, with the time as the comment.
-fn is_signed_to_verify(alloc: Global) -> bool {
+fn signature_verifies(alloc: Global) -> bool {
     let Ok(text) = signed_under(alloc, "password") else {
         return false;
     };
@@ -278,7 +278,7 @@ fn is_signed_to_verify(alloc: Global) -> bool {
 // With a wrong password, nothing is signed.
 #[test]
 fn signature_of_encrypted_key_is_valid(rt: HostRuntime) {
-    assert!(rt; is_signed_to_verify(rt.alloc()));
+    assert!(rt; signature_verifies(rt.alloc()));
     assert!(rt; is_outcome(signed_under(rt.alloc(), "passwore"), Refused(WrongPassword)));
 }
 

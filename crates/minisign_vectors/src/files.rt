@@ -44,17 +44,20 @@ fn file_verified(rt: &HostRuntime, sig: &str, data: &str) -> Result<String> {
     )
 }
 
+// Returns true if verifying a file has the expected outcome.
 fn verifies_as_expected(rt: &HostRuntime, row: &(&str, &str, Outcome)) -> bool {
     let (sig, data, expected) = *row;
     let answer = file_verified(rt, sig, data);
     gives_comment(&answer, "t", expected)
 }
 
-// The text of a secret key, or an empty text for an encrypted key that the test generates; the file
-// to sign; the number of random bytes that the random source returns; and the expected outcome.
+// A case of signing: the text of a secret key, which is decrypted first if necessary, or an empty text
+// for a key that the test generates and does not decrypt; the file to sign; the number of random bytes
+// that the random source has; and the expected outcome.
 type Signed = (&'static str, &'static str, usize, Outcome);
 
-// An encrypted key is rejected before any file is opened.
+// In the last two rows the key is still encrypted. It is rejected before the file is opened: even if
+// the file is missing, the error is `EncryptedKeyRefused`.
 const SIGNED: [Signed; 6] = [
     (SECRET_TEXT, "abc", 128, Accepted),
     (SEALED, "abc", 128, Accepted),
@@ -69,7 +72,8 @@ fn signed() -> &'static [Signed] {
     &SIGNED
 }
 
-// Returns the secret key of a row.
+// Returns the secret key of a row: the key in the text, decrypted, or a generated key that is still
+// encrypted.
 fn key_of_row(rt: &HostRuntime, sk_text: &str) -> Result<SecretKey> {
     if sk_text.is_empty() {
         return sealed_pair_key(rt.alloc());

@@ -1,6 +1,6 @@
-//! Tests of the names of `minisign_hash` through the library: stored states, sizes, little endian
-//! numbers, copying, and writers of numbers. `tests/rows/hashing.py` has the digests and the
-//! comparison of bytes.
+//! Tests that callers can use what `minisign` re-exports from `minisign_hash`: stored states, sizes,
+//! little-endian numbers, copying, and writers of numbers. `tests/rows/hashing.py` has the digests and
+//! the comparison of bytes.
 
 use minisign::minisign_hash::{
     BLAKE2B_BLOCKBYTES, BLAKE2B_KEYBYTES, BLAKE2B_OUTBYTES, BLAKE2B_PERSONALBYTES,

@@ -1,7 +1,9 @@
-//! Tests of the library that `tests/rows/` cannot contain, because the requests to
-//! `minisign_compare` cannot express them: calls for which there is no request, devices that fail at a
-//! chosen call, failed allocations, and example callers. The calls for a scheme outside the library
-//! are tested from C in `tests/c`, and installing is tested on real files by `tests/installer`.
+//! Tests of the library that cannot be written as requests to `minisign_compare`. This program reads
+//! requests, makes the calls that they name, and prints the results; most tests of the library are such
+//! requests, in `tests/rows/`. The tests here are about calls for which there is no request, devices of
+//! which a chosen operation fails, failed allocations, and example callers. The calls for a scheme
+//! outside the library are tested from C in `tests/c`, and installing is tested on real files by
+//! `tests/installer`.
 //!
 //! Each expected value comes from outside: from a standard, from Python's hashlib, from the
 //! upstream tool, or worked out by hand from a definition. None is the output of a crate of this

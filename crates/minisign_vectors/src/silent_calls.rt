@@ -1,5 +1,5 @@
 //! Tests of the simple calls that never prompt: signing data from a reader, generating pairs under
-//! a password, and the silent prompt. `files` has signing of files.
+//! a password, and the silent prompt. `files` tests signing files.
 
 use crate::keys::refused_allocations::{has_sealed_text, public_text};
 use crate::keys::sealed::calls::{OpeningCall, opened};

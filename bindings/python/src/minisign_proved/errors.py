@@ -308,7 +308,8 @@ class NoRecord(MinisignError):
 
 
 class DamagedRecord(MinisignError):
-    """The version record of this target contains no number, and is_first is not set."""
+    """The version record of this target contains no version number, and is_first is not
+    set."""
 
     number = 48
 
@@ -327,7 +328,8 @@ class NoNumber(MinisignError):
 
 
 class OlderUpdate(MinisignError):
-    """The version number of the update is below the recorded one."""
+    """The version number of the update is below the recorded one, and roll_back is not
+    set."""
 
     number = 51
 

@@ -111,14 +111,14 @@ impl Reason {
     pub const TARGET_IN_USE: Reason = Reason(46);
     /// No version is recorded for this target, and is_first is not set.
     pub const NO_RECORD: Reason = Reason(47);
-    /// The version record of this target contains no number, and is_first is not set.
+    /// The version record of this target contains no version number, and is_first is not set.
     pub const DAMAGED_RECORD: Reason = Reason(48);
     /// The trusted comment does not name the file that the caller expects.
     pub const OTHER_FILE: Reason = Reason(49);
     /// The trusted comment lacks the field that was chosen for the version number, or the value of
     /// the first such field is not a decimal number below 2^64.
     pub const NO_NUMBER: Reason = Reason(50);
-    /// The version number of the update is below the recorded one.
+    /// The version number of the update is below the recorded one, and roll_back is not set.
     pub const OLDER_UPDATE: Reason = Reason(51);
     /// The update is installed but could not be synced, so a crash may bring back the previous
     /// file.

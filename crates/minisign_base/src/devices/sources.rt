@@ -28,7 +28,8 @@ pub trait Source {
     // The maximum number of bytes that can still be read.
     ghost left: { Self → ℕ };
 
-    // The number of errors so far.
+    // The number of errors so far, at most 2^64 - 1. "Has risen" below means that it is greater than before,
+    // or was at this maximum.
     ghost faults: { Self → ℕ };
 
     /// Moves the next bytes to the start of `buf`, any number of them up to the length of `buf`, and returns
@@ -39,11 +40,12 @@ pub trait Source {
         // at most the length of `buf`, and 0 only if `buf` is empty or the source has ended.
         //
         // On success, the mark and the error count are unchanged. After an error, the error count has risen,
-        // and the unread bytes are unchanged or no longer known; nothing is promised then about the bytes
-        // that going back restores. In both cases a place is marked exactly if one was marked before.
+        // and the unread bytes are unchanged or no longer known; nothing is
+        // promised then about the bytes that going back restores. In both cases a place is marked exactly if
+        // one was marked before.
         //
         // If the bytes read since the mark was set or gone back to are known, each read adds to them. They
-        // are known for slices, but not for readers and files.
+        // are known for `SliceSource` and `NoSource`, but not for readers and files.
         ensures { HasRead ahead behind since is_marked left faults self.old self.new buf.new result };
 }
 
@@ -78,7 +80,7 @@ pub trait Rereader: Source {
 /// Reads from a slice. The only call that can fail is `back`, if no place is marked.
 #[derive(Drop)]
 pub struct SliceSource<'a> {
-    // The bytes from the place that was last marked or gone back to, or from the beginning.
+    // The bytes from the marked place on, or all bytes if no place is marked.
     bytes: &'a [u8],
     // The number of these bytes that have been read.
     position: usize,
@@ -193,8 +195,9 @@ impl Source for NoSource {
     }
 }
 
-/// Reads from any std reader, at most 2^63 - 1 bytes; a read after that is an error. The unread bytes are
-/// known if those of the reader are, until the first error. This source cannot go back.
+/// Reads from any std reader, at most 2^63 - 1 bytes, so that the source is finite; a read after that is an
+/// error. The unread bytes are known if those of the reader are, until the first error. This source
+/// cannot go back.
 #[derive(Drop)]
 pub struct ReaderSource<R> {
     reader: R,
@@ -260,6 +263,7 @@ impl<R: Read> Rereader for ReaderSource<R> {
             (⟦<ReaderSource<R> as Source>⟧.faults self.new) }
         ensures unread_unknown { IsNone (⟦<ReaderSource<R> as Source>⟧.ahead self.new) }
     {
+        // Marking fails in the same way.
         self.mark()
     }
 }
@@ -288,7 +292,7 @@ impl<F: Read + Seek> FileSource<F> {
         }
     }
 
-    // Counts one more error and removes the mark.
+    // Counts one more error, up to 2^64 - 1, and removes the mark.
     fn lose_mark(&mut self) -> DeviceFault
         ensures unmarked { self.new.marked ≡ None }
         ensures raised { self.new.reader.faults.0 ≡ min (self.old.reader.faults.0 + 1) (2 ^ 64 - 1) }
@@ -325,8 +329,8 @@ impl<F: Read + Seek> Rereader for FileSource<F> {
         }
     }
 
-    // Without a mark, the file stays at its position. It is also an error if seeking succeeds but
-    // ends at another position than the marked one.
+    // Without a mark, the position of the file is unchanged. It is also an error if seeking succeeds but ends
+    // at a position other than the marked one.
     fn back(&mut self) -> Result<(), DeviceFault> {
         if let Some(marked) = self.marked {
             if let Ok(place) = self.reader.reader.seek(SeekFrom::Start(marked)) {
@@ -342,7 +346,8 @@ impl<F: Read + Seek> Rereader for FileSource<F> {
 /// Fills `buf` with the next bytes of a source. Fails if the source fails or ends too early.
 pub fn fill_from<S: Source>(source: &mut S, buf: &mut [u8]) -> Result<(), DeviceFault>
     // On success, `buf` holds the next bytes of the source, and the source's error count is unchanged. An
-    // error means that the source failed or ended.
+    // error means that the source failed or ended; then a prefix of its unread bytes was removed, if they are
+    // known before and after.
     ensures bytes { OnOk result (Consumes (S.ahead source.old) (S.ahead source.new) buf.new) }
     ensures no_new_fault { OnOk result (S.faults source.new ≡ S.faults source.old) }
     ensures refused { OnErr result (ErrorCountRises (S.faults source.old) (S.faults source.new)

@@ -73,7 +73,7 @@ impl Progress {
         }
     }
 
-    // Reports what Ed25519 answered about the digest of the list.
+    // Reports the result of Ed25519 for the question about the digest of the list.
     pub(crate) fn answer_list(&mut self, accepted: bool) -> Result<(), Refusal<InstallFault>>
         requires { operation_of self.old.due ≡ CheckList }
         ensures steps { (s : State) → HoldsState self.old s → Steps (Answered accepted) s result self.new }
@@ -129,7 +129,7 @@ impl Progress {
 }
 
 impl Chosen {
-    // Returns what 128 digits mean in the list.
+    // Returns the hash function of 128 digits on a line of the list that does not name it.
     fn long_digest(&self) -> LongDigest
         ensures { result ≡ unwrap_or (list_of self.now.is_list self.now.long_digest) long.Rejected }
     {

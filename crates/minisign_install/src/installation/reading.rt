@@ -26,7 +26,7 @@ pub struct Reading {
 }
 
 impl Reading {
-    // Returns the state before the first byte. Without a hash function it is that of BLAKE2b.
+    // Returns the state before the first byte. `None` stands for BLAKE2b.
     pub(crate) fn begin(algorithm: Option<Algorithm>) -> Reading
         ensures { WasRead algorithm result [] }
     {

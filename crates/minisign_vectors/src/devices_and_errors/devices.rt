@@ -50,7 +50,8 @@ fn readers_cannot_go_back(rt: HostRuntime) {
     assert!(rt; follows(&mut ReaderSource::new(FailsOnce::new(None)), &FAILING));
 }
 
-// Returns true if a file whose seek reports this position goes back, or does not, as expected.
+// Returns true if going back in a file whose seek reports this position succeeds or fails as
+// expected.
 fn goes_back_as_expected(place: Option<u64>, reached: bool) -> bool {
     let mut source = FileSource::new(FailsOnce::new(place));
     follows(&mut source, &[Marks(true), GoesBack(reached)])
@@ -100,14 +101,14 @@ fn sinks_receive_all_bytes(rt: HostRuntime) {
     assert!(rt; is_written(rt.alloc()));
 }
 
-// The results of filling buffers of at most three bytes from a source of five bytes. An empty entry
-// means that filling three bytes fails.
-const OF_FIVE: [&[u8]; 3] = [b"abc", b"", b"de"];
+// The results of filling buffers one after another from a source of five bytes. An empty entry means
+// that filling three bytes fails.
+const FILLS_FROM_FIVE_BYTES: [&[u8]; 3] = [b"abc", b"", b"de"];
 
-const OF_FOUR: [&[u8]; 2] = [b"abc", b""];
+const FILLS_FROM_FOUR_BYTES: [&[u8]; 2] = [b"abc", b""];
 
 // A source that fails once can be read afterwards.
-const BEHIND_A_FAULT: [&[u8]; 2] = [b"", &[3, 4, 5]];
+const FILLS_AFTER_FAULT: [&[u8]; 2] = [b"", &[3, 4, 5]];
 
 // Returns true if the fills are as expected.
 fn draws<R: RandomSource>(random: &mut R, draws: &[&[u8]]) -> bool {
@@ -133,9 +134,9 @@ fn fills_as_expected<R: RandomSource>(random: &mut R, expected: &[u8]) -> bool {
 
 #[test]
 fn random_bytes_are_taken_in_order(rt: HostRuntime) {
-    assert!(rt; draws(&mut FixedRandom::new(b"abcde"), &OF_FIVE));
+    assert!(rt; draws(&mut FixedRandom::new(b"abcde"), &FILLS_FROM_FIVE_BYTES));
     let mut drawn = SourceRandom::new(SliceSource::new(b"abcd"));
-    assert!(rt; draws(&mut drawn, &OF_FOUR));
+    assert!(rt; draws(&mut drawn, &FILLS_FROM_FOUR_BYTES));
     let mut failing = SourceRandom::new(ReaderSource::new(FailsOnce::new(None)));
-    assert!(rt; draws(&mut failing, &BEHIND_A_FAULT));
+    assert!(rt; draws(&mut failing, &FILLS_AFTER_FAULT));
 }

@@ -80,11 +80,11 @@ fn errors_of_std_convert_to_named_errors(rt: HostRuntime) {
     let failed = has_name(PError::from(device), InputOrOutputFailed);
     let unformatted = has_name(PError::from(fmt::Error), FormattingFailed);
     assert!(rt; refused && given_back && failed && unformatted);
-    assert!(rt; is_no_text(rt.alloc()));
+    assert!(rt; conversion_gives_invalid_utf8(rt.alloc()));
 }
 
 // Returns true if the error of converting the byte 0xff to a text becomes `InvalidUtf8`.
-fn is_no_text(alloc: Global) -> bool {
+fn conversion_gives_invalid_utf8(alloc: Global) -> bool {
     let Ok(bytes) = vec![in alloc; 0xffu8; 1] else {
         return false;
     };
@@ -111,7 +111,7 @@ fn errors_of_kdf_and_base64_convert_to_named_errors(rt: HostRuntime) {
 }
 
 // Returns true if the error has the text of `ReadingFailed` but not its name.
-fn is_only_worded(alloc: Global, fault: PError) -> bool {
+fn has_text_without_name(alloc: Global, fault: PError) -> bool {
     let worded = displays_as(alloc, &fault, "reading failed");
     let check_holds = *fault.kind() == Io && fault.named() == None;
     let answer: Result<(), PError> = Err(fault);
@@ -120,16 +120,16 @@ fn is_only_worded(alloc: Global, fault: PError) -> bool {
 }
 
 // Returns true if an error that a caller makes with the text of `ReadingFailed` has only this text.
-fn is_only_worded_by_a_caller(alloc: Global) -> bool {
+fn custom_error_has_only_text(alloc: Global) -> bool {
     let Ok(text) = String::from_str(alloc, "reading failed") else {
         return false;
     };
-    is_only_worded(alloc, PError::new(Io, text))
+    has_text_without_name(alloc, PError::new(Io, text))
 }
 
 // An error is not a named error just because it has the text of one.
 #[test]
 fn errors_of_callers_have_no_name(rt: HostRuntime) {
-    assert!(rt; is_only_worded_by_a_caller(rt.alloc()));
-    assert!(rt; is_only_worded(rt.alloc(), PError::fixed(Io, "reading failed")));
+    assert!(rt; custom_error_has_only_text(rt.alloc()));
+    assert!(rt; has_text_without_name(rt.alloc(), PError::fixed(Io, "reading failed")));
 }

@@ -42,7 +42,7 @@ impl Write for Counting {
 }
 
 // Returns a writer that fails after this number of calls.
-fn uncalled(allowed: u8, takes: bool) -> Counting {
+fn counting_writer(allowed: u8, takes: bool) -> Counting {
     Counting {
         calls: 0,
         allowed,
@@ -72,10 +72,10 @@ fn lines_are_put(alloc: Global) -> bool {
     first && second && third && are_written
 }
 
-// Returns true if a line is written in one write: a writer that fails at its second call receives
-// the first of two lines.
+// Returns true if each line is written in one write: a writer that fails at its second call receives
+// the whole first line of two.
 fn is_one_write(alloc: Global) -> bool {
-    let mut writer = uncalled(1, true);
+    let mut writer = counting_writer(1, true);
     let mut sink = WriterSink::new(&mut writer);
     let line = ("a label ", "a text");
     let first = writes_line_as_expected(alloc, &mut sink, line, Accepted);
@@ -92,7 +92,7 @@ fn writes_each_line_in_a_single_call(rt: HostRuntime) {
 // Returns true if a sink over a writer that accepts nothing fails for every write that is not
 // empty, and for a flush.
 fn fails_for_each_write() -> bool {
-    let mut nothing = WriterSink::new(uncalled(9, false));
+    let mut nothing = WriterSink::new(counting_writer(9, false));
     let unwritten = write_all(&mut nothing, b"a").is_err();
     let empty = nothing.write(b"") == Ok(0);
     let unflushed = nothing.flush().is_err();

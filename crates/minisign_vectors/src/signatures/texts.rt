@@ -7,7 +7,7 @@ use crate::display::displays_as;
 use crate::signatures::calls::copy_text;
 use minisign::{Result, Signature, SignatureBones, SignatureBox};
 use minisign_base::faults::NamedFault::SignatureBoxIncomplete;
-use minisign_fixtures::keys::{KEY_ID, TIED_TO_ABC, signature_record};
+use minisign_fixtures::keys::{ABC_SECOND_HALF, KEY_ID, signature_record};
 use minisign_fixtures::outcomes::Outcome::{self, Refused};
 use minisign_fixtures::outcomes::{gives_record, gives_text, is_outcome};
 use minisign_fixtures::texts::SIGNATURE_TEXT;
@@ -37,7 +37,7 @@ fn displays_signature_as(alloc: Global, record: &[u8; 74], letters: &str) -> boo
 #[test]
 fn signature_displays_as_base64(rt: HostRuntime) {
     let alloc = rt.alloc();
-    let record = signature_record(b"ED", &KEY_ID, &TIED_TO_ABC);
+    let record = signature_record(b"ED", &KEY_ID, &ABC_SECOND_HALF);
     assert!(rt; displays_signature_as(alloc, &record, SIGNED));
     let mut record = [0u8; 74];
     record[..48].copy_from_slice(&LETTERS);
@@ -66,7 +66,7 @@ const INCOMPLETE: Outcome = Refused(SignatureBoxIncomplete);
 
 // Returns true if a box of a bare signature has no text, neither as bytes nor from a copy.
 fn has_no_text(alloc: Global) -> bool {
-    let record = signature_record(b"ED", &KEY_ID, &TIED_TO_ABC);
+    let record = signature_record(b"ED", &KEY_ID, &ABC_SECOND_HALF);
     let Ok(bones) = SignatureBones::from_bytes(&record) else {
         return false;
     };

@@ -1,5 +1,5 @@
 //! Tests of verifying with the texts of a key and a signature: data that cannot be read again,
-//! outputs with a buffer, and data that stays unread if a text is rejected.
+//! outputs with a buffer, and data that is not read if a text is rejected.
 
 use crate::signatures::calls::{COPYING, Expected, ample, texts_give_expected, verified_texts};
 use crate::tables::assert_row;

@@ -17,7 +17,8 @@ returns-clause-signed g c =
           box = c.in_ok-signature_box.signature_box;
           comments = _;
           signed = made;
-          has_comments = both;
+          has_comments =
+              both;
           written = written;
         },
         λ seed owner one. (

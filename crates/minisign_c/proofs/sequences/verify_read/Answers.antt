@@ -2,14 +2,14 @@ use Rattle.std.proofs.Common.{◌≡◌, ◌∙◌, ◌<◌, arith, false, lengt
 use Rattle.minisign_external.specs.Questions.{verdict_under}
 use Rattle.minisign_external.specs.Signing.{joined}
 use Rattle.minisign_external.specs.States.{verdict_number}
-use Rattle.minisign_c.proofs.StrictVerdicts.{strict_number, unasked}
+use Rattle.minisign_c.proofs.StrictVerdicts.{strict_number, failed_ask_number}
 use Rattle.minisign_c.proofs.sequences.verify_read.Goals as goal
 
 pub returns-then-number-ne0 : goal.returns-then-number-ne0
 returns-then-number-ne0 g c =
     let (t, from) = c.requires.read in
     let some : 0 < c.minisign_ask-number.result = omega arith in
-    unasked (g.S.Scheme.accepts c.args.scheme.now) c.args.key.now c.args.sig_text.now
+    failed_ask_number (g.S.Scheme.accepts c.args.scheme.now) c.args.key.now c.args.sig_text.now
     (joined c.args.pieces.now) (length c.args.room.now) t from.read
     (omega (arith, from.room, c.requires.room)) _ c.minisign_ask-number.result
     c.requires.key c.minisign_init.ensures.fed c.minisign_init.ensures.blank

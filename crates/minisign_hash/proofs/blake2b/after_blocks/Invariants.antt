@@ -1,4 +1,12 @@
--- The loop invariant of `after_blocks`.
+-- The loop invariant of `after_blocks`, after k blocks. It has three parts:
+--
+-- If `blocks` are the blocks of a message after its first i blocks, none of them is its last block, and `h`
+-- and `count` are the state and the byte count after these i blocks, then `state` and `taken_in` are those
+-- after i + k blocks.
+--
+-- If k is 0, the state and the count are unchanged.
+--
+-- If k is 1 and there is only one block, that block was compressed, with the count increased by its bytes.
 use Rattle.std.proofs.Common.{◌≡◌, ◌+◌, ◌*◌, ◌%◌, ◌^◌, ◌++◌, ℕ, List, drop, false, length}
 use Rattle.minisign_hash.specs.Blake2b.{compress, state_after}
 use Rattle.minisign_hash.specs.Words.{words64_of}

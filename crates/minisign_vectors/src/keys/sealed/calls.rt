@@ -9,8 +9,9 @@ use minisign_fixtures::outcomes::{Outcome, gives_text, is_outcome};
 use minisign_fixtures::prompts::{bytes_left, password_copy, typed};
 use std::alloc::Global;
 
-/// The call that decrypts a key: without a bound on the parallelization, with a bound, or
-/// with only every k-th row kept.
+/// The call that decrypts a key: `from_box`, which allows every p of scrypt; `from_box_within`, which
+/// rejects a p above the given maximum; or `from_box_keeping`, which keeps only every k-th row of
+/// scrypt's memory.
 #[derive(Clone, Copy)]
 pub enum OpeningCall {
     FromBox,
@@ -52,7 +53,8 @@ pub fn opened<R: Source, W: Sink>(
     }
 }
 
-/// Returns true if decrypting has the expected result.
+/// Returns true if decrypting has the expected result. `bytes` are the bytes that are typed at the
+/// prompt.
 pub fn opens_as_expected(
     alloc: Global,
     sk_box: Result<SecretKeyBox>,
@@ -94,8 +96,8 @@ pub fn has_outcome(
     )
 }
 
-/// Returns true if decrypting gives a decrypted key with this text. The password is given, or typed
-/// if it is `None`.
+/// Returns true if decrypting gives a decrypted key with this text. If `password` is `None`, the
+/// prompt asks for it and reads `bytes`.
 pub fn gives(
     alloc: Global,
     sealed: &str,

@@ -149,9 +149,9 @@ fn rejects_limits_only_after_password_was_typed(rt: HostRuntime) {
     }
 }
 
-// The space in the prompt's writer, the memory limit, the typed bytes, and the expected outcome. If
-// the writer fails at the line after the derivation, this error comes before that of a wrong
-// password, and after those of the limits.
+// The number of bytes that fit into the prompt's writer, the memory limit, the typed bytes, and the
+// expected outcome. If the writer fails at the line after the derivation, this error comes before that
+// of a wrong password, and after those of the limits.
 const CAPACITIES: [(usize, u64, &str, Outcome); 9] = [
     (4, 1048576, "p\n", UNWRITTEN),
     (10, 1048576, "p\n", UNWRITTEN),
@@ -169,7 +169,8 @@ fn capacities() -> &'static [(usize, u64, &'static str, Outcome)] {
     &CAPACITIES
 }
 
-// Returns true if decrypting with this much space has the expected outcome and fills the space.
+// Returns true if decrypting with this much space in the prompt's writer has the expected outcome and
+// fills the space.
 fn fills(alloc: Global, row: &(usize, u64, &str, Outcome)) -> bool {
     let (room, memory, line, outcome) = *row;
     let sk_box = limited_box(alloc, memory, 0);

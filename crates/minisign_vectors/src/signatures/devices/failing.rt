@@ -1,8 +1,8 @@
 //! Tests of devices (sources, sinks, prompts and random sources) of which one operation fails and
-//! later operations succeed, which no request to `minisign_compare` can describe. For each call of
-//! the library, each of its devices fails at its first operation, then at its second one, and so on,
-//! until the call succeeds. `tests/rows/failing_devices.py` has data that fails at a read, for `sign`,
-//! `verify` and `verify_texts`.
+//! later operations succeed. No request to `minisign_compare` can describe such devices. Each call of
+//! the library is made many times: first the first operation of a device fails, then only its second
+//! one, and so on, until no operation fails. `tests/rows/failing_devices.py` tests data of which a
+//! read fails, for `sign`, `verify` and `verify_texts`.
 
 use crate::keys::sealed::calls::{OpeningCall, opened};
 use crate::signatures::calls::{
@@ -48,12 +48,12 @@ const EMPTY_AND_DONE: &[u8] =
 // The random bytes of the precomputed signatures.
 const ZEROS: [u8; 128] = [0; 128];
 
-// A number of calls that is never reached.
+// A number of operations that is never reached: the device does not fail.
 const ALL: usize = 1000;
 
-// Returns true if both `verify_texts` and `verify` fail with `GoingBackFailed` for the data `abc`, of
-// which the operation after this number of operations fails. Then this many status bytes were
-// written, no data was copied, and these bytes are unread.
+// Returns true if both `verify_texts` and `verify` fail with `GoingBackFailed` for the data `abc` if
+// its source fails once, after `calls` operations. Afterwards the status sink must have received
+// `status_lines` bytes, no data may have been copied, and the bytes `left` must be unread.
 fn cannot_go_back(alloc: Global, calls: usize, status_lines: usize, left: &[u8]) -> bool {
     let expected_result = Expected {
         outcome: Refused(GoingBackFailed),
@@ -83,18 +83,18 @@ fn cannot_go_back(alloc: Global, calls: usize, status_lines: usize, left: &[u8])
     by_texts && of_texts && by_box && of_box
 }
 
-// The calls on copied data are, in order: marking, four reads, going back, four reads. If marking
-// fails, all of the data is unread. Going back comes after all of it was read.
+// If the data is copied, the operations on its source are, in order: marking, four reads, going back,
+// four reads. If marking fails, all of the data is unread. When going back fails, all of it was read.
 #[test]
 fn returns_error_if_going_back_fails(rt: HostRuntime) {
     assert!(rt; cannot_go_back(rt.alloc(), 0, 0, b"abc"));
     assert!(rt; cannot_go_back(rt.alloc(), 5, 60, b""));
 }
 
-// The text of a signature; the data that a second reading returns; the number of bytes that the
-// status sink accepts in each write if it is the sink that fails, or 0 if the output is; the number
-// of calls that the failing sink has to allow for the run to succeed; and the outcome if it allows
-// them.
+// A case of a failing sink: the text of a signature; the data that a second reading returns; the
+// number of bytes that the status sink accepts in each write, or 0 if the output fails instead of the
+// status sink; the number of operations that are made on the failing sink if none of them fails; and
+// the outcome in that case.
 type SinkFailure = (&'static str, &'static [u8], usize, usize, Outcome);
 
 // The status is written and never flushed: 60 bytes one at a time, or all at once. The output is
@@ -115,7 +115,7 @@ fn sink_failures() -> &'static [SinkFailure] {
     &SINK_FAILURES
 }
 
-// Returns sinks, one of which fails after this number of calls.
+// Returns sinks, one of which fails after `calls` operations. `most` is the third field of the row.
 fn sinks(alloc: Global, most: usize, calls: usize) -> Sinks {
     let mut sinks = ample(alloc);
     if most == 0 {
@@ -126,8 +126,9 @@ fn sinks(alloc: Global, most: usize, calls: usize) -> Sinks {
     sinks
 }
 
-// Returns the expected result if the sink fails after this number of calls. A legacy signature is
-// for the first reading, and the copy of prehashed data is the second reading.
+// Returns the expected result if the sink fails after `calls` operations. The output receives the
+// data `abc` of the first reading for a legacy signature, because this data is kept in memory. For a
+// prehashed signature, the data is read again and the output receives the second reading.
 fn result_for(row: &SinkFailure, calls: usize) -> Expected<'static> {
     let (text, second, most, writes, answer) = *row;
     let whole = if text == LEGACY_TEXT {
@@ -151,7 +152,7 @@ fn result_for(row: &SinkFailure, calls: usize) -> Expected<'static> {
     }
 }
 
-// Returns true if verifying `abc` by both calls has the expected result.
+// Returns true if `verify_texts` and `verify` have the expected result for the data `abc`.
 fn gives_expected(alloc: Global, row: &SinkFailure, calls: usize) -> bool {
     let (text, second, most, _, _) = *row;
     let expected_result = result_for(row, calls);
@@ -172,7 +173,7 @@ fn gives_expected(alloc: Global, row: &SinkFailure, calls: usize) -> bool {
     by_texts && by_box
 }
 
-// The sink fails at each of its calls, at most 60, and then at none.
+// The sink fails at each of its operations in turn, of which there are at most 60, and then at none.
 #[test]
 fn returns_error_if_status_or_output_fails(rt: HostRuntime) {
     for row in sink_failures() {
@@ -184,19 +185,20 @@ fn returns_error_if_status_or_output_fails(rt: HostRuntime) {
 
 type Typed<'a> = Prompt<FailingSource<'a>, LimitedSink>;
 
-// The calls after which the devices fail when signing with the text of a key: the number of calls
-// of the prompt's reader, the number of flushes and the number of calls of its writer, the number
-// of reads of the data, and the number of fills of the random source.
+// When the devices fail while signing with the text of a key, as numbers of operations that succeed
+// before: reads of the prompt, flushes of the prompt's writer, writes and flushes of this writer
+// together, reads of the data, and fills of the random source.
 type FailurePoints = (usize, usize, usize, usize, usize);
 
-// The expected outcome, the number of bytes that the prompt shows, the unread bytes of the typed
-// input and of the data, and whether no random bytes were taken.
+// The expected outcome, the number of bytes that the prompt writes, the numbers of unread bytes of the
+// typed input and of the data, and true if no random bytes were taken.
 type ExpectedUse = (Outcome, usize, usize, usize, bool);
 
-// Only the prompt is used until an encrypted key is decrypted. Its reader is read up to the line
-// feed, so the `x` after it is unread. Its writer writes and flushes three texts. If the number of
-// flushes is 0, the writer has space for only four bytes. Then signing reads four times and fills
-// twice.
+// Until the encrypted key is decrypted, only the prompt is used. Its reader is read up to the line
+// feed, so the `x` after it is unread. Its writer writes and flushes three texts. In the row with 0
+// flushes the writer is full after four bytes, so it fails in the middle of the first text, before the
+// first flush. After decrypting, signing reads the data four times and fills a buffer twice with
+// random bytes.
 const SIGNINGS: [(FailurePoints, ExpectedUse); 23] = [
     ((0, ALL, ALL, ALL, ALL), (UNREAD, 10, 10, 3, true)),
     ((1, ALL, ALL, ALL, ALL), (UNREAD, 10, 9, 3, true)),
@@ -228,8 +230,9 @@ fn signings() -> &'static [(FailurePoints, ExpectedUse)] {
     &SIGNINGS
 }
 
-// Returns a prompt with this input. Its reader fails after a number of calls, and its writer after
-// a number of flushes or calls.
+// Returns a prompt with this input. Its reader fails after `reads` reads, and its writer after
+// `flushes` flushes, or after `writes` writes and flushes together. If `flushes` is 0, the writer has
+// space for only four bytes.
 fn prompt_of<'a>(
     alloc: Global,
     typed: &'a [u8],
@@ -244,7 +247,7 @@ fn prompt_of<'a>(
     Prompt::new(FailingSource::new(typed, reads), writer)
 }
 
-// Returns true if the devices of signing are as expected afterwards.
+// Returns true if, after signing, the devices are as expected.
 fn devices_are_as_expected(
     prompt: &mut Typed,
     data: &mut FailingSource,
@@ -298,19 +301,20 @@ fn returns_error_if_random_source_fails(rt: HostRuntime) {
     assert!(rt; fails_without_random_bytes(rt.alloc(), 1));
 }
 
-// An encrypted key, the typed input, and all that the prompt then shows.
+// An encrypted key, the typed input, and all that the prompt then writes.
 const PASSWORD_TYPED: (&str, &str, &[u8]) = (SEALED, "password\n", ASKED_AND_DONE);
 
 // The key, the typed input and the prompt's output for an empty password, which the prompt reports
 // in a fourth text.
 const EMPTY_TYPED: (&str, &str, &[u8]) = (SEALED_WITH_EMPTY_PASSWORD, "\n", EMPTY_AND_DONE);
 
-// A case of opening a key: true if a password is typed; the numbers of calls before the prompt's reader and
-// writer fail; the expected outcome; and the number of bytes that the writer shows.
+// A case of opening a key: true if a password is typed, false if it is empty; the numbers of operations
+// before the prompt's reader and the prompt's writer fail; the expected outcome; and the number of
+// bytes that the prompt writes.
 type Opening = (bool, usize, usize, Outcome, usize);
 
-// The reader is read up to the line feed, and the writer writes and flushes three texts, or four.
-// If no call fails, the key is decrypted.
+// The reader is read up to the line feed. The writer writes and flushes three texts, or four if the
+// password is empty. If no operation fails, the key is decrypted.
 const OPENINGS: [Opening; 28] = [
     (true, 0, ALL, UNREAD, 10),
     (true, 1, ALL, UNREAD, 10),

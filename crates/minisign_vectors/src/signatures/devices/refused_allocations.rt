@@ -1,7 +1,7 @@
 //! Tests that calls give the right result or out of memory, whichever allocation fails. With enough
-//! memory each call succeeds. `tests/library/refused_memory.py` runs each test with each of its
-//! allocations failing in turn. A buffer that cannot grow is a sink that fails, so a call with one
-//! may also return `WritingFailed`.
+//! memory each call succeeds. `tests/library/refused_memory.py` runs each test once for each of its
+//! allocations, which then fails. A sink that is a growing buffer fails if the buffer cannot grow, so
+//! a call with such a sink may also return `WritingFailed`.
 
 use crate::callers::example;
 use crate::keys::refused_allocations::typed;
@@ -15,7 +15,7 @@ use minisign_base::devices::sinks::VecSink;
 use minisign_base::devices::sources::SliceSource;
 use minisign_base::prompt::Prompt;
 use minisign_fixtures::devices::sinks::Counting;
-use minisign_fixtures::keys::{KEY_ID, PUBLIC_BYTES, TIED_TO_ABC, signature_record};
+use minisign_fixtures::keys::{ABC_SECOND_HALF, KEY_ID, PUBLIC_BYTES, signature_record};
 use minisign_fixtures::outcomes::{check_holds_or_out_of_memory, check_holds_or_unwritten};
 use minisign_fixtures::texts::{
     KEY_TEXT, LEGACY_TEXT, SEALED, SECRET_TEXT, SIGNATURE_TEXT, STATUS_LINES,
@@ -25,8 +25,8 @@ use std::alloc::Global;
 // The random bytes of the precomputed signatures.
 const ZEROS: [u8; 128] = [0; 128];
 
-// Returns true if verifying `abc` with the text under key A writes 60 bytes to the status and three
-// to the output.
+// Returns true if verifying `abc` with the signature text under key A writes 60 bytes, the status
+// lines, to the status sink and three bytes, the data, to the output.
 fn copied(alloc: Global, sig_text: &str) -> Result<bool> {
     let mut data = SliceSource::new(b"abc");
     let mut status = Counting { bytes: 0 };
@@ -36,7 +36,8 @@ fn copied(alloc: Global, sig_text: &str) -> Result<bool> {
     Ok(status.bytes == 60 && out.bytes == 3)
 }
 
-// Returns true if signing with the text and a typed password gives the precomputed text.
+// Returns true if signing with a secret key text and a typed password gives the precomputed signature
+// text.
 fn signed(alloc: Global, sk_text: &str) -> Result<bool> {
     let mut prompt = typed(b"password\n");
     let mut data = SliceSource::new(b"abc");
@@ -66,7 +67,7 @@ fn made(alloc: Global) -> Result<bool> {
 fn has_record(alloc: Global, sig_text: &str) -> Result<bool> {
     let signature_box = read_box(alloc, sig_text)?;
     let bytes = SignatureBones::from(signature_box).to_bytes(alloc)?;
-    let record = signature_record(b"ED", &KEY_ID, &TIED_TO_ABC);
+    let record = signature_record(b"ED", &KEY_ID, &ABC_SECOND_HALF);
     Ok(bytes.as_slice() == record.as_slice())
 }
 
@@ -80,7 +81,8 @@ fn signed_and_verified(alloc: Global) -> Result<bool> {
     has_record(alloc, sig_text.as_str())
 }
 
-// Returns true if signing with an encrypted key and a prompt over a growing buffer gives the text.
+// Returns true if signing with an encrypted key gives the precomputed signature text, and the prompt
+// writes 81 bytes to its growing buffer: the texts of asking for a password and decrypting.
 fn signed_and_returned(alloc: Global) -> Result<bool> {
     let mut prompt = Prompt::new(SliceSource::new(b"password\n"), VecSink::new(alloc));
     let mut data = SliceSource::new(b"abc");
@@ -120,7 +122,6 @@ fn signs_with_encrypted_key_or_reports_out_of_memory(rt: HostRuntime) {
     assert!(rt; check_holds_or_out_of_memory(signed(rt.alloc(), SEALED)));
 }
 
-// A buffer that cannot grow is a sink that fails.
 #[test]
 fn signs_into_growing_buffers_or_reports_out_of_memory(rt: HostRuntime) {
     assert!(rt; check_holds_or_unwritten(signed_and_returned(rt.alloc())));
