@@ -108,7 +108,7 @@ pub fn any_application_is_safe()
     ensures bounded { (w : World) (o : Options) (m : Snapshot) (calls : List Call) (t : State)
         (end : Snapshot)
         → Applies w (begin o) m calls t end
-        → length calls ≤ 23 + list_calls o + length o.keys + w.most + 2 * length w.update }
+        → length calls ≤ 23 + list_calls o + length o.keys + w.max_size + 2 * length w.update }
 {}
 
 /// States that a good update is installed if nothing fails. This function is a law: it does nothing, and
