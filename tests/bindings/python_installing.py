@@ -175,7 +175,7 @@ def install(words):
         report(*errors)
         return status
     except ValueError as why:
-        expect(str(why) == "most must be passed with list_path if the data is not a regular file", f"another ValueError: {why}")
+        expect(str(why) == "most must be passed with list_path unless data is the path of a regular file", f"another ValueError: {why}")
         sys.stderr.buffer.write(NO_LIMIT_ERROR)
         return MISUSED
     except OSError as why:
