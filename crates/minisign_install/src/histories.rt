@@ -41,10 +41,10 @@ ghost use Rattle.minisign_lists.specs.Lists.{listed_entry};
 /// law: it does nothing, and exists only for its contract.
 pub fn any_application_is_safe()
     // After each operation, a process finds at the target, at once or after a crash, only what it could have
-    // found there before, or an update that a given key has signed. If it can find such an update, the only
-    // record that it can find is that of this update. At the record, it finds only what it could have found
-    // there before, or the record of such an update. If the signature is that of a list, the key has signed
-    // the list instead, and the list has the digest of the update for the name.
+    // found there before, or an update that a given key has signed, by itself or in a list; if it finds such
+    // a new update, the only record that it can find is that of this update. At the record, it finds only
+    // what it could have found there before, or the record of such an update. An update is signed in a list
+    // if the key has signed the list, and the list has the digest of the update for the name.
     ensures safe { (w : World) (o : Options) (m : Snapshot) (calls : List Call) (t : State) (end : Snapshot)
         → Applies w (begin o) m calls t end → AllCalls (IsSafeCall w o) calls }
 
