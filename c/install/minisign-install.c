@@ -1,7 +1,7 @@
 /* SPDX-License-Identifier: MIT */
 /*
- * The program minisign-install, which installs an update that has a valid signature, or that a signed list contains.
- * With --check it does not read the update, and says whether it is newer.
+ * The program minisign-install, which installs an update that has a valid signature, or that is in a signed list. With
+ * --check it does not read the update, and only says what an installation would do.
  *
  * minisign_install_file installs the update. This file reads the keys, the signature and the list, and prints the
  * messages.
@@ -79,7 +79,8 @@ static void require_public_key(const char *source, const uint8_t *text, size_t l
     }
 }
 
-/* Reads the public key file, or parses the keys that --key gave; and reads the signature file and the list. */
+/* Reads the public key file, or parses the keys that --key gave. Then reads the signature file and, with --list, the
+ * list. */
 static void read_input(struct request *request)
 {
     static struct text_file text;
