@@ -27,9 +27,9 @@ use Rattle.minisign_lists.specs.declared.lines.LongDigest.{LongDigest}
 -- The options of a run. `keys` are the public keys that were given, one or two. `file` is the name that the
 -- trusted comment must contain, and `numbering` its field with the version number. `list` is None if the
 -- signature is that of the data. If `list` is Some, the signature is that of a signed list of files, which
--- must contain the data, and the value says which hash function 128 digits stand for on a line of the list
--- that does not name one. Each other field says whether the option of minisign-install with this name is
--- given, such as --must-expire.
+-- must contain the data, and the value says which hash function, if any, 128 digits stand for on a line of
+-- the list that does not name one. Each other field says whether the option of minisign-install with this
+-- name is given, such as --must-expire.
 pub record Options : Type 0 where
   pub keys : List PublicKeyValue
   pub file : List ℕ

@@ -71,8 +71,8 @@ numbering_of n = if n == numbering_number Version then Version else Timestamp
 abbrev pub when : {A : Type 0} → Bool → A → Option A
 when holds value = if holds then Some value else None
 
--- The hash function that 128 digits stand for on a line of the list that does not name one, or None if the
--- signature is not that of a list.
+-- The hash function, if any, that 128 digits stand for on a line of the list that does not name one. It is
+-- None if the signature is not that of a list.
 abbrev pub list_of : ℕ → ℕ → Option LongDigest
 list_of is_list number = when (is_list == 1) (unwrap_or (long_numbered number) long.Rejected)
 

@@ -104,9 +104,9 @@ operations =
 -- the signed size. None of these may be relied on before `is_signed` is true; then the first of the signers
 -- has signed the comment. After the list was read, `listing` is its digest and the result of looking up
 -- the name. It may not be relied on before `is_list_signed` is true; then the first of the signers has also
--- signed the list. `is_recorded` says whether the digest in the record is that of the update. `read` holds
--- the bytes of the file that is being read, `left` is the number of bytes of the signed size that were not
--- copied yet, and `error` is the error for which the run is rejected.
+-- signed the list. `is_recorded` says whether the digest in the record is that of the update or, with a list,
+-- of its list. `read` holds the bytes of the file that is being read, `left` is the number of bytes of the
+-- signed size that were not copied yet, and `error` is the error for which the run is rejected.
 pub record State : Type 0 where
   pub due : Operation
   pub options : Options

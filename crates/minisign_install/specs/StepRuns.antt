@@ -33,8 +33,7 @@ use Rattle.minisign_lists.specs.declared.lines.LongDigest.TheVariants as long
 
 -- The inputs of a run: the signatures that Ed25519 accepts (message, key and signature), the record, the
 -- parsed signature file, and the data; if the signature is that of a list, also the list, and the name that
--- the application looks up in it. The installed file never has more than
--- `max_size` bytes.
+-- the application looks up in it. The installed file never has more than `max_size` bytes.
 pub record World : Type 0 where
   pub accepts : Verifier
   pub found_record : Option (List ℕ)
