@@ -38,10 +38,9 @@
     "  --numbering FIELD  Take the version number from this field of the trusted\n" \
     "                     comment: `timestamp` (the default) or `version`.\n" \
     "  --name NAME        Require the file name NAME in the trusted comment. The\n" \
-    "                     default is the last part of TARGET. For example, with\n" \
-    "                     TARGET `app`, `--name app-1.2` installs an update that was\n" \
-    "                     signed as `app-1.2`. With `--list`, look up NAME in the\n" \
-    "                     list instead.\n" \
+    "                     default is the last part of TARGET. For example, `--name\n" \
+    "                     app-1.2` installs an update that was signed as `app-1.2`.\n" \
+    "                     With `--list`, look up NAME in the list instead.\n" \
     "  --list FILE        Verify DATA with a signed list: SIG is the signature of\n" \
     "                     FILE, a list such as `SHA256SUMS`. The trusted comment\n" \
     "                     must name FILE, and DATA must have the digest that FILE\n" \
@@ -51,9 +50,9 @@
     "                     `--tag`. The default is SHA-512. This option needs\n" \
     "                     `--list`.\n" \
     "  --mode MODE        Set the permissions of the installed file to MODE, three\n" \
-    "                     octal digits such as 755. A leading 0 is allowed. If the\n" \
-    "                     update is already installed, its permissions are\n" \
-    "                     unchanged, and a warning says so.\n" \
+    "                     octal digits such as 755. If the update is already\n" \
+    "                     installed, its permissions are unchanged, and a warning\n" \
+    "                     says so.\n" \
     "  --must-expire      Reject an update whose trusted comment does not say when\n" \
     "                     it expires.\n" \
     "  --max-size BYTES   Reject data of more than BYTES bytes. The suffixes K, M, G\n" \
@@ -61,8 +60,7 @@
     "  --wait SECONDS     Wait up to SECONDS (at most 86400) for another\n" \
     "                     installation of TARGET to finish, and exit with status 5\n" \
     "                     if it has not finished by then. The default is not to\n" \
-    "                     wait. If DATA is a pipe, the program reads it before it\n" \
-    "                     waits.\n" \
+    "                     wait. If DATA is a pipe, the program reads it first.\n" \
     "  --                 End the options. All further arguments are paths.\n" \
     "  --help, -h         Print the options and the exit statuses. Give no other\n" \
     "                     argument.\n" \
