@@ -194,7 +194,7 @@ LIST_TABLE = (
     ("list with two malformed lines", REJECTED, malformed(2), dict(listed=b"\nfirst\n" + NEW_LIST + b"second\n")),
     ("malformed list without the name", REJECTED, malformed(2), dict(listed=line(NEW_DATA, "other") + b"text\n")),
     ("malformed list with the name twice", REJECTED, malformed(3), dict(listed=2 * line(NEW_DATA) + b"text\n")),
-    ("list that is not UTF-8", REJECTED, error_text(LIST, "stream did not contain valid UTF-8"), dict(listed=NEW_LIST + b"# \xff\n")),
+    ("list that is not UTF-8", REJECTED, error_text(LIST, "this is not UTF-8 text"), dict(listed=NEW_LIST + b"# \xff\n")),
     # The signature.
     ("list that is not signed", REJECTED, UNSIGNED_ERROR, dict(signed=EXTENDED_LIST)),
     ("malformed list that is not signed", REJECTED, UNSIGNED_ERROR, dict(listed=b"text\n" + NEW_LIST, signed=NEW_LIST)),

@@ -318,7 +318,7 @@ def installs_listed(directory, words, phases, listed=NEW_LIST, **offered):
     ("without the name", "NOT_LISTED", "the list does not contain this name", [], dict(listed=line(NEW_DATA, "other"))),
     ("without a byte", "NOT_LISTED", "the list does not contain this name", [], dict(listed=b"")),
     ("that is not signed", "SIGNATURE_REFUSED", "Signature verification failed", [], dict(listed=NEW_LIST + b"text\n", signed=NEW_LIST)),
-    ("that is not UTF-8", "NOT_UTF8", "stream did not contain valid UTF-8", [], dict(listed=NEW_LIST + b"\xff\n")))))
+    ("that is not UTF-8", "NOT_UTF8", "this is not UTF-8 text", [], dict(listed=NEW_LIST + b"\xff\n")))))
 def rejects_list(directory, error, text, number, listed, **offered):
     """A list is rejected before any data is read."""
     directory.offer(**{"signed": listed, "names": LIST, **offered})
