@@ -199,7 +199,8 @@ enum minisign_error {
     MINISIGN_UNREADABLE_COMMENT = 11,
     /* The installation expects a different call now, or no operation can fail with the error that was reported. */
     MINISIGN_NOT_DUE = 12,
-    /* An option of an installation other than numbering is neither 0 nor 1. */
+    /* An option of an installation other than numbering and long_digest is neither 0 nor 1, or two options must not
+     * be combined. */
     MINISIGN_BAD_OPTION = 13,
     /* The option numbering is neither MINISIGN_NUMBERING_TIMESTAMP nor MINISIGN_NUMBERING_VERSION. */
     MINISIGN_BAD_NUMBERING = 14,

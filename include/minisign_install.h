@@ -20,7 +20,8 @@
  *   MINISIGN_TARGET_IN_USE if another process holds it and you do not wait any longer.
  * - MINISIGN_DUE_READ_RECORD: minisign_install_record, or minisign_install_no_record if there is no record.
  * - MINISIGN_DUE_READ_SIGNATURE: minisign_install_signature.
- * - MINISIGN_DUE_READ_LIST: minisign_install_list. It is due only with the option is_list.
+ * - MINISIGN_DUE_READ_LIST: minisign_install_list. MINISIGN_DUE_READ_LIST and MINISIGN_DUE_CHECK_LIST are due only with
+ *   the option is_list.
  * - MINISIGN_DUE_CHECK_COMMENT, MINISIGN_DUE_CHECK_LIST, MINISIGN_DUE_CHECK_RECORD, MINISIGN_DUE_CHECK_TARGET and
  *   MINISIGN_DUE_CHECK_DATA: minisign_install_question returns a key and a signature. Check the signature with Ed25519,
  *   and pass the result to minisign_install_answer.
@@ -43,22 +44,23 @@
  * empty file, which syncs the installed file.
  *
  * The record contains the version number, the field of the trusted comment from which it was read, the public key
- * under which the update was verified, and the digest of the data or, with is_list, of the list. New data and a new record are first written to
- * temporary files in the directory of the target, with random names. They are synced before they are renamed, so what
- * is renamed is always complete.
+ * under which the update was verified, and the digest of the data or, with is_list, of the list. New data and a new
+ * record are first written to temporary files in the directory of the target, with random names. They are synced before
+ * they are renamed, so what is renamed is always complete.
  *
  * If an update has the recorded version number, the installed file may be the update, so it is read and verified. If it
  * is the update, the file and the directory are synced, and the run ends with MINISIGN_DUE_ALREADY_INSTALLED. If it is
- * another file, the update is installed if the record was written for the data of this update, or if the option `again`
- * is set; otherwise the update is rejected. So if a run was interrupted after it had renamed its record and before it
- * renamed its data, the next run completes the installation. An older update is rejected, unless the option roll_back
- * is set.
+ * another file, the update is installed if the record was written for the data of this update (with is_list: for the
+ * same list), or if the option `again` is set; otherwise the update is rejected. So if a run was interrupted after it
+ * had renamed its record and before it renamed its data, the next run completes the installation. An older update is
+ * rejected, unless the option roll_back is set.
  *
- * With the option is_list, the signature is that of a signed list of files, such as SHA256SUMS (see minisign_list.h), and
- * not that of the data. You pass the list, and the name under which the data must be listed. An update is installed only
- * if the signature of the list is valid, and the data has the digest that the list has for this name. The version
- * number and the time at which the update expires are those in the trusted comment of the list. The record contains the
- * digest of the list instead of that of the data.
+ * With the option is_list, the signature is not that of the data, but that of a signed list of files, such as
+ * SHA256SUMS (see minisign_list.h). You pass the list, and the name that the data has in it. An update is installed
+ * only if the signature of the list is valid, and the data has the digest that the list has for this name. The version
+ * number and the time at which the update expires are those in the trusted comment of the list. A list with a greater
+ * version number is an update even if it has the same digest for the name: the data is then installed again. The record
+ * contains the digest of the list instead of that of the data.
  *
  * You have to meet the "Requirements" of minisign.h, and those in the following list. If you break one, nothing is
  * guaranteed about the target.
@@ -91,17 +93,18 @@ enum minisign_due {
     MINISIGN_DUE_READ_RECORD = 2,
     /* Read the signature file and the clock, once. */
     MINISIGN_DUE_READ_SIGNATURE = 3,
-    /* Ask Ed25519 about the trusted comment, and report the answer. */
+    /* Check with Ed25519 if the signature of the trusted comment is valid, and report the result. */
     MINISIGN_DUE_CHECK_COMMENT = 4,
-    /* Read the signed list, once. */
+    /* Read the signed list, once, and report its bytes and the name to look up in it. */
     MINISIGN_DUE_READ_LIST = 5,
-    /* Ask Ed25519 about the digest of the list, and report the answer. */
+    /* Check with Ed25519 if the signature is valid for the digest of the list, and report the result. */
     MINISIGN_DUE_CHECK_LIST = 6,
-    /* Ask Ed25519 about the digest in the record, and report the answer. */
+    /* Check with Ed25519 if the signature is valid for the digest in the record, and report the result. */
     MINISIGN_DUE_CHECK_RECORD = 7,
     /* Read the installed file and report its bytes piece by piece, or that there is no such file. */
     MINISIGN_DUE_READ_TARGET = 8,
-    /* Ask Ed25519 about the digest of the installed file, or that of the list, and report the answer. */
+    /* Check with Ed25519 if the signature is valid for the digest of the installed file or, with is_list, for that
+     * of the list, and report the result. */
     MINISIGN_DUE_CHECK_TARGET = 9,
     /* Sync the installed file, which is already the update. */
     MINISIGN_DUE_SYNC_TARGET = 10,
@@ -115,7 +118,8 @@ enum minisign_due {
     MINISIGN_DUE_COPY_DATA = 14,
     /* Read back the temporary file of the data through the same descriptor, and report its bytes piece by piece. */
     MINISIGN_DUE_READ_BACK = 15,
-    /* Ask Ed25519 about the digest of what was read back, or that of the list, and report the answer. */
+    /* Check with Ed25519 if the signature is valid for the digest of the bytes that were read back or, with
+     * is_list, for that of the list, and report the result. */
     MINISIGN_DUE_CHECK_DATA = 16,
     /* Give the temporary file of the data the permissions of the installed file. */
     MINISIGN_DUE_SET_PERMISSIONS = 17,
@@ -158,8 +162,8 @@ enum minisign_numbering {
 };
 /* The end of the numberings. */
 
-/* The options of an installation. Each field except the first and the last is 1 for yes and 0 for no. Fields that you
- * omit in an initializer are 0. */
+/* The options of an installation. Each field except numbering and long_digest is 1 for yes and 0 for no. Fields that
+ * you omit in an initializer are 0. */
 typedef struct minisign_install_options {
     uint32_t numbering;   /* MINISIGN_NUMBERING_TIMESTAMP or MINISIGN_NUMBERING_VERSION; always use the same one for a
                            * target */
@@ -176,11 +180,13 @@ typedef struct minisign_install_options {
                            * record or it is damaged. Use this only if your keys come from a file that is itself
                            * installed with a record of its own, because it lets the recorded version decrease */
     uint32_t roll_back;   /* install an update even if its version is below the recorded one. The record keeps its
-                           * version and key, and gets the digest of the data that is installed, or of its list */
-    uint32_t is_list;     /* the signature is that of a signed list of files, in which the data must be listed */
-    uint32_t long_digest; /* the hash function of 128 digits on a line of the list that does not name one:
-                           * MINISIGN_HASH_SHA512 or MINISIGN_HASH_BLAKE2B of minisign_list.h, or MINISIGN_HASH_NONE to
-                           * treat such a line as malformed. Without is_list it has no effect */
+                           * version and key, and gets the digest of the data that is installed or, with is_list, of
+                           * its list */
+    uint32_t is_list;     /* the signature is that of a signed list of files, which must contain the data */
+    uint32_t long_digest; /* the hash function that 128 hexadecimal digits stand for on a line of the list that does not
+                           * name one: MINISIGN_HASH_SHA512 or MINISIGN_HASH_BLAKE2B of minisign_list.h, or
+                           * MINISIGN_HASH_NONE (0) to treat such a line as malformed. Without is_list the value has no
+                           * effect, but it must still be one of these three */
 } minisign_install_options;
 
 /* An installation. You allocate it. Only the library writes its bytes. No call on it allocates. */
@@ -194,8 +200,9 @@ typedef struct minisign_installation {
  * them. If you have only one key, pass it twice.
  *
  * After an error the installation is unchanged. The errors, in this order: MINISIGN_BAD_OPTION, if an option other than
- * numbering and long_digest is neither 0 nor 1, or is_first is set together with new_key or roll_back;
- * MINISIGN_BAD_NUMBERING; MINISIGN_BAD_HASH, for long_digest; MINISIGN_PUBLIC_KEY_NOT_READ. Since 0.3.
+ * numbering and long_digest is neither 0 nor 1, or if is_first is set together with new_key or roll_back;
+ * MINISIGN_BAD_NUMBERING; MINISIGN_BAD_HASH, if long_digest has none of the three values above;
+ * MINISIGN_PUBLIC_KEY_NOT_READ. Since 0.3.
  */
 MINISIGN_MUST_USE enum minisign_error minisign_install_init(
     minisign_installation *installation, const minisign_public_key *key, const minisign_public_key *other,
@@ -210,9 +217,9 @@ enum minisign_due minisign_install_due(const minisign_installation *installation
  * all of the data.
  *
  * The errors, in this order: MINISIGN_NOT_DUE, if another call reports this operation, or the run has ended (nothing is
- * changed); MINISIGN_OTHER_SIZE, for MINISIGN_DUE_COPY_DATA, if the data is shorter than the field "size:" of the
- * trusted comment says, and is_list is not set. Then the run is rejected for this error, and you continue with the operation that is due. Since
- * 0.3.
+ * changed); MINISIGN_OTHER_SIZE, for MINISIGN_DUE_COPY_DATA, if is_list is not set and the data is shorter than the
+ * field "size:" of the trusted comment says. Then the run is rejected for this error, and you continue with the
+ * operation that is due. Since 0.3.
  */
 MINISIGN_MUST_USE enum minisign_error minisign_install_done(minisign_installation *installation);
 
@@ -220,9 +227,9 @@ MINISIGN_MUST_USE enum minisign_error minisign_install_done(minisign_installatio
  * Reports that a piece of piece_len bytes was copied, and that there may be more. MINISIGN_DUE_COPY_DATA remains due.
  * Report every piece, and report the end of the data with minisign_install_done.
  *
- * The errors, in this order: MINISIGN_NOT_DUE, after which nothing is changed; MINISIGN_OTHER_SIZE, if the data is
- * longer than the field "size:" of the trusted comment says, and is_list is not set. Then the run is rejected for this error, and you continue
- * with the operation that is due. Since 0.3.
+ * The errors, in this order: MINISIGN_NOT_DUE, after which nothing is changed; MINISIGN_OTHER_SIZE, if is_list is not
+ * set and the data is longer than the field "size:" of the trusted comment says. Then the run is rejected for this
+ * error, and you continue with the operation that is due. Since 0.3.
  */
 MINISIGN_MUST_USE enum minisign_error minisign_install_copied(
     minisign_installation *installation, size_t piece_len);
@@ -265,8 +272,8 @@ MINISIGN_MUST_USE enum minisign_error minisign_install_record(
 MINISIGN_MUST_USE enum minisign_error minisign_install_no_record(minisign_installation *installation);
 
 /*
- * Passes the next bytes of the installed file, if MINISIGN_DUE_READ_TARGET is due, or of the temporary file of the data,
- * if MINISIGN_DUE_READ_BACK is due. The pieces may have any length. At the end of the file pass 0 bytes. Then
+ * Passes the next bytes of the installed file, if MINISIGN_DUE_READ_TARGET is due, or of the temporary file of the
+ * data, if MINISIGN_DUE_READ_BACK is due. The pieces may have any length. At the end of the file pass 0 bytes. Then
  * MINISIGN_DUE_CHECK_TARGET or MINISIGN_DUE_CHECK_DATA is due.
  *
  * The only error is MINISIGN_NOT_DUE, if another operation is due. Then nothing is changed. Since 0.1.
@@ -288,20 +295,21 @@ MINISIGN_MUST_USE enum minisign_error minisign_install_no_target(minisign_instal
  * The call also checks what the trusted comment says. You get the result from minisign_install_answer, because until
  * then the comment may be forged. The comment consists of fields that are separated by tabs. It must have
  *
- * - a field "file:" whose value is exactly the parameter `file`, which with is_list is the name of the list;
+ * - a field "file:" whose value is exactly the parameter `file`. Pass the name of the file to install or, with is_list,
+ *   the name of the list;
  * - a field of the chosen numbering, with a number that is not below the recorded version number, unless roll_back is
  *   set;
  * - no field "expires:", or exactly one, with a number that is greater than the parameter `now`. With must_expire
  *   there must be one, and no other field that differs from it only in case or in white space, such as "Expires:5" or
  *   "expires :5";
- * - no field "size:", or exactly one, with a number: the length of the data in bytes. With is_list it says nothing about
- *   the data.
+ * - no field "size:", or exactly one, with a number: the length of the data in bytes. With is_list, the number has no
+ *   effect.
  *
  * A number consists of decimal digits only, and is below 2^64. If the comment has several fields "file:", the first of
  * them counts, and likewise for the fields of the chosen numbering.
  *
- * `now` is the time of your clock in seconds since 1970, and negative for a time before 1970, at which every update with
- * a field "expires:" counts as expired. The library trusts this time: if your clock is behind, an update that has
+ * `now` is the time of your clock in seconds since 1970, and negative for a time before 1970, at which every update
+ * with a field "expires:" counts as expired. The library trusts this time: if your clock is behind, an update that has
  * expired is installed.
  *
  * The errors, in this order: MINISIGN_NOT_DUE; MINISIGN_NOT_UTF8, for file; those of minisign_read_signature;
@@ -317,11 +325,11 @@ MINISIGN_MUST_USE enum minisign_error minisign_install_signature(
 
 /*
  * Passes the signed list, and the name to look up in it, if MINISIGN_DUE_READ_LIST is due. Pass the whole list. Then
- * MINISIGN_DUE_CHECK_LIST is due, and you can free the list. What is wrong with the list or the name, you get from
- * minisign_install_answer, because until then the list may be forged.
+ * MINISIGN_DUE_CHECK_LIST is due, and you can free the list. The call already looks up the name. If this fails, you get
+ * the error from minisign_install_answer, because until then the list may be forged.
  *
- * The name is that under which the list has the data, such as "app-2.tar.gz". Choose it yourself: do not take it from the
- * signature file. minisign_list.h says which lines a list may have, and how names are compared.
+ * The name is the one that the data has in the list, such as "app-2.tar.gz". Choose it yourself, and do not take it
+ * from the signature file. minisign_list.h says which lines a list may have, and how names are compared.
  *
  * The only error is MINISIGN_NOT_DUE, if another operation is due. Then nothing is changed. Since 0.3.
  */
@@ -331,9 +339,10 @@ MINISIGN_MUST_USE enum minisign_error minisign_install_list(
 /*
  * Writes the signature to check and the public key under which to check it. For MINISIGN_DUE_CHECK_COMMENT, check the
  * signature over the message that minisign_install_signature wrote; the digest is zeros. For MINISIGN_DUE_CHECK_LIST,
- * MINISIGN_DUE_CHECK_RECORD, MINISIGN_DUE_CHECK_TARGET and MINISIGN_DUE_CHECK_DATA, check the signature over the 64 bytes
- * of the digest. With is_list, it is the digest of the list, except for MINISIGN_DUE_CHECK_RECORD.
- * MINISIGN_DUE_CHECK_RECORD shows if the record was written for this update, so its result may well be no.
+ * MINISIGN_DUE_CHECK_RECORD, MINISIGN_DUE_CHECK_TARGET and MINISIGN_DUE_CHECK_DATA, check the signature over the 64
+ * bytes of the digest. This is the digest in the record for MINISIGN_DUE_CHECK_RECORD, and otherwise that of the list,
+ * or without is_list that of the file that was read. With is_list, the library itself compares the file with the digest
+ * in the list. MINISIGN_DUE_CHECK_RECORD shows if the record was written for this update, so its result may well be no.
  * Unlike minisign_ask, this call does not reject weak public keys and signatures, so your Ed25519 implementation must
  * reject them: see "Ed25519" under "Requirements" in minisign.h.
  *
@@ -343,21 +352,22 @@ MINISIGN_MUST_USE enum minisign_error minisign_install_question(
     const minisign_installation *installation, uint8_t public_key[32], uint8_t signature[64], uint8_t digest[64]);
 
 /*
- * Passes the result of the check that is due. It returns MINISIGN_OK if the run goes on or has ended well. Otherwise the
- * run is rejected, and the call returns the reason:
+ * Passes the result of the check that is due. It returns MINISIGN_OK if the run goes on or has ended well. Otherwise
+ * the run is rejected, and the call returns the reason:
  *
  * - for MINISIGN_DUE_CHECK_COMMENT, MINISIGN_COMMENT_SIGNATURE_REFUSED if the signature is not valid. But if the other
- *   key has the same key ID and was not asked yet, MINISIGN_DUE_CHECK_COMMENT remains due, for that key. If the signature
- *   is valid, the first reason of these: MINISIGN_OTHER_FILE; MINISIGN_NO_NUMBER; MINISIGN_NO_EXPIRY,
+ *   key has the same key ID and was not asked yet, MINISIGN_DUE_CHECK_COMMENT remains due, for that key. If the
+ *   signature is valid, the first reason of these: MINISIGN_OTHER_FILE; MINISIGN_NO_NUMBER; MINISIGN_NO_EXPIRY,
  *   MINISIGN_BAD_EXPIRY or MINISIGN_EXPIRED; MINISIGN_BAD_SIZE; MINISIGN_OLDER_UPDATE;
  * - for MINISIGN_DUE_CHECK_LIST, MINISIGN_SIGNATURE_REFUSED if the signature is not valid for the list. If it is valid,
- *   the first reason of these: MINISIGN_NOT_UTF8, for the list or the name; MINISIGN_BAD_NAME, if no list can contain
- *   the name; MINISIGN_MALFORMED_LINE; MINISIGN_NOT_LISTED; MINISIGN_LISTED_TWICE;
+ *   the first reason of these: MINISIGN_NOT_UTF8, for the list or the name; MINISIGN_BAD_NAME, if the name is not one
+ *   that a list can contain; MINISIGN_MALFORMED_LINE; MINISIGN_NOT_LISTED; MINISIGN_LISTED_TWICE;
  * - for MINISIGN_DUE_CHECK_TARGET, MINISIGN_SAME_NUMBER if the installed file is not the update, the record was not
- *   written for this update, and `again` is not set;
+ *   written for this update, and `again` is not set. With is_list, the installed file is the update if the signature is
+ *   valid for the list and the file has the listed digest;
  * - for MINISIGN_DUE_CHECK_DATA, MINISIGN_SIGNATURE_REFUSED if the signature is not valid for the bytes that were read
- *   back, or, with is_list, for the list; MINISIGN_DIGEST_MISMATCH if these bytes do not have the listed digest.
- *   MINISIGN_DUE_REMOVE_FILES is due next.
+ *   back or, with is_list, for the list; with is_list also MINISIGN_DIGEST_MISMATCH, if the signature is valid but
+ *   these bytes do not have the listed digest. MINISIGN_DUE_REMOVE_FILES is due next.
  *
  * API misuse, which is checked first and changes nothing, returns MINISIGN_BAD_ANSWER or MINISIGN_NOT_DUE. Since 0.3.
  */
@@ -375,8 +385,8 @@ uint32_t minisign_install_is_signed(const minisign_installation *installation);
  * returns 0. Since 0.3. */
 uint64_t minisign_install_version(const minisign_installation *installation);
 
-/* Writes the field "size:" of the trusted comment to *size and returns 1. Returns 0 and writes nothing if the comment has
- * no such field, is_list is set, or minisign_install_is_signed returns 0. Since 0.3. */
+/* Writes the field "size:" of the trusted comment to *size and returns 1. Returns 0 and writes nothing if the comment
+ * has no such field, is_list is set, or minisign_install_is_signed returns 0. Since 0.3. */
 uint32_t minisign_install_size(const minisign_installation *installation, uint64_t *size);
 
 /* The maximum size of a record. */
@@ -389,8 +399,8 @@ uint32_t minisign_install_size(const minisign_installation *installation, uint64
  * too short.
  *
  * The content is three lines, without a line feed after the last: the field and the version number, such as
- * "version:2"; the public key that verified the update, as 64 hexadecimal digits; the Blake2b-512 digest of the data, or
- * with is_list that of the list, as 128 hexadecimal digits. No 0 byte follows. Since 0.3.
+ * "version:2"; the public key that verified the update, as 64 hexadecimal digits; the Blake2b-512 digest of the data,
+ * or with is_list that of the list, as 128 hexadecimal digits. No 0 byte follows. Since 0.3.
  */
 size_t minisign_install_record_text(
     const minisign_installation *installation, uint8_t *text MINISIGN_ROLE(room RECORD_TEXT_BYTES), size_t room);
@@ -399,9 +409,9 @@ size_t minisign_install_record_text(
  * Otherwise returns MINISIGN_OK. Since 0.3. */
 enum minisign_error minisign_install_error(const minisign_installation *installation);
 
-/* Returns the number of the line of the list for which the run was rejected: the first malformed line if
- * minisign_install_error returns MINISIGN_MALFORMED_LINE, or the second line with the name if it returns
- * MINISIGN_LISTED_TWICE. The first line is 1. Otherwise returns 0. Since 0.3. */
+/* Returns the number of the line of the list for which the run was rejected: that of the first malformed line if
+ * minisign_install_error returns MINISIGN_MALFORMED_LINE, or that of the second line with the name if it returns
+ * MINISIGN_LISTED_TWICE. Lines are counted from 1. Returns 0 after any other error and without an error. Since 0.3. */
 uint64_t minisign_install_line(const minisign_installation *installation);
 
 /*

@@ -141,11 +141,13 @@ typedef struct minisign_installing_options {
     size_t signature_len;
     const char *signature_name;
 
-    /* The content and the length of a signed list of files, such as SHA256SUMS, if the signature is that of the list.
-     * Then the data must have the digest that the list has for `name`. The trusted comment must contain the last part
-     * of list_name, the path of the list, and its version number and expiry time are those of the list. minisign_list.h
-     * says which lines a list may have, and choices.long_digest what 128 digits mean on a line that names no hash
-     * function. The call sets choices.is_list itself. If `list` is NULL, the signature is that of the data. */
+    /* The content and the length of a signed list of files, such as SHA256SUMS, if the signature is that of the list,
+     * or NULL if it is that of the data. With a list, the data must have the digest that the list has for `name`. The
+     * version number and the expiry time are those in the trusted comment of the list, and apply to all of its files.
+     * list_name is the path of the list, and is required. Its last part must be the file name in the trusted comment;
+     * otherwise the error is MINISIGN_OTHER_LIST. minisign_list.h says which lines a list may have. The value of
+     * choices.long_digest says which hash function 128 hexadecimal digits stand for on a line that names none; if it is
+     * 0, such a line is malformed. The call sets choices.is_list itself, which must be 0 without a list. */
     const uint8_t *list;
     size_t list_len;
     const char *list_name;
@@ -187,7 +189,7 @@ typedef struct minisign_installing_options {
     uint32_t wait;
 
     /* The file name that the trusted comment must contain or, with a list, the name that the list must contain exactly
-     * once. NULL: the last part of `target`. */
+     * once, which may be a relative path such as "bin/app". NULL: the last part of `target`. */
     const char *name;
 
     /* Verifies an Ed25519 signature: returns 0 if it is valid. crypto_sign_verify_detached has this type. Weak keys and

@@ -178,11 +178,11 @@ def helped(entries, indent):
             yield ("" if number else f"  {word}").ljust(indent if line else 0) + line
 
 
-def in_c(name, lines):
-    """Returns the definition of a string macro in C."""
+def in_c(name, lines, before=""):
+    """Returns the definition of a string macro in C. The programs write `before` in front of it, in the same string literal."""
     text = "\n".join(lines) + "\n"
-    if len(text) > MAX_TEXT:
-        raise Unfit(f"{name} has {len(text)} characters, which is more than C allows in a string literal")
+    if len(before + text) > MAX_TEXT:
+        raise Unfit(f"{name} has {len(before + text)} characters, which is more than C allows in a string literal")
     quoted = [line.replace("\\", "\\\\").replace('"', '\\"') for line in lines]
     return f"#define {name} \\\n" + " \\\n".join(f'    "{line}\\n"' for line in quoted) + "\n"
 
@@ -196,7 +196,12 @@ def header(program, text):
     statuses = ["", "Exit status:", *helped(text["statuses"], 6)]
     if "files" in text:
         statuses += ["", "Files:", *helped(text["files"], INDENT)]
-    defined = [f'#define USAGE "usage: {usage}"\n', in_c("OPTIONS_HELP", options), in_c("STATUS_HELP", statuses)]
+    first_line = f"usage: {usage}"
+    defined = [
+        f'#define USAGE "{first_line}"\n',
+        in_c("OPTIONS_HELP", options, f"{first_line}\n"),
+        in_c("STATUS_HELP", statuses),
+    ]
     return "\n".join([head, *defined, "#endif\n"])
 
 

@@ -129,7 +129,7 @@ static const char *last_part(const char *path)
     return slash == NULL ? path : slash + 1;
 }
 
-/* Returns the name of the file to install, in the trusted comment or in the list. */
+/* Returns the name of the file to install that the trusted comment or, with a list, the list must contain. */
 static const char *expected_name(const struct install_run *run)
 {
     return run->options->name == NULL ? run->directory.target.name : run->options->name;
@@ -578,7 +578,7 @@ static void rename_both(struct install_run *run)
 static void take_result(struct install_run *run)
 {
     run->error = minisign_install_error(&run->machine);
-    /* With a list, the machine compares the file name in the trusted comment with that of the list. */
+    /* With a list, the file name that was passed to the machine is that of the list. */
     if (run->error == MINISIGN_OTHER_FILE && run->options->list != NULL) {
         run->error = MINISIGN_OTHER_LIST;
     }
@@ -665,9 +665,9 @@ static bool advance(struct install_run *run)
 static const char *find_list_misuse(const minisign_installing_options *options)
 {
     if (options->list == NULL) {
-        return options->choices.is_list != 0 ? "the options have no list" : NULL;
+        return options->choices.is_list != 0 ? "is_list is set, but the options have no list" : NULL;
     }
-    return options->list_name == NULL || *last_part(options->list_name) == 0 ? "the options have no name of the list"
+    return options->list_name == NULL || *last_part(options->list_name) == 0 ? "the list in the options has no name"
                                                                              : NULL;
 }
 

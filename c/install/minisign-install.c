@@ -1,7 +1,7 @@
 /* SPDX-License-Identifier: MIT */
 /*
- * The program minisign-install, which installs an update that has a valid signature, or that a signed list contains.
- * With --check it does not read the update, and says whether it is newer.
+ * The program minisign-install, which installs an update that has a valid signature, or that is in a signed list. With
+ * --check it does not read the update, and only says what an installation would do.
  *
  * minisign_install_file installs the update. This file reads the keys, the signature and the list, and prints the
  * messages.
@@ -26,7 +26,7 @@ struct text_file {
 
 #define ARGUMENT_ORDER_HINT "give PK DATA SIG TARGET in this order"
 #define DOWNLOAD_HINT "download the file and its signature again"
-#define DOWNLOAD_LIST_HINT "download the list and its signature again"
+#define LIST_DOWNLOAD_HINT "download the list and its signature again"
 
 static minisign_public_key keys[MAX_PUBLIC_KEYS];
 static struct text_file signature_text, list_text;
@@ -79,7 +79,8 @@ static void require_public_key(const char *source, const uint8_t *text, size_t l
     }
 }
 
-/* Reads the public key file, or parses the keys that --key gave; and reads the signature file and the list. */
+/* Reads the public key file, or parses the keys that --key gave. Then reads the signature file and, with --list, the
+ * list. */
 static void read_input(struct request *request)
 {
     static struct text_file text;
@@ -223,7 +224,7 @@ static const struct {
 static const char *hint_for_error(enum minisign_error error, bool has_list)
 {
     if (has_list && (error == MINISIGN_SIGNATURE_REFUSED || error == MINISIGN_COMMENT_SIGNATURE_REFUSED)) {
-        return DOWNLOAD_LIST_HINT;
+        return LIST_DOWNLOAD_HINT;
     }
     for (size_t i = 0; i < sizeof hints / sizeof hints[0]; i++) {
         if (hints[i].error == error) {

@@ -111,7 +111,7 @@ static void describe_rejection(const minisign_installing_options *options, const
         snprintf(text, MINISIGN_ERROR_TEXT_BYTES, "the trusted comment has no valid field \"%s:\"",
                  options->choices.numbering == MINISIGN_NUMBERING_VERSION ? "version" : "timestamp");
     } else if (rejection->error == MINISIGN_NOT_LISTED) {
-        /* The message is about the list. The program's own words are about the file. */
+        /* describe_error would say "this file is not in the list", but the message names the list and not the file. */
         minisign_error_text(rejection->error, text, MINISIGN_ERROR_TEXT_BYTES);
     } else if (rejection->line == 0) {
         describe_error(rejection->error, text);

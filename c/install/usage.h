@@ -14,8 +14,8 @@
     "Install an update that has a valid Minisign signature. The file TARGET is\n" \
     "replaced by DATA in one step if SIG is a valid signature of DATA under the\n" \
     "public key PK. The signed trusted comment must contain the file name of TARGET\n" \
-    "and a version number that is not below the one that the last installation\n" \
-    "recorded beside TARGET.\n" \
+    "and a version number that is not below the one recorded beside TARGET. With\n" \
+    "`--list`, SIG is the signature of a list of files instead.\n" \
     "\n" \
     "  --first            Install even if the version record of TARGET is missing or\n" \
     "                     damaged, contains a number of the other numbering (see\n" \
@@ -38,10 +38,9 @@
     "  --numbering FIELD  Take the version number from this field of the trusted\n" \
     "                     comment: `timestamp` (the default) or `version`.\n" \
     "  --name NAME        Require the file name NAME in the trusted comment. The\n" \
-    "                     default is the last part of TARGET. For example, with\n" \
-    "                     TARGET `app`, `--name app-1.2` installs an update that was\n" \
-    "                     signed as `app-1.2`. With `--list`, look up NAME in the\n" \
-    "                     list instead.\n" \
+    "                     default is the last part of TARGET. For example, `--name\n" \
+    "                     app-1.2` installs an update that was signed as `app-1.2`.\n" \
+    "                     With `--list`, look up NAME in the list instead.\n" \
     "  --list FILE        Verify DATA with a signed list: SIG is the signature of\n" \
     "                     FILE, a list such as `SHA256SUMS`. The trusted comment\n" \
     "                     must name FILE, and DATA must have the digest that FILE\n" \
@@ -51,9 +50,9 @@
     "                     `--tag`. The default is SHA-512. This option needs\n" \
     "                     `--list`.\n" \
     "  --mode MODE        Set the permissions of the installed file to MODE, three\n" \
-    "                     octal digits such as 755. A leading 0 is allowed. If the\n" \
-    "                     update is already installed, its permissions are\n" \
-    "                     unchanged, and a warning says so.\n" \
+    "                     octal digits such as 755. If the update is already\n" \
+    "                     installed, its permissions are unchanged, and a warning\n" \
+    "                     says so.\n" \
     "  --must-expire      Reject an update whose trusted comment does not say when\n" \
     "                     it expires.\n" \
     "  --max-size BYTES   Reject data of more than BYTES bytes. The suffixes K, M, G\n" \
@@ -61,8 +60,7 @@
     "  --wait SECONDS     Wait up to SECONDS (at most 86400) for another\n" \
     "                     installation of TARGET to finish, and exit with status 5\n" \
     "                     if it has not finished by then. The default is not to\n" \
-    "                     wait. If DATA is a pipe, the program reads it before it\n" \
-    "                     waits.\n" \
+    "                     wait. If DATA is a pipe, the program reads it first.\n" \
     "  --                 End the options. All further arguments are paths.\n" \
     "  --help, -h         Print the options and the exit statuses. Give no other\n" \
     "                     argument.\n" \
@@ -78,14 +76,16 @@
     "      `--help` or `--version`, the text was printed.\n" \
     "  1   A file could not be read or written, the program ran out of memory, or\n" \
     "      the system supplied no random bytes.\n" \
-    "  2   The command line is not valid.\n" \
+    "  2   The command line is not valid. With `--list`, this is also the status if\n" \
+    "      DATA is not a regular file and `--max-size` is not given.\n" \
     "  3   The signature is not valid, a key or signature file is malformed, a file\n" \
     "      is too large, or the size of the data is not the signed one. This is also\n" \
     "      the status if the trusted comment names another file, has no version\n" \
     "      number, has an `expires:` or `size:` that is repeated or not a number, or\n" \
     "      lacks the `expires:` that `--must-expire` requires. With `--list`, it is\n" \
-    "      also the status if the list is malformed, does not contain the name\n" \
-    "      exactly once, or has another digest for it than that of the data.\n" \
+    "      also the status if a line of the list is malformed, the list does not\n" \
+    "      contain the name exactly once, or the data does not have the listed\n" \
+    "      digest.\n" \
     "  4   The update is older than the recorded version.\n" \
     "  5   Another installation of TARGET is running.\n" \
     "  6   The update is installed but could not be synced, so a crash may bring\n" \
@@ -94,9 +94,10 @@
     "      damaged, or its number is of the other numbering (see `--numbering`).\n" \
     "  8   The update has the recorded version number, but the installed file is\n" \
     "      different, and `--again` is not given. (If the record contains the digest\n" \
-    "      of this update, the program finishes the installation instead.) Possible\n" \
-    "      reasons: the key has signed two updates with this number, an older update\n" \
-    "      was installed with `--roll-back`, or the record contains no digest.\n" \
+    "      of this update or, with `--list`, of this list, the program finishes the\n" \
+    "      installation instead.) Possible reasons: the key has signed two updates\n" \
+    "      or two lists with this number, an older update was installed with\n" \
+    "      `--roll-back`, or the record contains no digest.\n" \
     "  9   The update has expired.\n" \
     "  10  The update is already installed. TARGET and its record are unchanged.\n" \
     "      Without `--check`, the installed file was synced to the disk.\n" \

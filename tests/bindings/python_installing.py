@@ -69,6 +69,7 @@ WORDS = {
     minisign.BadSize: 'the trusted comment has an invalid or repeated size: field',
     minisign.OtherSize: "the size of the data is not the one in the trusted comment",
     minisign.DigestMismatch: "the digest of this file is not the one in the list",
+    minisign.NotUtf8: "this is not UTF-8 text",
     minisign.RandomSourceFailed: "the system supplied no random bytes",
     minisign.MissingTrustedComment: "this signature is truncated: it has only 2 of 4 lines",
 }
@@ -175,7 +176,7 @@ def install(words):
         report(*errors)
         return status
     except ValueError as why:
-        expect(str(why) == "most must be passed with list_path if the data is not a regular file", f"another ValueError: {why}")
+        expect(str(why) == "most must be passed with list_path unless data is the path of a regular file", f"another ValueError: {why}")
         sys.stderr.buffer.write(NO_LIMIT_ERROR)
         return MISUSED
     except OSError as why:

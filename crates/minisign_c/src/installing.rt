@@ -43,8 +43,8 @@ pub extern "C" fn minisign_install_init(
     ensures begun { result ≡ 0 → (file : List ℕ)
         → Represents installation.new (begin (options_by key.now other.now options.now file)) }
     // The errors are, in this order: an option is neither 0 nor 1, or two options must not be combined;
-    // `numbering` is not a known number; `long_digest` is not a known number; a public key was not read.
-    // After an error the installation is unchanged.
+    // `numbering` is neither 0 nor 1; `long_digest` is not 0, 2 or 3; a public key was not read. After an
+    // error the installation is unchanged.
     ensures number { MatchOption (starting_misuse key.now other.now options.now) (result ≡ 0)
         (λ m. result ≡ misuse_number m) }
     ensures unchanged { 0 < result → installation.new ≡ installation.old }
@@ -234,9 +234,9 @@ pub extern "C" fn minisign_install_list(
     number_of(installation.list(list, name))
 }
 
-/// Writes the question for Ed25519 that is due: a public key, a signature, and the digest that was signed.
-/// For the question about the trusted comment, the digest is zeros, because `minisign_install_signature` has
-/// already written its message.
+/// Writes the question for Ed25519 that is due: a public key, a signature, and the digest for which the
+/// signature is to be verified. For the question about the trusted comment, the digest is zeros, because
+/// `minisign_install_signature` has already written its message.
 #[unsafe(no_mangle)]
 pub extern "C" fn minisign_install_question(
     installation: &Installation,
@@ -346,7 +346,7 @@ pub extern "C" fn minisign_install_error(installation: &Installation) -> u32
     installation.error()
 }
 
-/// Returns the number of the line of the list because of which the run is rejected, or 0.
+/// Returns the number of the line of the list for which the run is rejected, or 0.
 #[unsafe(no_mangle)]
 pub extern "C" fn minisign_install_line(installation: &Installation) -> u64
     // If the installation represents a state, the result is the number of its line at fault: that of the

@@ -64,7 +64,8 @@ misuse_text UnreadableComment = codes
     "a comment is too long for Minisign, or contains a zero byte or a carriage return"
 misuse_text NotDue = codes
     "unexpected call or error number: minisign_install_due returns the step that is expected now"
-misuse_text BadOption = codes "every option of an installation except 'numbering' must be 0 or 1"
+misuse_text BadOption = codes
+    "an option of the installation is not valid, or must not be combined with another option"
 misuse_text BadNumbering = codes
     "'numbering' must be MINISIGN_NUMBERING_TIMESTAMP or MINISIGN_NUMBERING_VERSION"
 misuse_text KeyNotOpened = codes

@@ -157,7 +157,7 @@ impl Misuse {
                 "unexpected call or error number: minisign_install_due returns the step that is expected now"
             }
             Misuse::BadOption => {
-                "every option of an installation except 'numbering' must be 0 or 1"
+                "an option of the installation is not valid, or must not be combined with another option"
             }
             Misuse::BadNumbering => {
                 "'numbering' must be MINISIGN_NUMBERING_TIMESTAMP or MINISIGN_NUMBERING_VERSION"

@@ -102,7 +102,8 @@ pub enum Misuse {
     /// The installation expects a different call now, or no operation can fail with the error that was
     /// reported.
     NotDue,
-    /// An option of an installation other than `numbering` is neither 0 nor 1.
+    /// An option of an installation other than `numbering` and `long_digest` is neither 0 nor 1, or two
+    /// options must not be combined.
     BadOption,
     /// The option `numbering` is neither `MINISIGN_NUMBERING_TIMESTAMP` nor
     /// `MINISIGN_NUMBERING_VERSION`.
@@ -126,7 +127,8 @@ pub enum Misuse {
     ListNotVerified,
     /// The text is not the list that was verified.
     OtherListText,
-    /// The hash function, or the length of its digest, is not one that this call accepts.
+    /// The hash function, or the length of its digest, is not one that this call accepts. For an
+    /// installation, this is the option `long_digest`.
     BadHash,
     /// The entry was not read from a list.
     EntryNotRead,

@@ -26,9 +26,10 @@ use Rattle.minisign_lists.specs.declared.lines.LongDigest.{LongDigest}
 
 -- The options of a run. `keys` are the public keys that were given, one or two. `file` is the name that the
 -- trusted comment must contain, and `numbering` its field with the version number. `list` is None if the
--- signature is that of the data. Otherwise it is that of a signed list, in which the data must be listed, and
--- `list` is the hash function of 128 digits on a line that does not name it. Each other field is true if the
--- option of minisign-install with its name is given: `must_expire` belongs to --must-expire.
+-- signature is that of the data. If `list` is Some, the signature is that of a signed list of files, which
+-- must contain the data, and the value says which hash function, if any, 128 digits stand for on a line of
+-- the list that does not name one. Each other field says whether the option of minisign-install with this
+-- name is given, such as --must-expire.
 pub record Options : Type 0 where
   pub keys : List PublicKeyValue
   pub file : List ℕ
@@ -168,7 +169,8 @@ size_of fields = None
 abbrev pub size_in : List ℕ → Option ℕ
 size_in comment = size_of (values_of size_label comment)
 
--- The signed size of the data. The comment of a list does not say how long the data is.
+-- The signed size of the data. With a list it is None, because the comment of a list does not say how long
+-- the data is.
 abbrev pub signed_size : Option LongDigest → List ℕ → Option ℕ
 signed_size mode comment = if is_some mode then None else size_in comment
 

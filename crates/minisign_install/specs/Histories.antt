@@ -79,8 +79,8 @@ IsDurable place left bytes =
 -- The files after a run, if other processes leave the target alone. After Installed, the update is at the
 -- target, its permissions were set, its record is beside it, no crash can undo this, and no temporary files
 -- of killed runs are left. After AlreadyInstalled, the signature is valid for the bytes that were read from
--- the target, or for the list, which has their digest for the name; unless the run is a check, the target has
--- these bytes, and no crash can undo this.
+-- the target; with a list, it is valid for the list instead, and the list has the digest of these bytes for
+-- the name. Unless the run is a check, the target has these bytes, and no crash can undo this.
 abbrev pub EndIsDurable : World → Options → Operation → State → Snapshot → Type 0
 EndIsDurable w o Installed s m =
     IsUpdate w o s × IsDurable m.recorded m.recorded_left (new_record s)
@@ -173,11 +173,11 @@ IsHistory numbering old (OthersChangeFiles m ∷ later) new =
 -- == An interrupted run ==
 
 -- An update that a run can install again or roll back to. The record is accepted, and its version is not
--- below that of the update. Either the digest in the record is that of the data, or else of the list, as
--- after an interrupted run, or the update is older, which needs --roll-back. The signature file has passed
--- the checks that need no Ed25519, and keys are the keys with its key ID. The first of them that signed the
--- comment also signed the data, or else the list, which has the digest of the data for the name. The data
--- has the signed size.
+-- below that of the update. Either the digest in the record is that of the data (with a list, that of the
+-- list), as after an interrupted run, or the update is older, which needs --roll-back. The signature file has
+-- passed the checks that need no Ed25519, and keys are the keys with its key ID. The first of them that
+-- signed the comment also signed the data; with a list, it signed the list instead, and the list has the
+-- digest of the data for the name. The data has the signed size.
 pub record IsOldUpdate (w : World) (o : Options) : Type 0 where
   pub installs : o.check ≡ false
   pub recorded : Recorded
@@ -233,8 +233,8 @@ used_record_for o found = used_record o.first (map (λ (v : PublicKeyValue). v.k
 
 -- == After a roll-back ==
 
--- The signature file is that of an update with this version. Its signature is not valid for data with this
--- digest, under any key that may have made it.
+-- The signature file is that of an update with this version. Its signature is not valid for this digest,
+-- which is that of the installed data or, with a list, of its list, under any key that may have made it.
 pub record IsOtherUpdate (w : World) (o : Options) (k : ℕ) (digest : List ℕ) : Type 0 where
   pub numbered : (t : SignatureTextRecord) → w.text ≡ Ok t
       → version_in o.numbering t.comments.trusted ≡ Some k

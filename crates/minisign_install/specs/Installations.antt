@@ -71,8 +71,8 @@ numbering_of n = if n == numbering_number Version then Version else Timestamp
 abbrev pub when : {A : Type 0} → Bool → A → Option A
 when holds value = if holds then Some value else None
 
--- If the signature is that of a list: the hash function of 128 digits on a line that does not name it.
--- Otherwise None.
+-- The hash function, if any, that 128 digits stand for on a line of the list that does not name one. It is
+-- None if the signature is not that of a list.
 abbrev pub list_of : ℕ → ℕ → Option LongDigest
 list_of is_list number = when (is_list == 1) (unwrap_or (long_numbered number) long.Rejected)
 
@@ -101,7 +101,7 @@ recorded_of r = record {
 abbrev pub numbered : ℕ → List ℕ → Recorded
 numbered n bytes = record { version = Some n; key = record_key bytes; digest = record_digest bytes }
 
--- The error with this number, if the list does not have exactly one entry of the name.
+-- The error with this number, if looking up the name failed.
 abbrev pub list_fault_of : ℕ → InstallFault
 list_fault_of n =
     if n == 90 then BadName
@@ -164,7 +164,8 @@ abbrev pub error_number : Option InstallFault → ℕ
 error_number None = 0
 error_number (Some e) = install_number e
 
--- The state of SHA-256 and that of SHA-512, if the file is read for one of them.
+-- The state of SHA-256 or SHA-512, if the file is hashed with this function. Most of it is in the fields of
+-- BLAKE2b.
 abbrev pub stored_256 : Reading → StoredSha256
 stored_256 r =
     record { h = r.sha256; buffer = take 64 r.blake2b.buffer; count = r.blake2b.count_low }
@@ -177,15 +178,14 @@ stored_512 r = record {
   count_high = r.blake2b.count_high;
 }
 
--- The struct has the state of this hash function after these bytes. None stands for BLAKE2b, which is used if
--- there is no listed digest.
+-- The state of this hash function was fed these bytes. None stands for BLAKE2b.
 abbrev pub WasRead : Option Algorithm → Reading → List ℕ → Type 0
 WasRead (Some algorithm.Sha256) r m = WasFed256 (stored_256 r) m
 WasRead (Some algorithm.Sha512) r m = WasFed512 (stored_512 r) m
 WasRead (Some algorithm.Blake2b) r m = WasFed r.blake2b m
 WasRead None r m = WasFed r.blake2b m
 
--- The hash function for which files are read: that of the listed digest, if there is one.
+-- The hash function with which files are hashed: that of the listed digest, or None if there is none.
 abbrev pub reading_for : Chosen → ListingValue → Option Algorithm
 reading_for c l = if c.is_list == 1 then algorithm_numbered l.hash else None
 
@@ -298,7 +298,7 @@ record_due s =
     if is_writing_record s.due then option_map (λ key. new_record s) (first_key s.signers) else None
 
 -- These bytes are the record that the run writes. A roll-back does not decrease the recorded version. The
--- digest is that of the list, or else of the bytes that were read.
+-- digest is that of the list, or without a list that of the bytes that were read.
 abbrev pub IsNewRecord : State → List ℕ → Type 0
 IsNewRecord s bytes = IsRecordOf s.options.numbering (new_version s) (new_key s) (signed_digest s) bytes
 
@@ -331,6 +331,9 @@ options_by key other c file = record {
   list = list_of c.is_list c.long_digest;
 }
 
+-- The API misuse if the options are rejected: BadOption if an option is neither 0 nor 1 or if two options
+-- must not be combined, BadNumbering if there is no field with this number, and otherwise BadHash if
+-- `long_digest` is not 0, 2 or 3.
 abbrev pub is_flag : ℕ → Bool
 is_flag n = nat_le n 1
 

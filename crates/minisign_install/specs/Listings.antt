@@ -1,5 +1,4 @@
--- The entry of the file to install in a signed list, and the errors of looking it up. minisign_lists defines
--- how names are looked up.
+-- Looking up the file to install in a signed list of files, with the definitions of minisign_lists.
 use Rattle.std.specs.Prelude.{ℕ, Bool, true, false, ◌&&◌, if◌then◌else◌, List, replicate, is_some}
 use Rattle.std.specs.Prelude.{Option, Some, None, Result, Ok, Err}
 use Rattle.std.specs.Str.{is_utf8}
@@ -15,14 +14,14 @@ use Rattle.minisign_lists.specs.declared.lines.LongDigest.{LongDigest}
 use Rattle.minisign_lists.specs.Lists.{listed_entry}
 use Rattle.minisign_lists.specs.declared.faults.ListFault.TheVariants as lists
 
--- The entry of the name in the list, both of which must be UTF-8, or the error of the first
--- check that fails.
+-- The entry of the name in the list, or the first check that fails. The first check is that the list and the
+-- name are UTF-8.
 abbrev pub entry_in : LongDigest → List ℕ → List ℕ → Result Entry ListFault
 entry_in long list name =
     if is_utf8 list && is_utf8 name then listed_entry long list name else Err (lists.Library (Named NotUtf8))
 
--- The error of a run whose list does not have exactly one entry of the name. Looking up a name has no other
--- errors than these five.
+-- The error with which a run is rejected if looking up the name fails with this error. Looking up a name has
+-- no other errors than these five.
 abbrev pub list_fault : ListFault → InstallFault
 list_fault (lists.Library fault) = Library (Named NotUtf8)
 list_fault lists.BadName = BadName
@@ -40,13 +39,14 @@ abbrev pub line_found : Result Entry ListFault → ℕ
 line_found (Ok entry) = 0
 line_found (Err fault) = line_of_fault fault
 
--- The contents of a list: its digest, the digest that the data must have or the error with which the run is
--- rejected, and the number of the line at fault, or 0.
+-- The digest of a list, and the result of looking up a name in it. `listed` is the digest that the data must
+-- have, or the error with which the run is rejected. `line` is the number of the line at fault, or 0.
 pub record Listing : Type 0 where
   pub digest : List ℕ
   pub listed : Result ListedDigest InstallFault
   pub line : ℕ
 
+-- Looks up a name in a list.
 abbrev pub judge_list : LongDigest → List ℕ → List ℕ → Listing
 judge_list long list name = record {
   digest = blake2b_digest 64 list;
@@ -54,7 +54,7 @@ judge_list long list name = record {
   line = line_found (entry_in long list name);
 }
 
--- The value of the state's `listing` before the list is read.
+-- The listing before the list is read.
 abbrev pub nothing_listed : Listing
 nothing_listed = record { digest = replicate 64 0; listed = Err NotListed; line = 0 }
 
@@ -63,17 +63,16 @@ abbrev pub has_listed : Result ListedDigest InstallFault → List ℕ → Bool
 has_listed (Ok digest) m = has_digest digest m
 has_listed (Err fault) m = false
 
--- The data has the listed digest, if there is a list.
+-- The data has the listed digest, or there is no list.
 abbrev pub fits_listed : Option LongDigest → Result ListedDigest InstallFault → List ℕ → Bool
 fits_listed None listed m = true
 fits_listed (Some long) listed m = has_listed listed m
 
--- fits_listed for the entry of this name in this list.
+-- The data has the digest of the only entry of the name in the list, or there is no list.
 abbrev pub fits_list : Option LongDigest → List ℕ → List ℕ → List ℕ → Bool
 fits_list None list name m = true
 fits_list (Some long) list name m = has_listed (digest_found (entry_in long list name)) m
 
--- The digest that the signature must be valid for: that of the list, if there is one, and otherwise that of
--- the data.
+-- The digest for which the signature must be valid: that of the list, or without a list that of the data.
 abbrev pub digest_to_sign : Option LongDigest → List ℕ → List ℕ → List ℕ
 digest_to_sign mode list m = blake2b_digest 64 (if is_some mode then list else m)

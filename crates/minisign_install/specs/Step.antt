@@ -6,22 +6,22 @@
 -- | Lock            | locks the target, and waits as long as the user allows   | Done, or InUse            |
 -- | ReadRecord      | reads the record                                         | RecordRead                |
 -- | ReadSignature   | reads the signature file and the clock, once             | SignatureRead             |
--- | CheckComment    | asks Ed25519 about the trusted comment                   | Answered                  |
+-- | CheckComment    | verifies the signature of the trusted comment            | Answered                  |
 -- | ReadList        | reads the signed list, once                              | ListRead                  |
--- | CheckList       | asks Ed25519 about the digest of the list                | Answered                  |
--- | CheckRecord     | asks Ed25519 about the digest in the record              | Answered                  |
+-- | CheckList       | verifies the signature for the digest of the list        | Answered                  |
+-- | CheckRecord     | verifies the signature for the digest in the record      | Answered                  |
 -- | ReadTarget      | reads the installed file, piece by piece                 | PieceRead and then Done,  |
 -- |                 |                                                          | or TargetMissing          |
--- | CheckTarget     | asks Ed25519 about the digest of the installed file, or  | Answered                  |
--- |                 | that of the list                                         |                           |
+-- | CheckTarget     | verifies the signature for the digest of the installed   | Answered                  |
+-- |                 | file or, with a list, for that of the list               |                           |
 -- | SyncTarget      | syncs the installed file                                 | Done                      |
 -- | SyncTargetName  | syncs the directory                                      | Done                      |
 -- | RemoveLeftovers | removes temporary files of killed runs, if it can        | Done                      |
 -- | CreateFile      | creates a temporary file                                 | Done                      |
 -- | CopyData        | copies the data to the temporary file, piece by piece    | PieceCopied and then Done |
 -- | ReadBack        | reads the temporary file through the same descriptor     | PieceRead and then Done   |
--- | CheckData       | asks Ed25519 about the digest of what was read back, or  | Answered                  |
--- |                 | that of the list                                         |                           |
+-- | CheckData       | verifies the signature for the digest of the bytes that  | Answered                  |
+-- |                 | were read back or, with a list, for that of the list     |                           |
 -- | SetPermissions  | gives the temporary file the permissions of the old file | Done                      |
 -- | SyncFile        | syncs the temporary file                                 | Done                      |
 -- | CreateRecord    | creates a temporary file for the record                  | Done                      |
@@ -34,8 +34,10 @@
 -- | RemoveFiles     | removes the temporary files that this run has made and   | Done                      |
 -- |                 | not renamed                                              |                           |
 --
--- ReadList and CheckList are due only if the signature is that of a list. Then the signature is verified for
--- the digest of the list, and the data must have the digest that the list has for its name.
+-- The application verifies signatures with Ed25519. ReadList and CheckList are due only with a list, that is,
+-- if the signature is that of a signed list of files. CheckTarget and CheckData then verify the signature of
+-- the list again, and `step` itself compares the file that was read with the digest that the list has for
+-- the name.
 --
 -- With Installed, AlreadyInstalled, WouldInstall and Rejected the run has ended.
 --
@@ -100,11 +102,11 @@ operations =
 -- the data, and `comment_signature` is that of the trusted comment. The comment has then been checked:
 -- `fault` is the error for which it is rejected, `version` its version number (0 if it has none), and `size`
 -- the signed size. None of these may be relied on before `is_signed` is true; then the first of the signers
--- has signed the comment. After the list was read, `listing` has its digest and the entry of the name. It
--- may not be relied on before `is_list_signed` is true; then this signer has signed the list. `is_recorded`
--- is true if the digest in the record is that of the update. `read` holds the bytes of the file that is
--- being read, `left` is the number of bytes of the signed size that were not copied yet, and `error` is the
--- error for which the run is rejected.
+-- has signed the comment. After the list was read, `listing` is its digest and the result of looking up
+-- the name. It may not be relied on before `is_list_signed` is true; then the first of the signers has also
+-- signed the list. `is_recorded` says whether the digest in the record is that of the update or, with a list,
+-- of its list. `read` holds the bytes of the file that is being read, `left` is the number of bytes of the
+-- signed size that were not copied yet, and `error` is the error for which the run is rejected.
 pub record State : Type 0 where
   pub due : Operation
   pub options : Options
@@ -184,12 +186,12 @@ comment_question s comment = record {
   signature = s.comment_signature;
 }
 
--- The digest of the list, or else of the file that was read.
+-- The digest for which the signature must be valid: that of the list, or without a list that of the file
+-- that was read.
 abbrev pub signed_digest : State → List ℕ
 signed_digest s = if is_some s.options.list then s.listing.digest else blake2b_digest 64 s.read
 
--- The message of the question at this operation: at CheckRecord the digest in the record, otherwise
--- signed_digest.
+-- The digest for which this operation verifies the signature.
 abbrev pub digest_due : Operation → State → List ℕ
 digest_due CheckRecord s = unwrap_or s.recorded.digest []
 digest_due op s = signed_digest s
@@ -288,7 +290,8 @@ abbrev pub after_comment : Option InstallFault → State → State
 after_comment None s = if is_some s.options.list then go ReadList s else compare s
 after_comment (Some fault) s = reject fault s
 
--- The list was read. The name is looked up here, and only here.
+-- The list was read. The name is looked up here, and nowhere else. `listing` keeps the result until the list
+-- is found to be signed.
 abbrev pub after_list : List ℕ → List ℕ → State → State
 after_list list name s = record s {
   due = CheckList;
@@ -324,7 +327,8 @@ after_target true s = go (if s.options.check then AlreadyInstalled else SyncTarg
 after_target false s =
     if s.is_recorded || s.options.again then install s else reject SameNumber s
 
--- The signature is valid for the digest of the data, or for that of the list.
+-- The signature is valid for the digest of the data or, with a list, for that of the list. The flag says
+-- whether the data has the listed digest; without a list it is true.
 abbrev pub after_data : Bool → State → State
 after_data true s = go SetPermissions s
 after_data false s = reject DigestMismatch s

@@ -33,7 +33,7 @@ use Rattle.minisign_lists.specs.declared.lines.LongDigest.TheVariants as long
 
 -- The inputs of a run: the signatures that Ed25519 accepts (message, key and signature), the record, the
 -- parsed signature file, and the data; if the signature is that of a list, also the list, and the name that
--- the application looks up in it. The installed file never has more than `most` bytes.
+-- the application looks up in it. The installed file never has more than `max_size` bytes.
 pub record World : Type 0 where
   pub accepts : Verifier
   pub found_record : Option (List ℕ)
@@ -108,8 +108,9 @@ first_signer w t (v ∷ more) = if signs_comment w t v then Some v.key else firs
 
 -- The update ought to be installed. The record is accepted, or is missing and not needed. The signature file
 -- has passed the checks that need no Ed25519, and keys are the keys with its key ID. The first of them that
--- signed the comment also signed the data, or else the list, which has the digest of the data for the name.
--- The comment has a version number that is greater than the recorded one, and the data has the signed size.
+-- signed the comment also signed the data; with a list, it signed the list instead, and the list has the
+-- digest of the data for the name. The comment has a version number that is greater than the recorded one,
+-- and the data has the signed size.
 pub record IsGoodUpdate (w : World) (o : Options) : Type 0 where
   pub installs : o.check ≡ false
   pub recorded : Recorded
@@ -186,7 +187,7 @@ abbrev pub HasVersion : Options → Option (List ℕ) → ℕ → Type 0
 HasVersion o found k =
     (bytes : List ℕ) × (found ≡ Some bytes) × (recorded_version o.numbering bytes ≡ Some k)
 
--- If the signature is that of a list, the state has the contents of this list for the name.
+-- With a list, the state has the digest of the list and the result of looking up the name in it.
 abbrev pub HasListing : World → Options → State → Type 0
 HasListing w o s =
     is_some o.list ≡ true → s.listing ≡ judge_list (unwrap_or o.list long.Rejected) w.list w.name
@@ -241,7 +242,8 @@ pub record IsSigned (w : World) (o : Options) : Type 0 where
 abbrev pub accepts_digest : {w : World} {o : Options} → IsSigned w o → List ℕ → Bool
 accepts_digest {w = w} g digest = w.accepts digest g.key g.text.signature.signature
 
--- The signature is valid for the data; or else for the list, which has the digest of the data for the name.
+-- The signature is valid for the data. With a list, it is valid for the list instead, and the list has the
+-- digest of the data for the name.
 abbrev pub accepts_data : {w : World} {o : Options} → IsSigned w o → List ℕ → Bool
 accepts_data {w = w} {o = o} g m =
     accepts_digest g (digest_to_sign o.list w.list m) && fits_list o.list w.list w.name m
@@ -252,7 +254,7 @@ IsListAccepted {w = w} {o = o} g =
     (long : LongDigest) → o.list ≡ Some long → (accepts_digest g (blake2b_digest 64 w.list) ≡ true)
     × ((digest : ListedDigest) × (digest_found (entry_in long w.list w.name) ≡ Ok digest))
 
--- The signature is that of a list, which does not have exactly one entry of the name: this is the error.
+-- The signature is that of a list, and looking up the name in this list fails with this error.
 abbrev pub IsListFault : World → Options → InstallFault → Type 0
 IsListFault w o fault =
     (long : LongDigest) × (o.list ≡ Some long)
@@ -278,11 +280,11 @@ IsAtTimeIn times e = ⊤
 abbrev pub TimeIn : (Option ℕ → Bool) → Type 0
 TimeIn times = (time : Option ℕ) × (times time ≡ true)
 
--- The error is due to an input of the run: the record is rejected; or the signature file is; or no given key
--- has signed the comment; or the signed comment is rejected at a time in the set; or the recorded version is
--- installed with a different file; or the data does not have the signed size; or the data, or else the list,
--- is not signed; or the signed list does not have exactly one entry of the name; or the data does not have
--- the digest in the signed list.
+-- The error is due to an input of the run. The causes are, in this order: the record is rejected; the
+-- signature file is rejected; no given key has signed the comment; the signed comment is rejected at a time
+-- in the set; the recorded version is installed with a different file; the data does not have the signed
+-- size; the signature is not valid for the data or, with a list, for the list; looking up the name in the
+-- signed list fails; the data does not have the digest in the signed list.
 abbrev pub IsInputFault : World → Options → (Option ℕ → Bool) → InstallFault → Type 0
 IsInputFault w o times fault =
     (judge_record o w.found_record ≡ Err fault)

@@ -1,7 +1,7 @@
--- A recorded run (trace) of an application: the changes by other processes, and for each operation its
--- effect on the files and the event that the application reported. calls_of converts a trace to a run as
+-- A recorded run (trace) of an application: the changes by other processes, and for each operation its effect
+-- on the files and the event that the application reported. calls_of converts a trace to a run as
 -- Applications defines it. IsLawful states that it is a run of a lawful application. A trace cannot record
--- that a signed list was read.
+-- that a signed list was read, so it can only show the beginning of a run with a list.
 use Rattle.std.specs.Prelude.{◌≤◌, if◌then◌else◌, ⊤}
 use Rattle.std.specs.Prelude.{◌≡◌, ◌<◌, ◌++◌, ◌==◌, ◌&&◌, ℕ, Bool, true, false, not, bytes_eq, length, take}
 use Rattle.std.specs.Prelude.{List, [], ◌∷◌, Option, Some, None, option_map, is_some, Ok}

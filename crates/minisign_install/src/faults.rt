@@ -54,7 +54,7 @@ pub enum InstallFault {
     BadSize,
     /// The data is longer or shorter than the field `size:` of the trusted comment says.
     OtherSize,
-    /// No list can contain the name that is looked up.
+    /// The name that is looked up is not one that a list can contain.
     BadName,
     /// A line of the list is malformed.
     MalformedLine,

@@ -41,9 +41,10 @@ ghost use Rattle.minisign_lists.specs.Lists.{listed_entry};
 /// law: it does nothing, and exists only for its contract.
 pub fn any_application_is_safe()
     // After each operation, a process finds at the target, at once or after a crash, only what it could have
-    // found there before, or an update that a given key has signed or that is listed in a list that a given
-    // key has signed. If it finds such an update, the only record that it can find is that of this update. At
-    // the record, it finds only what it could have found there before, or the record of such an update.
+    // found there before, or an update that a given key has signed, by itself or in a list; if it finds such
+    // a new update, the only record that it can find is that of this update. At the record, it finds only
+    // what it could have found there before, or the record of such an update. An update is signed in a list
+    // if the key has signed the list, and the list has the digest of the update for the name.
     ensures safe { (w : World) (o : Options) (m : Snapshot) (calls : List Call) (t : State) (end : Snapshot)
         → Applies w (begin o) m calls t end → AllCalls (IsSafeCall w o) calls }
 
@@ -88,7 +89,7 @@ pub fn any_application_is_safe()
     // key has signed the trusted comment, and the comment is not rejected at a time that the application
     // passed in. If the update is installed, this key has also signed the data. If it was already installed,
     // this key has signed the digest of some data. If the signature is that of a list, the key has signed the
-    // list instead, in which the data is listed.
+    // list instead, and the list has the digest of the data for the name.
     ensures ends { (w : World) (o : Options) (times : Option ℕ → Bool) (m : Snapshot) (calls : List Call)
         (t : State) (end : Snapshot) → Applies w (begin o) m calls t end → AllEvents (IsAtTimeIn times) calls
         → IsEnd w o times t.due }
@@ -96,8 +97,9 @@ pub fn any_application_is_safe()
     // Suppose that other processes leave the target alone. If a run ends as installed, the update is at the
     // target and its record beside it, and no crash can undo this; the permissions of the new file were set,
     // and no temporary files of killed runs are left. If a run ends as already installed, the
-    // signature is valid for the bytes that were read from the target, or for the list in which they are
-    // listed; unless the run is a check, the target has these bytes, and no crash can undo this.
+    // signature is valid for the bytes that were read from the target; with a list, it is valid for the list
+    // instead, and the list has the digest of these bytes for the name. Unless the run is a check, the target
+    // has these bytes, and no crash can undo this.
     ensures durable { (w : World) (o : Options) (m : Snapshot) (calls : List Call) (t : State)
         (end : Snapshot)
         → Applies w (begin o) m calls t end → OthersLeaveTarget m calls → EndIsDurable w o t.due t end }
@@ -108,7 +110,7 @@ pub fn any_application_is_safe()
     ensures bounded { (w : World) (o : Options) (m : Snapshot) (calls : List Call) (t : State)
         (end : Snapshot)
         → Applies w (begin o) m calls t end
-        → length calls ≤ 23 + list_calls o + length o.keys + w.most + 2 * length w.update }
+        → length calls ≤ 23 + list_calls o + length o.keys + w.max_size + 2 * length w.update }
 {}
 
 /// States that a good update is installed if nothing fails. This function is a law: it does nothing, and
@@ -116,8 +118,9 @@ pub fn any_application_is_safe()
 pub fn any_good_update_arrives()
     // Suppose that an update is good, as `IsGoodUpdate` defines it: the record is valid or not needed, the
     // signature file passes the checks that need no Ed25519, a given key has signed the comment and the
-    // data, or else a list in which the data is listed, the version number is greater than the recorded one,
-    // and the data has the signed size. If the comment is not rejected at the time that is passed in, no
+    // data, the version number is greater than the recorded one, and the data has the signed size. With a
+    // list, the key has signed the list instead of the data, and the list has the digest of the data for the
+    // name. If the comment is not rejected at the time that is passed in, no
     // operation fails and the lock is free, then a run that has ended has installed the update.
     ensures installed { (w : World) (o : Options) (g : IsGoodUpdate w o) (m : Snapshot) (calls : List Call)
         (t : State) (end : Snapshot) → Applies w (begin o) m calls t end → AllEvents (IsAcceptable g) calls
@@ -132,8 +135,8 @@ pub fn any_good_update_arrives()
         → has_ended t.due ≡ true → IsInstalled t.due }
 
     // A later run with the same options reads from the new record the version number and the key that this
-    // run recorded, and the digest of the data that it installed, or of the list. The options must not
-    // include --first or --new-key.
+    // run recorded, and the digest of the data that it installed or, with a list, of the list. The options
+    // must not include --first or --new-key.
     ensures record_of_update { (w : World) (o : Options) → AcceptsWholeKeys w.accepts → (s : State)
         → IsUpdate w o s
         → o.first ≡ false → o.new_key ≡ false
@@ -144,18 +147,18 @@ pub fn any_good_update_arrives()
         }) }
 {}
 
-/// States that the installed data is listed, if the signature is that of a list. This function is a law: it
-/// does nothing, and exists only for its contract.
+/// States that installed data is listed if the signature is that of a list. This function is a law: it does
+/// nothing, and exists only for its contract.
 pub fn any_listed_update_is_listed()
-    // The data that a run installs has the digest of the only entry of the name in the list, and a given key
-    // has signed the list.
+    // The data that a run installs has the digest that the list has for the name, in the only entry of the
+    // name, and a given key has signed the list.
     ensures listed { (w : World) (o : Options) (s : State) → IsUpdate w o s → (long : LongDigest)
         → o.list ≡ Some long → (entry : Entry) × (listed_entry long w.list w.name ≡ Ok entry)
         × (has_digest entry.digest s.read ≡ true)
         × (w.accepts (blake2b_digest 64 w.list) (key_of s.signers) s.signature ≡ true) }
 
-    // An unsigned list has no line at fault: no line is at fault before the list is found to be signed, and
-    // this happens only when Ed25519 accepts the signature of its digest.
+    // No line of an unsigned list is reported as at fault: the line at fault is 0 until the list is found to
+    // be signed, and this happens only when Ed25519 accepts the signature of its digest.
     ensures signed { (s : State) (e : Event) → s.is_list_signed ≡ false
         → (step s e).1.is_list_signed ≡ true → (s.due ≡ CheckList) × (e ≡ Answered true) }
     ensures unsigned { (s : State) → s.is_list_signed ≡ false → line_at_fault s ≡ 0 }
@@ -206,7 +209,7 @@ pub fn any_record_is_judged()
 
     // A run that rolls back to an older update writes the recorded version number into the new record again,
     // and the key of the old record if it names one. `Installation::record_text` writes both, with the
-    // digest of the data that is installed.
+    // digest of the data that is installed or, with a list, of the list.
     ensures version { (s : State) (k : ℕ) → s.recorded.version ≡ Some k → s.version < k
         → new_version s ≡ k }
     ensures key { (s : State) (k : ℕ) (key : List ℕ) → s.recorded.version ≡ Some k → s.version < k
@@ -214,10 +217,10 @@ pub fn any_record_is_judged()
 
     // **No later run undoes a roll-back.** Suppose that a run has installed an update that is older than the
     // recorded version k, and that a later run without --first, --new-key and --again reads the record that
-    // the first run has written. Then the later run does not install an update of version k with other data,
-    // and a check does not say that it would, if there is a file at the target and other processes leave it
-    // alone. If there is no file at the target, nothing is promised, because version k can then be installed
-    // again.
+    // the first run has written. Then the later run does not install an update of version k with other data
+    // (with a list: an update of another list), and a check does not say that it would, if there is a file at
+    // the target and other processes leave it alone. If there is no file at the target, nothing is promised,
+    // because version k can then be installed again.
     ensures not_undone { (w : World) (o : Options) → AcceptsWholeKeys w.accepts → (s : State)
         → IsUpdate w o s → (k : ℕ) → s.recorded.version ≡ Some k → s.version < k → (v : World) (p : Options)
         → AcceptsWholeKeys v.accepts → IsLaterRun v p o.numbering s
@@ -226,10 +229,10 @@ pub fn any_record_is_judged()
         → is_some m.target ≡ true → leads_to_install t.due ≡ false }
 
     // In addition, suppose that a given key has signed the comment, that the comment is not rejected at the
-    // time that is passed in, and that no operation fails; if the signature is that of a list, suppose that
-    // the key has signed the list, and that the list has the name. Then the later run ends with the error
-    // that different data of this version is installed (`SameNumber`), unless the update is already at the
-    // target.
+    // time that is passed in, and that no operation fails. If the signature is that of a list, suppose also
+    // that the key has signed the list, and that looking up the name in the list succeeds. Then the later run
+    // ends with the error that different data of this version is installed (`SameNumber`), unless the update
+    // is already at the target.
     ensures named { (w : World) (o : Options) → AcceptsWholeKeys w.accepts → (s : State)
         → IsUpdate w o s → (k : ℕ) → s.recorded.version ≡ Some k → s.version < k → (v : World) (p : Options)
         → AcceptsWholeKeys v.accepts → IsLaterRun v p o.numbering s
@@ -240,7 +243,8 @@ pub fn any_record_is_judged()
         → (t.due ≡ AlreadyInstalled) ⊎ ((t.due ≡ Rejected) × (t.error ≡ Some SameNumber)) }
 
     // The later run of the clause `not_undone` reads version k, and the digest of the data that was
-    // installed. So updates with a greater version are still installed, as `any_good_update_arrives` says.
+    // installed or, with a list, of the list. So updates with a greater version are still installed, as
+    // `any_good_update_arrives` says.
     ensures read_back { (w : World) (o : Options) → AcceptsWholeKeys w.accepts → (s : State)
         → IsUpdate w o s → (k : ℕ) → s.recorded.version ≡ Some k → s.version < k → (v : World) (p : Options)
         → IsLaterRun v p o.numbering s

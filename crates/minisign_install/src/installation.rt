@@ -59,7 +59,7 @@ pub struct Question {
     pub key: [u8; 32],
     /// The signature.
     pub signature: [u8; 64],
-    /// The digest of the data, or zeros if `is_comment` is 1.
+    /// The digest of the data or the list, or the digest in the record. Zeros if `is_comment` is 1.
     pub digest: [u8; 64],
     /// 1 if the question is about the trusted comment, otherwise 0.
     pub is_comment: u32,
@@ -101,17 +101,18 @@ pub enum Operation {
     ReadRecord,
     /// Read the signature file and the clock, once.
     ReadSignature,
-    /// Ask Ed25519 about the trusted comment, and report the answer.
+    /// Check with Ed25519 if the signature of the trusted comment is valid, and report the result.
     CheckComment,
-    /// Read the signed list, once.
+    /// Read the signed list, once, and report its bytes and the name to look up in it.
     ReadList,
-    /// Ask Ed25519 about the digest of the list, and report the answer.
+    /// Check with Ed25519 if the signature is valid for the digest of the list, and report the result.
     CheckList,
-    /// Ask Ed25519 about the digest in the record, and report the answer.
+    /// Check with Ed25519 if the signature is valid for the digest in the record, and report the result.
     CheckRecord,
     /// Read the installed file and report its bytes piece by piece, or that there is no such file.
     ReadTarget,
-    /// Ask Ed25519 about the digest of the installed file, or that of the list, and report the answer.
+    /// Check with Ed25519 if the signature is valid for the digest of the installed file or, with `is_list`,
+    /// for that of the list, and report the result.
     CheckTarget,
     /// Sync the installed file, which is already the update.
     SyncTarget,
@@ -127,7 +128,8 @@ pub enum Operation {
     /// Read back the temporary file of the data through the same descriptor, and report its bytes piece by
     /// piece.
     ReadBack,
-    /// Ask Ed25519 about the digest of what was read back, or that of the list, and report the answer.
+    /// Check with Ed25519 if the signature is valid for the digest of the bytes that were read back or, with
+    /// `is_list`, for that of the list, and report the result.
     CheckData,
     /// Give the temporary file of the data the permissions of the installed file.
     SetPermissions,
@@ -352,7 +354,7 @@ impl Installation {
         }
     }
 
-    /// Reports the signed list of files, which must be passed whole, and the name to look up in it.
+    /// Reports the signed list of files, which must be passed as a whole, and the name to look up in it.
     pub fn list(&mut self, list: &[u8], name: &[u8]) -> Result<(), Refusal<InstallFault>>
         // If the installation represents a state, the result and the new state are those that `step`
         // computes from this state and this event.
@@ -473,9 +475,9 @@ impl Installation {
         }
     }
 
-    /// Returns the number of the line of the list because of which the run is rejected: the first malformed
-    /// line, or the second line with the name. Returns 0 if no line is at fault, or the signature of the list
-    /// was not verified.
+    /// Returns the number of the line of the list for which the run is rejected: the first malformed line, or
+    /// the second line with the name. Returns 0 if the run is not rejected for a line, or if the signature of
+    /// the list was not found to be valid.
     pub fn line(&self) -> u64
         ensures { (s : State) → Represents self.now s → result ≡ line_at_fault s }
     {
@@ -509,9 +511,8 @@ impl Choices {
         self.is_first != 1 || (self.new_key != 1 && self.roll_back != 1)
     }
 
-    // Returns an error if the options are rejected: `BadOption` if an option is neither 0 nor 1 or two
-    // options must not be combined, else `BadNumbering` if no field has the number `numbering`, else
-    // `BadHash` if `long_digest` is not valid.
+    // Returns `BadOption` if an option is not 0 or 1 or two options must not be combined, else `BadNumbering`
+    // if there is no such field, else `BadHash` if `long_digest` is not 0, 2 or 3.
     fn test(&self) -> Result<(), Misuse>
         ensures { MatchResult result (λ _. choices_misuse self.now ≡ None)
             (λ m. choices_misuse self.now ≡ Some m) }

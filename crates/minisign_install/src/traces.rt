@@ -816,8 +816,8 @@ fn bytes_at<'a>(file: &Option<FileView<'a>>) -> Option<&'a [u8]>
 ///
 /// Some lawful runs are rejected: a trace must not record the bytes that a failed operation leaves in a
 /// temporary file, and the pieces that are read must be those of the file that is at the target when reading
-/// begins. A trace cannot record that a signed list was read, so a run with a list is accepted only up to the
-/// operation that reads the list.
+/// begins. A trace cannot record that a signed list was read, so only the beginning of a run with a list is
+/// accepted, up to the reading of the list.
 pub fn first_unlawful_line<'a>(
     key: &PublicKeyValue,
     other: &PublicKeyValue,

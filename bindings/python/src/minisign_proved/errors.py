@@ -92,7 +92,8 @@ class NotDue(MinisignError):
 
 
 class BadOption(MinisignError):
-    """An option of an installation other than numbering is neither 0 nor 1."""
+    """An option of an installation other than numbering and long_digest is neither 0
+    nor 1, or two options must not be combined."""
 
     number = 13
 

@@ -354,10 +354,12 @@ def _options_struct(
 
 
 def _forbid(is_unlimited: bool) -> None:
-    """Raises a ValueError if nothing limits the size of the data."""
+    """Raises a ValueError if `is_unlimited` is true: the data comes from a pipe or an
+    open file, and nothing limits its size."""
     if is_unlimited:
         raise ValueError(
-            "most must be passed with list_path if the data is not a regular file"
+            "most must be passed with list_path"
+            " unless data is the path of a regular file"
         )
 
 
@@ -407,20 +409,22 @@ def install(
       record keeps its version, so that the newer update is not installed again.
     - `numbering`: the field of the trusted comment that has the version number,
       "timestamp" or "version".
-    - `name`: the file name that the trusted comment must contain. The default is the
-      last part of `target`.
-    - `list_path`: a signed list, such as SHA256SUMS, with at most 1 MiB, if `signature`
-      is the signature of the list. The trusted comment must contain the last part of
-      `list_path`, and the data must have the digest that the list has for `name`. The
-      version number is that of the list.
+    - `name`: the file name that the trusted comment must contain or, with `list_path`,
+      the name to look up in the list. The default is the last part of `target`.
+    - `list_path`: the path of a signed list, such as SHA256SUMS, with at most 1 MiB.
+      With this parameter, `signature` must be the signature of the list, the trusted
+      comment must contain the last part of `list_path`, and the data must have the
+      digest that the list has for `name`. The version number and the expiry date are
+      those of the list. A list with a greater version number is installed even if the
+      digest of the data is unchanged.
     - `long_digest`: how to read a digest of 128 digits on a line of the list that names
       no hash function: "sha512", "blake2b" or "none", as for `SignedList`.
     - `mode`: the permissions of the new file, from 0 to 0o777. The default is the
       permissions of the installed file, or 0o600 if there is none. If the update is
       already installed, its permissions are unchanged.
     - `most`: the maximum size of the data, in bytes. With `list_path`, it is required
-      if the data is not a regular file that is passed as a path, because the trusted
-      comment does not say how long the data is.
+      unless `data` is the path of a regular file, because the trusted comment does not
+      say how long the data is.
     - `wait`: the number of seconds, at most 86400, to wait for the lock if another
       installation holds it.
     - `progress`: called while the data is read, as by `verify`.
@@ -434,12 +438,14 @@ def install(
     Raises the errors of verifying; OtherFile, NoNumber, NoExpiry, BadExpiry, Expired,
     BadSize, OtherSize, OlderUpdate; TargetInUse; NoRecord, DamagedRecord,
     KeptByTimestamp, KeptByVersion; SameNumber; TooLong; ReadingFailed, WritingFailed,
-    RandomSourceFailed, OutOfMemory. With `list_path`, also raises OtherList if the
-    trusted comment does not name the list; NotUtf8 and BadName; MalformedLine,
-    NotListed and ListedTwice; and DigestMismatch if the data has another digest. The
-    `line` of MalformedLine and ListedTwice is the line number. After each of these
-    errors, and after an exception that `progress` raises, the target is unchanged. If a
-    system call has failed, the `__cause__` of the error says which one.
+    RandomSourceFailed, OutOfMemory. With `list_path`, raises OtherList instead of
+    OtherFile if the trusted comment does not name the list. Also raises TooLong if the
+    list is larger than 1 MiB, NotUtf8 if it is not UTF-8, BadName if `name` is not one
+    that a list can contain, MalformedLine, NotListed, ListedTwice, and DigestMismatch
+    if the data has another digest. The `line` of MalformedLine and ListedTwice is the
+    number of the line. After each of these errors, and after an exception that
+    `progress` raises, the target is unchanged. If a system call has failed, the
+    `__cause__` of the error says which one.
 
     After DirectoryNotSynced the update is installed but not yet on disk: after a crash
     the old file may be back.
@@ -522,10 +528,9 @@ def check(
     Raises the errors of `install` that do not depend on the data: those for a malformed
     signature file and for a comment signature that is not valid; OtherFile, NoNumber,
     NoExpiry, BadExpiry, Expired, BadSize; NoRecord, DamagedRecord, KeptByTimestamp,
-    KeptByVersion; SameNumber; those of a list that is not signed, is malformed or does
-    not contain the name once; ReadingFailed, WritingFailed and OutOfMemory. The
-    `__cause__` of the last three says which system call failed, or why the target
-    cannot be replaced.
+    KeptByVersion; SameNumber; with `list_path`, all errors of the list except
+    DigestMismatch; ReadingFailed, WritingFailed and OutOfMemory. The `__cause__` of the
+    last three says which system call failed, or why the target cannot be replaced.
     """
     options = _options_struct(
         key,

@@ -49,7 +49,8 @@ class ListEntry:
 
 
 def at_line(error: MinisignError, line: int) -> MinisignError:
-    """Returns an error with the number of the line at fault, unless that is 0."""
+    """Sets the `line` of an error, and puts the line number in front of its message
+    unless the number is 0. Returns the error."""
     error.line = line
     if line:
         error.args = (f"line {line}: {error}",)
@@ -68,7 +69,7 @@ def _at_line(call: Callable[[ctypes.c_uint64], object]) -> None:
 
 
 def read_list(path: str) -> bytes:
-    """Reads a list from a file."""
+    """Reads a list from a file. Raises TooLong if it is larger than 1 MiB."""
     with open(path, "rb") as file:
         text = file.read(LIST_BYTES + 1)
     if len(text) > LIST_BYTES:

@@ -38,7 +38,8 @@ impl Reason {
     /// The installation expects a different call now, or no operation can fail with the error that
     /// was reported.
     pub const NOT_DUE: Reason = Reason(12);
-    /// An option of an installation other than numbering is neither 0 nor 1.
+    /// An option of an installation other than numbering and long_digest is neither 0 nor 1, or two
+    /// options must not be combined.
     pub const BAD_OPTION: Reason = Reason(13);
     /// The option numbering is neither MINISIGN_NUMBERING_TIMESTAMP nor MINISIGN_NUMBERING_VERSION.
     pub const BAD_NUMBERING: Reason = Reason(14);

@@ -157,7 +157,8 @@ pub(crate) fn version_in(comment: &str, numbering: Numbering) -> Option<u64>
     }
 }
 
-// Returns the signed size of the data. The comment of a list does not say how long the data is.
+// Returns the signed size of the data. With a list it is `None`, because the comment of a list does not say
+// how long the data is.
 pub(crate) fn signed_size(chosen: &Chosen, comment: &str) -> Option<u64>
     ensures { result ≡ signed_size (list_of chosen.now.is_list chosen.now.long_digest) comment.now }
 {

@@ -1,4 +1,4 @@
-//! The steps that read the signed list of files. Nothing here allocates.
+//! Reads the signed list of files, and looks up the name in it. Nothing here allocates.
 
 ghost use Rattle.std.specs.Prelude.{◌≡◌, ◌≢◌, ◌++◌, List, ℕ, Ok, Err, IfErr, replicate, true, take};
 ghost use Rattle.std.specs.Option.{unwrap_or};
@@ -24,8 +24,9 @@ use minisign_external::state::{Misuse, Refusal};
 use minisign_hash::blake2b::Blake2b;
 use minisign_lists::{Algorithm, EntryView, ListFault, ListedDigest, LongDigest, find_listed};
 
-/// The contents of a signed list, 144 bytes. `hash` is the number of the hash function of the listed digest.
-/// If it is 0, the name has no listed digest, and `fault` is the number of the error.
+/// The digest of the signed list, and the result of looking up the name in it: 144 bytes with the layout of
+/// C. `hash` is the number of the hash function of the listed digest. If it is 0, looking up the name failed,
+/// and `fault` is the number of the error.
 #[repr(C)]
 #[derive(Clone, Copy)]
 pub struct ListingValue {
@@ -53,7 +54,7 @@ impl Progress {
         Ok(())
     }
 
-    // Stores the contents of the list. The question about the list is due next.
+    // Looks up the name in the list and stores the result. Checking the signature of the list is due next.
     fn keep_list(&mut self, list: &[u8], name: &[u8])
         ensures { (s : State) → HoldsState self.old s → HoldsState self.new (after_list list.now name.now s) }
     {
@@ -62,7 +63,7 @@ impl Progress {
         self.go(Operation::CheckList);
     }
 
-    // Returns the hash function for which files are read: that of the listed digest, if there is one.
+    // Returns the hash function with which files are hashed: that of the listed digest, if there is one.
     pub(crate) fn reading_for(&self) -> Option<Algorithm>
         ensures { result ≡ reading_for self.now.chosen self.now.listing }
     {
@@ -73,7 +74,7 @@ impl Progress {
         }
     }
 
-    // Reports the result of Ed25519 for the question about the digest of the list.
+    // Reports whether Ed25519 accepts the signature for the digest of the list.
     pub(crate) fn answer_list(&mut self, accepted: bool) -> Result<(), Refusal<InstallFault>>
         requires { operation_of self.old.due ≡ CheckList }
         ensures steps { (s : State) → HoldsState self.old s → Steps (Answered accepted) s result self.new }
@@ -129,7 +130,7 @@ impl Progress {
 }
 
 impl Chosen {
-    // Returns the hash function of 128 digits on a line of the list that does not name it.
+    // Returns the hash function that 128 digits stand for on a line of the list that does not name one.
     fn long_digest(&self) -> LongDigest
         ensures { result ≡ unwrap_or (list_of self.now.is_list self.now.long_digest) long.Rejected }
     {
@@ -144,7 +145,7 @@ impl Chosen {
 }
 
 impl ListingValue {
-    // Returns the contents before a list was read.
+    // Returns the value before a list was read.
     pub(crate) fn none() -> ListingValue
         ensures listing { listing_of result ≡ nothing_listed }
         ensures hash { result.hash ≡ 0 }
@@ -158,7 +159,7 @@ impl ListingValue {
         }
     }
 
-    // Returns the contents of a list.
+    // Looks up a name in a list.
     fn of(long: LongDigest, list: &[u8], name: &[u8]) -> ListingValue
         ensures { listing_of result ≡ judge_list long list.now name.now }
     {
@@ -168,7 +169,7 @@ impl ListingValue {
         }
     }
 
-    // Returns the contents of a list with this digest, in which the name has this digest.
+    // Returns the result for a list that has this digest for the name.
     fn found(list_digest: [u8; 64], digest: ListedDigest) -> ListingValue
         ensures { listing_of result ≡ record { digest = list_digest; listed = Ok digest; line = 0 } }
     {
@@ -179,8 +180,8 @@ impl ListingValue {
         }
     }
 
-    // Returns the contents of a list with this digest, in which the name has a digest of the hash function
-    // with this number.
+    // Returns the result for a list that has this digest for the name. `hash` is the number of its hash
+    // function.
     fn with(list_digest: [u8; 64], hash: u32, digest: [u8; 64]) -> ListingValue
         ensures { result ≡ record {
           list_digest = list_digest;
@@ -199,7 +200,7 @@ impl ListingValue {
         }
     }
 
-    // Returns the contents of a list with this digest, for which this error was found.
+    // Returns the result for a list in which looking up the name failed with this error.
     fn missing(list_digest: [u8; 64], fault: ListFault) -> ListingValue
         ensures { listing_of result
             ≡ record { digest = list_digest; listed = Err (list_fault fault); line = line_of_fault fault } }
@@ -226,7 +227,7 @@ impl ListingValue {
     }
 }
 
-// Looks up a name in a list, both of which must be UTF-8.
+// Returns the entry of a name in a list. Both must be UTF-8.
 fn entry_in<'a>(
     long: LongDigest,
     list: &'a [u8],

@@ -82,7 +82,8 @@ impl Progress {
         self.recorded.has_digest == 1
     }
 
-    // Returns the question about the digest of the list, or else of what was read.
+    // Returns the question about the digest of the list, or without a list about that of the bytes that were
+    // read.
     fn data_question(&self, key: [u8; 32]) -> Question
         requires { (self.now.judged.is_judged == 1) ≡ true }
         ensures { (s : State) → HoldsState self.now s

@@ -94,7 +94,7 @@ pub struct Progress {
     pub(crate) is_list_signed: u32,
     // The hash of the file that is being read.
     pub(crate) reading: Reading,
-    // The contents of the signed list.
+    // The digest of the signed list, and the result of looking up the name in it.
     pub(crate) listing: ListingValue,
 }
 
@@ -290,8 +290,8 @@ impl Progress {
         }
     }
 
-    // Continues after a key was found to have signed the comment, and the list, if there is one, and both
-    // were accepted: compares the update with the record and the installed file, or installs it.
+    // Continues after the signatures of the comment and of the list, if there is one, were found to be valid,
+    // and both were accepted: compares the update with the record and the installed file, or installs it.
     pub(crate) fn compare(&mut self)
         ensures { (s : State) → HoldsState self.old s → HoldsState self.new (compare s) }
     {
@@ -379,7 +379,7 @@ impl Progress {
     }
 
     // Continues after the signature was found to be valid for the digest of the temporary file, or for that
-    // of the list.
+    // of the list. The run goes on if the file also has the listed digest, or there is no list.
     fn accept_data(&mut self) -> Result<(), Refusal<InstallFault>>
         ensures next_state { (s : State) → HoldsState self.old s
             → RunLeadsTo s (after_data (is_listed s) s) result self.new }
@@ -409,7 +409,7 @@ impl Progress {
         }
     }
 
-    // Continues after the signed comment was accepted: with the list, if there is one.
+    // Continues after the signed comment was accepted. If there is a list, reading it is due next.
     fn accept_signed(&mut self)
         ensures { (s : State) → HoldsState self.old s → HoldsState self.new (after_comment None s) }
     {
@@ -502,7 +502,8 @@ impl Progress {
         }
     }
 
-    // Returns the digest that has to be signed: that of the list, or else of what was read.
+    // Returns the digest for which the signature must be valid: that of the list, or without a list that of
+    // the bytes that were read.
     pub(crate) fn digest(&self) -> [u8; 64]
         ensures { (s : State) → HoldsState self.now s → result ≡ signed_digest s }
     {
