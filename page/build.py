@@ -176,7 +176,7 @@ def lowering_tool():
     return ran.stdout.decode().strip().split(" (")[0]
 
 
-def taken_from(path):
+def module_of_page(path):
     """Returns the module of an existing page, and the name and version of the tool that lowered it to 32 bits."""
     try:
         with open(path, encoding="utf-8") as file:
@@ -479,7 +479,7 @@ def main(words):
     options = parse_options(words)
     try:
         if options.package:
-            module, tool = taken_from(options.built)
+            module, tool = module_of_page(options.built)
             write(os.path.abspath(options.out or os.path.join(TOP, PACKAGE, "module.js")), package_module(module, tool))
             return 0
         key = options.key and given_key(options.key)
@@ -496,7 +496,7 @@ def main(words):
         title = checked_text(options.title, "title")
         if title == "":
             raise NotPossible("the title is empty")
-        module, tool = (lowered(proved_module()), lowering_tool()) if options.prove else taken_from(options.built)
+        module, tool = (lowered(proved_module()), lowering_tool()) if options.prove else module_of_page(options.built)
         text = page(module, tool, key, title, signatures, release, signed_list=signed_list)
         write(os.path.abspath(options.out or os.path.join(HERE, "minisign.html")), text)
     except (NotPossible, needs.Missing, proved.NotBuilt, OSError) as why:

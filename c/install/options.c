@@ -55,16 +55,11 @@ struct command_line {
     int path_count;
 };
 
-/* Prints texts, of which the last one is followed by NULL, and ends the program. The help is printed in parts, because C only
- * promises string literals of up to 4095 bytes. */
-static _Noreturn void print_texts_and_exit(const char *const *texts)
+/* Prints the help or the version, in two parts, and ends the program. */
+static _Noreturn void print_text_and_exit(const char *text, const char *more_text)
 {
-    bool is_printed = true;
-
-    for (int i = 0; texts[i] != NULL; i++) {
-        is_printed = is_printed && fputs(texts[i], stdout) >= 0;
-    }
-    exit(is_printed && fflush(stdout) == 0 ? MINISIGN_STATUS_INSTALLED : MINISIGN_STATUS_FAILED);
+    exit(fputs(text, stdout) >= 0 && fputs(more_text, stdout) >= 0 && fflush(stdout) == 0 ? MINISIGN_STATUS_INSTALLED
+                                                                                           : MINISIGN_STATUS_FAILED);
 }
 
 static _Noreturn void exit_with_usage(void)
@@ -246,10 +241,10 @@ struct request parse_request(int argc, char *argv[])
         }
     }
     if (argc == 2 && (strcmp(argv[1], "--help") == 0 || strcmp(argv[1], "-h") == 0)) {
-        print_texts_and_exit((const char *const[]) { USAGE "\n", OPTIONS_HELP, STATUS_HELP, NULL });
+        print_text_and_exit(USAGE "\n" OPTIONS_HELP, STATUS_HELP);
     }
     if (argc == 2 && strcmp(argv[1], "--version") == 0) {
-        print_texts_and_exit((const char *const[]) { "minisign-install " MINISIGN_VERSION_TEXT "\n", NULL });
+        print_text_and_exit("minisign-install " MINISIGN_VERSION_TEXT "\n", "");
     }
     line = parse_command_line(argc, argv);
     *options = (minisign_installing_options) {

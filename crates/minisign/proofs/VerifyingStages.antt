@@ -654,11 +654,11 @@ module _ {R W O : Type 0} (accepts : Verifier) (pk : PublicKeyRecord) (x : Signa
   why_unsaid false _ d _ (inr (_, _, h)) = absurd h
 
   -- Reporting leaves the other devices unchanged.
-  said_only : (is_requested : Bool) (d d2 : Devices R W O)
+  report_keeps_others : (is_requested : Bool) (d d2 : Devices R W O)
       → StepsEnd (OneEnds reader status out) (reporting_stages is_requested x) d d2 (Ok tt)
       → (d2.reader ≡ d.reader) × (d2.out ≡ d.out)
-  said_only true d _ is = (ap (λ d. d.reader) is, ap (λ d. d.out) is)
-  said_only false d d2 ran =
+  report_keeps_others true d _ is = (ap (λ d. d.reader) is, ap (λ d. d.out) is)
+  report_keeps_others false d d2 ran =
       let (said, r, o) =
       last_step_succeeds (OneEnds reader status out) (Report (status_lines x)) d d2 ran in (r, o)
 
@@ -711,7 +711,7 @@ module _ {R W O : Type 0} (accepts : Verifier) (pk : PublicKeyRecord) (x : Signa
   why_after hashed message second d pass s o (inl (inr memory, r, s2, o2)) = inl (cc memory)
   why_after _ _ _ d pass s o (inr (d2, (_, r2, s2, o2), h)) =
       ⊎_elim (why_unsaid _ refl d2 (s2 ∙ s)) (λ (d3, said, h3).
-      let (r3, o3) = said_only _ d2 d3 said in
+      let (r3, o3) = report_keeps_others _ d2 d3 said in
       why_uncopied _ _ d3 (o3 ∙ o2 ∙ o) _ _ refl (rw (sym (r3 ∙ r2)) at pass) h3)
       (stopped_in (OneEnds reader status out) _ _ d2 (ended reader status out) e h)
 

@@ -279,15 +279,15 @@ pub labelled_one_line : (label x : List ℕ) → AllShown label → 0 < length l
     → slice_index x (length x - 1) ≢ 13 → IsOneLine (label ++ x)
 labelled_one_line label x shown some lacks end = record {
   no_feed = labelled_no_feed label x shown lacks;
-  no_return = last_of x lacks end;
+  no_return = last_is_not_cr x lacks end;
 }
   where
-    last_of : (x : List ℕ) → LacksByte 10 x → slice_index x (length x - 1) ≢ 13
+    last_is_not_cr : (x : List ℕ) → LacksByte 10 x → slice_index x (length x - 1) ≢ 13
         → slice_index (label ++ x) (length (label ++ x) - 1) ≢ 13
-    last_of [] lacks end e =
+    last_is_not_cr [] lacks end e =
         let at = subst (λ (t : List ℕ). slice_index t (length t - 1) ≡ 13) (append-nil label) e in
         absurd (omega (arith, at, shown_at label (length label - 1) shown (omega arith)))
-    last_of (y ∷ ys) lacks end e = end (sym (last_append label (y ∷ ys) (omega arith)) ∙ e)
+    last_is_not_cr (y ∷ ys) lacks end e = end (sym (last_append label (y ∷ ys) (omega arith)) ∙ e)
 
 -- A label does not end in a carriage return. So removing a carriage return at the end of a label and a
 -- text removes it from the text.

@@ -42,12 +42,12 @@ IsComplete place bytes =
 -- target alone.
 module _ (w : World) (F Q : Type 0) where
   -- The run is a check, or it holds the lock.
-  abbrev IsHeld : State → Snapshot → Type 0
-  IsHeld s m = (s.options.check ≡ true) ⊎ (m.locked ≡ true)
+  abbrev IsLockedOrCheck : State → Snapshot → Type 0
+  IsLockedOrCheck s m = (s.options.check ≡ true) ⊎ (m.locked ≡ true)
 
   -- The record was read, and no bytes were copied yet.
   abbrev pub IsEarly : ℕ → State → Snapshot → Type 0
-  IsEarly n s m = (n ≡ 0) × IsHeld s m × F
+  IsEarly n s m = (n ≡ 0) × IsLockedOrCheck s m × F
 
   -- The run holds the lock, and the record was read.
   abbrev pub IsLocked : Snapshot → Type 0
@@ -67,52 +67,52 @@ module _ (w : World) (F Q : Type 0) where
   IsSigned s = (says_yes w (data_question fsm.CheckTarget s) ≡ true) × (fsm.is_listed s ≡ true)
 
   -- The invariant of the files, for each operation.
-  abbrev pub Has : ℕ → Operation → State → Snapshot → Type 0
-  Has n fsm.Lock s m = (n ≡ 0) × (s.options.check ≡ false)
-  Has n fsm.ReadRecord s m = (n ≡ 0) × IsHeld s m
-  Has n fsm.ReadSignature s m = IsEarly n s m
-  Has n fsm.CheckComment s m = IsEarly n s m
-  Has n fsm.ReadList s m = IsEarly n s m
-  Has n fsm.CheckList s m = IsEarly n s m
-  Has n fsm.CheckRecord s m = IsEarly n s m
-  Has n fsm.ReadTarget s m = IsEarly n s m
-  Has n fsm.CheckTarget s m = IsEarly n s m × (Q → IsOpened s m)
-  Has n fsm.SyncTarget s m = IsSigned s × (Q → IsOpened s m)
-  Has n fsm.SyncTargetName s m = IsSigned s × (Q → IsOnDisk m.target s.read)
-  Has n fsm.AlreadyInstalled s m =
+  abbrev pub FilesMatch : ℕ → Operation → State → Snapshot → Type 0
+  FilesMatch n fsm.Lock s m = (n ≡ 0) × (s.options.check ≡ false)
+  FilesMatch n fsm.ReadRecord s m = (n ≡ 0) × IsLockedOrCheck s m
+  FilesMatch n fsm.ReadSignature s m = IsEarly n s m
+  FilesMatch n fsm.CheckComment s m = IsEarly n s m
+  FilesMatch n fsm.ReadList s m = IsEarly n s m
+  FilesMatch n fsm.CheckList s m = IsEarly n s m
+  FilesMatch n fsm.CheckRecord s m = IsEarly n s m
+  FilesMatch n fsm.ReadTarget s m = IsEarly n s m
+  FilesMatch n fsm.CheckTarget s m = IsEarly n s m × (Q → IsOpened s m)
+  FilesMatch n fsm.SyncTarget s m = IsSigned s × (Q → IsOpened s m)
+  FilesMatch n fsm.SyncTargetName s m = IsSigned s × (Q → IsOnDisk m.target s.read)
+  FilesMatch n fsm.AlreadyInstalled s m =
       IsSigned s × ((s.options.check ≡ true) ⊎ (Q → IsOnDisk m.target s.read × (m.target_left ≡ [])))
-  Has n fsm.RemoveLeftovers s m = (n ≡ 0) × IsLocked m
-  Has n fsm.CreateFile s m = (n ≡ 0) × IsClear m
-  Has n fsm.CopyData s m =
+  FilesMatch n fsm.RemoveLeftovers s m = (n ≡ 0) × IsLocked m
+  FilesMatch n fsm.CreateFile s m = (n ≡ 0) × IsClear m
+  FilesMatch n fsm.CopyData s m =
       IsClear m × ((file : File) × (m.data_file ≡ Some file) × (length file.bytes ≡ n))
-  Has n fsm.ReadBack s m = IsClear m × HasBytes m.data_file w.update
-  Has n fsm.CheckData s m = IsClear m × HasBytes m.data_file s.read
-  Has n fsm.SetPermissions s m = IsClear m × HasBytes m.data_file s.read
-  Has n fsm.SyncFile s m =
+  FilesMatch n fsm.ReadBack s m = IsClear m × HasBytes m.data_file w.update
+  FilesMatch n fsm.CheckData s m = IsClear m × HasBytes m.data_file s.read
+  FilesMatch n fsm.SetPermissions s m = IsClear m × HasBytes m.data_file s.read
+  FilesMatch n fsm.SyncFile s m =
       IsClear m
       × ((file : File) × (m.data_file ≡ Some file) × (file.bytes ≡ s.read) × (file.permissions ≡ true))
-  Has n fsm.CreateRecord s m = IsClear m × IsComplete m.data_file s.read
-  Has n fsm.WriteRecord s m =
+  FilesMatch n fsm.CreateRecord s m = IsClear m × IsComplete m.data_file s.read
+  FilesMatch n fsm.WriteRecord s m =
       IsClear m × IsComplete m.data_file s.read × ((file : File) × (m.record_file ≡ Some file))
-  Has n fsm.SyncRecord s m =
+  FilesMatch n fsm.SyncRecord s m =
       IsClear m × IsComplete m.data_file s.read × HasBytes m.record_file (new_record s)
-  Has n fsm.RenameRecord s m =
+  FilesMatch n fsm.RenameRecord s m =
       IsClear m × IsComplete m.data_file s.read × IsOnDisk m.record_file (new_record s)
-  Has n fsm.SyncRecordName s m =
+  FilesMatch n fsm.SyncRecordName s m =
       IsClear m × IsComplete m.data_file s.read × IsOnDisk m.recorded (new_record s)
-  Has n fsm.RenameFile s m =
+  FilesMatch n fsm.RenameFile s m =
       IsClear m × IsComplete m.data_file s.read × IsOnDisk m.recorded (new_record s) × (m.recorded_left ≡ [])
-  Has n fsm.SyncFileName s m =
+  FilesMatch n fsm.SyncFileName s m =
       IsClear m × IsOnDisk m.recorded (new_record s) × (m.recorded_left ≡ [])
       × (Q → IsComplete m.target s.read)
-  Has n fsm.Installed s m =
+  FilesMatch n fsm.Installed s m =
       IsClear m × IsOnDisk m.recorded (new_record s) × (m.recorded_left ≡ [])
       × (Q → IsComplete m.target s.read × (m.target_left ≡ []))
-  Has n op s m = ⊤
+  FilesMatch n op s m = ⊤
 
   -- The invariant still holds after changes by other processes.
   pub stays : (n : ℕ) (op : Operation) (s : State) (old new : Snapshot) → Others old new
-      → (Q → LeavesTarget old new) → Has n op s old → Has n op s new
+      → (Q → LeavesTarget old new) → FilesMatch n op s old → FilesMatch n op s new
   stays n fsm.SyncRecordName s old new others target (lock_held, whole, recorded) =
       rw (
         others.data_stays,
@@ -204,7 +204,7 @@ module _ (w : World) (F Q : Type 0) where
         some,
       )
 
-  pub is_true : (n : ℕ) (op : Operation) (e : Event) (s : State) (old new : Snapshot) → Has n op s old
+  pub is_true : (n : ℕ) (op : Operation) (e : Event) (s : State) (old new : Snapshot) → FilesMatch n op s old
       → Performs w s op e old new → IsTrueEvent w n s op e
   is_true n fsm.ReadRecord (RecordRead found) s old new has is = is.0
   is_true n op (RecordRead found) s old new has is = absurd is
@@ -228,12 +228,12 @@ module _ (w : World) (F Q : Type 0) where
   -- == What an event leads to ==
 
   removal : (n : ℕ) (is : Bool) (s : State) (m : Snapshot)
-      → Has n (if is then fsm.RemoveFiles else fsm.Rejected) s m
+      → FilesMatch n (if is then fsm.RemoveFiles else fsm.Rejected) s m
   removal n true s m = tt
   removal n false s m = tt
 
   abbrev Holds : ℕ → Snapshot → State → Type 0
-  Holds n m s = Has n s.due s m
+  Holds n m s = FilesMatch n s.due s m
 
   reject : (n : ℕ) (fault : InstallFault) (s : State) (m : Snapshot) → Holds n m (fsm.reject fault s)
   reject n fault s m = removal n (has_files s.due) (fsm.reject fault s) m
@@ -244,7 +244,7 @@ module _ (w : World) (F Q : Type 0) where
   either n false x y m one other = other
 
   to_install : (n : ℕ) (check : Bool) (s : State) (m : Snapshot) → s.options.check ≡ check → IsEarly n s m
-      → Has n (if check then fsm.WouldInstall else fsm.RemoveLeftovers) (fsm.install s) m
+      → FilesMatch n (if check then fsm.WouldInstall else fsm.RemoveLeftovers) (fsm.install s) m
   to_install n true s m is has = tt
   to_install n false s m is (none, inl check, found) = absurd (true≢false (sym check ∙ is))
   to_install n false s m is (none, inr locked, found) = (none, (locked, found))
@@ -285,7 +285,7 @@ module _ (w : World) (F Q : Type 0) where
   after_listing n s (Ok digest) m has = compare n s m has
   after_listing n s (Err fault) m has = reject n fault s m
 
-  after_data : (n : ℕ) (s : State) (listed : Bool) (m : Snapshot) → Has n fsm.CheckData s m
+  after_data : (n : ℕ) (s : State) (listed : Bool) (m : Snapshot) → FilesMatch n fsm.CheckData s m
       → Holds n m (fsm.after_data listed s)
   after_data n s true m has = has
   after_data n s false m has = reject n DigestMismatch s m
@@ -296,7 +296,7 @@ module _ (w : World) (F Q : Type 0) where
       either n (not accepted && fsm.is_rolling_back s) _ _ m (install n s m has) has
 
   target_is_update : (n : ℕ) (check : Bool) (s : State) (m : Snapshot) → s.options.check ≡ check → IsSigned s
-      → (Q → IsOpened s m) → Has n (if check then fsm.AlreadyInstalled else fsm.SyncTarget) s m
+      → (Q → IsOpened s m) → FilesMatch n (if check then fsm.AlreadyInstalled else fsm.SyncTarget) s m
   target_is_update n true s m is signed opened = (signed, inl is)
   target_is_update n false s m is signed opened = (signed, opened)
 
@@ -308,7 +308,7 @@ module _ (w : World) (F Q : Type 0) where
       either n (s.is_recorded || s.options.again) _ _ m (install n s m has) (reject n SameNumber s m)
 
   after_piece : (n k : ℕ) (s : State) (left : Option ℕ) (m : Snapshot) → s.due ≡ fsm.CopyData
-      → Has n fsm.CopyData s m → Holds n m (fsm.after_piece k left s)
+      → FilesMatch n fsm.CopyData s m → Holds n m (fsm.after_piece k left s)
   after_piece n k s None m at has = rw at has
   after_piece n k s (Some left) m at has = either n (nat_le k left) _ _ m (rw at has) (reject n OtherSize s m)
 
@@ -324,8 +324,8 @@ module _ (w : World) (F Q : Type 0) where
   holds_if_some n true t m holds = holds
   holds_if_some n false t m holds = tt
 
-  piece_copied : (n k : ℕ) (s : State) (old new : Snapshot) → Has n fsm.CopyData s old
-      → Performs w s fsm.CopyData (PieceCopied k) old new → Has (n + k) fsm.CopyData s new
+  piece_copied : (n k : ℕ) (s : State) (old new : Snapshot) → FilesMatch n fsm.CopyData s old
+      → Performs w s fsm.CopyData (PieceCopied k) old new → FilesMatch (n + k) fsm.CopyData s new
   piece_copied n k s old new (lock_held, (file, at, long)) (some, (piece, rest, is, whole, same)) =
       rw same (
         lock_held,
@@ -343,7 +343,7 @@ module _ (w : World) (F Q : Type 0) where
       (record file { synced = true }, refl, holds, refl)
 
   pub op_keeps : (n : ℕ) (op : Operation) (e : Event) (s : State) (old new : Snapshot) → s.due ≡ op
-      → (content old.recorded ≡ w.found_record → F) → Has n op s old → Performs w s op e old new
+      → (content old.recorded ≡ w.found_record → F) → FilesMatch n op s old → Performs w s op e old new
       → IfSome (after op e s) (Holds (count n e) new)
   op_keeps n fsm.Nothing (Failed f) s old new at reads has is = tt
   op_keeps n fsm.Installed (Failed f) s old new at reads has is = tt
@@ -447,6 +447,6 @@ module _ (w : World) (F Q : Type 0) where
   answer_keeps n s None m fits holds = absurd (true≢false (sym fits))
 
   pub begins : (check : Bool) (o : Options) (m : Snapshot) → o.check ≡ check
-      → Has 0 (if check then fsm.ReadRecord else fsm.Lock) (begin o) m
+      → FilesMatch 0 (if check then fsm.ReadRecord else fsm.Lock) (begin o) m
   begins true o m is = (refl, inl is)
   begins false o m is = (refl, is)

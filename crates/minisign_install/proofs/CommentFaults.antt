@@ -5,7 +5,7 @@ use Rattle.std.specs.Str.{IsUtf8}
 use Rattle.std.proofs.Common.{refl, sym, ap, ◌∙◌}
 use Rattle.std.proofs.lemmas.Str.{is_utf8-from_IsUtf8}
 use Rattle.minisign_install.specs.Comments.{IsNumberText, Numbering}
-use Rattle.minisign_install.specs.Decisions.{first_of, judge_comment_only, judge_comment, number_in}
+use Rattle.minisign_install.specs.Decisions.{first_fault, judge_comment_only, judge_comment, number_in}
 use Rattle.minisign_install.specs.Faults.{InstallFault, Library, Named, NotUtf8}
 use Rattle.minisign_install.proofs.Decisions.{number_reads, reads_number}
 use Rattle.minisign_install.proofs.SignatureFiles.{not_utf8}
@@ -23,19 +23,19 @@ number_is text (Some n) is = sym (number_reads text n is)
 -- == The first of several errors ==
 
 pub first_fails : (first : Option InstallFault) (more : List (Option InstallFault)) (e : InstallFault)
-    → Some e ≡ first → Some e ≡ first_of (first ∷ more)
-first_fails first more e is = ap (λ (o : Option InstallFault). first_of (o ∷ more)) is
+    → Some e ≡ first → Some e ≡ first_fault (first ∷ more)
+first_fails first more e is = ap (λ (o : Option InstallFault). first_fault (o ∷ more)) is
 
 pub first_passes : (first : Option InstallFault) (more : List (Option InstallFault)) (r : Option InstallFault)
-    → None ≡ first → r ≡ first_of more → r ≡ first_of (first ∷ more)
-first_passes first more r none is = is ∙ ap (λ (o : Option InstallFault). first_of (o ∷ more)) none
+    → None ≡ first → r ≡ first_fault more → r ≡ first_fault (first ∷ more)
+first_passes first more r none is = is ∙ ap (λ (o : Option InstallFault). first_fault (o ∷ more)) none
 
-only_check : (o : Option InstallFault) → o ≡ first_of (o ∷ [])
+only_check : (o : Option InstallFault) → o ≡ first_fault (o ∷ [])
 only_check None = refl
 only_check (Some e) = refl
 
-pub last_check : (o r : Option InstallFault) → r ≡ o → r ≡ first_of (o ∷ [])
-last_check o r is = only_check r ∙ ap (λ (x : Option InstallFault). first_of (x ∷ [])) is
+pub last_check : (o r : Option InstallFault) → r ≡ o → r ≡ first_fault (o ∷ [])
+last_check o r is = only_check r ∙ ap (λ (x : Option InstallFault). first_fault (x ∷ [])) is
 
 -- == Checking only a comment ==
 

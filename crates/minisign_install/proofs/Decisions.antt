@@ -13,7 +13,7 @@ use Rattle.minisign_install.specs.Comments.{HasNumber, HasSize, IsBadlySized, Is
 use Rattle.minisign_install.specs.Comments.{IsNumberText, IsUnexpired, Numbering, expiries}
 use Rattle.minisign_install.specs.Comments.{expiry_label, file_label, number_label, size_label, value_of}
 use Rattle.minisign_install.specs.Comments.{values_of}
-use Rattle.minisign_install.specs.Decisions.{Options, are_digits, comment_fault, expiry_fault, first_of}
+use Rattle.minisign_install.specs.Decisions.{Options, are_digits, comment_fault, expiry_fault, first_fault}
 use Rattle.minisign_install.specs.Decisions.{is_below, is_named, is_number, is_too_old, number_in}
 use Rattle.minisign_install.specs.Decisions.{number_of, size_fault, unless, version_in}
 use Rattle.minisign_install.specs.Faults.{BadExpiry, BadSize, Expired, InstallFault, NoExpiry, NoNumber}
@@ -90,8 +90,8 @@ version_reads numbering comment n is = rw is.numbered (number_reads is.value n i
 -- == The checks of a comment ==
 
 none_fails : (first : Option InstallFault) (more : List (Option InstallFault))
-    → first_of (first ∷ more) ≡ None
-    → (first ≡ None) × (first_of more ≡ None)
+    → first_fault (first ∷ more) ≡ None
+    → (first ≡ None) × (first_fault more ≡ None)
 none_fails None more is = (refl, is)
 none_fails (Some f) more is = absurd (none-some f (sym is))
 
@@ -176,7 +176,7 @@ comment_says o recorded time comment none =
     (n, is, says, not_true _ (holds_if _ _ (rw is at young)))
 
 first_or_later_fails : (first : Option InstallFault) (more : List (Option InstallFault)) (e : InstallFault)
-    → first_of (first ∷ more) ≡ Some e → (first ≡ Some e) ⊎ ((first ≡ None) × (first_of more ≡ Some e))
+    → first_fault (first ∷ more) ≡ Some e → (first ≡ Some e) ⊎ ((first ≡ None) × (first_fault more ≡ Some e))
 first_or_later_fails None more e is = inr (refl, is)
 first_or_later_fails (Some f) more e is = inl is
 
@@ -269,7 +269,7 @@ was_false : (b : Bool) → not b ≡ false → b ≡ true
 was_false true is = refl
 was_false false is = absurd (true≢false is)
 
-single_fails : (first : Option InstallFault) (e : InstallFault) → first_of (first ∷ []) ≡ Some e
+single_fails : (first : Option InstallFault) (e : InstallFault) → first_fault (first ∷ []) ≡ Some e
     → first ≡ Some e
 single_fails None e is = absurd (none-some e is)
 single_fails (Some f) e is = is

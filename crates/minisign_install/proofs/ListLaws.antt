@@ -134,16 +134,16 @@ after_copy (Some left) s =
 
 -- The event does not change `is_list_signed`, or it is the event that Ed25519 has accepted the signature of
 -- the list.
-abbrev Kept : State → Event → Option State → Type 0
-Kept s e next =
+abbrev KeepsListStatus : State → Event → Option State → Type 0
+KeepsListStatus s e next =
     IfSome next (λ t. (t.is_list_signed ≡ s.is_list_signed) ⊎ ((s.due ≡ fsm.CheckList) × (e ≡ Answered true)))
 
 holds_if_some : (is : Bool) (s t : State) (e : Event) → t.is_list_signed ≡ s.is_list_signed
-    → Kept s e (if is then Some t else None)
+    → KeepsListStatus s e (if is then Some t else None)
 holds_if_some true s t e same = inl same
 holds_if_some false s t e same = tt
 
-op_keeps : (op : Operation) (e : Event) (s : State) → s.due ≡ op → Kept s e (after op e s)
+op_keeps : (op : Operation) (e : Event) (s : State) → s.due ≡ op → KeepsListStatus s e (after op e s)
 op_keeps fsm.Nothing (fsm.Failed f) s at = tt
 op_keeps fsm.Installed (fsm.Failed f) s at = tt
 op_keeps fsm.AlreadyInstalled (fsm.Failed f) s at = tt
@@ -190,7 +190,7 @@ op_keeps fsm.SyncFileName fsm.Done s at = inl refl
 op_keeps fsm.RemoveFiles fsm.Done s at = inl refl
 op_keeps op e s at = tt
 
-moved : (s : State) (e : Event) (next : Option State) → Kept s e next
+moved : (s : State) (e : Event) (next : Option State) → KeepsListStatus s e next
     → ((answer s next).1.is_list_signed ≡ s.is_list_signed)
     ⊎ ((s.due ≡ fsm.CheckList) × (e ≡ Answered true))
 moved s e (Some t) kept = kept

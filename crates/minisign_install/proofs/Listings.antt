@@ -21,15 +21,15 @@ use Rattle.minisign_lists.specs.declared.lines.LongDigest.{LongDigest}
 use Rattle.minisign_lists.specs.declared.lines.LongDigest.TheVariants as long
 
 -- If the signature is that of a list, the listing has the contents of this list for this name.
-abbrev IsOf : Option LongDigest → Listing → List ℕ → List ℕ → Type 0
-IsOf mode l list name = is_some mode ≡ true → l ≡ judge_list (unwrap_or mode long.Rejected) list name
+abbrev IsListingOf : Option LongDigest → Listing → List ℕ → List ℕ → Type 0
+IsListingOf mode l list name = is_some mode ≡ true → l ≡ judge_list (unwrap_or mode long.Rejected) list name
 
-fits_at : (mode : Option LongDigest) (l : Listing) (list name m : List ℕ) → IsOf mode l list name
+fits_at : (mode : Option LongDigest) (l : Listing) (list name m : List ℕ) → IsListingOf mode l list name
     → fits_listed mode l.listed m ≡ fits_list mode list name m
 fits_at None l list name m is = refl
 fits_at (Some long) l list name m is = ap (λ (x : Listing). has_listed x.listed m) (is refl)
 
-digest_at : (mode : Option LongDigest) (l : Listing) (list name m : List ℕ) → IsOf mode l list name
+digest_at : (mode : Option LongDigest) (l : Listing) (list name m : List ℕ) → IsListingOf mode l list name
     → (if is_some mode then l.digest else blake2b_digest 64 m) ≡ digest_to_sign mode list m
 digest_at None l list name m is = refl
 digest_at (Some long) l list name m is = ap (λ (x : Listing). x.digest) (is refl)
@@ -46,9 +46,9 @@ digest_is w o s same is =
     ap (λ (x : Options). if is_some x.list then s.listing.digest else blake2b_digest 64 s.read) same
     ∙ digest_at o.list s.listing w.list w.name s.read is
 
-pub some_is : {A : Type 0} (a : Option A) → is_some a ≡ true → (x : A) × (a ≡ Some x)
-some_is (Some x) is = (x, refl)
-some_is None is = absurd (true≢false (sym is))
+pub value_if_some : {A : Type 0} (a : Option A) → is_some a ≡ true → (x : A) × (a ≡ Some x)
+value_if_some (Some x) is = (x, refl)
+value_if_some None is = absurd (true≢false (sym is))
 
 pub both_true : (a b : Bool) → (a && b) ≡ true → (a ≡ true) × (b ≡ true)
 both_true true b is = (refl, is)
@@ -79,18 +79,18 @@ ok_of (Ok digest) m is = (digest, refl)
 ok_of (Err fault) m is = absurd (true≢false (sym is))
 
 -- If some data is listed, the list has a digest for the name.
-found_at : (mode : Option LongDigest) (l : Listing) (list name m : List ℕ) → is_some mode ≡ true
-    → IsOf mode l list name → fits_list mode list name m ≡ true
+listed_digest_at : (mode : Option LongDigest) (l : Listing) (list name m : List ℕ) → is_some mode ≡ true
+    → IsListingOf mode l list name → fits_list mode list name m ≡ true
     → (digest : ListedDigest) × (l.listed ≡ Ok digest)
-found_at None l list name m some is fits = absurd (true≢false (sym some))
-found_at (Some long) l list name m some is fits =
+listed_digest_at None l list name m some is fits = absurd (true≢false (sym some))
+listed_digest_at (Some long) l list name m some is fits =
     let (digest, ok) = ok_of (digest_found (entry_in long list name)) m fits in
     (digest, ap (λ (x : Listing). x.listed) (is refl) ∙ ok)
 
-pub found_is : (w : World) (o : Options) (s : State) (m : List ℕ) → is_some o.list ≡ true
+pub listed_digest_of : (w : World) (o : Options) (s : State) (m : List ℕ) → is_some o.list ≡ true
     → HasListing w o s → fits_list o.list w.list w.name m ≡ true
     → (digest : ListedDigest) × (s.listing.listed ≡ Ok digest)
-found_is w o s m some listing fits = found_at o.list s.listing w.list w.name m some listing fits
+listed_digest_of w o s m some listing fits = listed_digest_at o.list s.listing w.list w.name m some listing fits
 
 -- The digest of the list does not depend on the data.
 pub same_digest : (mode : Option LongDigest) (list m n : List ℕ) → is_some mode ≡ true

@@ -16,8 +16,8 @@ abbrev version_of : Result Recorded InstallFault → Option ℕ → Type 0
 version_of judged applicable = (r : Recorded) × (judged ≡ Ok r) × (r.version ≡ applicable)
 
 module _ (o : Options) (no_new_key : o.new_key ≡ false) where
-  abbrev Same : Option (List ℕ) → Option ℕ → Type 0
-  Same found applicable = version_of (judge_record o found) applicable
+  abbrev VersionApplies : Option (List ℕ) → Option ℕ → Type 0
+  VersionApplies found applicable = version_of (judge_record o found) applicable
 
   -- The lemma applies_as_before for a record that has a version number for the field.
   with_number : (bytes : List ℕ) (first new other : Bool) (n : ℕ) (key digest : Option (List ℕ))
@@ -80,7 +80,7 @@ module _ (o : Options) (no_new_key : o.new_key ≡ false) where
   no_record first fault (Some k) (all, none, holds) = absurd (none-some all none)
 
   counted_same : (found : Option (List ℕ)) (applicable : Option ℕ)
-      → AppliesAs o.numbering o.first (used_record_for o found) applicable → Same found applicable
+      → AppliesAs o.numbering o.first (used_record_for o found) applicable → VersionApplies found applicable
   counted_same None applicable record_applies = no_record o.first _ applicable record_applies
   counted_same (Some bytes) applicable record_applies =
       by_version bytes (recorded_version o.numbering bytes) applicable refl record_applies

@@ -24,7 +24,7 @@ use Rattle.minisign_install.proofs.SafeCalls as safe_calls
 use Rattle.minisign_install.specs.Step.{ListRead, signed_digest}
 use Rattle.minisign_install.specs.StepRuns.{HasListing}
 use Rattle.minisign_install.specs.Listings.{digest_to_sign, fits_list}
-use Rattle.minisign_install.proofs.Listings.{digest_is, found_is, listed_is, same_digest, signer_is}
+use Rattle.minisign_install.proofs.Listings.{digest_is, listed_digest_of, listed_is, same_digest, signer_is}
 
 module _ (w : World) (o : Options) (g : IsOldUpdate w o) where
   -- After n bytes were copied, the rest of the signed size is the length of the data that is left.
@@ -200,7 +200,7 @@ module _ (w : World) (o : Options) (g : IsOldUpdate w o) where
       → OnTrack n (fsm.after_listing s.listing.listed (record s { is_list_signed = true })).due
       (fsm.after_listing s.listing.listed (record s { is_list_signed = true }))
   after_listing n s (known, some, listing) =
-      let (digest, found) = found_is w o s w.update some listing g.listed in
+      let (digest, found) = listed_digest_of w o s w.update some listing g.listed in
       let signed : State = record s { is_list_signed = true } in
       subst (λ r. OnTrack n (fsm.after_listing r signed).due (fsm.after_listing r signed)) (sym found)
       (compare n signed known listing)

@@ -13,7 +13,7 @@ use Rattle.minisign_install.specs.Histories.{AllCalls, IsRecordedUpdate, IsSafeC
 use Rattle.minisign_install.specs.Step.{Done, Event, Failed, Operation, State, after, begin, new_record, step}
 use Rattle.minisign_install.specs.Step as fsm
 use Rattle.minisign_install.specs.StepRuns.{Changes, Disk, IsLawfulEvent, IsUpdate, IsRun, World, count}
-use Rattle.minisign_install.proofs.Applying.{Has, IsOnDisk, is_true, stays}
+use Rattle.minisign_install.proofs.Applying.{FilesMatch, IsOnDisk, is_true, stays}
 use Rattle.minisign_install.proofs.Applying as applying
 use Rattle.minisign_install.proofs.StepSafety.{Known, update_of}
 use Rattle.minisign_install.proofs.StepSafety as known
@@ -86,7 +86,7 @@ module _ (w : World) (o : Options) (F Q : Type 0) where
   new_found s place rest found known update is (inr remains) = inl remains
 
   renames_record : (n : ℕ) (s : State) (old : Snapshot) → Known w o fsm.RenameRecord s
-      → Has w F Q n fsm.RenameRecord s old → Safe old (record_renamed old)
+      → FilesMatch w F Q n fsm.RenameRecord s old → Safe old (record_renamed old)
   renames_record n s old knows (state_held, whole, is) = (
     λ found is. inl is,
     λ found remains.
@@ -109,7 +109,7 @@ module _ (w : World) (o : Options) (F Q : Type 0) where
   new_target s place rest m found update is recorded left (inr remains) = inl remains
 
   renames_data : (n : ℕ) (s : State) (old : Snapshot) → Known w o fsm.RenameFile s
-      → Has w F Q n fsm.RenameFile s old → Safe old (data_renamed old)
+      → FilesMatch w F Q n fsm.RenameFile s old → Safe old (data_renamed old)
   renames_data n s old knows (state_held, (file, at, holds, permitted, synced), recorded, left) = (
     λ found remains.
         new_target s old.data_file (old.target ∷ old.target_left) (data_renamed old) found
@@ -118,7 +118,7 @@ module _ (w : World) (o : Options) (F Q : Type 0) where
   )
 
   pub safe_at : (n : ℕ) (op : Operation) (e : Event) (s : State) (old new : Snapshot) → Known w o op s
-      → Has w F Q n op s old → Performs w s op e old new → Safe old new
+      → FilesMatch w F Q n op s old → Performs w s op e old new → Safe old new
   safe_at n fsm.RenameRecord Done s old new knows has is = rw is (renames_record n s old knows has)
   safe_at n fsm.RenameRecord (Failed f) s old new knows has (inl is) =
       rw is (λ found x. inl x, λ found x. inl x)
@@ -196,7 +196,7 @@ module _ (w : World) (o : Options) (F Q : Type 0) where
 
   -- The invariant at each operation.
   abbrev pub Invariant : ℕ → State → Snapshot → Type 0
-  Invariant n s m = ((d : Disk) × known.Holds w o nothing s.due s d) × Has w F Q n s.due s m
+  Invariant n s m = ((d : Disk) × known.Holds w o nothing s.due s d) × FilesMatch w F Q n s.due s m
 
   pub begins : (m : Snapshot) → Invariant 0 (begin o) m
   begins m = ((nothing, known.begins w o nothing o.check), applying.begins w F Q o.check o m refl)
@@ -297,7 +297,7 @@ on_disk : {place : Option File} {left : List (Option File)} {bytes : List ℕ} �
 on_disk (file, present, holds, synced) none = (file, present, holds, synced, none)
 
 durable : (w : World) (o : Options) (n : ℕ) (op : Operation) (s : State) (m : Snapshot) → Known w o op s
-    → Has w ⊤ ⊤ n op s m → EndIsDurable w o op s m
+    → FilesMatch w ⊤ ⊤ n op s m → EndIsDurable w o op s m
 durable w o n fsm.Installed s m knows (state_held, recorded, left, complete) =
     let (present, target_left) = complete tt in (
       update_of w o s knows,

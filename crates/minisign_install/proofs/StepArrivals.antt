@@ -21,7 +21,7 @@ use Rattle.minisign_install.proofs.StepEnds.{left, step_less}
 use Rattle.minisign_install.specs.Step.{ListRead, signed_digest}
 use Rattle.minisign_install.specs.StepRuns.{HasListing}
 use Rattle.minisign_install.specs.Listings.{fits_list}
-use Rattle.minisign_install.proofs.Listings.{digest_is, found_is, listed_is, same_digest, signer_is}
+use Rattle.minisign_install.proofs.Listings.{digest_is, listed_digest_of, listed_is, same_digest, signer_is}
 
 module _ (w : World) (o : Options) (g : IsGoodUpdate w o) where
   -- After n bytes were copied, the rest of the signed size is the length of the data that is left.
@@ -145,7 +145,7 @@ module _ (w : World) (o : Options) (g : IsGoodUpdate w o) where
       → OnTrack n (fsm.after_listing s.listing.listed (record s { is_list_signed = true })).due
       (fsm.after_listing s.listing.listed (record s { is_list_signed = true }))
   after_listing n s (known, some, listing) =
-      let (digest, found) = found_is w o s w.update some listing g.listed in
+      let (digest, found) = listed_digest_of w o s w.update some listing g.listed in
       let signed : State = record s { is_list_signed = true } in
       subst (λ r. OnTrack n (fsm.after_listing r signed).due (fsm.after_listing r signed)) (sym found)
       (compare n signed known listing)
@@ -284,17 +284,17 @@ module _ (w : World) (o : Options) (g : IsGoodUpdate w o) where
   fits_data s false = refl
 
   -- There is an event that the application may report at this operation, and that is not a failure.
-  abbrev HasNext : ℕ → Operation → State → Type 0
-  HasNext n op s =
+  abbrev HasEvent : ℕ → Operation → State → Type 0
+  HasEvent n op s =
       (e : Event) × (is_some (after op e s) ≡ true) × IsTrueEvent w n s op e × IsAcceptable g e
 
-  next_piece : (n : ℕ) (s : State) → n ≤ length w.update → HasNext n fsm.CopyData s
+  next_piece : (n : ℕ) (s : State) → n ≤ length w.update → HasEvent n fsm.CopyData s
   next_piece n s more = elim (eq-or-lt_of_le more) [
     | inl all ↦ (Done, refl, all, tt)
     | inr less ↦ (PieceCopied (length w.update - n), refl, (omega (arith, less), omega (arith, less)), tt)
   ]
 
-  next_bytes : (n : ℕ) (s : State) (rest : List ℕ) → s.read ++ rest ≡ w.update → HasNext n fsm.ReadBack s
+  next_bytes : (n : ℕ) (s : State) (rest : List ℕ) → s.read ++ rest ≡ w.update → HasEvent n fsm.ReadBack s
   next_bytes n s [] whole = (Done, refl, sym (append-nil s.read) ∙ whole, tt)
   next_bytes n s (b ∷ rest) whole =
       (PieceRead (b ∷ rest), refl, (omega arith, ([], append-nil (s.read ++ b ∷ rest) ∙ whole)), tt)
@@ -304,49 +304,49 @@ module _ (w : World) (o : Options) (g : IsGoodUpdate w o) where
 
   module _ (time : Option ℕ)
       (fresh : comment_fault o g.recorded.version time g.text.comments.trusted ≡ None) where
-    has_next : (n : ℕ) (op : Operation) (s : State) → OnTrack n op s
-        → (op ≡ fsm.Installed) ⊎ HasNext n op s
-    has_next n fsm.Lock s on = inr (Done, refl, tt, tt)
-    has_next n fsm.ReadRecord s on = inr (RecordRead w.found_record, refl, refl, tt)
-    has_next n fsm.ReadSignature s on = inr (SignatureRead w.text time, refl, refl, fresh)
-    has_next n fsm.CheckComment s on =
+    has_event : (n : ℕ) (op : Operation) (s : State) → OnTrack n op s
+        → (op ≡ fsm.Installed) ⊎ HasEvent n op s
+    has_event n fsm.Lock s on = inr (Done, refl, tt, tt)
+    has_event n fsm.ReadRecord s on = inr (RecordRead w.found_record, refl, refl, tt)
+    has_event n fsm.ReadSignature s on = inr (SignatureRead w.text time, refl, refl, fresh)
+    has_event n fsm.CheckComment s on =
         inr (
           Answered (says_yes w (comment_question s g.text.comments.trusted)),
           fits_comment s _,
           λ t parsed. ap (λ x. says_yes w (comment_question s x.comments.trusted)) (same_text t parsed),
           tt,
         )
-    has_next n fsm.ReadList s on = inr (ListRead w.list w.name, refl, (refl, refl), tt)
-    has_next n fsm.CheckList s on =
+    has_event n fsm.ReadList s on = inr (ListRead w.list w.name, refl, (refl, refl), tt)
+    has_event n fsm.CheckList s on =
         inr (Answered (says_yes w (data_question fsm.CheckList s)), fits_listing s _, refl, tt)
-    has_next n fsm.RemoveLeftovers s on = inr (Done, refl, tt, tt)
-    has_next n fsm.CreateFile s on = inr (Done, refl, tt, tt)
-    has_next n fsm.CopyData s (knows, left, read, more) = inr (next_piece n s more)
-    has_next n fsm.ReadBack s (knows, (rest, whole)) = inr (next_bytes n s rest whole)
-    has_next n fsm.CheckData s on =
+    has_event n fsm.RemoveLeftovers s on = inr (Done, refl, tt, tt)
+    has_event n fsm.CreateFile s on = inr (Done, refl, tt, tt)
+    has_event n fsm.CopyData s (knows, left, read, more) = inr (next_piece n s more)
+    has_event n fsm.ReadBack s (knows, (rest, whole)) = inr (next_bytes n s rest whole)
+    has_event n fsm.CheckData s on =
         inr (Answered (says_yes w (data_question fsm.CheckData s)), fits_data s _, refl, tt)
-    has_next n fsm.SetPermissions s on = inr (Done, refl, tt, tt)
-    has_next n fsm.SyncFile s on = inr (Done, refl, tt, tt)
-    has_next n fsm.CreateRecord s on = inr (Done, refl, tt, tt)
-    has_next n fsm.WriteRecord s on = inr (Done, refl, tt, tt)
-    has_next n fsm.SyncRecord s on = inr (Done, refl, tt, tt)
-    has_next n fsm.RenameRecord s on = inr (Done, refl, tt, tt)
-    has_next n fsm.SyncRecordName s on = inr (Done, refl, tt, tt)
-    has_next n fsm.RenameFile s on = inr (Done, refl, tt, tt)
-    has_next n fsm.SyncFileName s on = inr (Done, refl, tt, tt)
-    has_next n fsm.Installed s on = inl refl
-    has_next n op s on = absurd on
+    has_event n fsm.SetPermissions s on = inr (Done, refl, tt, tt)
+    has_event n fsm.SyncFile s on = inr (Done, refl, tt, tt)
+    has_event n fsm.CreateRecord s on = inr (Done, refl, tt, tt)
+    has_event n fsm.WriteRecord s on = inr (Done, refl, tt, tt)
+    has_event n fsm.SyncRecord s on = inr (Done, refl, tt, tt)
+    has_event n fsm.RenameRecord s on = inr (Done, refl, tt, tt)
+    has_event n fsm.SyncRecordName s on = inr (Done, refl, tt, tt)
+    has_event n fsm.RenameFile s on = inr (Done, refl, tt, tt)
+    has_event n fsm.SyncFileName s on = inr (Done, refl, tt, tt)
+    has_event n fsm.Installed s on = inl refl
+    has_event n op s on = absurd on
 
     -- If at most `most` steps are left, there is a run from this state that installs the update.
     arrives : (most n : ℕ) (s : State) → left w n s.due s ≤ most → OnTrack n s.due s
         → (events : List Event) × (t : State)
         × IsRun (λ n s e. IsLawfulEvent w n s e × IsAcceptable g e) n s events t × (t.due ≡ fsm.Installed)
-    arrives zero n s few on = elim (has_next n s.due s on) [
+    arrives zero n s few on = elim (has_event n s.due s on) [
       | inl done ↦ ([], s, refl, done)
       | inr (e, fits, is, fine) ↦ let less = step_less w n e s (fits, is) in absurd (omega
           (arith, few, less))
     ]
-    arrives (suc most) n s few on = elim (has_next n s.due s on) [
+    arrives (suc most) n s few on = elim (has_event n s.due s on) [
       | inl done ↦ ([], s, refl, done)
       | inr (e, fits, is, fine) ↦
           let less = step_less w n e s (fits, is) in

@@ -27,7 +27,7 @@ use Rattle.minisign_install.specs.Listings.{digest_to_sign, fits_list}
 use Rattle.minisign_install.specs.Step.{ListRead, signed_digest}
 use Rattle.minisign_install.specs.StepRuns.{HasListing, IsListAccepted, accepts_data}
 use Rattle.minisign_install.proofs.Listings.{and_true, digest_is, list_digest, listed_as, listed_is}
-use Rattle.minisign_install.proofs.Listings.{same_digest, some_is}
+use Rattle.minisign_install.proofs.Listings.{same_digest, value_if_some}
 use Rattle.minisign_lists.specs.declared.digests.ListedDigest.{ListedDigest}
 
 -- The number of keys in a result of judge_text. It is not 0 if the checks succeed.
@@ -447,7 +447,7 @@ module _ (w : World) (o : Options) (times : Option ℕ → Bool) where
         (digest, listed_as w o s long mode listing ∙ is),
       ))) sized refl
   after_listing n s (Err fault) known sized some listing is signed =
-      let (long, mode) = some_is o.list some in
+      let (long, mode) = value_if_some o.list some in
       reject n fault s (record s { is_list_signed = true }) (Answered true)
       (inr (inr (inr (inr (inr (inr (inr (inl (
         known.0,

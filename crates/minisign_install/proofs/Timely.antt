@@ -29,17 +29,17 @@ module _ (w : World) (o : Options) (time : Option ℕ) where
       (text : SignatureTextRecord) → w.text ≡ Ok text
       → s.fault ≡ comment_fault o s.recorded.version time text.comments.trusted
 
-  abbrev At : Operation → State → Type 0
-  At fsm.Nothing s = ⊤
-  At fsm.Lock s = ⊤
-  At fsm.ReadRecord s = ⊤
-  At fsm.ReadSignature s = ⊤
-  At fsm.RemoveFiles s = ⊤
-  At fsm.Rejected s = ⊤
-  At op s = IsTimely s
+  abbrev TimelyAt : Operation → State → Type 0
+  TimelyAt fsm.Nothing s = ⊤
+  TimelyAt fsm.Lock s = ⊤
+  TimelyAt fsm.ReadRecord s = ⊤
+  TimelyAt fsm.ReadSignature s = ⊤
+  TimelyAt fsm.RemoveFiles s = ⊤
+  TimelyAt fsm.Rejected s = ⊤
+  TimelyAt op s = IsTimely s
 
   abbrev Holds : State → Type 0
-  Holds s = At s.due s
+  Holds s = TimelyAt s.due s
 
   rejected : (is : Bool) (fault : InstallFault) (s : State)
       → Holds (record s { due = if is then fsm.RemoveFiles else fsm.Rejected; error = Some fault })
@@ -128,7 +128,7 @@ module _ (w : World) (o : Options) (time : Option ℕ) where
   holds_if_some false t holds = tt
 
   op_keeps : (op : Operation) (e : Event) (s : State) (old new : Snapshot) → s.due ≡ op → Known w o op s
-      → At op s → Performs w s op e old new → IsAtTime time e → IfSome (after op e s) Holds
+      → TimelyAt op s → Performs w s op e old new → IsAtTime time e → IfSome (after op e s) Holds
   op_keeps fsm.Nothing (fsm.Failed f) s old new at known is done now = tt
   op_keeps fsm.Installed (fsm.Failed f) s old new at known is done now = tt
   op_keeps fsm.AlreadyInstalled (fsm.Failed f) s old new at known is done now = tt
@@ -194,11 +194,11 @@ module _ (w : World) (o : Options) (time : Option ℕ) where
       (moved s (after s.due c.event s) fits
       (op_keeps s.due c.event s c.before c.after refl (knows w o ⊤ ⊥ n s m known) holds is now)) run rest
 
-  starts : (check : Bool) (s : State) → At (if check then fsm.ReadRecord else fsm.Lock) s
+  starts : (check : Bool) (s : State) → TimelyAt (if check then fsm.ReadRecord else fsm.Lock) s
   starts true s = tt
   starts false s = tt
 
-  judged_at : (op : Operation) (s : State) → At op s → op ≡ fsm.CheckComment → IsTimely s
+  judged_at : (op : Operation) (s : State) → TimelyAt op s → op ≡ fsm.CheckComment → IsTimely s
   judged_at fsm.CheckComment s holds is = holds
   judged_at op s holds is = cc is
 
@@ -206,7 +206,7 @@ module _ (w : World) (o : Options) (time : Option ℕ) where
       → comment_fault o s.recorded.version time text.comments.trusted ≡ None
   fault_is s timely none text is = sym (timely text is) ∙ none
 
-  accepted_at : (op : Operation) (s : State) → At op s → Known w o op s → is_past_comment op ≡ true
+  accepted_at : (op : Operation) (s : State) → TimelyAt op s → Known w o op s → is_past_comment op ≡ true
       → (text : SignatureTextRecord) → w.text ≡ Ok text
       → comment_fault o s.recorded.version time text.comments.trusted ≡ None
   accepted_at fsm.ReadList s holds known is = fault_is s holds known.0.1

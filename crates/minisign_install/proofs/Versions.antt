@@ -159,12 +159,12 @@ module _ (w : World) (o : Options) (accepts_whole : AcceptsWholeKeys w.accepts) 
   -- == A step ==
 
   module _ (k : ℕ) where
-    abbrev From : Type 0
-    From = IsVersionFrom o.numbering k w.found_record
+    abbrev ComparesVersion : Type 0
+    ComparesVersion = IsVersionFrom o.numbering k w.found_record
 
     module _ (compares : (bytes : List ℕ) → w.found_record ≡ Some bytes → (o.first || o.new_key) ≡ true
         → names_other_key o bytes ≡ false) where
-      version_compared : (found : Option (List ℕ)) → w.found_record ≡ found → From
+      version_compared : (found : Option (List ℕ)) → w.found_record ≡ found → ComparesVersion
           → ComparesNoVersion o found → ⊥
       version_compared None at (bytes, version, is, reads, least) compares_none =
           none-some bytes (sym at ∙ is)
@@ -174,7 +174,7 @@ module _ (w : World) (o : Options) (accepts_whole : AcceptsWholeKeys w.accepts) 
       version_compared (Some other) at (bytes, version, is, reads, least) (inr (given, others)) =
           true≢false (sym others ∙ compares other at given)
 
-      no_less : (s : State) → IsUpdate w o s → From → (r : Option ℕ) → s.recorded.version ≡ r
+      no_less : (s : State) → IsUpdate w o s → ComparesVersion → (r : Option ℕ) → s.recorded.version ≡ r
           → k ≤ new_version s
       no_less s update from None none =
           absurd (version_compared w.found_record refl from (update.not_compared none))
@@ -185,7 +185,7 @@ module _ (w : World) (o : Options) (accepts_whole : AcceptsWholeKeys w.accepts) 
           (sym reads ∙ ap (recorded_version o.numbering) same ∙ holds) in
           omega (arith, least, more, equal)
 
-      recorded_from : (found : Option (List ℕ)) → From → IsUpdateRecord w o found
+      recorded_from : (found : Option (List ℕ)) → ComparesVersion → IsUpdateRecord w o found
           → IsVersionFrom o.numbering k found
       recorded_from found from (s, update, is) = (
         new_record s,
@@ -196,11 +196,11 @@ module _ (w : World) (o : Options) (accepts_whole : AcceptsWholeKeys w.accepts) 
       )
 
       either_from : (old : Snapshot) (found : Option (List ℕ)) → HasVersionFrom o.numbering k old
-          → RecordMayBe old found ⊎ (From × IsUpdateRecord w o found) → IsVersionFrom o.numbering k found
+          → RecordMayBe old found ⊎ (ComparesVersion × IsUpdateRecord w o found) → IsVersionFrom o.numbering k found
       either_from old found has (inl is) = has found is
       either_from old found has (inr (from, update)) = recorded_from found from update
 
-      keeps_version : (old new : Snapshot) → HasVersionFrom o.numbering k old → Safe w o From ⊥ old new
+      keeps_version : (old new : Snapshot) → HasVersionFrom o.numbering k old → Safe w o ComparesVersion ⊥ old new
           → HasVersionFrom o.numbering k new
       keeps_version old new has safe found is = either_from old found has (safe.1 found is)
 
@@ -210,19 +210,19 @@ module _ (w : World) (o : Options) (accepts_whole : AcceptsWholeKeys w.accepts) 
       remains None = refl
 
       run_keeps : (n : ℕ) (s : State) (m : Snapshot) (calls : List Call) (t : State) (end : Snapshot)
-          → Invariant w o From ⊥ n s m → HasVersionFrom o.numbering k m → Applies w s m calls t end
+          → Invariant w o ComparesVersion ⊥ n s m → HasVersionFrom o.numbering k m → Applies w s m calls t end
           → OthersKeepVersion o.numbering m calls → HasVersionFrom o.numbering k end
       run_keeps n s m [] t end known has (is, same) others = rw same has
       run_keeps n s m (c ∷ more) t end known has (rest, fits, is, run) (keep, others) =
           let before = keep k has in
           let read : IsVersionFrom o.numbering k (content c.before.recorded) =
           before (content c.before.recorded) (inl (remains c.before.recorded)) in
-          let reads : content c.before.recorded ≡ w.found_record → From =
+          let reads : content c.before.recorded ≡ w.found_record → ComparesVersion =
           λ found. subst (IsVersionFrom o.numbering k) found read in
           run_keeps (count n c.event) (step s c.event).1 c.after more t end
-          (next w o From ⊥ n s m c known rest (λ q. absurd q) fits is reads)
+          (next w o ComparesVersion ⊥ n s m c known rest (λ q. absurd q) fits is reads)
           (keeps_version c.before c.after before
-          (safe_now w o From ⊥ n s m c known rest (λ q. absurd q) is)) run others
+          (safe_now w o ComparesVersion ⊥ n s m c known rest (λ q. absurd q) is)) run others
 
 -- == Histories ==
 

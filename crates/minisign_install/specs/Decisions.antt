@@ -19,7 +19,7 @@ use Rattle.minisign_install.specs.Comments.{size_label, strip, value_of, values_
 use Rattle.minisign_install.specs.Faults.{BadExpiry, BadSize, DamagedRecord, Expired, Fault, InstallFault}
 use Rattle.minisign_install.specs.Faults.{Library, Named, NoExpiry, NoNumber, NoRecord, OlderUpdate}
 use Rattle.minisign_install.specs.Faults.{OtherFile}
-use Rattle.minisign_install.specs.RecordTexts.{is_foreign_key, kept_by, other_field, record_digest}
+use Rattle.minisign_install.specs.RecordTexts.{is_foreign_key, foreign_record_fault, other_field, record_digest}
 use Rattle.minisign_install.specs.RecordTexts.{record_key}
 use Rattle.minisign_install.specs.RecordTexts.{record_text}
 use Rattle.minisign_lists.specs.declared.lines.LongDigest.{LongDigest}
@@ -95,7 +95,7 @@ names_other_key o bytes = is_foreign_key (map (λ v. v.key) o.keys) (record_key 
 -- field, the error says so.
 abbrev pub record_fault : Numbering → List ℕ → InstallFault
 record_fault numbering bytes =
-    if is_some (recorded_version (other_field numbering) bytes) then kept_by (other_field numbering)
+    if is_some (recorded_version (other_field numbering) bytes) then foreign_record_fault (other_field numbering)
     else DamagedRecord
 
 -- The contents of a record with this version number (or None) for the field of the options, or the error with
@@ -183,14 +183,14 @@ size_fault fields = unless (is_some (size_of fields)) BadSize
 abbrev pub is_too_old : Options → Option ℕ → Option ℕ → Bool
 is_too_old o recorded version = is_below version recorded && not o.roll_back
 
-abbrev pub first_of : List (Option InstallFault) → Option InstallFault
-first_of [] = None
-first_of (Some fault ∷ more) = Some fault
-first_of (None ∷ more) = first_of more
+abbrev pub first_fault : List (Option InstallFault) → Option InstallFault
+first_fault [] = None
+first_fault (Some fault ∷ more) = Some fault
+first_fault (None ∷ more) = first_fault more
 
 -- The error if a trusted comment is rejected: that of the first check that fails.
 abbrev pub comment_fault : Options → Option ℕ → Option ℕ → List ℕ → Option InstallFault
-comment_fault o recorded time comment = first_of
+comment_fault o recorded time comment = first_fault
     (unless (is_named o.file (value_of file_label comment)) OtherFile
     ∷ unless (is_some (version_in o.numbering comment)) NoNumber
     ∷ expiry_fault o.must_expire time (expiries o.must_expire comment)
@@ -204,7 +204,7 @@ comment_fault o recorded time comment = first_of
 -- The error if a comment is rejected by an application that checks only a comment, and no files. The version
 -- must not be below `least`. The comment need not have a field `expires:`, and `size:` is not checked.
 abbrev pub comment_only_fault : List ℕ → Numbering → ℕ → ℕ → List ℕ → Option InstallFault
-comment_only_fault file numbering time least comment = first_of
+comment_only_fault file numbering time least comment = first_fault
     (unless (is_named file (value_of file_label comment)) OtherFile
     ∷ unless (is_some (version_in numbering comment)) NoNumber
     ∷ expiry_fault false (Some time) (expiries false comment) (number_of (value_of expiry_label comment))

@@ -89,6 +89,6 @@ other_field Timestamp = Version
 other_field Version = Timestamp
 
 -- The error for a record whose version number is for this field, and not for the chosen one.
-abbrev pub kept_by : Numbering → InstallFault
-kept_by Timestamp = KeptByTimestamp
-kept_by Version = KeptByVersion
+abbrev pub foreign_record_fault : Numbering → InstallFault
+foreign_record_fault Timestamp = KeptByTimestamp
+foreign_record_fault Version = KeptByVersion

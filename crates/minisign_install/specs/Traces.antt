@@ -135,8 +135,8 @@ abbrev pub IsLawful : World → Options → Snapshot → List Line → Type 0
 IsLawful w o m trace = (t : State) × (end : Snapshot) × Applies w (begin o) m (calls_of m trace) t end
 
 -- A call with this event and this effect is lawful in this state.
-abbrev pub IsNext : World → State → Snapshot → Event → Effect → Type 0
-IsNext w s m e did = (is_some (after s.due e s) ≡ true) × Performs w s s.due e m (affected did m)
+abbrev pub IsLawfulCall : World → State → Snapshot → Event → Effect → Type 0
+IsLawfulCall w s m e did = (is_some (after s.due e s) ≡ true) × Performs w s s.due e m (affected did m)
 
 -- == The decision ==
 
@@ -270,7 +270,7 @@ IsRecorded f s m source [] = ⊤
 IsRecorded f s m source (line.Others other ∷ more) =
     Others m (changed other m) × IsRecorded f s (changed other m) source more
 IsRecorded f s m source (line.Call reported did ∷ more) =
-    IsNext (world_of f) s m (event_of reported) did
+    IsLawfulCall (world_of f) s m (event_of reported) did
     × ReportMatches f s m (source_at s m source) reported did
     × IsRecorded f (step s (event_of reported)).1 (affected did m) (source_at s m source) more
 
@@ -332,7 +332,7 @@ pub record FollowerHolds (w : World) (f : Follower) (message : List ℕ) (s : St
 abbrev pub HasFollowed : World → List ℕ → Event → Effect → Follower → Follower → List ℕ → List ℕ → Type 0
 HasFollowed w file e did old new before now =
     (s : State) (m : Snapshot) → StateKnows w file s → FollowerHolds w old before s m
-    → IsNext w s m e did × FollowerHolds w new now (step s e).1 (affected did m)
+    → IsLawfulCall w s m e did × FollowerHolds w new now (step s e).1 (affected did m)
     × (new.source.now ≡ source_at s m old.source.now)
 
 -- The event was reported to the installer, and it fitted the operation that was due.

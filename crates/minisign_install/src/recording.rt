@@ -5,7 +5,7 @@ ghost use Rattle.std.specs.Prelude.{Some, ◌≡◌, ◌⊎◌, ℕ, ◌==◌, �
 ghost use Rattle.std.specs.Prelude.{MatchOption, length, take, drop};
 ghost use Rattle.hex.specs.Hex.{encode_lower};
 ghost use Rattle.minisign_install.specs.Faults.{DamagedRecord};
-ghost use Rattle.minisign_install.specs.RecordTexts.{kept_by, other_field, HasNoNumber, IsNumberFor};
+ghost use Rattle.minisign_install.specs.RecordTexts.{foreign_record_fault, other_field, HasNoNumber, IsNumberFor};
 ghost use Rattle.minisign_install.specs.RecordTexts.{has_last_lines, is_foreign_key, last_lines, first_line};
 ghost use Rattle.minisign_install.specs.RecordTexts.{record_digest, record_key, record_of, record_text};
 
@@ -32,7 +32,7 @@ pub(crate) struct KeyAndDigest {
 // Returns the error for a record that has no version number for the field: it has one for the other field, or
 // it is damaged.
 pub(crate) fn unfit_record_fault(bytes: &[u8], numbering: Numbering) -> InstallFault
-    ensures reason { ((result ≡ kept_by (other_field numbering))
+    ensures reason { ((result ≡ foreign_record_fault (other_field numbering))
         × ((n : ℕ) × IsNumberFor (other_field numbering) bytes.now n))
         ⊎ ((result ≡ DamagedRecord) × HasNoNumber (other_field numbering) bytes.now) }
 {

@@ -22,7 +22,7 @@ ghost use Rattle.minisign_install.specs.Traces.{CanGrow, HasCopied, MessageFits,
 ghost use Rattle.minisign_install.specs.Traces.{IsNextRead, ReportMatches, IsPieceOf, IsReadFrom};
 ghost use Rattle.minisign_install.specs.Traces.{IsRecordDue};
 ghost use Rattle.minisign_install.specs.Traces.{IsRecorded, is_reported, source_at};
-ghost use Rattle.minisign_install.specs.Traces.{FollowerHolds, HasFollowed, IsLawful, IsNext, AreFilesOf};
+ghost use Rattle.minisign_install.specs.Traces.{FollowerHolds, HasFollowed, IsLawful, IsLawfulCall, AreFilesOf};
 ghost use Rattle.minisign_install.specs.Traces.{StateKnows};
 ghost use Rattle.minisign_install.specs.Traces.{affected, bytes_seen, changed, event_of, has_failed};
 ghost use Rattle.minisign_install.specs.Traces.{installs, is_done, is_growing, is_listed, is_nothing};
@@ -734,7 +734,7 @@ impl<'a> Follower<'a> {
         ensures complete { (s : State) (m : Snapshot) → StateKnows (world_of inputs.now) file.now s
             → FollowerHolds (world_of inputs.now) self.old message.old s m
             → MessageFits (world_of inputs.now) message.old
-            → IsNext (world_of inputs.now) s m (event_of report.now) effect.now
+            → IsLawfulCall (world_of inputs.now) s m (event_of report.now) effect.now
             → ReportMatches inputs.now s m (source_at s m self.old.source.now) report.now effect.now
             → result ≡ true }
     {
