@@ -90,7 +90,8 @@ listed_digest_at (Some long) l list name m some is fits =
 pub listed_digest_of : (w : World) (o : Options) (s : State) (m : List ℕ) → is_some o.list ≡ true
     → HasListing w o s → fits_list o.list w.list w.name m ≡ true
     → (digest : ListedDigest) × (s.listing.listed ≡ Ok digest)
-listed_digest_of w o s m some listing fits = listed_digest_at o.list s.listing w.list w.name m some listing fits
+listed_digest_of w o s m some listing fits =
+    listed_digest_at o.list s.listing w.list w.name m some listing fits
 
 -- The digest of the list does not depend on the data.
 pub same_digest : (mode : Option LongDigest) (list m n : List ℕ) → is_some mode ≡ true

@@ -58,11 +58,14 @@ version_is numbering bytes None none = no_number_recorded numbering bytes _ refl
 version_is numbering bytes (Some n) is = sym (number_reads _ n is.number)
 
 pub fault_is : (numbering : Numbering) (bytes : List ℕ) (e : InstallFault)
-    → ((e ≡ foreign_record_fault (other_field numbering)) × ((n : ℕ) × IsNumberFor (other_field numbering) bytes n))
+    → ((e ≡ foreign_record_fault (other_field numbering))
+    × ((n : ℕ) × IsNumberFor (other_field numbering) bytes n))
     ⊎ ((e ≡ DamagedRecord) × HasNoNumber (other_field numbering) bytes) → e ≡ record_fault numbering bytes
 fault_is numbering bytes e (inl (is, (n, number))) =
-    is ∙ sym (ap (λ (o : Option ℕ). if is_some o then foreign_record_fault (other_field numbering) else DamagedRecord)
+    is ∙ sym (ap (λ (o : Option ℕ). if is_some o then foreign_record_fault (other_field numbering)
+    else DamagedRecord)
     (number_reads _ n number.number))
 fault_is numbering bytes e (inr (is, none)) =
-    is ∙ ap (λ (o : Option ℕ). if is_some o then foreign_record_fault (other_field numbering) else DamagedRecord)
+    is ∙ ap (λ (o : Option ℕ). if is_some o then foreign_record_fault (other_field numbering)
+    else DamagedRecord)
     (no_number_recorded (other_field numbering) bytes _ refl none)

@@ -196,11 +196,13 @@ module _ (w : World) (o : Options) (accepts_whole : AcceptsWholeKeys w.accepts) 
       )
 
       either_from : (old : Snapshot) (found : Option (List ℕ)) → HasVersionFrom o.numbering k old
-          → RecordMayBe old found ⊎ (ComparesVersion × IsUpdateRecord w o found) → IsVersionFrom o.numbering k found
+          → RecordMayBe old found ⊎ (ComparesVersion × IsUpdateRecord w o found)
+          → IsVersionFrom o.numbering k found
       either_from old found has (inl is) = has found is
       either_from old found has (inr (from, update)) = recorded_from found from update
 
-      keeps_version : (old new : Snapshot) → HasVersionFrom o.numbering k old → Safe w o ComparesVersion ⊥ old new
+      keeps_version : (old new : Snapshot) → HasVersionFrom o.numbering k old
+          → Safe w o ComparesVersion ⊥ old new
           → HasVersionFrom o.numbering k new
       keeps_version old new has safe found is = either_from old found has (safe.1 found is)
 

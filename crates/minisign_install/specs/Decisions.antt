@@ -19,7 +19,8 @@ use Rattle.minisign_install.specs.Comments.{size_label, strip, value_of, values_
 use Rattle.minisign_install.specs.Faults.{BadExpiry, BadSize, DamagedRecord, Expired, Fault, InstallFault}
 use Rattle.minisign_install.specs.Faults.{Library, Named, NoExpiry, NoNumber, NoRecord, OlderUpdate}
 use Rattle.minisign_install.specs.Faults.{OtherFile}
-use Rattle.minisign_install.specs.RecordTexts.{is_foreign_key, foreign_record_fault, other_field, record_digest}
+use Rattle.minisign_install.specs.RecordTexts.{is_foreign_key, foreign_record_fault, other_field}
+use Rattle.minisign_install.specs.RecordTexts.{record_digest}
 use Rattle.minisign_install.specs.RecordTexts.{record_key}
 use Rattle.minisign_install.specs.RecordTexts.{record_text}
 use Rattle.minisign_lists.specs.declared.lines.LongDigest.{LongDigest}
@@ -95,7 +96,8 @@ names_other_key o bytes = is_foreign_key (map (λ v. v.key) o.keys) (record_key 
 -- field, the error says so.
 abbrev pub record_fault : Numbering → List ℕ → InstallFault
 record_fault numbering bytes =
-    if is_some (recorded_version (other_field numbering) bytes) then foreign_record_fault (other_field numbering)
+    if is_some (recorded_version (other_field numbering) bytes) then
+    foreign_record_fault (other_field numbering)
     else DamagedRecord
 
 -- The contents of a record with this version number (or None) for the field of the options, or the error with

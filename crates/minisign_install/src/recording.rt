@@ -5,7 +5,8 @@ ghost use Rattle.std.specs.Prelude.{Some, ◌≡◌, ◌⊎◌, ℕ, ◌==◌, �
 ghost use Rattle.std.specs.Prelude.{MatchOption, length, take, drop};
 ghost use Rattle.hex.specs.Hex.{encode_lower};
 ghost use Rattle.minisign_install.specs.Faults.{DamagedRecord};
-ghost use Rattle.minisign_install.specs.RecordTexts.{foreign_record_fault, other_field, HasNoNumber, IsNumberFor};
+ghost use Rattle.minisign_install.specs.RecordTexts.{foreign_record_fault, other_field, HasNoNumber};
+ghost use Rattle.minisign_install.specs.RecordTexts.{IsNumberFor};
 ghost use Rattle.minisign_install.specs.RecordTexts.{has_last_lines, is_foreign_key, last_lines, first_line};
 ghost use Rattle.minisign_install.specs.RecordTexts.{record_digest, record_key, record_of, record_text};
 

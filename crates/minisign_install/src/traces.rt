@@ -22,7 +22,8 @@ ghost use Rattle.minisign_install.specs.Traces.{CanGrow, HasCopied, MessageFits,
 ghost use Rattle.minisign_install.specs.Traces.{IsNextRead, ReportMatches, IsPieceOf, IsReadFrom};
 ghost use Rattle.minisign_install.specs.Traces.{IsRecordDue};
 ghost use Rattle.minisign_install.specs.Traces.{IsRecorded, is_reported, source_at};
-ghost use Rattle.minisign_install.specs.Traces.{FollowerHolds, HasFollowed, IsLawful, IsLawfulCall, AreFilesOf};
+ghost use Rattle.minisign_install.specs.Traces.{FollowerHolds, HasFollowed, IsLawful, IsLawfulCall};
+ghost use Rattle.minisign_install.specs.Traces.{AreFilesOf};
 ghost use Rattle.minisign_install.specs.Traces.{StateKnows};
 ghost use Rattle.minisign_install.specs.Traces.{affected, bytes_seen, changed, event_of, has_failed};
 ghost use Rattle.minisign_install.specs.Traces.{installs, is_done, is_growing, is_listed, is_nothing};

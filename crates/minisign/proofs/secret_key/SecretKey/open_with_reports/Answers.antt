@@ -5,7 +5,8 @@ use Rattle.minisign.proofs.Openings.{no_fault}
 use Rattle.minisign.proofs.Beginnings.{err_is}
 use Rattle.minisign.proofs.secret_key.SecretKey.open_with_reports.Goals as goal
 
-pub returns-in_err-apply_stream-clause-conversation_ends : goal.returns-in_err-apply_stream-clause-conversation_ends
+pub returns-in_err-apply_stream-clause-conversation_ends
+    : goal.returns-in_err-apply_stream-clause-conversation_ends
 returns-in_err-apply_stream-clause-conversation_ends g c =
     let said = c.say_deriving.new.prompt in
     rw (err_is _ _ c.from_residual-in_err-apply_stream.ensures.1) (⊎_elim (λ (memory, work). inr (
@@ -15,7 +16,8 @@ returns-in_err-apply_stream-clause-conversation_ends g c =
     )) (λ work. inr (said, c.in_ok-say_deriving.ensures.step_ends, inl (ap result_err work, refl)))
     c.in_err-apply_stream.ensures.refused)
 
-pub returns-in_err-finish_with_reports-clause-conversation_ends : goal.returns-in_err-finish_with_reports-clause-conversation_ends
+pub returns-in_err-finish_with_reports-clause-conversation_ends
+    : goal.returns-in_err-finish_with_reports-clause-conversation_ends
 returns-in_err-finish_with_reports-clause-conversation_ends g c =
     let said = c.say_deriving.new.prompt in
     let refused =
