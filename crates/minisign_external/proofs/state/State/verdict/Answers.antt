@@ -4,7 +4,8 @@ use Rattle.minisign_external.proofs.Verdicts.{decided, opened_text, refuse, vouc
 use Rattle.minisign_external.proofs.state.State.verdict.Goals as goal
 
 pub returns-in-Ok-clause-same_verdict_as_texts : goal.returns-in-Ok-clause-same_verdict_as_texts
-returns-in-Ok-clause-same_verdict_as_texts c = λ v pk_text sig_text message legacy accepts has returned keyed answers.
+returns-in-Ok-clause-same_verdict_as_texts c =
+    λ v pk_text sig_text message legacy accepts has returned keyed answers.
     let a = c.args in
     let (utf8, read) = opened_text v legacy sig_text has.signed has.read in
     vouch accepts pk_text sig_text message legacy v keyed utf8 has.signed.comments.trusted
@@ -13,7 +14,8 @@ returns-in-Ok-clause-same_verdict_as_texts c = λ v pk_text sig_text message leg
     ∙ ap (λ j. and_then j (λ _. Ok has.signed.comments.trusted)) (sym c.in-Ok.ensures))
 
 pub returns-in-Err-clause-same_verdict_as_texts : goal.returns-in-Err-clause-same_verdict_as_texts
-returns-in-Err-clause-same_verdict_as_texts c = λ v pk_text sig_text message legacy accepts has returned keyed answers.
+returns-in-Err-clause-same_verdict_as_texts c =
+    λ v pk_text sig_text message legacy accepts has returned keyed answers.
     let a = c.args in
     let (utf8, read) = opened_text v legacy sig_text has.signed has.read in
     refuse accepts pk_text sig_text message legacy v keyed utf8 c.in-Err.fault
