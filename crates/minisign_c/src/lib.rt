@@ -31,7 +31,7 @@ ghost use Rattle.minisign_external.specs.SecretKeys.{unopened_record, opened_key
 ghost use Rattle.minisign_external.specs.SecretKeys.{is_read, checked_sealed_key};
 ghost use Rattle.minisign_external.specs.SecretKeys.{public_key_outcome, value_memory};
 ghost use Rattle.minisign_external.specs.Signatures.{IsReadFrom, read_signature_value, signature_outcome};
-ghost use Rattle.minisign_external.specs.Signatures.{signature_of_value};
+ghost use Rattle.minisign_external.specs.Signatures.{comment_of, signature_of_value};
 ghost use Rattle.minisign_external.specs.Signing.{AreReadByMinisign, HoldsSignatureFile, IsWritingNumber};
 ghost use Rattle.minisign_external.specs.declared.public_keys.PublicKeyValue.{PublicKeyValue};
 ghost use Rattle.minisign_external.specs.declared.state.Refusal.{Refusal};
@@ -42,7 +42,7 @@ ghost use Rattle.minisign_external.specs.declared.state.Misuse.TheVariants.{Entr
 ghost use Rattle.minisign_external.specs.declared.state.Misuse.TheVariants.{KeyNotRead, NoRoom};
 ghost use Rattle.minisign_external.specs.declared.state.Misuse.TheVariants.{PublicKeyNotRead};
 ghost use Rattle.minisign_external.specs.States.{AreQuestionsWithoutDigest, GivesNumber, HasAsked};
-ghost use Rattle.minisign_external.specs.States.{HasReturnedDigest};
+ghost use Rattle.minisign_external.specs.States.{HasReturnedDigest, HoldsCommentMessage, asked_about};
 ghost use Rattle.minisign_external.specs.States.{IsAnswered};
 ghost use Rattle.minisign_external.specs.States.{IsBlank, IsFedState, IsMarkedFed, IsMarkedFinalized};
 ghost use Rattle.minisign_external.specs.States.{KeepsQuestions};
@@ -58,7 +58,7 @@ ghost use Rattle.minisign_external.specs.ValueRecords.{written_public_key};
 ghost use Rattle.minisign.specs.Records.{SignatureRecord};
 ghost use Rattle.minisign_external.specs.StrictCalls.{asked_number, asked_strictly, strict_asking_number};
 ghost use Rattle.minisign_external.specs.StrictCalls.{is_strict_text, is_strict_value};
-ghost use Rattle.minisign_external.specs.States.{asking_checks};
+ghost use Rattle.minisign_external.specs.States.{asking_checks, questions_about};
 ghost use Rattle.minisign_install.specs.Faults.{IsErrorText};
 ghost use Rattle.minisign_c.specs.ListCalls.{IsCallKind, IsCallMeaning, all_entries_number};
 ghost use Rattle.minisign_c.specs.ListCalls.{appending_number, finding_number, line_at_fault, list_result};
@@ -335,6 +335,13 @@ pub extern "C" fn minisign_ask(
         × AreQuestionsWithoutDigest questions.new message.new
         key.now t × HasAsked state.new key.now sig_text.now (allow_legacy == 1) }
     ensures fed { (m : List ℕ) → IsFedState state.old m → IsFedState state.new m }
+
+    // On success, whatever the signature was read from: the state only records that it was asked about this
+    // signature, the questions are those about the key and the signature, and the message is the data
+    // signature followed by the trusted comment.
+    ensures state { result ≡ 0 → state.new ≡ asked_about state.old signature.now }
+    ensures questions { result ≡ 0 → questions.new ≡ questions_about key.now signature.now }
+    ensures message { result ≡ 0 → HoldsCommentMessage signature.now sig_text.now message.new }
 
     // On success, if the signature was read from this text, neither the key nor a signature in the text is
     // weak. The comment signature is only tested if it has at least 64 bytes.
@@ -1022,6 +1029,15 @@ pub extern "C" fn minisign_list_ask(
         × AreListQuestions questions.new message.new key.now t text.now
         × (list.new ≡ asked_list key.now signature.now (Some list_name.now) text.now t.comments.trusted) }
 
+    // On success, whatever the signature was read from: `list` records what it was asked about, the questions
+    // are those about the key and the signature, with the digest of the list, and the message is the data
+    // signature followed by the trusted comment.
+    ensures list { result ≡ 0 → (c : List ℕ) → comment_of signature.now sig_text.now ≡ Ok c
+        → list.new ≡ asked_list key.now signature.now (Some list_name.now) text.now c }
+    ensures questions { result ≡ 0 → questions.new ≡ record (questions_about key.now signature.now)
+        { digest = blake2b_digest 64 text.now } }
+    ensures message { result ≡ 0 → HoldsCommentMessage signature.now sig_text.now message.new }
+
     // On success, if the signature was read from this text, neither the key nor a signature in the text is
     // weak. The comment signature is only tested if it has at least 64 bytes.
     ensures strict { result ≡ 0 → (t : SignatureTextRecord) → IsReadFrom signature.now sig_text.now t
@@ -1066,6 +1082,11 @@ pub extern "C" fn minisign_list_ask_any(
         → (read_under key.now false sig_text.now ≡ Ok t)
         × AreListQuestions questions.new message.new key.now t text.now
         × (list.new ≡ asked_list key.now signature.now None text.now t.comments.trusted) }
+    ensures list { result ≡ 0 → (c : List ℕ) → comment_of signature.now sig_text.now ≡ Ok c
+        → list.new ≡ asked_list key.now signature.now None text.now c }
+    ensures questions { result ≡ 0 → questions.new ≡ record (questions_about key.now signature.now)
+        { digest = blake2b_digest 64 text.now } }
+    ensures message { result ≡ 0 → HoldsCommentMessage signature.now sig_text.now message.new }
     ensures strict { result ≡ 0 → (t : SignatureTextRecord) → IsReadFrom signature.now sig_text.now t
         → is_strict_text key.now t ≡ true }
     ensures rest_unchanged { result ≡ 0 → drop questions.new.message_len message.new

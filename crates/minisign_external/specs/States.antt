@@ -2,8 +2,9 @@
 -- fed, the questions that it was asked, and the verdict. A question is the inputs of an Ed25519 check, which
 -- the caller makes. To ask the state about a key and a signature means to get the questions for them
 -- (`State::ask`).
-use Rattle.std.specs.Prelude.{◌≡◌, ⊤, ◌==◌, ◌⊎◌, ◌<◌, ◌||◌, ◌&&◌, not, nat_le, ℕ, Bool, if◌then◌else◌, List}
-use Rattle.std.specs.Prelude.{◌+◌, length, replicate, MatchResult, Result, Ok, Err}
+use Rattle.std.specs.Prelude.{◌≡◌, ⊤, ◌==◌, ◌⊎◌, ◌<◌, ◌≤◌, ◌||◌, ◌&&◌, not, nat_le, ℕ, Bool, if◌then◌else◌}
+use Rattle.std.specs.Prelude.{List}
+use Rattle.std.specs.Prelude.{◌+◌, ◌++◌, length, replicate, take, MatchResult, Result, Ok, Err}
 use Rattle.std.specs.Str.{IsUtf8}
 use Rattle.minisign_hash.specs.Stored.{WasFed}
 use Rattle.minisign_base.specs.Fault.{Fault}
@@ -131,6 +132,13 @@ questions_about v s = record {
 -- The state after it was asked about a signature.
 abbrev pub asked_about : State → SignatureValue → State
 asked_about state s = record state { asked = record { mark = asked_mark; whole = s.whole } }
+
+-- The buffer begins with the message of the second question: the data signature, and the trusted comment that
+-- the signature has in this text.
+abbrev pub HoldsCommentMessage : SignatureValue → List ℕ → List ℕ → Type 0
+HoldsCommentMessage s text buffer = (c : List ℕ) → comment_of s text ≡ Ok c
+    → (length c ≡ s.comment_len) × (64 + length c ≤ length buffer)
+    × (take (64 + length c) buffer ≡ s.signature ++ c)
 
 -- The API misuse for feeding a state that accepts no data: its digest was returned, or else it is not
 -- initialized.

@@ -10,12 +10,12 @@ ghost use Rattle.minisign_external.specs.Questions.{Answers, AnswersComment, IsK
 ghost use Rattle.minisign_external.specs.Questions.{comment_verdict_under, read_under, verdict_under};
 ghost use Rattle.minisign_external.specs.Signatures.{IsReadFrom, comment_of};
 ghost use Rattle.minisign_external.specs.States.{AreQuestionsWithoutDigest, AreQuestions, GivesVerdict};
-ghost use Rattle.minisign_external.specs.States.{HasAsked};
+ghost use Rattle.minisign_external.specs.States.{HasAsked, HoldsCommentMessage};
 ghost use Rattle.minisign_external.specs.States.{HasReturnedDigest, IsAskFedRefusal, IsFedState};
 ghost use Rattle.minisign_external.specs.States.{IsMarkedFinalized, IsTextRefusal, asked_about};
 ghost use Rattle.minisign_external.specs.States.{asking_checks};
 ghost use Rattle.minisign_external.specs.States.{asking_misuse, asking_result, asking_under, comment_result};
-ghost use Rattle.minisign_external.specs.States.{given_verdict, is_asked, is_begun};
+ghost use Rattle.minisign_external.specs.States.{finalized_mark, given_verdict, is_asked, is_begun};
 ghost use Rattle.minisign_external.specs.States.{questions_about, check_buffer, verdict_outcome};
 ghost use Rattle.minisign_external.specs.States.{verdict_misuse};
 ghost use Rattle.minisign_external.specs.StrictCalls.{asked_strictly, is_strict_text, is_strict_value};
@@ -67,6 +67,13 @@ impl State {
             × AreQuestionsWithoutDigest questions.new message.new
             key.now t × HasAsked self.new key.now sig_text.now allow_legacy) }
         ensures fed { (m : List ℕ) → IsFedState self.old m → IsFedState self.new m }
+
+        // On success, whatever the signature was read from: the state only records that it was asked about
+        // this signature, the questions are those about the key and the signature, and the message is the
+        // data signature followed by the trusted comment.
+        ensures state { OnOk result (self.new ≡ asked_about self.old signature.now) }
+        ensures questions { OnOk result (questions.new ≡ questions_about key.now signature.now) }
+        ensures message { OnOk result (HoldsCommentMessage signature.now sig_text.now message.new) }
 
         // If the signature was read from this text, and the result is an error of the library and not API
         // misuse, then verification with this key and text fails with the same error, for every scheme and
@@ -121,6 +128,9 @@ impl State {
             × AreQuestionsWithoutDigest questions.new message.new
             key.now t × HasAsked self.new key.now sig_text.now allow_legacy }
         ensures fed { (m : List ℕ) → IsFedState self.old m → IsFedState self.new m }
+        ensures state { result ≡ Ok true → self.new ≡ asked_about self.old signature.now }
+        ensures questions { result ≡ Ok true → questions.new ≡ questions_about key.now signature.now }
+        ensures message { result ≡ Ok true → HoldsCommentMessage signature.now sig_text.now message.new }
 
         // If the result is true, the buffer after the message is unchanged. Otherwise the state, the
         // questions and the buffer are unchanged.
@@ -183,6 +193,15 @@ impl State {
             ((m : List ℕ) → IsFedState self.old m → (questions.new.digest ≡ blake2b_digest 64 m)
             × HasReturnedDigest self.new m) }
         ensures finalized { OnOk result (IsMarkedFinalized self.new) }
+
+        // On success, whatever the signature was read from: nothing of the state is changed but its mark and
+        // the record that it was asked, the questions are those about the key and the signature, with the
+        // digest, and the message is the data signature followed by the trusted comment.
+        ensures state { OnOk result
+            (self.new ≡ record (asked_about self.old signature.now) { mark = finalized_mark }) }
+        ensures questions { OnOk result (questions.new ≡ record (questions_about key.now signature.now)
+            { digest = questions.new.digest }) }
+        ensures message { OnOk result (HoldsCommentMessage signature.now sig_text.now message.new) }
 
         // On success, the key and the signature were read, the signature was read from this text, and the
         // key, the signature, the text and the buffer size cause none of the errors of `ask`.

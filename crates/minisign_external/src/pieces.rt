@@ -163,7 +163,7 @@ fn verify_read<S: Scheme>(
     match state.ask(key, signature, sig_text, false, &mut questions, room) {
         Ok(()) => {
             feed(&mut state, pieces)?;
-            finish(scheme, &mut state, &questions, room)
+            finish(scheme, state, &questions, room)
         }
         Err(refusal) => Err(refusal),
     }
@@ -195,13 +195,13 @@ fn feed(state: &mut State, pieces: &[&[u8]]) -> Result<(), Misuse>
 // Computes the digest, lets the scheme make both checks, and returns the verdict.
 fn finish<S: Scheme>(
     scheme: &S,
-    state: &mut State,
+    mut state: State,
     questions: &Questions,
     room: &[u8],
 ) -> Result<(), Refusal>
     requires { questions.now.message_len ≤ length room.now }
-    ensures { (v : PublicKeyValue) (text m : List ℕ) (t : SignatureTextRecord) → IsFedState state.old m
-        → HasAsked state.old v text false → read_under v false text ≡ Ok t
+    ensures { (v : PublicKeyValue) (text m : List ℕ) (t : SignatureTextRecord) → IsFedState state m
+        → HasAsked state v text false → read_under v false text ≡ Ok t
         → AreQuestionsWithoutDigest questions.now room.now v
         t → result ≡ given_verdict (verdict_under (S.accepts scheme.now) v text m false) }
 {

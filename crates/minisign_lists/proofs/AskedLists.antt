@@ -99,6 +99,21 @@ comment_after s text t from q v message asked =
     ∙ ap (drop 64) whole
     ∙ drop_at signature trusted 64 size
 
+-- The same for a signature that was read from any text, or from none.
+pub comment_held : (s : SignatureValue) (c message : List ℕ) → length c ≡ s.comment_len
+    → 64 + length c ≤ length message → take (64 + length c) message ≡ s.signature ++ c
+    → take s.comment_len (drop 64 message) ≡ c
+comment_held s c message len fits whole =
+    let signature : List ℕ = s.signature in
+    let taken : length (take (64 + length c) message) ≡ 64 + length c = length-take-le (64 + length c) message fits in
+    let both : length (take (64 + length c) message) ≡ length signature + length c =
+    ap length whole ∙ length-append signature c in
+    let size : length signature ≡ 64 = omega (arith, taken, both) in
+    ap (λ (n : ℕ). take n (drop 64 message)) (sym len)
+    ∙ sym (drop-take 64 (length c) message)
+    ∙ ap (drop 64) whole
+    ∙ drop_at signature c 64 size
+
 -- == The verdict ==
 
 one_or_zero : (b : Bool) → ((if b then 1 else 0) == 1) ≡ b

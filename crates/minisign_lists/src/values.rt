@@ -13,9 +13,9 @@ ghost use Rattle.minisign_sha2.specs.Hashers.{IsFed256, IsFed512, WasFed256, Was
 ghost use Rattle.minisign.specs.SignatureText.{SignatureTextRecord};
 ghost use Rattle.minisign.specs.Acceptance.{Verifier};
 ghost use Rattle.minisign_external.specs.Questions.{Answers, read_under};
-ghost use Rattle.minisign_external.specs.Signatures.{IsReadFrom};
+ghost use Rattle.minisign_external.specs.Signatures.{IsReadFrom, comment_of};
 ghost use Rattle.minisign_external.specs.States.{AreQuestionsWithoutDigest, AreQuestions, asking_checks};
-ghost use Rattle.minisign_external.specs.States.{asked_under};
+ghost use Rattle.minisign_external.specs.States.{HoldsCommentMessage, asked_under, questions_about};
 ghost use Rattle.minisign_external.specs.States.{with_public_key};
 ghost use Rattle.minisign_external.specs.StrictCalls.{asked_strictly, is_strict_text, is_strict_value};
 ghost use Rattle.minisign_external.specs.declared.public_keys.PublicKeyValue.{PublicKeyValue};
@@ -293,6 +293,15 @@ impl ListValue {
             × (questions.new.digest ≡ blake2b_digest 64 text.now) × (self.new ≡ asked_list key.now
             signature.now (option_map (λ n. n.now) list_name.entry) text.now t.comments.trusted) }
 
+        // If the result is true, whatever the signature was read from: the list records what it was asked
+        // about, the questions are those about the key and the signature, with the digest of the list, and
+        // the message is the data signature followed by the trusted comment.
+        ensures list { result ≡ Ok true → (c : List ℕ) → comment_of signature.now sig_text.now ≡ Ok c
+            → self.new ≡ asked_list key.now signature.now (option_map (λ n. n.now) list_name.entry) text.now c }
+        ensures questions { result ≡ Ok true → questions.new ≡ record (questions_about key.now signature.now)
+            { digest = blake2b_digest 64 text.now } }
+        ensures message { result ≡ Ok true → HoldsCommentMessage signature.now sig_text.now message.new }
+
         // If the result is true, the buffer after the message is unchanged. Otherwise the list, the questions
         // and the buffer are unchanged.
         ensures rest_unchanged { result ≡ Ok true
@@ -476,6 +485,8 @@ fn ask_once(
         → (read_under key.now false sig_text.now ≡ Ok t) × AreQuestionsWithoutDigest questions.new
         message.new key.now t }
     ensures room { result ≡ Ok true → 64 + signature.now.comment_len ≤ length message.old }
+    ensures questions { result ≡ Ok true → questions.new ≡ questions_about key.now signature.now }
+    ensures message { result ≡ Ok true → HoldsCommentMessage signature.now sig_text.now message.new }
     ensures rest_unchanged { result ≡ Ok true
         → drop questions.new.message_len message.new ≡ drop questions.new.message_len message.old }
     ensures unchanged { result ≢ Ok true → (questions.new ≡ questions.old) × (message.new ≡ message.old) }
@@ -688,7 +699,8 @@ impl FileValue {
     /// not allocate.
     pub fn none() -> FileValue
         // No check has been begun in the state.
-        ensures { result.mark ≡ 0 }
+        ensures mark { result.mark ≡ 0 }
+        ensures reserved { result.reserved ≡ replicate 4 0 }
     {
         FileValue {
             mark: 0,
@@ -719,6 +731,7 @@ impl FileValue {
     // Returns the struct for a check against a SHA-256 digest.
     fn store_256(hasher: &Sha256, digest: &[u8; 32]) -> FileValue
         ensures mark { (result.mark ≡ file_mark) × (result.hash ≡ 1) }
+        ensures reserved { result.reserved ≡ replicate 4 0 }
         ensures digest { take 32 result.digest ≡ digest.now }
         ensures fed { (m : List ℕ) → IsFed256 hasher.now m → WasFed256 result.sha256 m }
     {
@@ -735,6 +748,7 @@ impl FileValue {
     // Returns the struct for a check against a SHA-512 digest.
     fn store_512(hasher: &Sha512, digest: &[u8; 64]) -> FileValue
         ensures mark { (result.mark ≡ file_mark) × (result.hash ≡ 2) }
+        ensures reserved { result.reserved ≡ replicate 4 0 }
         ensures digest { result.digest ≡ digest.now }
         ensures fed { (m : List ℕ) → IsFed512 hasher.now m → WasFed512 result.sha512 m }
     {
@@ -752,6 +766,7 @@ impl FileValue {
     fn store_blake2b(hasher: &Blake2b, digest: &[u8; 64]) -> FileValue
         requires { output_length hasher.now ≡ 64 }
         ensures mark { (result.mark ≡ file_mark) × (result.hash ≡ 3) }
+        ensures reserved { result.reserved ≡ replicate 4 0 }
         ensures digest { result.digest ≡ digest.now }
         ensures fed { (m : List ℕ) → IsFed hasher.now m → WasFed result.blake2b m }
     {
@@ -768,7 +783,8 @@ impl FileValue {
     // Returns the struct for a check.
     fn store(check: &FileCheck) -> FileValue
         requires { IsUsable check.now }
-        ensures { (d : ListedDigest) (m : List ℕ) → IsFedCheck check.now d m → IsFedValue result d m }
+        ensures fed { (d : ListedDigest) (m : List ℕ) → IsFedCheck check.now d m → IsFedValue result d m }
+        ensures reserved { result.reserved ≡ replicate 4 0 }
     {
         match check {
             FileCheck::Sha256(hasher, digest) => FileValue::store_256(hasher, digest),
@@ -813,10 +829,11 @@ impl FileValue {
 
     /// Feeds the next piece of the data.
     pub fn update(&mut self, piece: &[u8]) -> std::result::Result<(), Misuse>
-        // On success, the piece is appended to the data that the state was fed. The call fails only if no
-        // check was begun; then the state is unchanged.
+        // On success, the piece is appended to the data that the state was fed, and the reserved fields are 0.
+        // The call fails only if no check was begun; then the state is unchanged.
         ensures fed { (d : ListedDigest) (m : List ℕ) → IsFedValue self.old d m
             → MatchResult result (λ _. IsFedValue self.new d (m ++ piece.now)) (λ _. ⊥) }
+        ensures reserved { OnOk result (self.new.reserved ≡ replicate 4 0) }
         ensures was_begun { OnOk result (self.old.mark ≡ file_mark) }
         ensures refused { IfErr result (λ e. (e ≡ NotBegun) × (self.new ≡ self.old)
             × ((d : ListedDigest) (m : List ℕ) → ¬ (IsFedValue self.old d m))) }
