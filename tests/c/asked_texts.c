@@ -11,6 +11,7 @@
 static const char HELLO_KEY[] =
     "untrusted comment: minisign public key 21E66B4C8EEFA0B8\n"
     "RWS4oO+OTGvmIXV1rhgpjypAJvWKm8TwdV4j02FufATCsUQLjhDbStyt\n";
+/* The prehashed and the legacy signature in this test. */
 #define PREHASHED OTHER_SIGNATURE
 static const char LEGACY[] =
     "untrusted comment: signature from minisign secret key\n"
@@ -40,8 +41,9 @@ static const char SECRET[] =
     "b2eff9108a88977e738b0f53a6c938bd";
 static const char SECRET_KEY_ID[] = "bbcd807aefe53eab";
 
-/* A key file with the same secret key, and with this key derivation, these limits, this key ID and this checksum, each in
- * base64. */
+/* A key file with the same secret key, and with this key derivation, these limits, this key ID and this checksum. The
+ * parameters are parts of the base64 text. They do not begin and end at a byte of the field, so the first and last letter
+ * also have bits of the fields next to it, which are zeros or the same in all keys. */
 #define KEY_TEXT(derivation, limits, key_id, checksum) \
     "untrusted comment: x\nRW" derivation "IyAAAAAAAAAAAAAAAAAAAAAAAAAAAAAAAAAAAAAAAAAA" limits key_id \
     "5tw414tB2l3S0AV4BthpWrWHyA+ItsehisjsR8AROg+V8Ng82TAEWPpchqblhFFay7/kQioiXfnOLD1OmyTi9A" checksum \

@@ -36,7 +36,7 @@ from ed25519_edge_cases import FIELD_PRIME, GROUP_ORDER, SMALL_ORDER_Y
 from process import run
 from running import read
 
-# Patterns for the statements that each document must contain.
+# Patterns for the statements that each document must contain, because callers that use OpenSSL rely on them.
 RULES = ("public key .*?R.* small order", "R that is not canonically encoded", "S .*?that is not below the group order",
          "OpenSSL 3\\.0, 64 zero bytes are a valid signature of one message in four under a public key of 32 zero bytes",
          "56 letters A", "minisign_ask rejects all three kinds, and so does crypto_sign_verify_detached of libsodium")
@@ -201,6 +201,7 @@ def run_all(checks, scratch):
     check_texts(checks)
     check_libsodium(checks)
     check_openssl(checks)
+    # C_CALLS= leaves out dist/calls.c, which is slow to compile: the library then contains only the archives of dist/.
     library = static_library.library(f"{scratch}/out", "C_CALLS=")
     check_key_of_zeros(checks, scratch, library)
     check_vectors(checks, scratch, library)
