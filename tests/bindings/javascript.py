@@ -188,7 +188,7 @@ def check_fields(program, minisign, _):
 
 
 def check_options(program, *_):
-    """Checks that options must be plain objects with known own properties, also if Object.prototype has more properties."""
+    """Checks that options must be plain objects whose own properties are known, even if Object.prototype has further properties."""
     paths = [PUBLISHED_PATHS[0], PUBLISHED_PATHS[1], os.path.join(shared_cases.CORPUS, "published-legacy.minisig")]
     for least, word in ((120, "kinds"), (100, "polluted")):
         by_node(program.checks, program.directory, "options.mjs").check_pairs(least, word, *paths)

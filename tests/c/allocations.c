@@ -2,7 +2,7 @@
  * Checks the allocation functions in c/library/allocation.c, with which the proved functions allocate memory:
  *
  *   - a block has the requested length and alignment;
- *   - a block is cleared before it is freed, also if it was moved to a larger block;
+ *   - a block is cleared before it is freed; if its content was moved to a larger block, the old block is cleared too;
  *   - a failed allocation leaves the old block unchanged;
  *   - only large blocks are mapped in advance with madvise, and the functions work if madvise fails.
  *

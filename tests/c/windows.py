@@ -610,7 +610,7 @@ class Cases:
         self.checks.same(self.run_exe("-v").stdout.decode(), f"minisign 0.11\nMinisign in Rattle {version}\n", "-v")
 
 
-# The methods of Cases with a `_` in their names that are no cases.
+# The methods of Cases that have a `_` in their names but are not cases.
 HELPERS = {"run_exe", "run_on_linux", "run_theirs", "run_all_three", "kill_after", "run_at_home"}
 # All other methods with a `_` in their names are cases. So the name of a new helper has no `_`, or HELPERS contains it.
 CASES = [name for name, value in vars(Cases).items() if not name.startswith("_") and callable(value) and "_" in name
