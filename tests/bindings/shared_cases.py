@@ -664,7 +664,7 @@ def check_new_key_files(program, directory, success="OK"):
 
 
 class StopAtFailure(Checks):
-    """Checks that raise a `Failure` at the first one that fails."""
+    """Like `Checks`, but raises a `Failure` for the first check that fails."""
 
     def check(self, holds, *what):
         expect(holds, *what)

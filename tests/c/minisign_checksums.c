@@ -154,7 +154,7 @@ static void any_ed25519_signature(uint8_t signature[64])
     }
 }
 
-/* Returns an unopened key. It is mostly an encrypted one, if there is one. */
+/* Returns one of the unopened keys. In three of four calls it is an encrypted one, if there is any. */
 static const minisign_unopened_key *any_unopened_key(void)
 {
     int i = any_copy();
@@ -358,7 +358,7 @@ static uint32_t any_legacy(void)
     return one_in(20) ? rare : !one_in(3);
 }
 
-/* Returns a key. It mostly has the key ID of this signature, if there is such a key. */
+/* Returns one of the public keys. In three of four calls it has the key ID of this signature, if there is such a key. */
 static const minisign_public_key *any_key_for(const minisign_signature *signature)
 {
     int i = any_copy();

@@ -464,7 +464,7 @@ class Cases:
             with self.holding("data.minisig", 60000, how):
                 ran = subprocess.Popen([self.wine.program, self.exe, "-S", "-s", "a.key", "-m", "data"], cwd=self.scratch,
                                        env=self.wine.variables, stdin=subprocess.DEVNULL, stderr=subprocess.PIPE)
-                # The program creates its temporary file directly before it needs the other one.
+                # Waits for the temporary file: right after creating it, the program tries to replace the file that is held.
                 while not self.leftovers() and ran.poll() is None:
                     time.sleep(0.01)
                 time.sleep(0.3)
@@ -698,7 +698,7 @@ def failure_of(programs, scratch, parts, mutant):
 
 
 def check_mutants(checks, pool, programs, scratch):
-    """Checks that the case that a mutant names notices it."""
+    """Checks that each mutant is noticed by the case that it names."""
     tried = [mutant for mutant in mutants.mutants_of("c", "windows_mutants") if selected.is_selected(mutant.name, "mutants")]
     if tried:
         parts = Parts(scratch)

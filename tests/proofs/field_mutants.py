@@ -287,7 +287,7 @@ def in_parts(text):
 
 
 def test_modules(files):
-    """Returns the modules, each with `::` behind it, that are compiled only for tests."""
+    """Returns the paths of the modules that are compiled only for tests, each with `::` at its end."""
     return tuple("::".join(filter(None, (module_of(path), item.name, ""))) for path, (_, source) in files.items()
                  for item in source.items if item.what == "mod" and "#[cfg(test)]" in item.comment)
 
@@ -499,7 +499,7 @@ class Generator:
         shown, changes = value if len(value) < 40 else "..", []
         for match in re.finditer(r"\bErr\(", self.bare[body:end]):
             begin, stop = body + match.start(), self.reader.closed[body + match.end() - 1]
-            # An `Err(..)` that is followed by one of these is a pattern.
+            # Before `=`, `|` or `if`, `Err(..)` is a pattern and not a value.
             if not re.match(r"\s*(?:=|\||if\b)", self.bare[stop:stop + 80]):
                 changes.append((begin, stop, f"Ok({value})", f"Err {len(changes) + 1}"))
         for number, match in enumerate(re.finditer(r"\?", self.bare[body:end]), 1):
@@ -572,7 +572,7 @@ class FieldTrial(Trial):
 
     def __init__(self, crate, places=None):
         super().__init__(crate, places)
-        # The results of the checks of each thread, so that each check only checks what is new.
+        # The directory in which the prover keeps the results of each thread, so that each check proves only what has changed.
         self.results = threading.local()
 
     def check(self, directory, functions):
@@ -871,7 +871,7 @@ def report(verdicts, good):
 
 
 class Run:
-    """A run of this script: its words and flags, and its results so far."""
+    """A run of this script: the names and flags of its command line, and its results so far."""
 
     def __init__(self, names, flags, pool, places):
         self.names, self.flags, self.pool, self.places = names, flags, pool, places
@@ -880,7 +880,8 @@ class Run:
         self.outcomes, self.skipped = Counter(), 0
 
     def mutants_of(self, crate):
-        """Returns the functions of a crate that have mutants, each with its mutants, and those of them that are named."""
+        """Returns the functions of a crate that have mutants, each with its mutants, and the list of the functions that the command line
+        selects."""
         generators = generators_of(crate, self.is_unchanged, names_of(crate, tuple(recorded().get(crate, ()))))
         every = {generator: bodies for generator in generators if (bodies := list(generator.all()))}
         selected = [generator for generator in every
