@@ -109,14 +109,15 @@ class Mutant(WrongBody):
         self.crate, self.path, self.item, self.function, self.places = crate, path, item, function, places
         self.copied = None if item.trait else item
         self.does, self.label, self.suffix = does, f"{crate}/{function}: {does}", ""
-        # A condition: at the place where the mutant resets the field, the field has the reset value.
+        # A condition, which is true if the field already has the reset value where the mutant resets it. Then the mutant
+        # changes nothing.
         self.field = field
         # A body that calls the unchanged function, and then makes the same change as the mutant.
         self.around = around
         self.call = call
         self.clause = self.named = self.by = self.why_not = ""
         self.is_for_kit = self.is_unchanged = self.is_around = False
-        # The output that is different from that of the function, if it is a single one, and all outputs of the function.
+        # The output that the mutant changes, if there is exactly one, and all outputs of the function.
         self.changes, self.outputs = changes, outputs
 
     def probe(self, is_call):
@@ -159,7 +160,7 @@ class Twice(Mutant):
     def __init__(self, generator, fields=()):
         super().__init__(generator.structs.crate, generator.path, generator.item, generator.function, [], "two calls")
         self.added, self.ensured = generator.twice(fields)
-        # The outputs that the contract determines, once the prover has said so.
+        # The outputs that the contract determines. It is empty until the prover has run.
         self.determined = frozenset()
 
     def pieces(self, text):
@@ -254,7 +255,8 @@ class Structs:
         return VALUES.get(re.sub(r"&'\w+ ", "&", kind), "")
 
     def value(self, kind, module, is_at_hand, depth=0):
-        """Returns a value of a type, or an empty string if this script knows none. `is_at_hand` says if a parameter `alloc` is."""
+        """Returns a value of a type, or an empty string if this script knows none. `is_at_hand` is true if the function has a
+        parameter `alloc`, from which the value may be made."""
         kind = re.sub(r"&'\w+ ", "&", kind)
         if kind.startswith("("):
             values = [self.value(each, module, is_at_hand, depth + 1) for each in in_parts(kind[1:-1])]
@@ -702,7 +704,7 @@ def generators_of(crate, is_unchanged=False, names=()):
 
 
 def determined(trial, generators, mutants, pool):
-    """Returns for each function the outputs that its contract determines, as far as mutants change them."""
+    """Returns, for each function, those outputs that its contract determines and that a mutant changes."""
     changed = {}
     for body in mutants:
         changed.setdefault(body.function, set()).add(body.changes)
