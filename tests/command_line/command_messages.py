@@ -214,7 +214,7 @@ def damaged_keys(text):
          text_of(record[:2] + b"XX" + record[4:])),
         (b"decrypting this key takes more than 1 GiB of memory", b"error: wrong: the scrypt limits of this key are too high",
          limited(1 << 15, (1 << 30) + 1)),
-        (damage + b"its scrypt parameters are invalid", b"error: wrong: the scrypt limits of this key are invalid", limited(1 << 40, 0)),
+        (damage + b"its scrypt limits are invalid", b"error: wrong: the scrypt limits of this key are invalid", limited(1 << 40, 0)),
     ):
         hint = DOWNLOAD_HINT if b"empty" in words else RESTORE_HINT if b"GiB" not in words else None
         for wrong in texts:
