@@ -113,12 +113,12 @@ def check_builds(checks, archive, scratch):
     status, why, _ = build(unpacked("another compiler"), programs, CC="cl")
     checks.check(status != 0 and NO_COMPILER.format("cl") in why, f"a compiler without GNU options: {why[-500:]}")
 
-    def ask(checks, changed, directory, setup):
+    def run_case(checks, changed, directory, setup):
         status, why, library = build(changed, programs, CC=gcc, MINISIGN_PORTABLE=SETUPS[setup])
         checks.check(status == 0, why)
         check_loaded(checks, "a mutant", gcc, library)
 
-    shared.check_mutants(checks, unpacked("mutants"), "bindings/python", mutants_of("bindings", "python", "setup_mutants"), scratch, ask)
+    shared.check_mutants(checks, unpacked("mutants"), "bindings/python", mutants_of("bindings", "python", "setup_mutants"), scratch, run_case)
     return programs
 
 
@@ -259,7 +259,7 @@ def check_installing(checks, python_path, scratch):
 
 def check_mutants(checks, python_path, package, scratch, minisign):
     """Checks that each mutant of the package is detected by the case that it names."""
-    def ask(checks, changed, directory, word):
+    def run_case(checks, changed, directory, word):
         # libsodium is used where possible, because it loads faster.
         user = user_of(checks, python_path, "cryptography" if word in ("vectors", "strict") else "libsodium", os.path.dirname(changed))
         cases = {"verify": lambda: user.check_errors(["verify", "reject"], shared.rejected_cases()),
@@ -272,7 +272,7 @@ def check_mutants(checks, python_path, package, scratch, minisign):
                  "sign": lambda: shared.check_signing(user, os.path.join(directory, "signed"), minisign)}
         cases.get(word, lambda: user.check_pairs(1, word, directory))()
 
-    shared.check_mutants(checks, package, f"bindings/python/src/{PACKAGE}", mutants_of("bindings", "python", "mutants"), scratch, ask)
+    shared.check_mutants(checks, package, f"bindings/python/src/{PACKAGE}", mutants_of("bindings", "python", "mutants"), scratch, run_case)
 
 
 def run_all(checks, scratch):

@@ -162,12 +162,12 @@ static void rejects_signature_texts(void)
 /* Opening a secret key returns its secret and its key ID, from which the public key can be written. */
 static void opens_secret_key(void)
 {
-    minisign_public_key half;
+    minisign_public_key public_key;
 
     CHECK(read_and_open(SECRET_KEY, NULL, &unopened, &signing) == MINISIGN_OK);
     CHECK(equals_hex(signing.secret, SECRET) && equals_hex(signing.key_id, SECRET_KEY_ID));
-    CHECK(minisign_public_key_of(&signing, &half) == MINISIGN_OK);
-    CHECK(equals_hex(half.key, SECRET + 64) && equals_hex(half.key_id, SECRET_KEY_ID));
+    CHECK(minisign_public_key_of(&signing, &public_key) == MINISIGN_OK);
+    CHECK(equals_hex(public_key.key, SECRET + 64) && equals_hex(public_key.key_id, SECRET_KEY_ID));
 }
 
 /* Checks the error for each invalid secret key file, and that nothing is written. */
@@ -218,6 +218,7 @@ static void writes_signature(void)
 
 /* ---- Public keys ---- */
 
+/* A short name, for the tables below. */
 #define LINE KEY_LINE
 #define SECOND_LINE "RWQgIL+P9InzHS80IJTTlmrDw4sxOtdRTc3QnmnZMSSaSrd2GcKR5OlJ"
 /* The key and the key ID that each line encodes. */

@@ -158,7 +158,7 @@ def check_openssl(checks):
 OPENSSL_PROGRAM = "#include <openssl/evp.h>\nint main(void) { return EVP_MD_CTX_new() == NULL; }\n"
 
 
-def openssl(compiler):
+def need_openssl(compiler):
     """Raises an exception unless OpenSSL with its header is installed or can be installed."""
     needs.need(lambda: needs.compiles(compiler, OPENSSL_PROGRAM, ["-lcrypto"]) or None, "OpenSSL with its header", "libssl-dev")
 
@@ -166,7 +166,7 @@ def openssl(compiler):
 def check_vectors(checks, scratch, library):
     """Checks that the library has the verdicts of libsodium, both with OpenSSL and with libsodium."""
     compiler, program, vectors = needs.compiler_with_libsodium(), f"{scratch}/verify_over", ed25519_edge_cases.vectors()
-    openssl(compiler)
+    need_openssl(compiler)
     command = [compiler, "-O2", "-Wall", "-Wextra", "-Werror", "-I", f"{TOP}/include", f"{TOP}/tests/c/verify_over.c", library,
                "-lcrypto", "-lsodium", "-pthread", "-o", program]
     status, output = run(command)

@@ -204,4 +204,5 @@ const CHECKS = {
 };
 
 const seen = await CHECKS[what]();
-process.stdout.write(EXPECTED[what].map((expected, index) => `${expected}\t${seen[index]}\n`).join(""));
+const length = Math.max(EXPECTED[what].length, seen.length);
+process.stdout.write(Array.from({length}, (_, index) => `${EXPECTED[what][index]}\t${seen[index]}\n`).join(""));
