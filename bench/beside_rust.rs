@@ -1,4 +1,5 @@
-//! The jobs of bench/library_bench with the Rust crate minisign, for bench/beside_rust.py.
+//! Runs a job of bench/library_bench with the Rust crate minisign instead, for bench/beside_rust.py. The number that it prints
+//! depends on all results, so that the compiler cannot leave out the work.
 use minisign::crypto::blake2b::Blake2b;
 use minisign::{sign, verify, PublicKey, PublicKeyBox, SecretKey, SecretKeyBox, SignatureBox};
 use std::fs::{read, read_to_string, File};

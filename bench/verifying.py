@@ -1,11 +1,12 @@
 #!/usr/bin/env python3
 """Times `c/minisign -V` on a file of 1 GB, in processor time, compared with `minisign -V` and `b2sum`, and prints the sizes
-of the archive and of the program.
+of libminisign.a and of the program.
 
     bench/verifying.py
 
 The program is built twice: with the normal library, which uses the code for x86-64-v3 if the processor supports it, and with a
-library in which the code for x86-64-v2 also takes the place of that for x86-64-v3. So the latter is measured on every processor.
+library in which the code for x86-64-v2 also takes the place of that for x86-64-v3. So the second program runs the code for
+x86-64-v2 on every processor.
 
 Needs: Python 3.9 or later, make, a C compiler, libsodium with its header, minisign and coreutils' b2sum. It makes its
 input in a temporary directory, which needs 1 GB of disk space.
@@ -23,7 +24,8 @@ import static_library
 
 
 def build(name, v2, v3, directory):
-    """Builds the program with the archives `v2` and `v3`, prints the sizes, and returns the path of the program."""
+    """Builds the program with the paths `v2` and `v3` in place of dist/calls-x86-64-v2.a and -v3.a, prints the sizes, and returns
+    the path of the program."""
     out = os.path.join(directory, name)
     static_library.run_make(f"OUT={out}", f"V2={v2}", f"V3={v3}", f"CC={needs.compiler_with_libsodium()}")
     program = os.path.join(out, "minisign")

@@ -56,8 +56,9 @@ copy c/library/portable/allocation.c memory.c "$as_c"
     cat <<'END'
 /* SPDX-License-Identifier: MIT */
 /*
- * Renames functions. In the archives, the proved calls have the public names. boundary.c calls them by these names, and the
- * functions that it defines for programs get other names. Made from c/library/names by bindings/go_copies.sh.
+ * Renames functions, because the proved calls in the archives have the public names, such as minisign_ask. Where boundary.c
+ * calls portable_minisign_ask, the call minisign_ask of the archive is linked. The function that boundary.c defines gets the
+ * name bounded_minisign_ask. Made from c/library/names by bindings/go_copies.sh.
  */
 #ifndef MINISIGN_PORTABLE
 #define MINISIGN_PORTABLE

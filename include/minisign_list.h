@@ -147,8 +147,8 @@ typedef struct minisign_list_entry {
  *
  * Does not allocate. After an error the entry is unchanged. The errors, in this order: MINISIGN_BAD_HASH;
  * MINISIGN_LIST_NOT_VERIFIED; MINISIGN_OTHER_LIST_TEXT; MINISIGN_NOT_UTF8, for the list or the name;
- * MINISIGN_BAD_NAME, if no list can contain the name; MINISIGN_MALFORMED_LINE; MINISIGN_NOT_LISTED;
- * MINISIGN_LISTED_TWICE. Since 0.3.
+ * MINISIGN_BAD_NAME, if the name is not a relative path as described at the top of this header, or contains a control
+ * character or a backslash; MINISIGN_MALFORMED_LINE; MINISIGN_NOT_LISTED; MINISIGN_LISTED_TWICE. Since 0.3.
  */
 MINISIGN_MUST_USE enum minisign_error minisign_list_find(
     const minisign_list *list, const uint8_t *text, size_t text_len, enum minisign_hash long_digest,
@@ -223,10 +223,10 @@ MINISIGN_MUST_USE enum minisign_error minisign_list_compare_trusting_your_hash(
  *
  * Does not allocate. After an error the buffer and *text_len are unchanged. The errors, in this order:
  * MINISIGN_BAD_HASH; MINISIGN_NO_ROOM, if *text_len is above room; MINISIGN_NOT_UTF8, for the list or the name;
- * MINISIGN_BAD_NAME, if no list can contain the name; MINISIGN_MALFORMED_LINE, if a line of the list so far is
- * malformed, or has 128 digits without the name of a hash function; MINISIGN_LISTED_TWICE, if the list already has the
- * name; MINISIGN_MALFORMED_LINE, if the list does not end with LF; MINISIGN_NO_ROOM, if the buffer is too small for the
- * entry. Since 0.3.
+ * MINISIGN_BAD_NAME, as for minisign_list_find; MINISIGN_MALFORMED_LINE, if a line of the list so far is malformed, or
+ * has 128 digits without the name of a hash function; MINISIGN_LISTED_TWICE, if the list already has the name;
+ * MINISIGN_MALFORMED_LINE, if the list does not end with LF; MINISIGN_NO_ROOM, if the buffer is too small for the entry.
+ * Since 0.3.
  */
 MINISIGN_MUST_USE enum minisign_error minisign_list_append(
     enum minisign_hash hash, const uint8_t *digest, size_t digest_len, const uint8_t *name, size_t name_len,

@@ -4,7 +4,7 @@
 # Tags a release. VERSION is the version in include/minisign.h. The script makes a commit on top of HEAD that adds the files
 # that bindings/go_copies.sh copies into the Go module, and tags this commit as vVERSION and bindings/go/vVERSION. Other commits
 # do not contain these files, because git ignores them, but `go` fetches a module from a commit and so needs them there. No
-# branch and no working file is changed.
+# branch and no tracked file is changed.
 #
 #     packaging/tag.sh
 #
@@ -16,6 +16,7 @@ test -z "$(git status --porcelain)" || { echo 'packaging/tag.sh: there are chang
 for tag in "v$version" "bindings/go/v$version"; do
     ! git rev-parse -q --verify "refs/tags/$tag" >/dev/null || { echo "packaging/tag.sh: there is a tag $tag" >&2; exit 1; }
 done
+# Fails if dist/ was not built from the sources as they are.
 make -s -C c current
 sh bindings/go_copies.sh
 

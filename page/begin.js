@@ -41,7 +41,7 @@ async function begin(script) {
     // A valid module fails to compile only if the content security policy of the server forbids it.
     const isForbidden = why instanceof WebAssembly.CompileError && WebAssembly.validate(module);
     showUnusable(isForbidden ? `The server of this page forbids WebAssembly, so the page cannot verify anything. ${FROM_DISK}.`
-      : "This browser cannot run the proved library, so this page cannot verify anything. Use a newer browser, or the program minisign.");
+      : "This browser cannot run the library of this page, so the page cannot verify anything. Use a newer browser, or the program minisign.");
     return;
   }
   enginePromise = startEngine(script);

@@ -146,7 +146,8 @@ def version():
 def proved_module():
     """Proves the library, builds it, and returns the 64-bit module."""
     if shutil.which("rt") is None:
-        raise NotPossible("--prove needs the command rt of the Rattle kit; without --prove, the module of dist/minisign.html is used")
+        raise NotPossible("--prove needs the Rattle kit, whose command rt was not found. Without --prove, the script uses the WebAssembly "
+                          "module of dist/minisign.html")
     print("page: building its module, after proving what is not proved yet", flush=True)
     with tempfile.TemporaryDirectory(prefix="minisign-page-") as directory:
         archive, linked = f"{directory}/lib{CRATE}.a", f"{directory}/{CRATE}.wasm"
@@ -358,7 +359,7 @@ def checked_release(name, version, links, signatures, listed=()):
         if not is_safe_link(address):
             raise NotPossible(f"--link {word}: the address has to begin with https://, or be relative")
         if file in addresses:
-            raise NotPossible(f"{file} has two links")
+            raise NotPossible(f"--link is given twice for {file}")
         addresses[file] = address
     return {"name": checked_text(name, "name"), "version": checked_text(version, "version"),
             "links": sorted(addresses.items(), key=name_in_utf16)}

@@ -141,7 +141,7 @@ function listLines({asList}) {
 // Returns the paragraph that says under which names a list contains a download.
 function listedLine({listName, listedNames, otherNames}, source) {
   const names = listedNames.flatMap((name, at) => [at === 0 ? "" : ", ", nameBox(name)]);
-  const line = element("p", otherNames.length > 0 ? "caution" : "", "This file is exactly the one that the list ", nameBox(listName), " names ", ...names,
+  const line = element("p", otherNames.length > 0 ? "caution" : "", "This file matches the entry ", ...names, " in the list ", nameBox(listName),
     ". The list was signed with the key ", codeBox(key.keyId), ", ", ...sourceNodes(source), ".");
   if (otherNames.length > 0) {
     line.append(" Your file has another name. It may be an older version.");

@@ -48,7 +48,7 @@ const REASONS = new Map([
   [COMMENT_NOT_SIGNED, "The trusted comment was changed after the file was signed. Do not use the file."],
   [81, "The public key or the signature is weak or malformed, so it proves nothing about any file. Do not use the file."],
   [89, "The trusted comment does not name this list."],
-  [90, "This name has characters that no list can contain. Do not use the file."],
+  [90, "This name has special characters, which a list cannot contain. Do not use the file."],
   [91, "This line is malformed, so the page cannot use the list."],
   [NOT_LISTED, "The signed list has neither this file's name nor its content. Do not use the file."],
   [93, "The signed list has this file's name twice. Do not use the file."],

@@ -193,8 +193,8 @@ function loadPresets() {
 // Returns the signatures with which a download is verified, in the order in which they are tried:
 //   1. the built-in signatures, so that an older file with its older signature does not pass for the file of this release;
 //   2. the signature that the visitor added for the file, or the signatures in the link if there is none.
-// Of the built-in signatures, only those for the name of the file are returned (isNamed is true), or all of them if none is for this
-// name. The same holds for the signatures in the link.
+// If some of the built-in signatures are for the name of the file, only these are returned (isNamed is true), otherwise all of them. The
+// same holds for the signatures in the link.
 function signaturesOf({name, signature}) {
   const presetsFor = isBuiltIn => {
     const all = presetSignatures.filter(each => each.isBuiltIn === isBuiltIn);

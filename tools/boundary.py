@@ -47,7 +47,8 @@ def is_struct(parameter):
 
 
 def arguments(parameters):
-    """Yields the arguments of the proved call. A pointer with a length may be NULL if the length is 0, so it is replaced."""
+    """Yields the arguments of the proved call. A pointer with a length may be NULL if the length is 0. The proved call accepts no NULL,
+    so a macro in the head of boundary.c then passes the address of an empty buffer."""
     for each, length in lengths(parameters):
         form = "READ" if each.const else "WORDS" if each.kind == "uint32_t" else "ENTRIES" if is_struct(each) else "WRITTEN"
         yield f"{form}({each.name}, {length.name})" if length else each.name

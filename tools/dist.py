@@ -185,7 +185,7 @@ def check_sources(report, parts, lines):
 
 
 def check_verdicts(report, lines):
-    """Checks that each verdict in PROVED is that of a complete proof."""
+    """Checks that each verdict in PROVED says that the crate was proved, without results of earlier runs."""
     for name in [*ARCHIVES, PAGE_FILE]:
         verdict = lines.get(name, "")
         is_complete = verdict.startswith("logic=proved ") and FROM_EARLIER_RUNS not in verdict.split()

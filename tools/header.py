@@ -1,12 +1,13 @@
 #!/usr/bin/env python3
-"""Generates the enums of the C headers from the crates, and from the headers what repeats their declarations.
+"""Generates the enums of the C headers from the crates, and other files from the declarations of the headers.
 
     tools/header.py            writes the files
     tools/header.py --check    fails if a file is not up to date; the last line is `N passed, M failed`
 
-From the crates come the numbers, names and comments of errors, steps and numberings in `include/minisign.h` and
-`include/minisign_install.h`, those of hash functions in `include/minisign_list.h`, and the tables of errors in docs/FORMATS.md. From the headers come their attributes for gcc
-and clang, the boundary in front of the proved calls (`boundary.py`), and the manual pages (`manual.py`).
+Generated from the crates: the numbers, names and comments of errors in `include/minisign.h`, of operations and numberings in
+`include/minisign_install.h`, and of hash functions in `include/minisign_list.h`; and the tables of errors in docs/FORMATS.md.
+Generated from the headers: their attributes for gcc and clang, the boundary in front of the proved calls (`boundary.py`), and
+the manual pages (`manual.py`).
 
 The name of a number in C is its name in the crate, in capitals after `MINISIGN_`, unless `NAMES` has another one. Its
 comment is the first sentence of the doc comment in the crate. The head of `c/library/boundary.c`, and the head and the
@@ -68,8 +69,8 @@ class Number(namedtuple("Number", "number variant comment")):
         return NAMES.get(self.variant, re.sub(r"(?<=[a-z0-9])(?=[A-Z])", "_", self.variant).upper())
 
 
-# The enums of minisign_install.h and minisign_list.h that are generated: the words in their marks, the prefix of their members, and the
-# name and the file of the enum in the crate.
+# The generated enums of minisign_install.h and minisign_list.h: the first word of the comments around the generated text (see
+# `header_text`), the prefix of the enum's members, and the name and the file of the enum in the crate.
 Choice = namedtuple("Choice", "place prefix enum file")
 DUE = Choice("Operations", "DUE", "Operation", f"{INSTALL}/src/installation.rt")
 NUMBERING = Choice("Numberings", "NUMBERING", "Numbering", f"{INSTALL}/src/comments.rt")
@@ -145,6 +146,7 @@ def weak_row():
 def install_rows(comments):
     """Returns the errors that only installing returns, in the form of `fault_rows`."""
     rows = re.findall(r'^install_row (\w+) =\s+row (\d+) (\w+) \(codes "([^"]*)"\)$', read(f"{INSTALL}/specs/Faults.antt"), re.M)
+    # The variant `Library` contains another named error, whose row is one of `fault_rows`.
     if {name for name, *_ in rows} != {*comments} - {"Library"}:
         raise Unfit("install_row must have one row for each error of installing")
     return rows
@@ -181,6 +183,7 @@ def enum_text(enum, numbers, prefix="", first=()):
     """Returns an enum of the header, with a comment above each member. `first` are the members that no crate has."""
     members = []
     for number in numbers:
+        # The no-break space keeps the end of the comment on the line of the last word.
         lines = textwrap.wrap(f"/* {number.comment}\u00a0*/", COLUMNS, initial_indent="    ", subsequent_indent="     * ",
                               break_long_words=False, break_on_hyphens=False)
         members.append("\n".join([*lines, f"    MINISIGN_{prefix}{number.name} = {number.number}"]).replace("\u00a0", " "))
@@ -276,7 +279,8 @@ def between(text, begin, end, content):
 
 
 def header_text(file, parts):
-    """Returns a header with these generated parts, by the words in their marks."""
+    """Returns a header with these generated parts. `parts` has them by the first word of the comments around them, for example
+    `Kinds` for `/* Kinds, made by tools/header.py. */` and `/* The end of the kinds. */`."""
     header = read(file)
     for place, content in parts.items():
         end = f"/* The end of the {place.split()[0].lower()}. */"

@@ -1,11 +1,12 @@
 #!/usr/bin/env python3
-"""Writes the contracts of the exports of minisign_page, which are those of the same exports of minisign_c.
+"""Copies the contracts of exported functions from minisign_c, the C library, to minisign_page, the WebAssembly module of the
+verification page in page/.
 
     tools/page_contracts.py            rewrites crates/minisign_page/src/lib.rt and specs/ListCalls.antt
-    tools/page_contracts.py --check    fails if that would change the file
+    tools/page_contracts.py --check    fails if that would change one of these files
 
-An export is copied from its docstring to the brace that opens its body. The bodies are written by hand. Two names differ: the prefix of
-the exports, and the definition of error numbers, because the page has no errors of installing. Only the page has the exports in
+An export is copied from its docstring to the brace that opens its body. The bodies are written by hand. The copy has another prefix
+(page_ for minisign_), and the changes in RENAMED, because the page has no errors of installing. Only the page has the exports in
 PAGE_ONLY. The contracts use definitions of minisign_c, on which minisign_page does not depend, so these are copied to
 crates/minisign_page/specs/ListCalls.antt. The last line is `N passed, M failed`.
 
@@ -21,14 +22,15 @@ PAGE, LIBRARY = "crates/minisign_page/src/lib.rt", "crates/minisign_c/src/lib.rt
 # The name and the head of each export: docstring, attribute, signature and contract.
 EXPORT = r'(?m)^(?:///.*\n)*#\[unsafe\(no_mangle\)\]\npub extern "C" fn {prefix}_(\w+)\((?:.*\n)*?\{{$'
 CALL = re.compile(r"\bminisign_(\w+)(?=[(`])")
+# Texts of a copied contract, and what replaces them.
 RENAMED = (("IsCallMeaning", "IsListMeaning"), ("of the error of an installation or a list,", "of the error of a list,"))
-# Exports of minisign_page that the library for C does not have. A C program compares a file with the one entry that has its
-# name. The verification page does not know the name, so it needs the digests to compare them with all entries.
+# Exports of minisign_page that the C library does not have. The C calls hash a file and compare it with one entry, that of its
+# name. On the page the file may have another name, so the page gets the digest of the file and compares it with all entries.
 PAGE_ONLY = ("sha256_begin", "sha256_update", "sha256_digest", "sha512_begin", "sha512_update", "sha512_digest")
 
 
-# The definitions for lists of minisign_page (PAGE_SPECS) are copied from those of minisign_c (SPECS): the part from the text
-# BEGIN to the text END. MEANING is put before this part, in place of the definition IsCallMeaning of minisign_c.
+# The definitions for lists are copied from the file SPECS to the file PAGE_SPECS: the part that begins with the text BEGIN and
+# ends before the text END. MEANING is put before this part. It replaces the definition IsCallMeaning of minisign_c.
 PAGE_SPECS, SPECS = "crates/minisign_page/specs/ListCalls.antt", "crates/minisign_c/specs/ListCalls.antt"
 BEGIN, END = "-- The error number of a failed call.\n", "-- == Writing ==\n"
 MEANING = """-- The text is that of the list error with this number, or else of any other error with this number. The page
@@ -41,13 +43,14 @@ IsListMeaning n text =
 
 
 def is_used(name, body):
-    """Returns true if a name of an import occurs in the definitions. The parts of an operator are between circles."""
+    """Returns true if a name of an import occurs in the definitions. An operator is imported under a name like `◌+◌`, in which
+    each circle stands for an operand."""
     parts = [part for part in name.split("◌") if part]
     return all(re.search(rf"(?<![\w.]){re.escape(part)}(?!\w)", body) for part in parts)
 
 
 def definitions(library):
-    """Returns the text of the page's definitions."""
+    """Returns the new text of PAGE_SPECS. `library` is the text of SPECS."""
     body, imports = BEGIN + library.partition(BEGIN)[2].partition(END)[0], []
     body = MEANING + body.rstrip("\n") + "\n"
     meant = "use Rattle.minisign_external.specs.Numbers.{IsMeaning}\n"

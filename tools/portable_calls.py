@@ -1,8 +1,8 @@
 """Generates `dist/calls.c`: the proved calls as C99, for processors and systems without an archive in dist/. `dist.py` imports this
 module.
 
-While the kit builds an archive for x86-64, this module saves the LLVM bitcode that the kit passes to its clang. That
-archive must be the one of dist/, byte for byte, which ties the bitcode to the proof. The same clang then compiles the
+While the kit builds an archive for x86-64, this module saves the LLVM bitcode that the kit passes to its clang. dist.py runs the
+kit, and checks that the archive is that of dist/, byte for byte, which ties the bitcode to the proof. The same clang then compiles the
 bitcode to 64-bit WebAssembly, where addresses and `usize` have the same size and numbers in memory the same byte order
 as on x86-64. `wasm_to_c.py` translates the WebAssembly to C. The steps after the bitcode are tested and not proved.
 """
@@ -74,9 +74,11 @@ def text_of(*words, directory):
 def wasm_object(bitcode, directory):
     """Compiles the module for x86-64 to a WebAssembly object, and returns its path."""
     module_path, empty = (os.path.join(directory, name) for name in ("given.ll", "empty.c"))
+    # Compiling this shows the lines `target ..` of a module for WebAssembly, which replace those of the module for x86-64.
     with open(empty, "w", encoding="utf-8") as file:
         file.write("int nothing;\n")
     target = re.findall(r"^target .*\n", text_of(f"--target={proved.WASM}", empty, directory=directory), re.M)
+    # Only converts the bitcode to text: without optimizing, clang leaves the module as it is.
     module = text_of("--target=x86_64-unknown-linux-gnu", "-x", "ir", bitcode, "-O0", "-Xclang", "-disable-llvm-passes", directory=directory)
     if re.search(r"^define [^\n]*\balign \d", module, re.M):
         raise proved.NotBuilt("the calls rely on an alignment of structs that 32-bit systems do not guarantee")

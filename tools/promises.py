@@ -74,7 +74,7 @@ class Call:
         self.item, self.module, self.is_public = item, module, is_public
 
     def match(self, place, modules):
-        """Returns how exactly a place names this call: 0 if it does not, 1 by its module, 2 by its type or a prefix, 3 by its name."""
+        """Returns how specifically a place names this call: 0 if it does not, 1 by its module, 2 by its type or a prefix, 3 by its name."""
         item = self.item
         if place in modules:
             return int(place == self.module)

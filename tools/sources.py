@@ -295,7 +295,7 @@ def read_module(file):
     return module
 
 
-# A token of antt: a string, `[]`, a field, or a name. Brackets and the full stops of sentences are no tokens.
+# A token of antt: a string, `[]`, a field, or a name. Other brackets, and full stops of sentences, are skipped.
 TOKEN = re.compile(r'"(?:[^"\\]|\\.)*"|\[\]|(?<!\s)\.[^\s(){};,.\[\]]+|[^\s(){};,.\[\]"]+')
 
 

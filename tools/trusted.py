@@ -41,8 +41,8 @@ DEVICES = Part((("minisign", "verify_texts", "headline"), ("minisign", "SecretKe
 FROM_C = Part((("minisign_c", "verify_in_sequence", "number"), ("minisign_c", "verify_in_sequence", "accepted"), ("minisign_c", "sign_in_sequence", "verifies")),
               # The table of errors is in docs/FORMATS.md.
               files=r"/crates/minisign_base/specs/Faults\.antt")
-# Of minisign_install, only the definitions in these files are printed in full; they are the laws, the relation that describes an
-# application, and the installer as one function. The others are listed by name.
+# The definitions of minisign_install that are printed in full are those in the files that this pattern does not match: the laws, the
+# relation that describes an application, and the installer as one function. The others are listed by name.
 OF_APPLICATIONS = r"/crates/minisign_install/(?!specs/(?:Applications|Histories|StepRuns|Step|Decisions|Listings|Traces)\.)"
 INSTALLING = Part((("minisign_install", "any_application_is_safe", "safe"), ("minisign_install", "any_application_is_safe", "durable"),
                    ("minisign_install", "any_good_update_arrives", "installed")), files=OF_APPLICATIONS)

@@ -33,7 +33,7 @@ exec 9>"$prefix.lock"
 flock 9
 test ! -e "$prefix/lib/libsodium.a" || exit 0
 
-# Downloads the package of the suite that this Debian has, from its mirror.
+# Downloads the source package of libsodium for this release of Debian, from the mirror that apt uses.
 download() {
     . /etc/os-release
     mirror=$(apt-get indextargets --format '$(SITE)' | grep -m1 -E '/debian/?$') || mirror=http://deb.debian.org/debian

@@ -177,8 +177,9 @@ func (list *SignedList) Entries() ([]ListEntry, error) {
 
 // Find returns the entry for a name, which must be listed exactly once.
 //
-// The errors are ErrNotUtf8 if the list or the name is not UTF-8; ErrBadName if no list can contain the name; a LineError
-// with ErrMalformedLine; ErrNotListed; and a LineError with ErrListedTwice. Compare them with errors.Is.
+// The errors are ErrNotUtf8 if the list or the name is not UTF-8; ErrBadName if the name is not a relative path, has an
+// empty, "." or ".." part, or contains a control character or a backslash; a LineError with ErrMalformedLine; ErrNotListed;
+// and a LineError with ErrListedTwice. Compare them with errors.Is.
 func (list *SignedList) Find(name string) (ListEntry, error) {
 	raw, err := list.list.find([]byte(name))
 	if err != nil {

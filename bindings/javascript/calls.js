@@ -205,9 +205,9 @@ export class Library {
     return this.questionsAfter(number);
   }
 
-  // Returns the last arguments of a call that writes such questions: the
-  // addresses of the struct and of the buffer for the message of the comment
-  // signature, and the size of this buffer.
+  // Returns the last arguments of a call that says what Ed25519 has to check:
+  // the addresses of the struct `questions` and of the buffer for the message
+  // of the comment signature, and the size of this buffer.
   questionArguments() {
     return [this.questions, this.message, TEXT_BYTES].map(BigInt);
   }
@@ -219,8 +219,8 @@ export class Library {
     return bytes.reduceRight((value, byte) => 256 * value + byte, 0);
   }
 
-  // Returns the result of `ask`, from this error number and the questions in
-  // the memory of the module.
+  // Returns the result of `ask`, from this error number and the struct
+  // `questions` in the memory of the module.
   questionsAfter(number) {
     const part = (name, length) =>
       this.bytesAt(this.questions + QUESTIONS[name], length);

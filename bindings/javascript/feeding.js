@@ -12,9 +12,11 @@ const SLICE_BYTES = 1048576;
 
 // Makes the object that createVerifier and createSigner return. It passes each
 // piece of data to `feed`, and its method `end` resolves to the result of the
-// parameter `end`. After that, its methods fail with NOT_BEGUN. `more` returns
-// further properties of the object. It gets a function that throws NOT_BEGUN
-// after the end.
+// parameter `end`. After that, its methods fail with NOT_BEGUN, which also
+// means "already ended". Only if `writable` was closed or aborted, the method
+// `end` can still be called, and settles as that did. `more` returns further
+// properties of the object. It gets a function that throws NOT_BEGUN after the
+// end.
 export function pieceConsumer(library, feed, end, more = () => ({})) {
   let bytesFed = 0;
   let isEnded = false;
@@ -64,7 +66,7 @@ export function pieceConsumer(library, feed, end, more = () => ({})) {
       return bytesFed;
     },
     get writable() {
-      writable ??= new (webStreams())(sink);
+      writable ??= new (writableStreamClass())(sink);
       return writable;
     },
     update,
@@ -75,7 +77,7 @@ export function pieceConsumer(library, feed, end, more = () => ({})) {
 }
 
 // Returns the platform's WritableStream.
-function webStreams() {
+function writableStreamClass() {
   const { WritableStream } = globalThis;
   if (WritableStream === undefined) {
     throw platformError("this platform has no WritableStream");
@@ -85,7 +87,7 @@ function webStreams() {
 
 // Feeds all data to a verifier or signer, and resolves to the result of its
 // `end`. `begin` makes the verifier or signer. It gets the options without
-// `progress` and `signal`. `known` has the names of all options.
+// `progress` and `signal`. `known` lists the names of the allowed options.
 export async function feedAll(data, options, known, begin) {
   const bytes = bytesOf(data);
   const isBlob = bytes === null && typeof data?.stream === "function";
@@ -94,7 +96,8 @@ export async function feedAll(data, options, known, begin) {
   const readOptions = () => optionsOf(options, ...known);
   const stream = bytes === null ? source : null;
   const run = async ({ progress, signal, ...rest }) => {
-    // Like the result of `readOptions`, this object has no prototype.
+    // No prototype, as in the result of `readOptions`, so that a property of
+    // Object.prototype is not taken for an option.
     const consumer = await begin({ __proto__: null, ...rest });
     for await (const piece of slicesOfData(source, signal)) {
       await consumer.update(piece);
@@ -109,7 +112,7 @@ export async function feedAll(data, options, known, begin) {
 // run each time that it has yielded SLICE_BYTES bytes. Throws the reason of the
 // signal if the signal aborts.
 async function* slicesOfData(source, signal) {
-  let unpaused = 0;
+  let bytesSincePause = 0;
   for await (const piece of piecesOfData(source, signal)) {
     for (const slice of slicesOfPiece(piece)) {
       if (signal?.aborted) {
@@ -118,10 +121,10 @@ async function* slicesOfData(source, signal) {
       yield slice;
       // The pause is before the next slice is cut, so that slicesOfPiece sees
       // if another task has changed the buffer.
-      unpaused += slice?.byteLength ?? 0;
-      if (unpaused >= SLICE_BYTES) {
+      bytesSincePause += slice?.byteLength ?? 0;
+      if (bytesSincePause >= SLICE_BYTES) {
         await nextTask();
-        unpaused = 0;
+        bytesSincePause = 0;
       }
     }
   }

@@ -301,7 +301,9 @@ export interface SignedList {
   /**
    * Returns the entry for a name that is listed exactly once. Throws a
    * MinisignError: NOT_UTF8 if the list or the name is not UTF-8; BAD_NAME if
-   * no list can contain the name; MALFORMED_LINE; NOT_LISTED; or LISTED_TWICE.
+   * the name is not a relative path, has an empty, "." or ".." part, or
+   * contains a control character or a backslash; MALFORMED_LINE; NOT_LISTED; or
+   * LISTED_TWICE.
    */
   find(name: Text): ListEntry;
   /**

@@ -47,8 +47,8 @@ function joinedSecret(first, second) {
   return both;
 }
 
-// Returns the parameter keep_every of the library, which limits the memory of
-// scrypt.
+// Returns the parameter keep_every of the library: for low memory, scrypt
+// stores only every 16th row of its table, and computes the others again.
 function keepEveryOf(lowMemory) {
   return lowMemory ? h.KEEP_FEW_ROWS : h.KEEP_EVERY_ROW;
 }
@@ -93,6 +93,7 @@ export async function readSecretKey(text, options = {}) {
     }
     const work = [keepEveryOf(lowMemory), mostRows ?? h.USUAL_ROWS];
     const opened = await calls.openSealedKey(unopened, passwordBytes, ...work);
+    // A key is weak if scrypt has few rows, so that passwords are fast to try.
     const [log2Rows] = h.fieldOf("unopened_key", "log2_rows", unopened);
     return secretKeyOf(opened, log2Rows < h.LEAST_LOG2_ROWS);
   } finally {
@@ -221,11 +222,12 @@ async function begin(secretKey, { trustedComment, untrustedComment }, name) {
   const state = library.begin();
   const feed = (piece) => library.feed(state, piece);
   const end = async () => {
-    const questions = {};
-    library.digest(state, questions);
+    // A call of verifiers, which sets the field `digest` of this object.
+    const result = {};
+    library.digest(state, result);
     const publicKey = await calls.publicKeyOf(bytes);
     const keys = [bytes, h.fieldOf("public_key", "key", publicKey)];
-    const dataSignature = await signMessage(library, ...keys, questions.digest);
+    const dataSignature = await signMessage(library, ...keys, result.digest);
     const message = await calls.commentMessage(dataSignature, trusted);
     const commentSignature = await signMessage(library, ...keys, message);
     const signatures = [dataSignature, commentSignature];

@@ -151,7 +151,7 @@ fn check_sources(root: &str) {
     let hash = output_of(command.args([&*script, "calls"]).stderr(Stdio::inherit()));
     if hash.is_empty() {
         fail(format!(
-            "the sources of the proved calls cannot be checked: `sh {script} calls` failed"
+            "cannot check if the verified sources were changed: `sh {script} calls` failed"
         ));
     }
     let line = format!("sources of the calls: {hash}");

@@ -211,7 +211,7 @@ void report_file(const struct files *files, const struct checked_file *checked)
             checked->outcome == ALL_MATCH ? "OK" : "FAILED");
     if (checked->outcome != ALL_MATCH) {
         record_outcome(checked->outcome);
-        /* So that the error comes after the result even if both streams are the same file. */
+        /* Flushed, so that the error comes after the result even if both streams are the same file. */
         fflush(files->output);
         print_reason(checked);
     }
@@ -223,7 +223,7 @@ struct check_run {
     struct progress progress;
     /* The number of bytes that the progress line shows. */
     uint64_t shown_bytes;
-    /* The number of files that exist, among those that were reported. */
+    /* The number of files that exist, of the files whose result was printed so far. */
     size_t existing_count;
 };
 

@@ -413,7 +413,7 @@ static enum minisign_error begin_renewal(struct directory *directory, const stru
 
 /* Replaces the lock file if root owns it although another user should. The new lock file is locked before it is
  * renamed, so that this run always holds the lock. If the new file cannot be used, it is removed and the old lock file
- * stays, which is no error. */
+ * is kept. This is not an error. */
 static enum minisign_error renew_lock(struct directory *directory)
 {
     /* The name of the new record is not in use yet, so the new lock file gets it first. */

@@ -76,8 +76,8 @@ static const uint8_t nothing;
 static const uint32_t no_words;
 static const minisign_list_entry no_entries;
 
-/* Return a pointer to bytes to read, or to bytes, words or entries to write. If it is NULL and its length is 0, they return
- * another pointer. */
+/* Each macro returns `pointer`, or if it is NULL and `length` is 0, the address of one of the constants above. READ is for bytes
+ * that a call reads; WRITTEN, WORDS and ENTRIES are for bytes, 32-bit words and entries of lists that it writes. */
 #define READ(pointer, length) ((pointer) == NULL && (length) == 0 ? &nothing : (const uint8_t *) (pointer))
 #define WRITTEN(pointer, length) ((pointer) == NULL && (length) == 0 ? (uint8_t *) &nothing : (uint8_t *) (pointer))
 #define WORDS(pointer, length) ((pointer) == NULL && (length) == 0 ? (uint32_t *) &no_words : (pointer))

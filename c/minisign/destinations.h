@@ -32,9 +32,9 @@ struct destination {
  * they lead to a missing file. A file counts as missing only if the system reports ENOENT.
  *
  * A file is written in place, instead of being replaced, if it is not a regular file, or if it was deleted but is still
- * open. If `file` names a descriptor of the program (/dev/stdout, /dev/stderr, /dev/fd/N, /proc/self/fd/N) that has a
- * regular file open for writing, the file is written through this descriptor. A secret is not written through a
- * descriptor if others can access the file.
+ * open. A regular file is also written in place, through an existing descriptor, if `file` names a descriptor of the
+ * program (/dev/stdout, /dev/stderr, /dev/fd/N, /proc/self/fd/N) that has it open for writing. A secret is not written
+ * through such a descriptor if others can access the file.
  *
  * Untrusted users are all users except root and the user who runs the program. These rules protect against them, and do
  * not depend on system settings such as fs.protected_symlinks:
@@ -49,7 +49,8 @@ struct destination {
  */
 struct destination find_destination(const char *file, bool is_secret);
 
-/* Opens the existing file, if there is one, for writing. Ends the program if it cannot be written or replaced. */
+/* Opens the existing file, if there is one, for writing. Ends the program if it cannot be opened, or if it is to be
+ * replaced and cannot be. A file without write permission is thus not replaced either. */
 void open_existing(struct destination *destination);
 
 /* Returns true if the file is written in place, instead of being replaced. */

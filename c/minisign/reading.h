@@ -29,7 +29,8 @@ enum reading_mode {
     DIGEST_ONLY,
     /* All bytes, for a legacy signature. */
     KEEP_BYTES,
-    /* A tag of each piece, so that the file can be read again and copied. If it cannot be read again: all bytes. */
+    /* A tag of each piece, with which a second reading of the file is checked while it is copied. If the data cannot be
+     * read twice, as from a pipe, all bytes are kept instead. */
     COPY_LATER
 };
 

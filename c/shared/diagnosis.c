@@ -294,7 +294,7 @@ static const char *damage_reason(enum minisign_error error)
     case MINISIGN_UNSUPPORTED_ALGORITHM: return "its signature algorithm is unknown";
     case MINISIGN_UNSUPPORTED_KEY_DERIVATION: return "its key derivation function is unknown";
     case MINISIGN_PARAMETERS_TOO_HIGH: return "decrypting this key takes more than 1 GiB of memory";
-    case MINISIGN_INVALID_PARAMETERS: return "its scrypt parameters are invalid";
+    case MINISIGN_INVALID_PARAMETERS: return "its scrypt limits are invalid";
     default: return NULL;
     }
 }

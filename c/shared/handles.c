@@ -7,7 +7,7 @@
 
 #include <poll.h>
 
-/* The magic numbers of procfs, and of pipefs, on which the anonymous pipes are (linux/magic.h). */
+/* The magic numbers of procfs and of pipefs, the file system of anonymous pipes (linux/magic.h). */
 #define PROC_MAGIC 0x9fa0
 #define PIPE_MAGIC 0x50495045
 
@@ -122,6 +122,8 @@ int open_by_path(const struct handle *handle, const char *path, int flags)
     struct stat opened;
     int fd;
 
+    /* O_NONBLOCK, because the path may lead to another file by now, and opening that could block. ENXIO: a named pipe has no
+     * reader, or it is a device or socket that cannot be opened. */
     while ((fd = open(path, flags | O_NONBLOCK)) < 0 && errno == ENXIO) {
         bool is_same = stat(path, &opened) == 0 && is_same_file(&opened, &handle->status);
 

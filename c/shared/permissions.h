@@ -42,7 +42,7 @@ void replace_mode(struct permissions *permissions, mode_t mode);
 
 /*
  * Sets the permissions of a new, open file to those of an existing one, and removes a list that the new file inherited
- * from its directory. If the system does not allow to set the owner or the group, that is not an error. Any other
+ * from its directory. If the system does not allow setting the owner or the group, that is not an error. Any other
  * failure is one.
  *
  * If the group cannot be set, or the list cannot be read or copied, the group of the new file gets no permissions. The

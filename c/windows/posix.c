@@ -7,7 +7,7 @@
 #include "shared/handles.h"
 #include "access.h"
 
-/* windows_strerror calls the function of the C library. */
+/* posix.h defines strerror as windows_strerror, which itself calls strerror of the C library. */
 #undef strerror
 
 /* The maximum number of bytes to read or write in one call. */
@@ -133,7 +133,8 @@ static bool is_separator(wchar_t character)
     return character == L'\\' || character == L'/';
 }
 
-/* Returns true if a name, or the part before its first dot, is the name of a device of Windows. */
+/* Returns true if a name, or the part before its first dot, is the name of a device of Windows. Windows ignores spaces
+ * between the device's name and the dot: `NUL .txt` is the device NUL. */
 static bool is_device(const wchar_t *name, size_t len)
 {
     static const wchar_t *const devices[] = { L"CON", L"PRN", L"AUX", L"NUL", L"CLOCK$", L"CONIN$", L"CONOUT$" };
@@ -264,6 +265,7 @@ wchar_t *last_part_of(wchar_t *path)
 
 /* ---- Files ---- */
 
+/* Opens an existing file, always for reading. */
 int windows_open(const char *file, int flags)
 {
     wchar_t *path = wide_path(file);
@@ -417,6 +419,7 @@ int windows_isatty(int fd)
 
 struct windows_directory {
     HANDLE search;
+    /* The last entry that was found, and whether windows_readdir has returned it. */
     WIN32_FIND_DATAW found;
     bool is_read;
     struct windows_entry entry;

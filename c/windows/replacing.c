@@ -2,7 +2,8 @@
 /*
  * Replaces files in one step, on Windows. A temporary file, also called stage, is opened so that no other process can
  * open it. Until it is complete, it is marked so that Windows deletes it when it is closed, even if the program is
- * killed. Then it is renamed, through its handle, to its target. No file is queued.
+ * killed. Then it is renamed, through its handle, to its target. Each file is synced and renamed at once; there is no queue
+ * of complete files, as on POSIX systems.
  */
 #include "minisign/replacing.h"
 

@@ -188,7 +188,7 @@ def check_fields(program, minisign, _):
 
 
 def check_options(program, *_):
-    """Checks that options must be plain objects with known own properties, also if Object.prototype has more properties."""
+    """Checks that options must be plain objects whose own properties are known, even if Object.prototype has further properties."""
     paths = [PUBLISHED_PATHS[0], PUBLISHED_PATHS[1], os.path.join(shared_cases.CORPUS, "published-legacy.minisig")]
     for least, word in ((120, "kinds"), (100, "polluted")):
         by_node(program.checks, program.directory, "options.mjs").check_pairs(least, word, *paths)
@@ -222,7 +222,7 @@ def check_lists(program, minisign, _):
         lists.check_pairs(17, "files", directory)
 
 
-# The checks of verification, by the names that mutants give after `Must fail:`.
+# The checks of verification, by the names that mutants give after `must fail:`.
 CASES = {"cases": check_cases, "pieces": check_pieces, "read": check_fields, "arguments": check_arguments, "streams": check_streams,
          "options": check_options, "long": check_long, "writable": check_writable, "saving": check_saving,
          "lists": check_lists}
@@ -447,7 +447,7 @@ def check_answers(checks, what, answers, scratch, minisign, cases):
     checks.check(verified[:2] == (0, f"{what}\n".encode()), f"{what}: c/minisign cannot sign with the encrypted key of the package: {verified}")
 
 
-# The checks that need a new directory, by the names that mutants give after `Must fail:`.
+# The checks that need a new directory, by the names that mutants give after `must fail:`.
 IN_DIRECTORIES = {"files": check_files, "memory": check_memory, "bundles": check_bundles, "readme": check_readme}
 
 

@@ -14,7 +14,7 @@ tests/installer; and that each mutant of python/mutants is detected. It prints a
 skipped; the last line is `N passed, M failed`.
 
 Needs Debian's Python with pip, venv, setuptools, wheel and cryptography, mypy, make, binutils, clang, a C compiler,
-libsodium with its header, minisign and setfacl, musl-gcc, strace, and the Debian packages gcc-mingw-w64-x86-64, wine64,
+libsodium with its header, minisign, setfacl, musl-gcc, strace, and the Debian packages gcc-mingw-w64-x86-64, wine64,
 gcc-aarch64-linux-gnu, libc6-dev-arm64-cross and qemu-user-static. It installs missing packages if it has permission.
 """
 
@@ -47,7 +47,7 @@ from static_library import run_or_fail
 USER, CHECKS, INSTALLER = (os.path.join(HERE, f"python_{name}.py") for name in ("user", "checks", "installing"))
 PACKAGE = "minisign_proved"
 SOURCES = os.path.join(TOP, "bindings", "python")
-# Functions that are run even if other cases are selected, because they build the wheel for them.
+# Functions that run even if only other checks are selected (tests/shared/selected.py): building the wheel needs their results.
 ALWAYS = ("check_builds",)
 
 
@@ -106,24 +106,24 @@ def check_builds(checks, archive, scratch):
         if checks.check(status == 0, f"{what}: the build failed: {why[-1000:]}"):
             check_loaded(checks, what, compiler, library, before, **windows.variables)
             has_archive = "aarch64_minisign_update" in shared.symbols_of(library)
-            checks.check(has_archive == (what == "AArch64"), f"{what}: is linked with an archive: {has_archive}")
+            checks.check(has_archive == (what == "AArch64"), f"{what}: is linked with dist/calls-aarch64.a: {has_archive}")
             wheel, = os.listdir(os.path.join(sources, "made"))
             checks.check(wheel.endswith(f"-none-{machine}.whl"), f"{what}: the wheel is {wheel}")
     windows.end()
     status, why, _ = build(unpacked("another compiler"), programs, CC="cl")
     checks.check(status != 0 and NO_COMPILER.format("cl") in why, f"a compiler without GNU options: {why[-500:]}")
 
-    def ask(checks, changed, directory, setup):
+    def run_case(checks, changed, directory, setup):
         status, why, library = build(changed, programs, CC=gcc, MINISIGN_PORTABLE=SETUPS[setup])
         checks.check(status == 0, why)
         check_loaded(checks, "a mutant", gcc, library)
 
-    shared.check_mutants(checks, unpacked("mutants"), "bindings/python", mutants_of("bindings", "python", "setup_mutants"), scratch, ask)
+    shared.check_mutants(checks, unpacked("mutants"), "bindings/python", mutants_of("bindings", "python", "setup_mutants"), scratch, run_case)
     return programs
 
 
 def build_wheel(checks, scratch):
-    """Builds the wheel from the packed archive of sources, with the archives of proved functions, and checks it. Returns its path."""
+    """Builds the wheel from the source distribution, with the archives of proved functions in dist/, and checks it. Returns its path."""
     package = shared.pack_and_unpack("python", scratch, PYTHON=python())
     archive, = glob.glob(os.path.join(scratch, "packed", "*.tar.gz"))
     command = [python(), "-m", "pip", "wheel", "-q", "--no-index", "--no-build-isolation", "--no-deps", "-w", scratch, archive]
@@ -213,7 +213,7 @@ def user_of(checks, python_path, kind, changed=""):
 
 
 def fields_line(fields):
-    """Returns the line that `fields` prints for a case."""
+    """Returns the line that the command `fields` of python_user.py must print for a case with these fields."""
     return f"{shared.key_id_text(fields.key_id)} {shared.key_id_text(fields.signature_key_id)} {fields.is_legacy}"
 
 
@@ -258,8 +258,8 @@ def check_installing(checks, python_path, scratch):
 # ---- Mutants ----
 
 def check_mutants(checks, python_path, package, scratch, minisign):
-    """Checks that the case that each mutant of the package names detects it."""
-    def ask(checks, changed, directory, word):
+    """Checks that each mutant of the package is detected by the case that it names."""
+    def run_case(checks, changed, directory, word):
         # libsodium is used where possible, because it loads faster.
         user = user_of(checks, python_path, "cryptography" if word in ("vectors", "strict") else "libsodium", os.path.dirname(changed))
         cases = {"verify": lambda: user.check_errors(["verify", "reject"], shared.rejected_cases()),
@@ -272,7 +272,7 @@ def check_mutants(checks, python_path, package, scratch, minisign):
                  "sign": lambda: shared.check_signing(user, os.path.join(directory, "signed"), minisign)}
         cases.get(word, lambda: user.check_pairs(1, word, directory))()
 
-    shared.check_mutants(checks, package, f"bindings/python/src/{PACKAGE}", mutants_of("bindings", "python", "mutants"), scratch, ask)
+    shared.check_mutants(checks, package, f"bindings/python/src/{PACKAGE}", mutants_of("bindings", "python", "mutants"), scratch, run_case)
 
 
 def run_all(checks, scratch):

@@ -716,7 +716,7 @@ def check_installing_from_list(key: SecretKey, scratch: str, place: str) -> None
     pathlib.Path(list_path).write_text("text\n")
     rejects(minisign.SignatureRefused, lambda: install(update), "a list that is not signed", "^Signature verification failed$")
     rejects(minisign.OtherList, lambda: install(offer(line, 6, "app")), "a list of another name")
-    rejects(minisign.BadName, lambda: install(offer(line, 6), name="../app"), "a name that no list can contain")
+    rejects(minisign.BadName, lambda: install(offer(line, 6), name="../app"), "a name that a list cannot contain")
     rejects(minisign.TooLong, lambda: install(offer(line + "#" * (1 << 20), 6)), "a list of more than 1 MiB")
     os.remove(list_path)
     rejects(FileNotFoundError, lambda: install(update), "a missing list")

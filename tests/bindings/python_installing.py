@@ -144,7 +144,7 @@ def read_text(kind, word):
 
 
 def install(words):
-    """Runs the program with these words, and returns its exit status."""
+    """Does what `minisign-install` does with these arguments, by a call of the package, and returns the exit status."""
     # A second thread, which gets a signal for the process while the installer blocks signals in the first thread.
     threading.Thread(target=threading.Event().wait, daemon=True).start()
     pairs, paths = getopt.gnu_getopt(words, "", OPTIONS)

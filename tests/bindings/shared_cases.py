@@ -266,7 +266,7 @@ LIST_LINES = [
 FIRST_ENTRY = LIST_LINES[2][0].encode()
 MALFORMED_LISTS = [FIRST_ENTRY + line.encode() for line in (
     f"{hex_digest('sha256', b'')} b\n", f"{hex_digest('sha256', b'')}  /b\n", f"{hex_digest('sha256', b'')}  ../b\n",
-                                                            f"MD5 (b) = {hex_digest('md5', b'')}",
+    f"MD5 (b) = {hex_digest('md5', b'')}",
     f"{hex_digest('sha256', b'')}  b\tc\n", f"{hex_digest('sha256', b'')}  b\r\r\n", "b\n", " \n", f"{hex_digest('sha256', b'')[1:]}  b\n")]
 
 
@@ -664,7 +664,7 @@ def check_new_key_files(program, directory, success="OK"):
 
 
 class StopAtFailure(Checks):
-    """Checks that raise a `Failure` at the first one that fails."""
+    """Like `Checks`, but raises a `Failure` for the first check that fails."""
 
     def check(self, holds, *what):
         expect(holds, *what)

@@ -2,7 +2,7 @@
  * Checks the allocation functions in c/library/allocation.c, with which the proved functions allocate memory:
  *
  *   - a block has the requested length and alignment;
- *   - a block is cleared before it is freed, also if it was moved to a larger block;
+ *   - a block is cleared before it is freed; if its content was moved to a larger block, the old block is cleared too;
  *   - a failed allocation leaves the old block unchanged;
  *   - only large blocks are mapped in advance with madvise, and the functions work if madvise fails.
  *
@@ -23,8 +23,8 @@
 #define HINTS(len) ((len) >= LARGE_BYTES ? 2 : 0)
 #endif
 
-/* LARGE_ROWS: the number of bytes of scrypt's rows for the key that is decrypted in a large block. NEXT_ALIGNMENT: each
- * tested alignment is this many times the one before. With -DIS_EMULATED, the rows have the size of the smallest large
+/* LARGE_ROWS: a size in bytes of the table of scrypt, so that decrypting a key allocates a large block. NEXT_ALIGNMENT:
+ * the factor from one tested alignment to the next. With -DIS_EMULATED, the table has the size of the smallest large
  * block, and fewer alignments are tested, because emulators are slow. */
 #define LARGE_ROWS (IS_EMULATED ? LARGE_BYTES : (size_t) 16 << 20)
 #define NEXT_ALIGNMENT (IS_EMULATED ? 64 : 4)
@@ -62,6 +62,7 @@ static volatile unsigned hints;
 /* The behaviour of madvise: it works, it fails, it does nothing but returns 0, or it is slow for huge pages. */
 static volatile enum { WORKS, FAILS, DOES_NOTHING, IS_SLOW } madvise_mode;
 
+/* Checks a condition. `what` says what was done or what must hold, for the message of a failure. */
 static void check_block_of(int holds, const char *what, size_t len, size_t alignment)
 {
     check(holds, "%s: %zu bytes, aligned to %zu", what, len, alignment);
@@ -82,6 +83,7 @@ int __wrap_madvise(void *from, size_t len, int hint)
         while (clock() < until) {
         }
     }
+    /* Even if madvise succeeds, so that the allocation functions must restore errno. */
     errno = EINVAL;
     return madvise_mode == FAILS ? -1 : madvise_mode == DOES_NOTHING ? 0 : __real_madvise(from, len, hint);
 }
@@ -166,8 +168,10 @@ static void wait_for_pages(void *block)
     }
 }
 
-/* Allocates a block that is mapped in several parts. All of it must be mapped, from the beginning to the end. The first
- * part must use small pages. If mapping a part with huge pages was slow, the next part must use small pages too. */
+/* Allocates a block that is mapped in four parts, with two calls of madvise each: one chooses the kind of pages, one
+ * maps them. All of it must be mapped, from the beginning to the end, except for a last part of a page. The first part
+ * must use small pages, to measure their time, and the second huge pages. If the second part was slow, the others must use
+ * small pages. */
 static void check_parts(void)
 {
     size_t len = 3 * PART_BYTES + 12345, at = 0;
@@ -239,7 +243,7 @@ static void check_lengths(void)
 static void check_library(size_t memory)
 {
     static const char password[] = "a long password";
-    static uint8_t secret_key[64], text[4096], signed_text[4096], digit[64];
+    static uint8_t secret_key[64], text[4096], signed_text[4096], no_signature[64];
     minisign_unopened_key unopened;
     minisign_secret_key key, opened;
     size_t len = 0;
@@ -258,7 +262,7 @@ static void check_library(size_t memory)
     check_block_of(error == MINISIGN_OK && freed > 0 && is_held(0), "opening it", memory, 1);
     check_block_of(memcmp(&opened, &key, sizeof key) == 0, "another key was opened", memory, 1);
     freed = 0;
-    error = make_signed_text(&opened, digit, digit, bytes_of("c"), 1, bytes_of("c"), 1, signed_text, sizeof signed_text, &len);
+    error = make_signed_text(&opened, no_signature, no_signature, bytes_of("c"), 1, bytes_of("c"), 1, signed_text, sizeof signed_text, &len);
     check_block_of(error == MINISIGN_OK && freed > 0 && is_held(0), "signing", memory, 1);
 }
 

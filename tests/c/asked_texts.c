@@ -11,6 +11,7 @@
 static const char HELLO_KEY[] =
     "untrusted comment: minisign public key 21E66B4C8EEFA0B8\n"
     "RWS4oO+OTGvmIXV1rhgpjypAJvWKm8TwdV4j02FufATCsUQLjhDbStyt\n";
+/* The prehashed and the legacy signature in this test. */
 #define PREHASHED OTHER_SIGNATURE
 static const char LEGACY[] =
     "untrusted comment: signature from minisign secret key\n"
@@ -40,8 +41,9 @@ static const char SECRET[] =
     "b2eff9108a88977e738b0f53a6c938bd";
 static const char SECRET_KEY_ID[] = "bbcd807aefe53eab";
 
-/* A key file with the same secret key, and with this key derivation, these limits, this key ID and this checksum, each in
- * base64. */
+/* A key file with the same secret key, and with this key derivation, these limits, this key ID and this checksum. The
+ * parameters are parts of the base64 text. They do not begin and end at a byte of the field, so the first and last letter
+ * also have bits of the fields next to it, which are zeros or the same in all keys. */
 #define KEY_TEXT(derivation, limits, key_id, checksum) \
     "untrusted comment: x\nRW" derivation "IyAAAAAAAAAAAAAAAAAAAAAAAAAAAAAAAAAAAAAAAAAA" limits key_id \
     "5tw414tB2l3S0AV4BthpWrWHyA+ItsehisjsR8AROg+V8Ng82TAEWPpchqblhFFay7/kQioiXfnOLD1OmyTi9A" checksum \
@@ -160,12 +162,12 @@ static void rejects_signature_texts(void)
 /* Opening a secret key returns its secret and its key ID, from which the public key can be written. */
 static void opens_secret_key(void)
 {
-    minisign_public_key half;
+    minisign_public_key public_key;
 
     CHECK(read_and_open(SECRET_KEY, NULL, &unopened, &signing) == MINISIGN_OK);
     CHECK(equals_hex(signing.secret, SECRET) && equals_hex(signing.key_id, SECRET_KEY_ID));
-    CHECK(minisign_public_key_of(&signing, &half) == MINISIGN_OK);
-    CHECK(equals_hex(half.key, SECRET + 64) && equals_hex(half.key_id, SECRET_KEY_ID));
+    CHECK(minisign_public_key_of(&signing, &public_key) == MINISIGN_OK);
+    CHECK(equals_hex(public_key.key, SECRET + 64) && equals_hex(public_key.key_id, SECRET_KEY_ID));
 }
 
 /* Checks the error for each invalid secret key file, and that nothing is written. */
@@ -216,6 +218,7 @@ static void writes_signature(void)
 
 /* ---- Public keys ---- */
 
+/* A short name, for the tables below. */
 #define LINE KEY_LINE
 #define SECOND_LINE "RWQgIL+P9InzHS80IJTTlmrDw4sxOtdRTc3QnmnZMSSaSrd2GcKR5OlJ"
 /* The key and the key ID that each line encodes. */

@@ -74,7 +74,7 @@ PREFIX = "/us r"
 # The key of README.md, and the arguments that verify a signature with it.
 KEY = "RWQf6LRCGA9i53mlYecO4IzT51TGPpvWucNSCh1CBM0QTaLn73Y7GFO3"
 PUBLISHED = ("published.pub", "test", "published.minisig")
-REJECTION = "OUT has to be one directory without blanks"
+REJECTION = "OUT has to be one directory without spaces"
 
 
 class Copy:

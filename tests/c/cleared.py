@@ -59,7 +59,7 @@ BUILDS_OF_FUNCTIONS = (["V3=../dist/calls-x86-64-v2.a", "C_CALLS="], ["C_CALLS="
 # The step of cleared.c in which a secret is left in memory, and the number of all steps.
 LEFT_ON_PURPOSE = "leaving a secret on purpose"
 STEP_COUNT = 22
-# The needles that must be found in the caller's variables after each step, because they are there.
+# The needles that the search must find after each step, because the caller's variables contain them.
 ALWAYS_FOUND = ("seed", "half of the seed", "password")
 
 

@@ -24,7 +24,8 @@ static volatile long requests, allocated_blocks;
 #define FILLED_WITH 0
 #endif
 
-/* The bytes in front of a block: its length, and its inverted length. Their number keeps the alignment of malloc. */
+/* The size of the header in front of each block: its length, and its inverted length. 16 bytes, so that blocks are aligned
+ * like those of malloc. */
 #define FRONT 16
 
 void *__real_malloc(size_t size);

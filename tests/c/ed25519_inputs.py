@@ -36,7 +36,7 @@ from ed25519_edge_cases import FIELD_PRIME, GROUP_ORDER, SMALL_ORDER_Y
 from process import run
 from running import read
 
-# Patterns for the statements that each document must contain.
+# Patterns for the statements that each document must contain, because callers that use OpenSSL rely on them.
 RULES = ("public key .*?R.* small order", "R that is not canonically encoded", "S .*?that is not below the group order",
          "OpenSSL 3\\.0, 64 zero bytes are a valid signature of one message in four under a public key of 32 zero bytes",
          "56 letters A", "minisign_ask rejects all three kinds, and so does crypto_sign_verify_detached of libsodium")
@@ -158,7 +158,7 @@ def check_openssl(checks):
 OPENSSL_PROGRAM = "#include <openssl/evp.h>\nint main(void) { return EVP_MD_CTX_new() == NULL; }\n"
 
 
-def openssl(compiler):
+def need_openssl(compiler):
     """Raises an exception unless OpenSSL with its header is installed or can be installed."""
     needs.need(lambda: needs.compiles(compiler, OPENSSL_PROGRAM, ["-lcrypto"]) or None, "OpenSSL with its header", "libssl-dev")
 
@@ -166,7 +166,7 @@ def openssl(compiler):
 def check_vectors(checks, scratch, library):
     """Checks that the library has the verdicts of libsodium, both with OpenSSL and with libsodium."""
     compiler, program, vectors = needs.compiler_with_libsodium(), f"{scratch}/verify_over", ed25519_edge_cases.vectors()
-    openssl(compiler)
+    need_openssl(compiler)
     command = [compiler, "-O2", "-Wall", "-Wextra", "-Werror", "-I", f"{TOP}/include", f"{TOP}/tests/c/verify_over.c", library,
                "-lcrypto", "-lsodium", "-pthread", "-o", program]
     status, output = run(command)
@@ -201,6 +201,7 @@ def run_all(checks, scratch):
     check_texts(checks)
     check_libsodium(checks)
     check_openssl(checks)
+    # C_CALLS= leaves out dist/calls.c, which is slow to compile: the library then contains only the archives of dist/.
     library = static_library.library(f"{scratch}/out", "C_CALLS=")
     check_key_of_zeros(checks, scratch, library)
     check_vectors(checks, scratch, library)

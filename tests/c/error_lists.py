@@ -188,7 +188,7 @@ def returned_errors(call):
 
 
 def named_errors(calls, call, errors, seen=()):
-    """Returns the errors that the comment of a call names, also with the words "those of" another call."""
+    """Returns the errors that the comment of a call names, and those that it includes by the words "those of" another call."""
     found = {*re.findall(r"MINISIGN_(\w+)", calls[call].comment)} & errors
     for referenced in re.findall(r"those of (minisign_\w+)", calls[call].comment):
         if referenced in calls and referenced not in seen:

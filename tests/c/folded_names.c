@@ -4,8 +4,8 @@
  * with an acute accent (U+00E9) and an e that is followed by the accent (U+0301). tests/c/macos.py runs minisign with this
  * library, and writes decompositions.h.
  *
- * If OTHER_NUMBER is set, the file system behaves like some file systems in user space: a file has a different inode number
- * when the name in OTHER_NUMBER is used for it, and two names cannot be exchanged. */
+ * If the variable OTHER_NUMBER contains a file name, the file system behaves like some file systems in user space: a file has
+ * a different inode number when this name is used for it, and two names cannot be exchanged. */
 #define _GNU_SOURCE
 
 #include <ctype.h>
@@ -55,6 +55,7 @@ static size_t length_of_character(const char *text)
     return len;
 }
 
+/* Returns the path with its last component decomposed and in lower case. */
 static struct path folded(const char *path)
 {
     struct path folded = { "" };
@@ -88,6 +89,7 @@ static bool is_other_name(const char *path)
     return other != NULL && (fd >= 0 && fd < MAX_DESCRIPTORS ? is_by_other_name[fd] : strcmp(last_part(path), other) == 0);
 }
 
+/* Records if a new descriptor was opened with the name in OTHER_NUMBER. Returns the descriptor. */
 static int opened(const char *path, int fd)
 {
     if (fd >= 0 && fd < MAX_DESCRIPTORS) {
@@ -96,6 +98,7 @@ static int opened(const char *path, int fd)
     return fd;
 }
 
+/* Changes the inode number of a file that was found by the name in OTHER_NUMBER. Returns `result`, the result of stat. */
 static int inspected(bool is_other, int result, struct stat *found)
 {
     if (result == 0 && is_other && S_ISREG(found->st_mode)) {

@@ -49,10 +49,10 @@ def count_ones(x):
 
 def zeros(x, positions):
     """Returns the number of zero bits before the first one bit, in the order of these positions."""
-    match = z3.BitVecVal(x.size(), x.size())
+    term = z3.BitVecVal(x.size(), x.size())
     for count, at in reversed([*enumerate(positions)]):
-        match = z3.If(z3.Extract(at, at, x) == 1, z3.BitVecVal(count, x.size()), match)
-    return match
+        term = z3.If(z3.Extract(at, at, x) == 1, z3.BitVecVal(count, x.size()), term)
+    return term
 
 
 def leading_zeros(x):
@@ -126,7 +126,7 @@ POISON_INPUTS = {"ctlz": lambda bits: 0, "cttz": lambda bits: 0, "abs": lambda b
 
 def functions_of(text):
     """Maps the names of the functions of a module to their parsed text."""
-    match = {}
+    functions = {}
     for name, parameters, body in re.findall(r"^define [^@]*@(\w+)\(([^)]*)\)[^{]*\{\n(.*?)\n\}", text, re.S | re.M):
         blocks, block = {}, "entry"
         for line in body.split("\n"):
@@ -137,8 +137,8 @@ def functions_of(text):
                 block = label[1]
             elif line.strip():
                 blocks.setdefault(block, []).append(line.strip())
-        match[name] = Function(re.findall(r"i\d+ [^%,]*%([\w.]+)", parameters), blocks)
-    return match
+        functions[name] = Function(re.findall(r"i\d+ [^%,]*%([\w.]+)", parameters), blocks)
+    return functions
 
 
 class Execution:
@@ -151,8 +151,9 @@ class Execution:
         self.outcome = Outcome(result, contents, ends, z3.Or(NEVER, *self.undefined))
 
     def block(self, name, before, values, contents, reached, above):
-        """Executes a block and the blocks that follow it. Returns the result, the memory, and the condition under
-        which the program ends."""
+        """Executes a block and the blocks that follow it. `before` is the name of the block from which it was reached,
+        for phi; `reached` the condition under which this path is taken; `above` the names of all blocks on the path.
+        Returns the result, the memory, and the condition under which the function calls abort."""
         if name in above:
             raise Unsupported(f"a loop at {name}")
         values, above = dict(values), (*above, name)
@@ -167,6 +168,8 @@ class Execution:
                     raise Unsupported(text)
                 return self.value(values, match[2], int(match[1])) if match else None, contents, NEVER
             if word == "unreachable":
+                # clang writes it only after a call of abort in these functions: any other call but of an intrinsic is an
+                # error below.
                 return None, contents, ALWAYS
             if word == "store":
                 contents = self.store_term(text, values, contents)

@@ -123,7 +123,7 @@ static struct text any_password(void)
     return password;
 }
 
-/* Returns one of few key IDs, so that the ID of a signature is often that of a key. */
+/* Returns one of a small set of key IDs, so that a signature and a key often have the same key ID. */
 static void any_key_id(uint8_t key_id[8])
 {
     static const uint8_t published[8] = { 0x1f, 0xe8, 0xb4, 0x42, 0x18, 0x0f, 0x62, 0xe7 };
@@ -154,7 +154,7 @@ static void any_ed25519_signature(uint8_t signature[64])
     }
 }
 
-/* Returns an unopened key. It is mostly an encrypted one, if there is one. */
+/* Returns one of the unopened keys. In three of four calls it is an encrypted one, if there is any. */
 static const minisign_unopened_key *any_unopened_key(void)
 {
     int i = any_copy();
@@ -175,7 +175,7 @@ static uint64_t any_rows(const minisign_unopened_key *key)
     return taken > MAX_ROWS && rows >= taken ? MAX_ROWS : rows;
 }
 
-/* Returns a value for keep_every. It is mostly small, because rows that are not stored are computed again. */
+/* Returns a value for keep_every, usually a small one, because rows that are not stored are computed again. */
 static uint64_t any_keep_every(void)
 {
     static const uint64_t rare[] = { 3, 7, 16, UINT64_C(1) << 32, UINT64_MAX };
@@ -358,7 +358,7 @@ static uint32_t any_legacy(void)
     return one_in(20) ? rare : !one_in(3);
 }
 
-/* Returns a key. It mostly has the key ID of this signature, if there is such a key. */
+/* Returns one of the public keys. In three of four calls it has the key ID of this signature, if there is such a key. */
 static const minisign_public_key *any_key_for(const minisign_signature *signature)
 {
     int i = any_copy();

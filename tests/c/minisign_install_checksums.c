@@ -106,7 +106,7 @@ static void append_number(struct text *comment, const char *label, uint64_t usua
     }
 }
 
-/* Returns a trusted comment with fields in random order. It is mostly accepted. */
+/* Returns a trusted comment with fields in random order. Most of these comments are accepted. */
 static struct text any_fields(void)
 {
     static const char *const others[] = { "hashed", "x", "expires", "Expires:9", "expire:9", "file:ap", "version:6", "timestamp:6", "size:11", "" };
@@ -188,7 +188,7 @@ static void choose_list(minisign_install_options *options)
     options->long_digest = one_in(60) ? other : usual;
 }
 
-/* Returns a list. It is mostly accepted, and has the digest of no data under the name `app`. */
+/* Returns a list. Most of these lists are accepted, and have the digest of empty data under the name `app`. */
 static struct text any_list(void)
 {
     static const char *const lines[] = { SHA256_OF_NOTHING "  app\n", SHA256_OF_NOTHING " *./app\r\n", "SHA256 (app) = " SHA256_OF_NOTHING "\n",
@@ -363,7 +363,7 @@ static void call_no_target(minisign_installation *installation)
     CALL(minisign_install_no_target, installation);
 }
 
-/* Makes any call, which is mostly not due. */
+/* Makes a random call, which in most cases does not report the operation that is due. */
 static void call_anything(minisign_installation *installation)
 {
     switch (random_below(11)) {
@@ -381,7 +381,7 @@ static void call_anything(minisign_installation *installation)
     }
 }
 
-/* Reports copied data, in several pieces. Their total size is mostly one that a comment has. */
+/* Reports copied data, in several pieces. In most cases, their total size is one of the sizes in the comments. */
 static void call_copy(minisign_installation *installation)
 {
     size_t first = random_below(13);

@@ -65,7 +65,7 @@ static void add_file(const minisign_list_file *file)
 
 /* ---- Random arguments ---- */
 
-/* Returns one of few names, mostly one that a list may contain. */
+/* Returns one of a small set of names. A list may contain most of them. */
 static const char *any_name(void)
 {
     static const char *const good[] = { "a", "b", "./a", "d/e", "x) = y", " c", "*c", "\xc3\xa9", "a b", "..a", "f" };

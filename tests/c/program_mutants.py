@@ -49,8 +49,9 @@ def build(copy, name):
     objects = [f"{part}/{source.stem}.o" for part in (directory, "shared")
                for source in sorted(pathlib.Path(sources, part).glob("*.c"))]
     if directory == "minisign":
+        # Compiled from c/library/clearing.c, because the library does not export these functions.
         objects.append("out/clearing.o")
-    # With -o, make does not rebuild the library in the copy, which may have been built with UNPROVED=1.
+    # With -o, make does not rebuild the library in the copy. It may have been built with UNPROVED=1, that is, without proofs.
     status, output = run(["make", "-C", sources, "UNPROVED=", "OUT=out", "-o", "out/libminisign.a",
                           "CFLAGS=-O0 -std=c11 -I. -I../include", f"{directory.upper()}_PARTS={' '.join(objects)}", f"out/{name}"],
                          seconds=10 * SECONDS)
@@ -71,6 +72,7 @@ def failure_of(scratch, built, name, cases_of, mutant):
         except Failure:
             return ""
         return f"the case `{mutant.case}` does not notice it"
+    # StopIteration: no case has the name that the mutant gives.
     except (Failure, Skip, StopIteration, OSError, subprocess.SubprocessError) as error:
         return f"{type(error).__name__}: {error}"
 
@@ -103,7 +105,8 @@ def cases_of_check(preload, program, scratch):
 
 
 def cases_of_minisign(whole, keys, program, scratch):
-    """Yields the test cases for a build of minisign, for those classes of cases that mutants name."""
+    """Yields the test cases for a build of minisign: only those of the classes whose cases the mutants name. `whole` is a
+    `ProgramPaths` that lacks only this build."""
     for part in (OtherUsers, Places):
         yield from part(whole._replace(ours=program), scratch, keys).cases()
 

@@ -140,6 +140,7 @@ class Module:
         addresses = [bytes([wasm_object.CONSTANT]) + number(found.start()) + number(count) + b"\0"
                      for found in re.finditer(re.escape(ADDRESS), encode_list(bodies))]
         segment = b"\0" + assemble(f"i64.const {DATA} end") + with_size(DATA_BYTES)
+        # Places in a section are counted from its size on; the 1 is the byte with the number of segments.
         place = len(segment) - len(DATA_BYTES) + 1 + POINTER_AT
         pointer = bytes([wasm_object.DATA]) + number(place) + number(count) + number(POINTS_TO, 64)
         symbols = [b"\0\0" + number(index) + text(name) for index, name in enumerate(self.names())]
@@ -335,7 +336,8 @@ class RandomFunction:
         return code
 
     def choose(self, name, word, depth):
-        """Returns code for a name in braces in the grammar."""
+        """Returns code for a name in braces in the grammar. If the grammar has no such production, the name is that of a
+        method, and `word` its arguments."""
         self.budget -= name == "statement" or name in BITS
         if name in BITS:
             depth = int(word or depth - 1)
@@ -378,7 +380,7 @@ class RandomFunction:
         depths = [str(depth) for depth, kind in found if kind == result_kind]
         targets = [self.choice(depths) for _ in range(self.rng.randrange(1, 5) if how == "br_table" else 1)]
         rest = "drop" if how == "br_if" and result_kind != "none" else ""
-        return self.write(f"{value_of_kind(result_kind)} {{asked {how}}} {how} {','.join(targets)} {rest}")
+        return self.write(f"{value_of_kind(result_kind)} {{selector {how}}} {how} {','.join(targets)} {rest}")
 
 
 def value_of_kind(result_kind):
@@ -469,8 +471,8 @@ def is_noticed(case, runners, **more):
 
 
 def check_mutants(checks, case, single, runners):
-    """Checks that each mutant is noticed. The case `single`, in which functions have one instruction, must notice
-    those of instructions."""
+    """Checks that each mutant is noticed. Mutants of a single instruction (machine.h and the translator's table) must be
+    noticed by the case `single`, which has no random functions."""
     for mutant in mutants_of("c", "machine_mutants"):
         checks.check(is_noticed(single, runners, machine=applied_to(MACHINE, mutant)),
                      f"nothing notices the mutant {mutant.name} of machine.h")

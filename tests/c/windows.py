@@ -464,7 +464,7 @@ class Cases:
             with self.holding("data.minisig", 60000, how):
                 ran = subprocess.Popen([self.wine.program, self.exe, "-S", "-s", "a.key", "-m", "data"], cwd=self.scratch,
                                        env=self.wine.variables, stdin=subprocess.DEVNULL, stderr=subprocess.PIPE)
-                # The program creates its temporary file directly before it needs the other one.
+                # Waits for the temporary file: right after creating it, the program tries to replace the file that is held.
                 while not self.leftovers() and ran.poll() is None:
                     time.sleep(0.01)
                 time.sleep(0.3)
@@ -610,7 +610,7 @@ class Cases:
         self.checks.same(self.run_exe("-v").stdout.decode(), f"minisign 0.11\nMinisign in Rattle {version}\n", "-v")
 
 
-# The methods of Cases with a `_` in their names that are no cases.
+# The methods of Cases that have a `_` in their names but are not cases.
 HELPERS = {"run_exe", "run_on_linux", "run_theirs", "run_all_three", "kill_after", "run_at_home"}
 # All other methods with a `_` in their names are cases. So the name of a new helper has no `_`, or HELPERS contains it.
 CASES = [name for name, value in vars(Cases).items() if not name.startswith("_") and callable(value) and "_" in name
@@ -698,7 +698,7 @@ def failure_of(programs, scratch, parts, mutant):
 
 
 def check_mutants(checks, pool, programs, scratch):
-    """Checks that the case that a mutant names notices it."""
+    """Checks that each mutant is noticed by the case that it names."""
     tried = [mutant for mutant in mutants.mutants_of("c", "windows_mutants") if selected.is_selected(mutant.name, "mutants")]
     if tried:
         parts = Parts(scratch)

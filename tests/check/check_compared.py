@@ -94,7 +94,7 @@ def random_files(rng, text):
 
 
 def result_of_file(directory, name, function, digest):
-    """Returns the expected exit status for a file alone."""
+    """Returns the expected exit status if only this file is checked."""
     path = os.path.join(os.fsencode(directory), name)
     try:
         status = os.stat(path)

@@ -254,7 +254,7 @@ def copies_large_files(checking, length):
 
 
 def writes_nothing_before_verdict(checking):
-    """A long file whose last byte is wrong: -o prints nothing of it."""
+    """If the last byte of a long file is wrong, -o prints no part of the file."""
     data = bytes(LARGE)
     directory = checking.signed(entries(a=data), {"a": data[:-1] + b"x"})
     checking.expect(directory, COPY, DIFFERS, b"", b"a: FAILED\n" + errors(("a", MISMATCH), DOWNLOAD))

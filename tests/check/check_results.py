@@ -223,7 +223,7 @@ def checks_list_of_any_name(checking):
 def result_cases(checking):
     """Yields the names of the cases, with their functions and arguments."""
     for name, *rest in RESULTS:
-        yield f"gives the result of {name}", gives_result, checking, *rest
+        yield f"has the right result for {name}", gives_result, checking, *rest
     yield "looks for the files in the directory of --in", looks_in_directory, checking
     yield "--nothing-else ignores the list, its signature, and anything that is not a regular file", finds_nothing_else, checking
     yield "checks many files in several threads", checks_many_files, checking

@@ -48,8 +48,8 @@ class Task(faults.Task):
 
 
 def complete_file(begin, *lengths):
-    """Returns a function that raises a `Failure` unless a file begins with `begin`, ends with a line feed, and has on every second line
-    base64 of so many bytes."""
+    """Returns a function that raises a `Failure` unless a file begins with `begin`, ends with a line feed, and has base64 on every second
+    line, which decodes to the numbers of bytes in `lengths`."""
 
     def check(data):
         actual_lengths = [len(base64.b64decode(line)) for line in data.split(b"\n")[1::2]]

@@ -178,7 +178,7 @@ def wrong_texts(keys, signature):
         ("-x", b"this file begins with a byte order mark", b"save it as UTF-8 without a byte order mark", b"\xef\xbb\xbf" + signature),
         ("-p", b"this public key is truncated: it has only 1 of 2 lines", DOWNLOAD_HINT, public.split(b"\n")[0] + b"\n"),
         ("-x", cut + b"2 of 4 lines", DOWNLOAD_HINT, lines(first, second)),
-                                      ("-x", cut + b"3 of 4 lines", DOWNLOAD_HINT, lines(first, second, third)),
+        ("-x", cut + b"3 of 4 lines", DOWNLOAD_HINT, lines(first, second, third)),
         ("-x", damage + b'its third line does not begin with "trusted comment: "', DOWNLOAD_HINT,
          lines(first, second, b"x" + third, fourth)),
         ("-x", not_base64, DOWNLOAD_HINT, lines(first, b"!", third, fourth), lines(first, second, third, b"!")),
@@ -214,7 +214,7 @@ def damaged_keys(text):
          text_of(record[:2] + b"XX" + record[4:])),
         (b"decrypting this key takes more than 1 GiB of memory", b"error: wrong: the scrypt limits of this key are too high",
          limited(1 << 15, (1 << 30) + 1)),
-        (damage + b"its scrypt parameters are invalid", b"error: wrong: the scrypt limits of this key are invalid", limited(1 << 40, 0)),
+        (damage + b"its scrypt limits are invalid", b"error: wrong: the scrypt limits of this key are invalid", limited(1 << 40, 0)),
     ):
         hint = DOWNLOAD_HINT if b"empty" in words else RESTORE_HINT if b"GiB" not in words else None
         for wrong in texts:

@@ -298,7 +298,7 @@ class Safety(Programs):
 
     @case("tags of pieces are those of the formula")
     def tags_of_pieces(self):
-        """The tags that compare two reads of a piece are those of the formula, also if the compiler has no 128-bit
+        """The tags that compare two reads of a piece are those of the formula, even if the compiler has no 128-bit
         integers."""
         program, key = os.path.join(self.work_directory, "tags"), os.urandom(BLOCK_SIZE + 512)
         sources = [os.path.join(HERE, "tags.c"), os.path.join(static_library.DIRECTORY, "shared", "piece_tags.c")]

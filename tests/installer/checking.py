@@ -20,10 +20,9 @@ def shows_signed_text(directory):
     it rejects the update because of the comment. It prints nothing if the comment signature is invalid."""
     for status, number, name, more, installed in (
             (0, 6, TARGET, "\tnote:\x1b[31m\x9b", OLD_DATA), (ALREADY_INSTALLED, 6, TARGET, "", NEW_DATA),
-                                                  (OLDER_VERSION, 4, TARGET, "", OLD_DATA),
-            (SAME_VERSION, 5, TARGET, "", OLD_DATA),
+            (OLDER_VERSION, 4, TARGET, "", OLD_DATA), (SAME_VERSION, 5, TARGET, "", OLD_DATA),
             (EXPIRED, 6, TARGET, EXPIRED_FIELD, OLD_DATA), (REJECTED, 6, "other", "", OLD_DATA),
-                                                  (REJECTED, 6, TARGET, "\tsize:x", OLD_DATA)):
+            (REJECTED, 6, TARGET, "\tsize:x", OLD_DATA)):
         directory.put_installed(installed, b"6" if status == ALREADY_INSTALLED else b"5")
         directory.offer(number=number, names=name, more=more)
         shown = f"{number}\ntimestamp:{number}\tfile:{name}{more}\tprehashed\n".replace("\x1b", "\\u{1b}").replace("\x9b", "\\u{9b}")

@@ -26,7 +26,7 @@ download_cases = Cases()
 NOT_FETCHED = 20
 # The tests kill the script after this time. The script itself stops a download after 30 seconds.
 SECONDS = 90
-# A server may send so many bytes more than the receiver reads, because they fit into the buffers of two sockets and a pipe.
+# The maximum number of bytes that a server sends but the receiver does not read: those in the buffers of two sockets and a pipe.
 MAX_BUFFERED = 32 << 20
 # The size limits of the script.
 MAX_DATA = 100 << 20

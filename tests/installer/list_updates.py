@@ -214,7 +214,7 @@ LIST_TABLE = (
     ("changed name of the list in the trusted comment", REJECTED,
      error_text("new.sig", "Comment signature verification failed", DOWNLOAD_LIST_AGAIN),
      dict(names="other", forge=lambda text: text.replace(b"file:other", f"file:{LIST}".encode()))),
-    # What the trusted comment says is checked before the list.
+    # The fields of the trusted comment are checked before the list.
     ("expired list", EXPIRED, EXPIRED_ERROR, dict(more=EXPIRED_FIELD)),
     ("expired list that is malformed", EXPIRED, EXPIRED_ERROR, dict(more=EXPIRED_FIELD, listed=b"text\n")),
     ("list that never expires, with --must-expire", REJECTED, NO_EXPIRY_ERROR, dict(options=("--must-expire",))),

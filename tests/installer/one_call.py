@@ -329,7 +329,7 @@ def rejects_list(directory, error, text, number, listed, **offered):
     expect_old(directory)
 
 
-@one_call_cases.table("rejects a name that no list can contain")
+@one_call_cases.table("rejects a name that a list cannot contain")
 def rejects_list_name(directory):
     offer_list(directory)
     message = [(ERROR, LIST, "a list can only contain relative paths without .. or special characters", 0)]

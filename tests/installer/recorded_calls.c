@@ -294,7 +294,7 @@ FAILS(struct dirent *, NULL, readdir, -1, NULL, (DIR *entries), (entries))
 NOTES(fsync, fd, (int fd), (fd))
 NOTES(flock, fd, (int fd, int operation), (fd, operation))
 
-/* Calls that can be told to handle only half of the bytes. */
+/* Wraps a call that can be made to handle only half of the bytes. */
 #define HALVES(name, parameters, ...)                                                                                      \
     ssize_t __real_##name parameters;                                                                                      \
     ssize_t __wrap_##name parameters;                                                                                      \

@@ -319,7 +319,7 @@ def runs_at_once_with_faults(directory, orders=40):
 
 
 def in_order(randomness):
-    """Returns a function that chooses the run to continue. It mostly chooses the same run for some calls."""
+    """Returns a function that chooses the run to continue. Usually it chooses the same run for several calls in a row."""
     last = None
 
     def choose(waiting):

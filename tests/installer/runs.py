@@ -125,7 +125,8 @@ class Directory:
         return stat.S_IMODE(os.stat(self.path_of(name)).st_mode)
 
     def content(self, name=TARGET):
-        """Returns the content of a file, or None. A complete version record of a timestamp is shortened to the number."""
+        """Returns the content of a file, or None. Of a version record, returns only the version number if the record is complete and
+        the number is a timestamp."""
         data = content_or_none(self.path, name)
         return data and re.sub(rb"\Atimestamp:(\d+)\n[0-9a-f]{64}\n[0-9a-f]{128}\Z", rb"\1", data)
 
@@ -245,10 +246,11 @@ class InstallerRunner(FaultRunner):
     def __init__(self, program, signer, scratch):
         super().__init__(shutil.copy(program, os.path.join(scratch, "program")), scratch)
         self.signer = signer
+        # Some cases run the program as another user.
         os.chmod(scratch, 0o711)
 
     def new_directory(self, path):
-        """Makes a directory in which an older update is installed and a newer one is offered."""
+        """Fills an empty directory: an older update is installed there, and a newer one is offered."""
         return Directory(path, self).reset()
 
     def run_case(self, case, *arguments):

@@ -33,15 +33,17 @@ CRATES = os.path.join(HERE, "..", "..", "crates")
 NAME_PART = "refused_allocations"
 
 # The name of a test function, the address space in MiB within which the test must pass, and the address space
-# within which it must fail, or 0 if that is not checked. The first test stores all rows of scrypt, 32 MiB, once.
-# The second one stores every 16th row of 1 GiB. The third one allocates no rows, because the limits are rejected.
+# within which it must fail, or 0 if that is not checked. The "rows" are those of scrypt, which takes most of the memory.
+# The first test opens a key with the crate's default limits (32 MiB) and stores all rows in one block. The second one
+# opens a key with Minisign's limits (1 GiB) and stores every 16th row. The third one allocates no rows, because the limits
+# are rejected.
 MEMORY_LIMITS = [
     ("opens_key_with_default_limits_within_one_part", 40, 32),
     ("opens_key_of_minisign_in_less_memory", 80, 64),
     ("rejects_limits_only_after_password_was_typed", 8, 0),
 ]
-# A test that must make exactly two allocations: a single one for all rows of scrypt, as its name says, and one for
-# the buffer in which the rows are mixed.
+# A test that must make exactly two allocations: one for all rows of scrypt ("a single request"), and one for the buffer
+# in which the rows are mixed. Its name need not have NAME_PART, because its module's name does.
 TWO_ALLOCATIONS = "reserves_all_rows_in_a_single_request"
 
 
@@ -72,6 +74,7 @@ def check_failing_allocations(scratch, tests, name):
     def attempt(number, directory):
         ran = program.run_with_failed_allocation(directory, [name], number)
         expect(ran.status == 0, ran)
+        # False if the test made fewer than `number` allocations, so that none failed.
         return ran.reached
 
     count = for_each_call(program.parent, attempt)

@@ -41,7 +41,7 @@ def check_missing_features(person):
             ("crypto.subtle.importKey = async () => { throw new DOMException('no', 'NotSupportedError'); };", "Ed25519", "WebAssembly"),
             ("crypto.subtle.verify = async () => true;", "Ed25519", "WebAssembly"),
             ("WebAssembly.validate = () => false; crypto.subtle.verify = async () => false;", "WebAssembly, and Ed25519", "cannot run"),
-            ("WebAssembly.instantiate = async () => { throw new RangeError('memory'); };", "cannot run the proved library", "lacks")):
+            ("WebAssembly.instantiate = async () => { throw new RangeError('memory'); };", "cannot run the library of this page", "lacks")):
         number = person.command("Page.addScriptToEvaluateOnNewDocument", source=script)["identifier"]
         person.open()
         person.says("unusable", f"after {script}", named, lacks=[not_named])

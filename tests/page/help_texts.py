@@ -52,7 +52,7 @@ def check_wrong_files(person):
     person.open()
     person.says("introduction", "the first words", "signature", ".minisig", "beside the download", "RW", "website")
     person.same(person.text_of("introduction").count(". "), 2, "the first words are three sentences")
-    person.check(person.see("isBefore", "introduction", "key-text"), "the first words stand after the first field")
+    person.check(person.see("isBefore", "introduction", "key-text"), "the introduction comes after the first field")
     for name, data, *words in (("some.file", secret, "secret key"), ("some.file", sig, "is a signature, not a key"),
                                ("cut.pub", b"untrusted comment: x\n" + sig.split(b"\n")[1][:56] + b"\n", "part of a signature"),
                                ("alone.pub", bare, "only the key", f" {line} (alone.pub)")):
@@ -167,7 +167,7 @@ def check_page_that_cannot_start(person):
             ("script-src 'unsafe-inline'", 0, True,
              ["The server of this page forbids WebAssembly", "Save the page and open it from disk."], ["https"]),
             ("", 1, False, ["lacks Ed25519 for pages that were opened over http", "Save the page and open it from disk, or open it over https."], [])):
-        what = f"the policy {policy!r}, and by https or from this machine: {is_secure}"
+        what = f"the policy {policy!r}, served over https or locally: {is_secure}"
         with served(person.page, Content_Security_Policy=policy) as addresses:
             person.open(addresses[at])
         person.says("unusable", what, *has, lacks=["newer browser", *lacks])

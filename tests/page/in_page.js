@@ -23,8 +23,8 @@ function band() {
   return band?.checkVisibility() ? [band.dataset.verdict, ...Array.from(band.children, line => line.innerText)] : null;
 }
 
-// Returns the rows, the band, true if this is a project's page, which has no field for a key, what is said once about the key with true
-// if it is a warning, and what the page says of its source.
+// Returns five things: the rows; the band; true if this is a project's page, which has no field for a key; the notice about the key, with
+// true if it is a warning; and the message that names the key and its source.
 function state() {
   const whose = document.getElementById("key-notice");
   return [rows(), band(), !document.getElementById("key-text").checkVisibility(),

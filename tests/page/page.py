@@ -5,9 +5,9 @@
 
 PAGE is a web page that `page/build.py` built, by default the page in `dist/`. `tools/dist.py --check` checks that `page/build.py`
 builds the same page, and wide_module.py compares its module with the proved one. The modules of this directory contain the tests.
-WORD selects the steps whose name contains it. To test changed sources of the page, pass a PAGE that `page/build.py` has built from them, without the Rattle
-kit. Each patch of the directory `mutants` breaks one thing in the sources, and a step has to detect it. The script prints a
-line for each failure; the last line is `N passed, M failed`.
+WORD selects the steps whose name contains it. To test changed sources of the page, pass a PAGE that `page/build.py` has built from
+them, without the Rattle kit. Each patch of the directory `mutants` breaks one thing in the sources, and a step has to detect it. The
+script prints a line for each failure; the last line is `N passed, M failed`.
 
 Needs Python 3.9 or later, chromium, chromium-driver, firefox-esr, binaryen, clang, a C compiler, make, libsodium with its header and
 minisign 0.11. It installs missing packages if it has permission.

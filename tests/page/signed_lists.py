@@ -27,15 +27,15 @@ TEXT = "# a release\n" + "".join(line_of(name, data, kind) for (name, data), kin
     "sha256", "sha512", "blake2b", "sha256", "sha512"))) + 2 * line_of(TWICE, b"twice")
 # Files without signatures that are dropped: the name, the data, and the verdict, the error code and words of the row that the page shows.
 ROWS = (
-    (NEW, FILES[NEW], "good", 0, [f"the list {LIST} names {NEW}", "signed on 2023-11-14"]),
-    ("app-1.0 (1).zip", FILES[OLD], "good", 0, [f"names {OLD}"]),
-    (OTHER.rpartition("/")[2], FILES[OTHER], "good", 0, [f"names {OTHER}"]),
-    (LARGE, FILES[LARGE], "good", 0, [f"names {LARGE}"]),
-    (EMPTY, b"", "good", 0, [f"names {EMPTY}"]),
+    (NEW, FILES[NEW], "good", 0, [f"the entry {NEW} in the list {LIST}", "signed on 2023-11-14"]),
+    ("app-1.0 (1).zip", FILES[OLD], "good", 0, [f"matches the entry {OLD}"]),
+    (OTHER.rpartition("/")[2], FILES[OTHER], "good", 0, [f"matches the entry {OTHER}"]),
+    (LARGE, FILES[LARGE], "good", 0, [f"matches the entry {LARGE}"]),
+    (EMPTY, b"", "good", 0, [f"matches the entry {EMPTY}"]),
     # An old file under the name of a new one, and a file with another name.
-    (NEW, FILES[OLD], "renamed", 0, [f"names {OLD}", "Your file has another name", "may be an older version"]),
-    ("download", FILES[LARGE], "renamed", 0, [f"names {LARGE}"]),
-    ("APP-2.0.ZIP", FILES[NEW], "renamed", 0, [f"names {NEW}"]),
+    (NEW, FILES[OLD], "renamed", 0, [f"matches the entry {OLD}", "Your file has another name", "may be an older version"]),
+    ("download", FILES[LARGE], "renamed", 0, [f"matches the entry {LARGE}"]),
+    ("APP-2.0.ZIP", FILES[NEW], "renamed", 0, [f"matches the entry {NEW}"]),
     (NEW, FILES[NEW] + b"x", "bad", 94, [f"List: {LIST}.", "has this file's name, but with other content"]),
     (LARGE, FILES[LARGE][:-1], "bad", 94, [f"List: {LIST}."]),
     ("other.zip", b"other", "bad", 92, ["neither this file's name nor its content"]),

@@ -30,7 +30,7 @@ class Programs:
     def __init__(self, scratch):
         self.program, numbers = shared_cases.build_c_minisign(scratch), shared_cases.ERRORS
         self.meaning = {numbers[name]: text for name, text in shared_cases.error_texts().items() if name in numbers}
-        # Of two messages for an error, the program prints that of messages.c.
+        # If both files have a message for an error, the program prints that of messages.c.
         own = [found for name in ("c/shared/error_words.c", "c/minisign/messages.c")
                for found in re.findall(r'\{ MINISIGN_(\w+), "(.*)" \}', build.read(name))]
         self.words = {**self.meaning, **{numbers[name]: text.replace('\\"', '"') for name, text in own}}

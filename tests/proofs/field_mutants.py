@@ -109,14 +109,15 @@ class Mutant(WrongBody):
         self.crate, self.path, self.item, self.function, self.places = crate, path, item, function, places
         self.copied = None if item.trait else item
         self.does, self.label, self.suffix = does, f"{crate}/{function}: {does}", ""
-        # A condition: at the place where the mutant resets the field, the field has the reset value.
+        # A condition, which is true if the field already has the reset value where the mutant resets it. Then the mutant
+        # changes nothing.
         self.field = field
         # A body that calls the unchanged function, and then makes the same change as the mutant.
         self.around = around
         self.call = call
         self.clause = self.named = self.by = self.why_not = ""
         self.is_for_kit = self.is_unchanged = self.is_around = False
-        # The output that is different from that of the function, if it is a single one, and all outputs of the function.
+        # The output that the mutant changes, if there is exactly one, and all outputs of the function.
         self.changes, self.outputs = changes, outputs
 
     def probe(self, is_call):
@@ -159,7 +160,7 @@ class Twice(Mutant):
     def __init__(self, generator, fields=()):
         super().__init__(generator.structs.crate, generator.path, generator.item, generator.function, [], "two calls")
         self.added, self.ensured = generator.twice(fields)
-        # The outputs that the contract determines, once the prover has said so.
+        # The outputs that the contract determines. It is empty until the prover has run.
         self.determined = frozenset()
 
     def pieces(self, text):
@@ -254,7 +255,8 @@ class Structs:
         return VALUES.get(re.sub(r"&'\w+ ", "&", kind), "")
 
     def value(self, kind, module, is_at_hand, depth=0):
-        """Returns a value of a type, or an empty string if this script knows none. `is_at_hand` says if a parameter `alloc` is."""
+        """Returns a value of a type, or an empty string if this script knows none. `is_at_hand` is true if the function has a
+        parameter `alloc`, from which the value may be made."""
         kind = re.sub(r"&'\w+ ", "&", kind)
         if kind.startswith("("):
             values = [self.value(each, module, is_at_hand, depth + 1) for each in in_parts(kind[1:-1])]
@@ -287,7 +289,7 @@ def in_parts(text):
 
 
 def test_modules(files):
-    """Returns the modules, each with `::` behind it, that are compiled only for tests."""
+    """Returns the paths of the modules that are compiled only for tests, each with `::` at its end."""
     return tuple("::".join(filter(None, (module_of(path), item.name, ""))) for path, (_, source) in files.items()
                  for item in source.items if item.what == "mod" and "#[cfg(test)]" in item.comment)
 
@@ -499,7 +501,7 @@ class Generator:
         shown, changes = value if len(value) < 40 else "..", []
         for match in re.finditer(r"\bErr\(", self.bare[body:end]):
             begin, stop = body + match.start(), self.reader.closed[body + match.end() - 1]
-            # An `Err(..)` that is followed by one of these is a pattern.
+            # Before `=`, `|` or `if`, `Err(..)` is a pattern and not a value.
             if not re.match(r"\s*(?:=|\||if\b)", self.bare[stop:stop + 80]):
                 changes.append((begin, stop, f"Ok({value})", f"Err {len(changes) + 1}"))
         for number, match in enumerate(re.finditer(r"\?", self.bare[body:end]), 1):
@@ -572,7 +574,7 @@ class FieldTrial(Trial):
 
     def __init__(self, crate, places=None):
         super().__init__(crate, places)
-        # The results of the checks of each thread, so that each check only checks what is new.
+        # The directory in which the prover keeps the results of each thread, so that each check proves only what has changed.
         self.results = threading.local()
 
     def check(self, directory, functions):
@@ -702,7 +704,7 @@ def generators_of(crate, is_unchanged=False, names=()):
 
 
 def determined(trial, generators, mutants, pool):
-    """Returns for each function the outputs that its contract determines, as far as mutants change them."""
+    """Returns, for each function, those outputs that its contract determines and that a mutant changes."""
     changed = {}
     for body in mutants:
         changed.setdefault(body.function, set()).add(body.changes)
@@ -871,7 +873,7 @@ def report(verdicts, good):
 
 
 class Run:
-    """A run of this script: its words and flags, and its results so far."""
+    """A run of this script: the names and flags of its command line, and its results so far."""
 
     def __init__(self, names, flags, pool, places):
         self.names, self.flags, self.pool, self.places = names, flags, pool, places
@@ -880,7 +882,8 @@ class Run:
         self.outcomes, self.skipped = Counter(), 0
 
     def mutants_of(self, crate):
-        """Returns the functions of a crate that have mutants, each with its mutants, and those of them that are named."""
+        """Returns the functions of a crate that have mutants, each with its mutants, and the list of the functions that the command line
+        selects."""
         generators = generators_of(crate, self.is_unchanged, names_of(crate, tuple(recorded().get(crate, ()))))
         every = {generator: bodies for generator in generators if (bodies := list(generator.all()))}
         selected = [generator for generator in every

@@ -7,7 +7,7 @@ from request_format import response, rows, secret_key
 
 
 def parsing_and_comparison(name, kind, record, answer, begin, end):
-    """Yields cases for a record. Parsing must succeed with its bytes, also if more bytes follow, and fail if a byte is missing. A
+    """Yields cases for a record. Parsing must succeed with its bytes, even if more bytes follow, and fail if a byte is missing. A
     comparison of two records must compare only the bytes from `begin` to `end`."""
     renamed = bytes([7]) * begin + record[begin:end] + bytes([7]) * (len(record) - end)
     changed = record[:end - 1] + b"\x5b" + record[end:]

@@ -57,8 +57,9 @@ def encode_request(name, *words):
 
 # A test case: its name, a request, and the expected response, which is an `Answer` or the name of an error.
 Row = namedtuple("Row", "name request answer")
-# An expected response. `head` is "ok" or another first word, or a whole error (`err`, its kind and its text). `values` has the values to
-# compare by name. They include the output of the call, and the number of typed lines that it did not read.
+# An expected response. `head` is "ok", "outside" (the call's precondition does not hold), or a whole error (`err`, its kind and its
+# text). `values` has the values to compare by name. They include the output of the call, and the number of typed lines that it did not
+# read.
 Answer = namedtuple("Answer", "head values")
 # The kind and the text of each named error.
 ERROR_TEXTS = {error["name"]: (error["kind"], error["text"]) for error in ERRORS}
@@ -87,7 +88,7 @@ OUTSIDE_PRECONDITION = response("outside")
 
 
 def public_key(record, **tail):
-    """Returns the expected response with the public key of a record."""
+    """Returns the expected response with the public key of a record. `tail` has further values, for example the output."""
     return response(raw=record, keynum=record[2:10], base64=base64.b64encode(record), **tail)
 
 

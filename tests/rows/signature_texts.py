@@ -151,6 +151,6 @@ ROWS = [row for rows_of in (
     # Every byte can be the first and the last byte of data.
     *(signed_and_verified(f"data: byte {byte}", bytes([byte, ord("a"), byte])) for byte in range(256)),
     # The highest timestamp of signed and unsigned 32-bit integers, the one after it, and the highest of 64 bits.
-    *(signing_cases(f"moment: {time}", b"abc", None, None, time=time, public=RECORD, chunks=AT_ONCE)
+    *(signing_cases(f"timestamp: {time}", b"abc", None, None, time=time, public=RECORD, chunks=AT_ONCE)
       for time in ((1 << 31) - 1, 1 << 31, (1 << 32) - 1, 1 << 32, (1 << 64) - 1)),
 ) for row in rows_of]

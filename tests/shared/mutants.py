@@ -1,7 +1,7 @@
 """Applies mutants. A mutant is a patch that adds one mistake to a copy of the sources, and a test must then fail.
 
 The name of a patch says what is wrong in the mutant. If a test script has several cases, the patch begins with a
-line `Must fail: CASE`, which names the case that must fail. A patch has only as many context lines as identify the
+line `Test case that must fail: CASE`, which names the case that must fail. A patch has only as many context lines as identify the
 changed place, so that it still applies after most edits nearby. CONTRIBUTING.md says how to write a mutant;
 tests/library/patches.py checks that each patch applies to the current sources.
 
@@ -30,8 +30,9 @@ def mutants_of(*directory):
     mutants = []
     for patch in sorted(glob.glob(os.path.join(proved.ROOT, "tests", *directory, "*.patch"))):
         text = read(patch).decode()
-        case, file = re.match(r"Must fail: (.+)\n\n", text), re.search(r"(?m)^\+\+\+ b/(.+)$", text)
+        case, file = re.match(r"Test case that must fail: (.+)\n\n", text), re.search(r"(?m)^\+\+\+ b/(.+)$", text)
         expect(file, f"{patch} changes no file")
+        expect(case or text.startswith("--- "), f"{patch} must begin with the difference, or with `Test case that must fail: CASE`")
         mutants.append(Mutant(os.path.basename(patch).removesuffix(".patch"), patch, file[1], case and case[1]))
     expect(mutants, f"tests/{'/'.join(directory)} has no patches")
     return mutants

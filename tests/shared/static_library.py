@@ -25,7 +25,7 @@ TESTS_PASSED = re.compile(r"(?m)^(2[5-9]|[3-9]\d) passed, 0 failed$")
 
 
 def path_without_kit():
-    """Returns PATH without the directories that contain `rt`."""
+    """Returns the directories of `needs.path_directories`, as PATH, without those that contain `rt`."""
     without_rt = (directory for directory in needs.path_directories() if not os.path.exists(os.path.join(directory, "rt")))
     return os.pathsep.join(without_rt) or "/usr/bin:/bin"
 
@@ -56,7 +56,7 @@ def cached_object(variables, reuse=True):
     prevents other scripts from building the same file meanwhile."""
     out = os.path.join(DIRECTORY, variables.get("OUT", ""))
     built = os.path.join(out, "portable-calls.o")
-    # Without OUT, with C_CALLS, or if the object file exists, make does not compile dist/calls.c.
+    # make does not compile dist/calls.c with C_CALLS, if the object file exists, or for the targets of calls without OUT.
     if "OUT" not in variables or "C_CALLS" in variables or os.path.exists(built):
         yield
         return

@@ -37,7 +37,8 @@ MADE_BEFORE = set()
 
 
 def pair(password=b"p", public_mode=0o644, secret_mode=0o600, names=(PK, SK), links=()):
-    """Expects the two files of a pair that this password decrypts, with these modes, and these links."""
+    """Expects the two files of a key pair with these modes. The password must decrypt the secret key. `links` are links that must exist
+    too."""
     files = {**dict(links), **dict.fromkeys(names, bytes)}
     return ExpectedFiles(files, dict(zip(names, (public_mode, secret_mode))),
                   check=lambda left: check_pair(password, *(left[name][1] for name in names)))

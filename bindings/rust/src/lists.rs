@@ -249,7 +249,8 @@ impl SignedList {
     ///
     /// # Errors
     ///
-    /// `Reason::NOT_UTF8` if the list is not UTF-8; `BAD_NAME` if no list can contain the name;
+    /// `Reason::NOT_UTF8` if the list is not UTF-8; `BAD_NAME` if the name is not a relative path,
+    /// has an empty, "." or ".." part, or contains a control character or a backslash;
     /// `MALFORMED_LINE` with its line; `NOT_LISTED`; or `LISTED_TWICE` with its line.
     pub fn find(&self, name: &str) -> Result<ListEntry, ListError> {
         Ok(self.entry(&self.find_raw(name)?))

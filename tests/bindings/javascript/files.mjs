@@ -103,7 +103,7 @@ async function newFiles([directory]) {
     lines.push(["true", String(error instanceof TypeError)]);
   }
   lines.push(["false", String(existsSync(at("no")))]);
-  // Of 20 concurrent calls with the same path, only one writes the file.
+  // Only one of 20 concurrent calls with the same path writes the file.
   const results = await Promise.all(Array.from({length: 20}, () => result(writeNew(at("one"), text))));
   lines.push(["1 19", `${results.filter(each => each === "written").length} ${results.filter(each => each === "EEXIST").length}`]);
   return lines;

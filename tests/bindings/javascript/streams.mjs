@@ -3,8 +3,8 @@
 //
 //     node streams.mjs CHECK KEY DATA SIGNATURE    runs one of CHECKS with files that verify
 //
-// Each line has the expected result, a tab, and the actual result. The program has no listener for errors of streams, so an error
-// that does not reject the promise ends the program.
+// Each line has the expected result, a tab, and the actual result. The program listens for no "error" events on purpose: an error
+// that `verify` does not turn into a rejection ends the program.
 
 import {createReadStream, readdirSync, readFileSync} from "node:fs";
 import {EventEmitter, getEventListeners} from "node:events";
@@ -36,7 +36,8 @@ function outcome(promise) {
 
 const countDescriptors = () => readdirSync("/proc/self/fd").length;
 
-// Waits until as few file descriptors are open as before. Resolves to the number of those that are open in addition.
+// Waits until no more than `before` file descriptors are open. Resolves to the number of additional ones, which is not 0 if they
+// are still open after CLOSING.
 async function countUnclosed(before) {
   for (let waited = 0; countDescriptors() > before && waited < CLOSING; waited += 10) {
     await wait(10);
@@ -76,7 +77,8 @@ class Endless extends EventEmitter {
   }
 }
 
-// The expected results of each check.
+// The expected results of each check, each as the check prints it: mostly the outcome of `verify`, then what became of the stream,
+// for example the number of descriptors that are still open, the reason for which it was cancelled, or if it is still locked.
 const EXPECTED = {
   descriptors: ["MISSING_SIGNATURE 0", "BARE_PUBLIC_KEY_LENGTH 0", "TypeError 0", "TypeError 0", "TypeError 0"],
   opening: ["MISSING_SIGNATURE 0"],
@@ -106,7 +108,7 @@ const CHECKS = {
     }
     return seen;
   },
-  // Verifying fails before the file of the stream is open. The file must be closed as soon as it was opened.
+  // `verify` rejects while Node is still opening the file of the stream. The file must be closed once it is open.
   async opening() {
     const before = countDescriptors(), seen = new Set();
     for (let time = 0; time < TIMES; time += 1) {
@@ -164,13 +166,14 @@ const CHECKS = {
   },
   // Web streams: one that has failed, one that fails when it is read, and one that is locked to another reader.
   async web() {
-    const at = when => new ReadableStream({[when]: queue => queue.error(Object.assign(new Error(), {code: when}))});
+    const at = when => new ReadableStream({[when]: controller => controller.error(Object.assign(new Error(), {code: when}))});
     const seen = [await outcome(verify(at("start"), signature, key)), await outcome(verify(at("pull"), signature, key))];
     const locked = new ReadableStream();
     locked.getReader();
     return [...seen, `${await outcome(verify(locked, "no signature", key))} ${await outcome(verify(locked, signature, key))}`];
   },
-  // The signal was aborted before the call, while a stream waits for data, or between two pieces.
+  // The signal was aborted before the call, while a stream waits for data, or between two pieces. The streams are a web stream, one
+  // of Node, and one of another class (Endless), which is neither cancelled nor destroyed.
   async aborted() {
     const seen = [], gone = Object.assign(new Error(), {code: "GONE"}), waiting = () => ({
       web: webStream([]), node: {stream: new Readable({read() {}}), record: {}}, own: {stream: new Endless(), record: {}},
@@ -180,9 +183,9 @@ const CHECKS = {
     for (const when of ["before", "meanwhile"]) {
       for (const [kind, {stream, record}] of Object.entries(waiting())) {
         const controller = new AbortController(), stop = () => controller.abort(gone);
-        const timer = when === "before" ? stop() : setTimeout(stop, 100);
+        when === "before" ? stop() : setTimeout(stop, 100);
         const error = await outcome(verify(stream, signature, key, {signal: controller.signal}));
-        await timer, await wait(50);
+        await wait(50);
         seen.push(`${when} ${kind} ${error} ${record.cancelled ?? stream.destroyed}`);
       }
     }
@@ -201,4 +204,5 @@ const CHECKS = {
 };
 
 const seen = await CHECKS[what]();
-process.stdout.write(EXPECTED[what].map((expected, index) => `${expected}\t${seen[index]}\n`).join(""));
+const length = Math.max(EXPECTED[what].length, seen.length);
+process.stdout.write(Array.from({length}, (_, index) => `${EXPECTED[what][index]}\t${seen[index]}\n`).join(""));

@@ -1,6 +1,7 @@
 # SPDX-License-Identifier: MIT
 """Verifies and makes Minisign signatures, verifies files with signed lists, reads and
-writes keys, and installs updates, with the proved functions of include/minisign.h."""
+writes keys, and installs updates (`check`, `install`, `Keys`, `Offer`, `Checked`).
+The functions of the C library that it calls are formally verified."""
 
 from . import _keys, errors
 from ._arguments import Path as Path, Text as Text

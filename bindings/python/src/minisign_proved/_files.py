@@ -14,7 +14,8 @@ from ._arguments import Path, octets, path_text
 def _allow_owner_only(descriptor: int) -> None:
     """Sets the mode 0600 if the file has another mode, because a umask can also remove
     permissions of the owner. A file that has the mode is left alone, because some file
-    systems reject fchmod."""
+    systems reject fchmod. The owner's permission to execute (0o100) is not compared,
+    because it gives nobody access."""
     if hasattr(os, "fchmod") and os.fstat(descriptor).st_mode & 0o677 != 0o600:
         os.fchmod(descriptor, 0o600)
 

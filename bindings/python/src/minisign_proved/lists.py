@@ -187,8 +187,9 @@ class SignedList:
     def find(self, name: Text) -> ListEntry:
         """Returns the entry for a name, which must be listed exactly once.
 
-        Raises NotUtf8 if the list or the name is not UTF-8; BadName if no list can
-        contain the name; MalformedLine; NotListed; or ListedTwice. The `line` of
+        Raises NotUtf8 if the list or the name is not UTF-8; BadName if the name is not
+        a relative path, has an empty, "." or ".." part, or contains a control character
+        or a backslash; MalformedLine; NotListed; or ListedTwice. The `line` of
         MalformedLine and ListedTwice is the line number.
         """
         return self._entry(self._find(name))
