@@ -3,12 +3,11 @@
 
     compare/compare.py run UPSTREAM [--seed N] [--count N] [--program FILE]
     compare/compare.py list UPSTREAM [--program FILE]
-
-UPSTREAM is the directory of the crate's own files. oracle/build.sh builds the crate, and a program that calls it and answers
-requests, in a temporary directory. `run` makes N random requests of each kind from a seed, sends them to both programs, and prints
-each kind of difference that known.py does not list, with its shortest request. FILE is the program of this library, by default the
-one that `rt run` built. `list` writes the stored run of crates/minisign_compare (stdin, stdout and data/) again, from the answers of
-the crate. README.md says more.
+ UPSTREAM is the directory of the crate's own files. oracle/build.sh builds the crate, and a program that calls it and
+answers requests, in a temporary directory. `run` makes N random requests of each kind from a seed, sends them to both
+programs, and prints each kind of difference that known.py does not list, with its shortest request. FILE is the program
+of this library, by default the one that `rt run` built. `list` writes the stored run of crates/minisign_compare (stdin,
+stdout and data/) again, from the answers of the crate. README.md says more.
 
 Needs Python 3.9 or later and rustc, which it installs if it has permission.
 """
@@ -61,8 +60,8 @@ def answers(program, lines, directory):
 
 
 def summary(request, answer):
-    """Returns the kind of a request and its answer: a tuple of the request's name, the outcome, flags, options of the data, flags in the
-    answer, and effects of the call. Values that differ from request to request are left out."""
+    """Returns the kind of a request and its answer: a tuple of the request's name, the outcome, flags, options of the
+    data, flags in the answer, and effects of the call. Values that differ from request to request are left out."""
     error = answer.error()
     outcome = (error[0], re.sub(rb'[0-9A-F]{16}', b'ID', error[1])) if error else answer.kind()
     words = request.split(' ')
@@ -107,8 +106,9 @@ def run(arguments):
 
 
 def select_requests(lines, expected):
-    """Returns the indices of the requests for the stored run: short requests with all kinds of answers, and each outcome with each form
-    of data (read in pieces, from a position, with an error, or changed before it is read again)."""
+    """Returns the indices of the requests for the stored run: short requests with all kinds of answers, and each
+    outcome with each form of data (read in pieces, from a position, with an error, or changed before it is read
+    again)."""
     kinds = []
     for request, answer in zip(lines, expected):
         name, outcome, flags, parts, marks, done = summary(request, answer)

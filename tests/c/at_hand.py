@@ -68,7 +68,10 @@ NEIGHBOURS = ("a", "a b/c", *(f"{COPY}/{directory}/{name}" for directory in MAKE
 FOREIGN_FILE = "a file of others"
 # Files that were not built, in a directory into which something is built or packed: files with other names, and
 # files with the same names as built files.
-FOREIGN_FILES = {"notes", "rust/notes", "go/notes", "python/notes", "javascript/notes", "library/notes", "minisign-in-rattle-0.2.0/notes"}
+FOREIGN_FILES = {
+    "notes", "rust/notes", "go/notes", "python/notes", "javascript/notes", "library/notes",
+    "minisign-in-rattle-0.2.0/notes",
+}
 FILES_WITH_OUR_NAMES = {"minisign", "minisign.pc", "SHA256SUMS", "minisign-proved-0.2.0.crate", "minisign-verify"}
 PREFIX = "/us r"
 # The key of README.md, and the arguments that verify a signature with it.
@@ -128,7 +131,9 @@ def check_readme_commands(checks, tree):
     commands = re.search(r"^```sh\n(.*?)^```$", read(TOP, "README.md").decode(), re.M | re.S)[1].splitlines()
     checks.check(len(commands) == 2 and commands[0] == MAKE, f"README begins with {commands}, expected {MAKE} and one more command")
     # The object file is compiled here even if it is cached, and then added to the cache for other scripts.
-    with static_library.cached_object({"CC": needs.compiler_with_libsodium(), "OUT": os.path.join(tree.top, "c", "out")}, reuse=False):
+    with static_library.cached_object(
+        {"CC": needs.compiler_with_libsodium(), "OUT": os.path.join(tree.top, "c", "out")}, reuse=False
+    ):
         start, processor_start = time.monotonic(), processor_seconds()
         outputs = [checks.ended(command, tree.run(command)) for command in commands]
     seconds, used = time.monotonic() - start, processor_seconds() - processor_start
@@ -137,7 +142,9 @@ def check_readme_commands(checks, tree):
     is_busy = os.getloadavg()[0] > os.cpu_count()
     checks.check((used if is_busy else seconds) <= SECONDS,
                  f"building and verifying took {seconds:.1f} s, {used:.1f} s of them processor time, expected at most {SECONDS} s")
-    status, output = tree.run("c/out/minisign -Vm tests/corpus/hello -p tests/corpus/published.pub -x tests/corpus/published.minisig")
+    status, output = tree.run(
+        "c/out/minisign -Vm tests/corpus/hello -p tests/corpus/published.pub -x tests/corpus/published.minisig"
+    )
     checks.check(status != 0, f"a signature was accepted for another file: {output}")
 
 
@@ -155,7 +162,10 @@ def check_changed_sources(checks, tree):
     write(tree.top, SOURCE, text + b"// changed\n")
     expect_stop(checks, tree, "a changed source", CHANGED_SOURCES)
     status, output = tree.run(WITH_NAMED_ARCHIVES)
-    checks.check(status != 0 and CHANGED_SOURCES not in output, f"named archives that are missing: status {status}: {output[-600:]}")
+    checks.check(
+        status != 0 and CHANGED_SOURCES not in output,
+        f"named archives that are missing: status {status}: {output[-600:]}",
+    )
     tree.run("cp dist/calls-x86-64-v2.a other-v2.a; cp dist/calls-x86-64-v3.a other-v3.a")
     checks.ended("named archives", tree.run(WITH_NAMED_ARCHIVES))
     write(tree.top, SOURCE, text)
@@ -248,7 +258,9 @@ def check_install(checks, copy):
               says=f"run `ldconfig` as root, link with -Wl,-rpath,{prefix}/lib, or set LD_LIBRARY_PATH={prefix}/lib\n")
     for options, expected in ((["--variable=prefix"], prefix), (["--define-variable=prefix=/moved", "--cflags", "--libs"],
                                                               "-I/moved/include -L/moved/lib -lminisign")):
-        _, output = run([needs.program("pkg-config", "pkg-config"), *options, "minisign"], PKG_CONFIG_PATH=f"{prefix}/lib/pkgconfig")
+        _, output = run(
+            [needs.program("pkg-config", "pkg-config"), *options, "minisign"], PKG_CONFIG_PATH=f"{prefix}/lib/pkgconfig"
+        )
         checks.same(output.strip(), expected, f"pkg-config {options}")
 
 
@@ -259,8 +271,11 @@ def check_packages(checks, copy):
     module, archive = sorted(archives, key=lambda name: "go" not in name)
     copy.ended("tar", "-xf", copy.path("bindings/out", module), "--one-top-level=a module", "--strip-components=1")
     copy.ended(copy.go, "test", at="a module", says="ok")
-    copy.ended(copy.python, "-m", "pip", "wheel", "-q", "--no-index", "--no-build-isolation", "--no-deps", "-w", copy.path("a wheel"),
-               copy.path("bindings/out", archive))
+    copy.ended(
+        copy.python, "-m", "pip", "wheel", "-q", "--no-index", "--no-build-isolation", "--no-deps", "-w",
+        copy.path("a wheel"),
+        copy.path("bindings/out", archive),
+    )
     checks.check(len(os.listdir(copy.path("a wheel"))) == 1, "no wheel was built")
 
 
@@ -294,7 +309,10 @@ def run_all(checks, scratch):
     for name in NEIGHBOURS:
         checks.check(FOREIGN_FILE in files_below(os.path.join(scratch, name)), f"the file of others in {name} was removed")
     found = {*os.listdir(scratch)} | {f"a b/{name}" for name in os.listdir(os.path.join(scratch, "a b"))}
-    checks.check(found == {".cargo", "a", "a b", "a b/c", "a b/c d", "bin", "tem p"}, f"unexpected files next to the copy: {sorted(found)}")
+    checks.check(
+        found == {".cargo", "a", "a b", "a b/c", "a b/c d", "bin", "tem p"},
+        f"unexpected files next to the copy: {sorted(found)}",
+    )
 
 
 if __name__ == "__main__":

@@ -273,7 +273,12 @@ def check_mutations(checks, builder):
 def header_kibibytes():
     """Returns the KiB of the stack that a call uses according to the header: with the archives, and with the C source."""
     text = re.sub(r"\n \* +", " ", read(proved.ROOT, "include", "minisign.h").decode())
-    return [int(number) for number in re.search(r"archives less than (\d+) KiB[^.]* C code that replaces them less than (\d+) KiB\.", text).groups()]
+    return [
+        int(number)
+        for number in re.search(
+            r"archives less than (\d+) KiB[^.]* C code that replaces them less than (\d+) KiB\.", text
+        ).groups()
+    ]
 
 
 def check_stack_use(checks, builder):
@@ -282,8 +287,12 @@ def check_stack_use(checks, builder):
     top, clang = builder.copy(*MUTATIONS[NOTHING_CLEARED][:3]), needs.program("clang", "clang")
     # (with C_CALLS given, make does not use an object that was compiled before)
     c_calls = ["PORTABLE=1", f"C_CALLS={top}/dist/calls.c"]
-    for compiler, level, words, limit in ((needs.c_compiler(), "-O2", BUILDS_OF_FUNCTIONS[0], 0), (needs.c_compiler(), "-O2", c_calls, 1),
-                                          (needs.c_compiler(), "-O0", c_calls, 1), (clang, "-O2", c_calls, 1)):
+    for compiler, level, words, limit in (
+        (needs.c_compiler(), "-O2", BUILDS_OF_FUNCTIONS[0], 0),
+        (needs.c_compiler(), "-O2", c_calls, 1),
+        (needs.c_compiler(), "-O0", c_calls, 1),
+        (clang, "-O2", c_calls, 1),
+    ):
         run = Run([builder.program(compiler, level, *words, top=top)])
         depths = {step: depth for step, depth in run.depths.items() if "signals" not in step}
         checks.check(not run.wrong and 0 < max(depths.values(), default=0) < 1024 * header_kibibytes()[limit] < cleared_bytes(),

@@ -32,8 +32,13 @@ from running import read, write
 
 DOCUMENTS = ("README.md", "examples/README.md", "docs/INSTALLING.md", "docs/LISTS.md", "docs/QUESTIONS.md")
 # The beginnings of commands that are skipped, and the reason.
-SKIPPED = {"make -C c prove": "it needs the kit", "bash .ci/run": "it needs the kit", "(cd crates/minisign_tool ": "it needs the kit",
-           "make -C c check": "it runs this script", "apt install ": "it changes the system"}
+SKIPPED = {
+    "make -C c prove": "it needs the kit",
+    "bash .ci/run": "it needs the kit",
+    "(cd crates/minisign_tool ": "it needs the kit",
+    "make -C c check": "it runs this script",
+    "apt install ": "it changes the system",
+}
 # For the beginnings of commands, the expected exit status and output. (--check prints the version number and the
 # trusted comment.) Other commands must succeed, and their output is not compared.
 EXPECTED_ENDS = {"../c/out/minisign-install --check ": (10, "2\r\nversion:2\tfile:app\r\n"),
@@ -41,12 +46,26 @@ EXPECTED_ENDS = {"../c/out/minisign-install --check ": (10, "2\r\nversion:2\tfil
         **dict.fromkeys(("mkdir ", "cp ", "echo ", "cd ", "../c/out/minisign-install "), (0, ""))}
 # Files that the commands must leave, and their content. For version records, only the first line is compared; the
 # other two have a key and a digest.
-EXPECTED_FILES = {"try-signing/copy": b"test", "try-signing/there/app": b"version 3\n", "try-signing/there/.app.number": b"version:3",
-        "try-installing/there/app": b"version 2\n", "try-installing/there/.app.number": b"version:2",
-        "try-installing/there/.release.pub.number": b"version:1", "try-installing/there/app.1": b"manual 3\n",
-        "try-installing/there/.app.1.number": b"version:3", "try-ci/app": b"version 1\n",
-        "try-lists/upload/app": b"version 1\n", "try-lists/there/app": b"version 1\n"}
-SECRET_KEYS = {"try-signing/my.key", "try-installing/clock.key", "try-installing/my.key", "try-installing/root.key", "try-lists/release.key"}
+EXPECTED_FILES = {
+    "try-signing/copy": b"test",
+    "try-signing/there/app": b"version 3\n",
+    "try-signing/there/.app.number": b"version:3",
+    "try-installing/there/app": b"version 2\n",
+    "try-installing/there/.app.number": b"version:2",
+    "try-installing/there/.release.pub.number": b"version:1",
+    "try-installing/there/app.1": b"manual 3\n",
+    "try-installing/there/.app.1.number": b"version:3",
+    "try-ci/app": b"version 1\n",
+    "try-lists/upload/app": b"version 1\n",
+    "try-lists/there/app": b"version 1\n",
+}
+SECRET_KEYS = {
+    "try-signing/my.key",
+    "try-installing/clock.key",
+    "try-installing/my.key",
+    "try-installing/root.key",
+    "try-lists/release.key",
+}
 # The mark that the shell prints with the exit status after each command, and a pattern for this mark or for a
 # password prompt.
 END_MARK = "--- ended with status "
@@ -66,7 +85,9 @@ def run_in_shell(directory, commands, scratch, path=None):
     script = write(scratch, "script", "".join(f"{command}\nprintf '\\n{END_MARK}%s\\n' $?\n" for command in commands).encode())
     home = os.path.join(scratch, "home")
     os.mkdir(home)
-    terminal = AtTerminal(["sh", script], shutil.which("sh"), directory, {"PATH": path or static_library.path_without_kit(), "HOME": home})
+    terminal = AtTerminal(
+        ["sh", script], shutil.which("sh"), directory, {"PATH": path or static_library.path_without_kit(), "HOME": home}
+    )
     for command in commands:
         yield (command, *answer_prompts(terminal))
     terminal.end()

@@ -12,7 +12,10 @@ from proved import ROOT as TOP
 
 # The programs in PATH, in addition to a compiler: programs of Debian's base system, and of the packages make and
 # binutils.
-BASE = ("sh", "cat", "cp", "cut", "dirname", "echo", "find", "grep", "install", "ln", "mkdir", "rm", "sed", "sha256sum", "sort", "xargs")
+BASE = (
+    "sh", "cat", "cp", "cut", "dirname", "echo", "find", "grep", "install", "ln", "mkdir", "rm", "sed", "sha256sum",
+    "sort", "xargs",
+)
 TOOLS = ("ar", "as", "ld", "make", "objcopy")
 
 
@@ -49,7 +52,9 @@ class Tree:
         os.mkdir(self.bin)
         search_path = f"{static_library.path_without_kit()}:/usr/sbin:/sbin"
         for name in (*BASE, *TOOLS, *other_programs):
-            program = needs.need(lambda value=name: shutil.which(value, path=search_path), f"the program {name}", "make", "binutils")
+            program = needs.need(
+                lambda value=name: shutil.which(value, path=search_path), f"the program {name}", "make", "binutils"
+            )
             os.symlink(program, os.path.join(self.bin, name))
         for name in compiler_names:
             os.symlink(compiler, os.path.join(self.bin, name))

@@ -201,8 +201,11 @@ def respects_limits(keys):
         keys.check(ROWS // 16 * 256 <= words <= (ROWS // 16 + 3) * 256 and byte_count == 1024 * times,
                    f"{times} times the rows: {words} words and {byte_count} bytes")
     # For keys that cannot be decrypted in place, no memory is needed.
-    for what, key in ((f"limits {TOO_HIGH}", with_limits(text, TOO_HIGH)), (f"limits {NOT_ALLOWED}", with_limits(text, NOT_ALLOWED)),
-                      ("an unencrypted key", keys.secret())):
+    for what, key in (
+        (f"limits {TOO_HIGH}", with_limits(text, TOO_HIGH)),
+        (f"limits {NOT_ALLOWED}", with_limits(text, NOT_ALLOWED)),
+        ("an unencrypted key", keys.secret()),
+    ):
         keys.check(keys.memory(key) == (0, 0), f"{what}: the memory is {keys.memory(key)}, expected none")
 
 

@@ -85,8 +85,14 @@ def names_of(text):
 def check_directories(checks, code):
     """Checks that each name has one meaning, and that directories include only the headers in INCLUDES."""
     # Generated files are left out: install/usage.h and check/usage.h define the same macros.
-    names = {directory: set().union(*(names_of(text) for path, text in code[directory].items() if path not in GENERATED)) for directory in PROGRAM_DIRECTORIES}
-    checks.check(all(len(code[directory]) > 5 and names[directory] for directory in PROGRAM_DIRECTORIES), "a directory has too few files, or no names")
+    names = {
+        directory: set().union(*(names_of(text) for path, text in code[directory].items() if path not in GENERATED))
+        for directory in PROGRAM_DIRECTORIES
+    }
+    checks.check(
+        all(len(code[directory]) > 5 and names[directory] for directory in PROGRAM_DIRECTORIES),
+        "a directory has too few files, or no names",
+    )
     for first, second in itertools.combinations(PROGRAM_DIRECTORIES, 2):
         doubled = names[first] & names[second]
         checks.check(not doubled, f"names with different meanings in {first} and {second}: {sorted(doubled)}")
@@ -102,7 +108,10 @@ def check_sources(checks, files):
         found = {os.path.basename(path) for path, text in files.items() if name in text}
         checks.check(found == {file}, f"{name} is in {sorted(found)}, expected only in {file}")
     for what, pattern in (("a test of UTF-8", r"0xd800"), ("the struct of an allocation", r"struct grant \{")):
-        checks.check(sum(len(re.findall(pattern, text)) for text in files.values()) == 1, f"the sources must have {what} exactly once")
+        checks.check(
+            sum(len(re.findall(pattern, text)) for text in files.values()) == 1,
+            f"the sources must have {what} exactly once",
+        )
     for path, text in files.items():
         functions = re.findall(r"^[A-Za-z_][^;{}]*\n\{\n(?:.*\n)*?\}\n", text, re.M)
         ends = len(re.findall(r"^\}$", text, re.M))
@@ -125,7 +134,9 @@ def messages_of(text):
 
 def check_messages(checks, files):
     """Checks that each message occurs in a test or in Minisign, except those in NOT_CAUSED."""
-    tests = {path for directory in TEST_DIRECTORIES for path in glob.glob(f"{HERE}/../{directory}/*.[cp]*")} - {f"{HERE}/../c/rooms.py"}
+    tests = {path for directory in TEST_DIRECTORIES for path in glob.glob(f"{HERE}/../{directory}/*.[cp]*")} - {
+        f"{HERE}/../c/rooms.py"
+    }
     named, found = b"".join(map(read, [*sorted(tests), needs.minisign()])).decode(errors="replace"), set()
     for path, text in files.items():
         for words, ends in messages_of(text) if path not in GENERATED else ():
@@ -164,7 +175,11 @@ def check_glibc(checks, compiler, files):
     checks.check(min(has["malloc"], default=MAX_GLIBC) < MAX_GLIBC, f"{glibc} has no older versions of malloc")
     for file in files:
         needed = versions(file, "--undefined-only")
-        newer = sorted(name for name, found in needed.items() if name not in REPLACED_BY_HEADERS and min(found | has[name]) > MAX_GLIBC)
+        newer = sorted(
+            name
+            for name, found in needed.items()
+            if name not in REPLACED_BY_HEADERS and min(found | has[name]) > MAX_GLIBC
+        )
         checks.check(needed and not newer, f"{file} needs functions that glibc 2.31 lacks: {newer}")
 
 

@@ -104,8 +104,13 @@ class Copy:
 
     def build_crate(self, crate):
         """Runs `cargo check` on a crate, which runs its build.rs."""
-        variables = {"CARGO_NET_OFFLINE": "true", "CARGO_TARGET_DIR": f"{crate}/target", "CARGO_HOME": f"{self.scratch}/home", "RUSTC": self.rustc,
-                     "CFLAGS": "-O0"}
+        variables = {
+            "CARGO_NET_OFFLINE": "true",
+            "CARGO_TARGET_DIR": f"{crate}/target",
+            "CARGO_HOME": f"{self.scratch}/home",
+            "RUSTC": self.rustc,
+            "CFLAGS": "-O0",
+        }
         return self.run(self.cargo, "check", "--no-default-features", "--manifest-path", f"{crate}/Cargo.toml", **variables)
 
 
@@ -124,11 +129,17 @@ def check_scripts(checks, copy, what, can_hash):
                  f"{what}, tools/sha256.sh: {status}: {output}")
     status, output = copy.run("sh", "-c", "printf abc | sh tools/sha256.sh")
     typed = f"{hashlib.sha256(b'abc').hexdigest()}  -\n"
-    checks.check((status, output) == (0, typed) if can_hash else status == 1 and NO_PROGRAM in output, f"{what}, tools/sha256.sh: {status}: {output}")
+    checks.check(
+        (status, output) == (0, typed) if can_hash else status == 1 and NO_PROGRAM in output,
+        f"{what}, tools/sha256.sh: {status}: {output}",
+    )
     proved = read(copy.top, "dist/PROVED").decode()
     status, output = copy.run("sh", "tools/sources.sh", "calls")
     is_proved = re.fullmatch(r"[0-9a-f]{64}\n", output) and f"sources of the calls: {output}" in proved
-    checks.check(status == 0 and is_proved if can_hash else status != 0 and NO_PROGRAM in output, f"{what}, tools/sources.sh: {status}: {output}")
+    checks.check(
+        status == 0 and is_proved if can_hash else status != 0 and NO_PROGRAM in output,
+        f"{what}, tools/sources.sh: {status}: {output}",
+    )
 
 
 def check_make(checks, copy, what, can_hash):
@@ -137,11 +148,19 @@ def check_make(checks, copy, what, can_hash):
     out = f"{copy.scratch}/out"
     for directory, goal in (("c", "library"), ("c", "archive"), ("bindings", "go")):
         status, output = copy.make("-C", directory, goal, f"OUT={out}", *["C_CALLS="] * (directory == "c"))
-        is_expected = status == 0 if can_hash else status != 0 and NO_PROGRAM in output and "dist/" not in output.replace(NO_PROGRAM, "")
+        is_expected = (
+            status == 0
+            if can_hash
+            else status != 0 and NO_PROGRAM in output and "dist/" not in output.replace(NO_PROGRAM, "")
+        )
         checks.check(is_expected, f"{what}, make -C {directory} {goal}: {status}: {output[-600:]}")
     if can_hash:
         archive, = (name for name in os.listdir(out) if name.startswith("minisign-in-rattle") and name.endswith(".tar.gz"))
-        checks.same(read(out, "SHA256SUMS").decode(), f"{sha256_of(os.path.join(out, archive))}  {archive}\n", f"{what}, SHA256SUMS")
+        checks.same(
+            read(out, "SHA256SUMS").decode(),
+            f"{sha256_of(os.path.join(out, archive))}  {archive}\n",
+            f"{what}, SHA256SUMS",
+        )
     else:
         built = [name for name in os.listdir(out) if name.endswith((".a", ".gz")) or ".so" in name] if os.path.exists(out) else []
         checks.check(not built, f"{what}: make has built {built}")
@@ -201,7 +220,11 @@ def check_incomplete(checks, copy):
     """Checks that tools/sources.sh, and the builds that use it, fail if a crate has no line in crates.txt."""
     lines = read(copy.top, "crates.txt")
     write(copy.top, "crates.txt", re.sub(rb"(?m)^minisign_page\b.*\n", b"", lines))
-    for command in (["sh", "tools/sources.sh", "page"], ["make", "-s", "-C", "bindings", "javascript"], ["make", "-s", "-C", "c", "archive"]):
+    for command in (
+        ["sh", "tools/sources.sh", "page"],
+        ["make", "-s", "-C", "bindings", "javascript"],
+        ["make", "-s", "-C", "c", "archive"],
+    ):
         status, output = copy.run(*command)
         checks.check(status != 0 and "crates.txt has no line for minisign_page" in output, f"{command}: {status}: {output[-600:]}")
     write(copy.top, "crates.txt", lines)
@@ -212,7 +235,9 @@ def packed_crate(copy):
     and returns its path."""
     copy.put(PATHS["shasum only"][0])
     variables = {"CARGO_NET_OFFLINE": "true", "CARGO_HOME": f"{copy.scratch}/home", "RUSTC": copy.rustc, "CFLAGS": "-O0"}
-    status, output = copy.run("make", "-s", "-C", "bindings", "rust", f"OUT={copy.scratch}/packed", f"CARGO={copy.cargo}", **variables)
+    status, output = copy.run(
+        "make", "-s", "-C", "bindings", "rust", f"OUT={copy.scratch}/packed", f"CARGO={copy.cargo}", **variables
+    )
     if status != 0:
         raise needs.Missing(f"the crate cannot be packed: {output[-1000:]}")
     archive, = (name for name in os.listdir(f"{copy.scratch}/packed") if re.match(r"minisign-proved-sys-.*\.crate$", name))

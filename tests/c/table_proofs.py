@@ -55,10 +55,15 @@ OFFSETS = {"load": 3, "store": 5}
 # although an x86-64 processor may compute the right value. The next three do not trap when the instruction does, or
 # the reverse. The last two access memory.
 WRONG_ROWS = {
-    "i64.add": "a + b + (a == UINT64_C(0x0123456789abcdef))", "i64.popcnt": "popcnt64(a) ^ (u64) (a == UINT64_C(0xfedcba9876543210))",
-    "i32.shl": "a << b", "i64.shr_u": "a >> b",
-    "i32.div_s": "(u32) div_s64(sign32(a), sign32(b))", "i64.rem_s": "rem_s64(a, b) + 0 * div_s64(a, b)",
-    "i64.div_u": "b == 0 ? 0 : a / b", "i32.store16": "store32(a, b)", "i64.load32_s": "(u64) load32(a)",
+    "i64.add": "a + b + (a == UINT64_C(0x0123456789abcdef))",
+    "i64.popcnt": "popcnt64(a) ^ (u64) (a == UINT64_C(0xfedcba9876543210))",
+    "i32.shl": "a << b",
+    "i64.shr_u": "a >> b",
+    "i32.div_s": "(u32) div_s64(sign32(a), sign32(b))",
+    "i64.rem_s": "rem_s64(a, b) + 0 * div_s64(a, b)",
+    "i64.div_u": "b == 0 ? 0 : a / b",
+    "i32.store16": "store32(a, b)",
+    "i64.load32_s": "(u64) load32(a)",
 }
 # Rows with the right value and the wrong type in C.
 WRONG_TYPES = {"i64.extend_i32_u": "a", "i32.wrap_i64": "a", "i64.load8_u": "load8(a)"}
@@ -182,7 +187,10 @@ def check_mutants(checks, proofs):
             checks.same(wrong_types(proofs.scratch), [name], f"rows with a wrong type, with {text} as the C for {name}")
     for mutant in mutants_of("c", "machine_mutants"):
         unproved, _, new = proofs.unproved(applied_to(translated.MACHINE, mutant))
-        checks.check(unproved or (mutant.name in NO_ROW_CHANGED and new == 0), f"all rows are proved with the mutant {mutant.name} of machine.h")
+        checks.check(
+            unproved or (mutant.name in NO_ROW_CHANGED and new == 0),
+            f"all rows are proved with the mutant {mutant.name} of machine.h",
+        )
 
 
 def run_all(checks, scratch):

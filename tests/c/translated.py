@@ -212,7 +212,9 @@ class Runners:
         files = {"calls.c": wasm_to_c.translate(module.bytes(), module.names()), "machine.h": machine,
                  "runner.c": RUNNER % ("\n".join(declared), BUFFER_BYTES, "\n".join(cases))}
         sources = [write(place, name, words.encode()) for name, words in files.items()]
-        static_library.run_or_fail([self.compiler, "-std=c99", "-w", *flags, "-I", place, "-o", f"{place}/run", sources[0], sources[2]])
+        static_library.run_or_fail(
+            [self.compiler, "-std=c99", "-w", *flags, "-I", place, "-o", f"{place}/run", sources[0], sources[2]]
+        )
         return f"{place}/run"
 
     def run_in_c(self, program, calls):
@@ -221,8 +223,17 @@ class Runners:
 
     def run_in_node(self, module, calls):
         """Makes the calls in Node, and returns the results."""
-        description = [[each[:2] for each in module.functions], wasm_to_c.STACK_POINTER, INITIAL_STACK_POINTER, BUFFER, BUFFER_BYTES]
-        paths = [write(self.scratch, "module.wasm", module.bytes()), write(self.scratch, "description.json", json.dumps(description).encode())]
+        description = [
+            [each[:2] for each in module.functions],
+            wasm_to_c.STACK_POINTER,
+            INITIAL_STACK_POINTER,
+            BUFFER,
+            BUFFER_BYTES,
+        ]
+        paths = [
+            write(self.scratch, "module.wasm", module.bytes()),
+            write(self.scratch, "description.json", json.dumps(description).encode()),
+        ]
         command = [self.node, "--experimental-wasm-memory64", "--no-warnings", f"{HERE}/translated.js", *paths]
         ran = run_program(command, self.scratch, b"".join(calls), SECONDS)
         if ran.status or len(ran.stdout) != RESULT_BYTES * len(calls):
@@ -284,11 +295,18 @@ def add_places(module, _):
     data = module.add("data_read", ["i64"], "i64", "i64.const data local.get 0 i64.add i64.load8_u 0")
     followed = module.add("data_followed", ["i64"], "i64", f"i64.const data i64.load {POINTER_AT} i64.load8_u 2")
     below = module.add("frame_below", ["i64"], "i64", f"{STACK_FRAME} local.get 1 i64.load32_u 8 {END_FRAME}", ["i64"])
-    code = f"{STACK_FRAME} local.get 0 i64.const 77 i64.add call {below} local.get 1 i64.load 8 i64.xor local.get 1 i64.const 15 i64.and i64.add"
+    code = (
+        f"{STACK_FRAME} local.get 0 i64.const 77 i64.add call {below} local.get 1 i64.load 8 i64.xor local.get 1"
+        " i64.const 15 i64.and i64.add"
+    )
     above = module.add("frame_above", ["i64"], "i64", f"{code} {END_FRAME}", ["i64"])
     late = module.add("frame_late", ["i64"], "i64", f"{LATE_STACK_FRAME} local.get 2 i64.load32_u 8", ["i64", "i64"])
     frames = (below, above, late)
-    return [*(call(data, (at,)) for at in range(16)), call(followed, ()), *(call(at, (value,)) for value in EDGE_CASES for at in frames)]
+    return [
+        *(call(data, (at,)) for at in range(16)),
+        call(followed, ()),
+        *(call(at, (value,)) for value in EDGE_CASES for at in frames),
+    ]
 
 
 # ---- Random functions ----
@@ -356,7 +374,12 @@ class RandomFunction:
     def call(self, kind):
         """Returns code that calls an earlier random function, if there is one."""
         wrapped = "i32.wrap_i64" if kind == "i32" else ""
-        return self.write(f"local.get 0 {{i64}} {{i32}} call {self.choice(self.callees)} {wrapped}" if self.callees else f"{{{kind}}}", 3)
+        return self.write(
+            f"local.get 0 {{i64}} {{i32}} call {self.choice(self.callees)} {wrapped}"
+            if self.callees
+            else f"{{{kind}}}",
+            3,
+        )
 
     def loop(self):
         """Returns code for a loop that ends after at most a few rounds."""
@@ -417,8 +440,14 @@ class Case:
 
     def first_difference(self, made):
         """Describes the first call whose result differs from Node's, with both results."""
-        return next((f"{self.describe(encoded)}: {found[1:9].hex()}, expected {answer[1:9].hex()}"
-                     for (encoded, answer), found in zip(self.answered, results_in(made)) if found != answer), "the number of results")
+        return next(
+            (
+                f"{self.describe(encoded)}: {found[1:9].hex()}, expected {answer[1:9].hex()}"
+                for (encoded, answer), found in zip(self.answered, results_in(made))
+                if found != answer
+            ),
+            "the number of results",
+        )
 
 
 def check_answers(checks, case, runners):
@@ -439,8 +468,16 @@ def check_answers(checks, case, runners):
 
 
 # Wrong C for instructions in the translator's table.
-TABLE_MUTATIONS = {"i64.load8_u": "load8(a) + 1", "i64.load32_u": "sign32(load32(a))", "i32.shl": "a << b % 31", "i64.lt_s": "a < b",
-              "i64.extend_i32_s": "(u64) a", "i32.store16": "store8(a, b)", "i32.extend8_s": "(u32) sign16(a)", "i64.rotr": "rotl64(a, b)"}
+TABLE_MUTATIONS = {
+    "i64.load8_u": "load8(a) + 1",
+    "i64.load32_u": "sign32(load32(a))",
+    "i32.shl": "a << b % 31",
+    "i64.lt_s": "a < b",
+    "i64.extend_i32_s": "(u64) a",
+    "i32.store16": "store8(a, b)",
+    "i32.extend8_s": "(u32) sign16(a)",
+    "i64.rotr": "rotl64(a, b)",
+}
 KEEP, BEGIN = wasm_to_c.Body.keep_what_reads, wasm_to_c.Body.begin
 
 

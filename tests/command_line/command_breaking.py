@@ -27,8 +27,9 @@ OUT_OF_MEMORY = re.compile(rb"error: (?:[\w.]+: )?out of memory\n|[\w.]+: Cannot
 
 @dataclass(frozen=True)
 class Task(faults.Task):
-    """A run that writes files. If `by_path` is true, its arguments are absolute paths; otherwise they are names. In a directory in memory
-    (/dev/shm), the paths begin with /dev/. The files must be replaced as elsewhere, and not be written directly like /dev/stdout."""
+    """A run that writes files. If `by_path` is true, its arguments are absolute paths; otherwise they are names. In a
+    directory in memory (/dev/shm), the paths begin with /dev/. The files must be replaced as elsewhere, and not be
+    written directly like /dev/stdout."""
 
     by_path: bool = False
     temporary_prefix = TEMPORARY
@@ -48,8 +49,8 @@ class Task(faults.Task):
 
 
 def complete_file(begin, *lengths):
-    """Returns a function that raises a `Failure` unless a file begins with `begin`, ends with a line feed, and has on every second line
-    base64 of so many bytes."""
+    """Returns a function that raises a `Failure` unless a file begins with `begin`, ends with a line feed, and has on
+    every second line base64 of so many bytes."""
 
     def check(data):
         actual_lengths = [len(base64.b64decode(line)) for line in data.split(b"\n")[1::2]]
@@ -96,21 +97,28 @@ class Breaking(TaskFaultRunner, Programs):
 
     # ---- Failures ----
 
-    @case("writes no invalid signature: call {0} of Ed25519 with {1}", *((number, flag) for flag in ("-S", "-Sl") for number in range(1, 7)))
+    @case(
+        "writes no invalid signature: call {0} of Ed25519 with {1}",
+        *((number, flag) for flag in ("-S", "-Sl") for number in range(1, 7)),
+    )
     def invalid_signatures(self, number, flag):
-        """Signing three files takes six calls of Ed25519. One of them makes an invalid signature. The run fails, and writes only the
-        signature files of the files before."""
+        """Signing three files takes six calls of Ed25519. One of them makes an invalid signature. The run fails, and
+        writes only the signature files of the files before."""
         names = ("one", "two", "three")
         directory = self.directory(**dict.fromkeys(names, b"data"))
-        ran = self.run_broken(directory, (flag, "-s", PLAIN_KEY, "-m", *names), dict(AT=number, CALLS="crypto_sign_detached", ERRNO=errno.EIO))
+        ran = self.run_broken(
+            directory,
+            (flag, "-s", PLAIN_KEY, "-m", *names),
+            dict(AT=number, CALLS="crypto_sign_detached", ERRNO=errno.EIO),
+        )
         expect(ran.status == 2 and ran.stderr.endswith(b"Verification would fail with the given public key\n"), ran)
         expected = [f"{name}.minisig" for name in names[:(number - 1) // 2]]
         actual = [f"{name}.minisig" for name in names if os.path.exists(f"{directory}/{name}.minisig")]
         expect(actual == expected, ran, f"it wrote {actual}, expected {expected}")
 
     def failing(self, task, number):
-        """Each call of a run fails in turn. The run exits with status 2 and an error, or it writes all of its files. The two files of a
-        key pair are both new or both old."""
+        """Each call of a run fails in turn. The run exits with status 2 and an error, or it writes all of its files.
+        The two files of a key pair are both new or both old."""
 
         def check(ran, directory):
             new = sum(task.check(directory))
@@ -121,8 +129,9 @@ class Breaking(TaskFaultRunner, Programs):
         expect(self.break_each(task.make, check, ERRNO=number) >= 3, "it made fewer than 3 calls")
 
     def refused_allocations(self, task, status, by_library):
-        """Each allocation of a run fails in turn. The run does all of its work and exits with `status`, or it exits with status 2 and
-        prints only the error. If `by_library` is true, the library makes some of the allocations, otherwise none."""
+        """Each allocation of a run fails in turn. The run does all of its work and exits with `status`, or it exits
+        with status 2 and prints only the error. If `by_library` is true, the library makes some of the allocations,
+        otherwise none."""
         errors, successes = set(), set()
 
         def check(ran, directory):
@@ -140,7 +149,8 @@ class Breaking(TaskFaultRunner, Programs):
         expect(is_of_library == by_library, f"its errors were {errors}, expected errors of the library: {by_library}")
 
     def through_links(self, task):
-        """A run writes through two symbolic links, of which the second may point to a file that does not exist. The links are kept."""
+        """A run writes through two symbolic links, of which the second may point to a file that does not exist. The
+        links are kept."""
         directory = self.new_directory({"kept": None, **task.files})
         for name in task.targets:
             path = os.path.join(directory, name)
@@ -169,8 +179,8 @@ class Breaking(TaskFaultRunner, Programs):
     # ---- Temporary files ----
 
     def leaves_no_temporary_file(self, task, number):
-        """A signal at each call in turn ends the run. No temporary file is left, and no new file unless it was synced. For SIGKILL, this
-        holds if the file system has files without a name (O_TMPFILE)."""
+        """A signal at each call in turn ends the run. No temporary file is left, and no new file unless it was synced.
+        For SIGKILL, this holds if the file system has files without a name (O_TMPFILE)."""
         is_kill = number == signal.SIGKILL
         if is_kill and not has_unnamed(self.parent):
             raise Skip("this file system has no O_TMPFILE")
@@ -204,7 +214,9 @@ class Breaking(TaskFaultRunner, Programs):
     def reports_failing_libsodium(self):
         """If libsodium cannot be initialized, a run reports this and creates no file."""
         directory = self.new_directory({})
-        ran = self.run_broken(directory, ("-GW", "-p", "a.pub", "-s", "a.key"), {"AT": 1, "CALLS": "sodium_init", "ERRNO": errno.EIO})
+        ran = self.run_broken(
+            directory, ("-GW", "-p", "a.pub", "-s", "a.key"), {"AT": 1, "CALLS": "sodium_init", "ERRNO": errno.EIO}
+        )
         expect((ran.status, ran.stderr) == (2, b"Unable to initialize the Sodium library\n") and not os.listdir(directory), ran)
 
     def cases(self):
@@ -218,15 +230,23 @@ class Breaking(TaskFaultRunner, Programs):
         # In this environment, files without a name (O_TMPFILE) cannot be created. UNNAMED=1 below does the same.
         without_unnamed = {"LD_PRELOAD": self.preload, "BREAK_UNNAMED": "1"}
         for what, which, run, *given in (
-            ("complete after a kill", every, self.check_kills), ("complete after a kill, named by its path", by_path, self.check_kills),
+            ("complete after a kill", every, self.check_kills),
+            ("complete after a kill, named by its path", by_path, self.check_kills),
             ("complete if a call fails", every, self.failing, errno.EIO),
             ("complete if a write fails with ENOSPC", every, self.check_failing_writes, errno.ENOSPC),
             ("complete if a write fails with EDQUOT", every, self.check_failing_writes, errno.EDQUOT),
             ("complete if a write fails half way", every, half_way, errno.ENOSPC),
             ("complete if a write fails half way, named by its path", by_path, half_way, errno.ENOSPC),
-            ("correct if an allocation fails", (task for task in every if task != changed),
-             partial(self.refused_allocations, status=0, by_library=True)),
-            ("correct if an allocation fails", (changed, right), partial(self.refused_allocations, status=0, by_library=False)),
+            (
+                "correct if an allocation fails",
+                (task for task in every if task != changed),
+                partial(self.refused_allocations, status=0, by_library=True),
+            ),
+            (
+                "correct if an allocation fails",
+                (changed, right),
+                partial(self.refused_allocations, status=0, by_library=False),
+            ),
             ("correct if an allocation fails", [wrong], partial(self.refused_allocations, status=1, by_library=False)),
             ("complete on a full disk", every, self.check_full_disk),
             ("complete under a file size limit", every, self.check_file_size_limit),
@@ -234,15 +254,28 @@ class Breaking(TaskFaultRunner, Programs):
             ("complete after concurrent runs", replacing, self.check_concurrent_runs),
             ("made by one of several concurrent runs", [pair], self.only_one_succeeds),
             ("written into a pipe", [new], self.into_pipe),
-            *((f"no temporary file is left by signal {int(number)}", every, self.leaves_no_temporary_file, number)
-              for number in (signal.SIGUSR1, signal.SIGRTMIN, signal.SIGTERM, signal.SIGINT, signal.SIGHUP)),
+            *(
+                (f"no temporary file is left by signal {int(number)}", every, self.leaves_no_temporary_file, number)
+                for number in (signal.SIGUSR1, signal.SIGRTMIN, signal.SIGTERM, signal.SIGINT, signal.SIGHUP)
+            ),
             ("no temporary file is left by a kill", [pair], self.leaves_no_temporary_file, signal.SIGKILL),
             ("the next run clears up after a kill", [changed], self.next_run_clears_up),
-            ("the next run clears up after a kill without O_TMPFILE", (pair, changed, new), partial(self.next_run_clears_up, UNNAMED=1)),
-            ("complete without O_TMPFILE", every, partial(self.check_concurrent_runs, environment=without_unnamed, runs=1)),
+            (
+                "the next run clears up after a kill without O_TMPFILE",
+                (pair, changed, new),
+                partial(self.next_run_clears_up, UNNAMED=1),
+            ),
+            (
+                "complete without O_TMPFILE",
+                every,
+                partial(self.check_concurrent_runs, environment=without_unnamed, runs=1),
+            ),
             # Each run removes temporary files of killed runs, but none of a run that is still running.
-            ("complete after concurrent runs without O_TMPFILE", replacing,
-             partial(self.check_concurrent_runs, environment=without_unnamed, times=4)),
+            (
+                "complete after concurrent runs without O_TMPFILE",
+                replacing,
+                partial(self.check_concurrent_runs, environment=without_unnamed, times=4),
+            ),
         ):
             for task in which:
                 yield f"{task.name}: {what}", run, task, *given

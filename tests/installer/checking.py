@@ -16,8 +16,9 @@ check_cases = Cases()
 
 @check_cases.table("--check shows only signed text, without control characters")
 def shows_signed_text(directory):
-    """--check prints the version number and the trusted comment, each on a line, with control characters escaped. It does so even if
-    it rejects the update because of the comment. It prints nothing if the comment signature is invalid."""
+    """--check prints the version number and the trusted comment, each on a line, with control characters escaped. It
+    does so even if it rejects the update because of the comment. It prints nothing if the comment signature is
+    invalid."""
     for status, number, name, more, installed in (
             (0, 6, TARGET, "\tnote:\x1b[31m\x9b", OLD_DATA), (ALREADY_INSTALLED, 6, TARGET, "", NEW_DATA),
                                                   (OLDER_VERSION, 4, TARGET, "", OLD_DATA),
@@ -26,7 +27,8 @@ def shows_signed_text(directory):
                                                   (REJECTED, 6, TARGET, "\tsize:x", OLD_DATA)):
         directory.put_installed(installed, b"6" if status == ALREADY_INSTALLED else b"5")
         directory.offer(number=number, names=name, more=more)
-        shown = f"{number}\ntimestamp:{number}\tfile:{name}{more}\tprehashed\n".replace("\x1b", "\\u{1b}").replace("\x9b", "\\u{9b}")
+        shown = f"{number}\ntimestamp:{number}\tfile:{name}{more}\tprehashed\n"
+        shown = shown.replace("\x1b", "\\u{1b}").replace("\x9b", "\\u{9b}")
         # The second time, the comment differs from the signed one.
         for field, expected in ((f"timestamp:{number}", (status, shown.encode())), ("timestamp:7", (REJECTED, b""))):
             directory.put("new.sig", directory.content("new.sig").replace(b"timestamp:%d" % number, field.encode()))

@@ -54,8 +54,8 @@ sync .
 rename S {TARGET}
 sync .
 """
-# The states before a run: a description, the data at the target, the data whose digest is recorded (None if there is no record, or one
-# without a digest), and the options that the command needs.
+# The states before a run: a description, the data at the target, the data whose digest is recorded (None if there is no
+# record, or one without a digest), and the options that the command needs.
 INITIAL_STATES = (
     ("an older update", OLD_DATA, None, ()),
     ("no file", None, None, ("--first",)),
@@ -148,7 +148,12 @@ def reports_unsynced_file(directory):
         else:
             cause = error_text(TARGET if at == 1 else ".", f"{os.strerror(error)} (os error {error})", "run the command again")
             status, error_output = NOT_ON_DISK, UNSYNCED_ERROR + cause
-        expect((ran.status, ran.stderr) == (status, error_output), f"at sync {at}", ran, f"expected status {status} and {error_output}")
+        expect(
+            (ran.status, ran.stderr) == (status, error_output),
+            f"at sync {at}",
+            ran,
+            f"expected status {status} and {error_output}",
+        )
         directory.expect_installed(NEW_DATA, b"6")
 
 
@@ -268,8 +273,8 @@ MODE_HINT = "use --mode to choose another mode"
     ("fails if changing the owner fails", [((), "fchown", at, errno.EIO, FAILED) for at in (1, 2, 3)], True),
 )
 def ends_as_documented(directory, rows, is_of_another_user=False):
-    """Each row has the options of a run; the name, the number and the errno of the call that fails; the expected exit status; and, if
-    it is checked, the expected error output."""
+    """Each row has the options of a run; the name, the number and the errno of the call that fails; the expected exit
+    status; and, if it is checked, the expected error output."""
     for options, calls, at, error, *end in rows:
         directory.reset()
         if is_of_another_user:
@@ -429,8 +434,8 @@ def new_disk(runner):
 
 
 def recover_after_crash(runner, crashed, may_be_old=False):
-    """Mounts the image `crashed`, checks the target and the record, and finishes the update there. Returns the contents of target and
-    record after the crash. If `may_be_old` is true, the target may hold the old update."""
+    """Mounts the image `crashed`, checks the target and the record, and finishes the update there. Returns the contents
+    of target and record after the crash. If `may_be_old` is true, the target may hold the old update."""
     with mounted_disk(crashed) as path:
         directory = Directory(path, runner)
         state = directory.installed_state()
@@ -443,8 +448,9 @@ def recover_after_crash(runner, crashed, may_be_old=False):
 
 @cut_off_cases.table("survives a crash before each call")
 def survives_crash(directory):
-    """The image is copied before each call of a run and after the last call. Each copy contains the old or the new update, complete,
-    and a record that is not older, and the next run finishes the update. The copy after the last call has the new update."""
+    """The image is copied before each call of a run and after the last call. Each copy contains the old or the new
+    update, complete, and a record that is not older, and the next run finishes the update. The copy after the last call
+    has the new update."""
     runner, states = directory.runner, set()
 
     def attempt(number, scratch):
@@ -469,9 +475,9 @@ def survives_crash(directory):
     "keeps an update through a crash if a second run reports it as installed",
 )
 def survives_crash_after_run(directory, left_out=""):
-    """If the syncs `left_out` are left out, a crash after the run loses the update. This shows that the simulated crash detects missing
-    syncs. Without `left_out`, the sync of the directory fails in a first run, and a second run reports the update as installed.
-    After that, a crash does not lose the update."""
+    """If the syncs `left_out` are left out, a crash after the run loses the update. This shows that the simulated crash
+    detects missing syncs. Without `left_out`, the sync of the directory fails in a first run, and a second run reports
+    the update as installed. After that, a crash does not lose the update."""
     runner = directory.runner
     with new_disk(runner) as image:
         crashed = image + ".crashed"

@@ -1,6 +1,6 @@
 #!/usr/bin/env python3
-"""Checks the function `minisign_install_file` of minisign_installing.h: its results, its messages, and how it uses the functions that
-its caller passes.
+"""Checks the function `minisign_install_file` of minisign_installing.h: its results, its messages, and how it uses the
+functions that its caller passes.
 
     tests/installer/one_call.py [WORD ..]
 
@@ -36,7 +36,10 @@ from updates import OTHER_KEY, SIZE_FIELD, UNEXPIRED_FIELD
 
 one_call_cases = Cases()
 
-ERRORS = {name: int(number) for name, number in re.findall(r"MINISIGN_(\w+) = (\d+)", read(proved.ROOT, "include", "minisign.h").decode())}
+ERRORS = {
+    name: int(number)
+    for name, number in re.findall(r"MINISIGN_(\w+) = (\d+)", read(proved.ROOT, "include", "minisign.h").decode())
+}
 # The constants of minisign_installing.h: results, phases and kinds of messages.
 (INSTALLED, FAILED, MISUSE, REJECTED, OLDER, IN_USE, NOT_SYNCED, UNRECORDED, SAME_VERSION, EXPIRED, ALREADY_INSTALLED, TOO_LARGE,
  STOPPED) = range(13)
@@ -55,9 +58,9 @@ def lines_of(ran):
 
 
 def call(directory, words, result, error="OK", phases=(), messages=(), shown="", **options):
-    """Runs one_call.c with these words, and expects that it prints this result, this error, these phases and messages (tuples of kind,
-    file, text, errno and, if it is about a line of a list, the number of the line), and no others. If `shown` is a version number, the function must also pass this number and the trusted
-    comment to its caller."""
+    """Runs one_call.c with these words, and expects that it prints this result, this error, these phases and messages
+    (tuples of kind, file, text, errno and, if it is about a line of a list, the number of the line), and no others. If
+    `shown` is a version number, the function must also pass this number and the trusted comment to its caller."""
     arguments = [*words, PK, "new.sig", TARGET]
     ran = directory.run(arguments, **options)
     expected = []
@@ -125,12 +128,31 @@ def checks(directory):
 
 
 @one_call_cases.table(
-    ("rejects a signature that the function does not accept", ["data=new", "verify=none"], "COMMENT_SIGNATURE_REFUSED", SIGNATURE,
-     "Comment signature verification failed", ""),
-    ("rejects a signature that the function with a context does not accept", ["data=new", "answer=none"], "COMMENT_SIGNATURE_REFUSED",
-     SIGNATURE, "Comment signature verification failed", ""),
+    (
+        "rejects a signature that the function does not accept",
+        ["data=new", "verify=none"],
+        "COMMENT_SIGNATURE_REFUSED",
+        SIGNATURE,
+        "Comment signature verification failed",
+        "",
+    ),
+    (
+        "rejects a signature that the function with a context does not accept",
+        ["data=new", "answer=none"],
+        "COMMENT_SIGNATURE_REFUSED",
+        SIGNATURE,
+        "Comment signature verification failed",
+        "",
+    ),
     ("rejects other data", ["data=other"], "SIGNATURE_REFUSED", "other", "Signature verification failed", 6),
-    ("rejects other data that was received", ["read=other"], "SIGNATURE_REFUSED", "NULL", "Signature verification failed", 6),
+    (
+        "rejects other data that was received",
+        ["read=other"],
+        "SIGNATURE_REFUSED",
+        "NULL",
+        "Signature verification failed",
+        6,
+    ),
 )
 def rejects(directory, words, error, file, text, shown):
     directory.put("other", LATER_DATA)
@@ -140,16 +162,60 @@ def rejects(directory, words, error, file, text, shown):
 
 
 @one_call_cases.table(
-    ("reports an expired update", ["data=new"], EXPIRED, "EXPIRED", SIGNATURE, "the update has expired", dict(more=EXPIRED_FIELD)),
-    ("reports an update that expires now", ["data=new", "now=99999999999"], EXPIRED, "EXPIRED", SIGNATURE, "the update has expired",
-     dict(more=UNEXPIRED_FIELD)),
-    ("reports that there is no time", ["data=new", "now=none"], EXPIRED, "EXPIRED", SIGNATURE, "the update has expired",
-     dict(more=UNEXPIRED_FIELD)),
-    ("reports an older update", ["data=new"], OLDER, "OLDER_UPDATE", DATA, "the update is older than the recorded version", dict(number=4)),
-    ("reports other data of the recorded version", ["data=new"], SAME_VERSION, "SAME_NUMBER", TARGET,
-     "this version is already recorded, but the installed file is different", dict(number=5)),
-    ("reports another numbering", ["data=new", "numbering=1"], UNRECORDED, "KEPT_BY_TIMESTAMP", f"./{RECORD}",
-     "the version record holds a timestamp, not a version", dict(record=b"timestamp:5")),
+    (
+        "reports an expired update",
+        ["data=new"],
+        EXPIRED,
+        "EXPIRED",
+        SIGNATURE,
+        "the update has expired",
+        dict(more=EXPIRED_FIELD),
+    ),
+    (
+        "reports an update that expires now",
+        ["data=new", "now=99999999999"],
+        EXPIRED,
+        "EXPIRED",
+        SIGNATURE,
+        "the update has expired",
+        dict(more=UNEXPIRED_FIELD),
+    ),
+    (
+        "reports that there is no time",
+        ["data=new", "now=none"],
+        EXPIRED,
+        "EXPIRED",
+        SIGNATURE,
+        "the update has expired",
+        dict(more=UNEXPIRED_FIELD),
+    ),
+    (
+        "reports an older update",
+        ["data=new"],
+        OLDER,
+        "OLDER_UPDATE",
+        DATA,
+        "the update is older than the recorded version",
+        dict(number=4),
+    ),
+    (
+        "reports other data of the recorded version",
+        ["data=new"],
+        SAME_VERSION,
+        "SAME_NUMBER",
+        TARGET,
+        "this version is already recorded, but the installed file is different",
+        dict(number=5),
+    ),
+    (
+        "reports another numbering",
+        ["data=new", "numbering=1"],
+        UNRECORDED,
+        "KEPT_BY_TIMESTAMP",
+        f"./{RECORD}",
+        "the version record holds a timestamp, not a version",
+        dict(record=b"timestamp:5"),
+    ),
 )
 def reports(directory, words, result, error, file, text, record=b"5", **offered):
     directory.offer(**offered)
@@ -254,7 +320,11 @@ def reports_unsynced(directory):
 
 
 @one_call_cases.table(
-    *((f"fails if the function with a context writes no answer{more}", word) for more, word in (("", "nothing"), (", for a pipe", "pipe"))))
+    *(
+        (f"fails if the function with a context writes no answer{more}", word)
+        for more, word in (("", "nothing"), (", for a pipe", "pipe"))
+    )
+)
 def needs_answer(directory, word):
     source = "data=new" if word == "nothing" else "read=new"
     call(directory, [source, "answer=nothing"], FAILED, "READING_FAILED", messages=[(ERROR, TARGET, "reading failed", 0)])
@@ -298,8 +368,18 @@ def rejects_weak_data(directory):
     ("installs a file of a list in another directory", ["data=new", f"list-name=somewhere/{LIST}"], FROM_FILE),
     ("installs a file of a list with the choice of a list", ["data=new", "is_list=1"], FROM_FILE),
     ("installs a file of a list whose size is signed", ["data=new"], FROM_FILE, dict(more="\tsize:5")),
-    ("installs a file of a list of SHA-512", ["data=new", "long=2"], FROM_FILE, dict(listed=f"{sha512(NEW_DATA)}  {TARGET}\n".encode())),
-    ("installs a file of a list under another name", ["data=new", "name=app"], FROM_FILE, dict(listed=line(NEW_DATA, "app"))),
+    (
+        "installs a file of a list of SHA-512",
+        ["data=new", "long=2"],
+        FROM_FILE,
+        dict(listed=f"{sha512(NEW_DATA)}  {TARGET}\n".encode()),
+    ),
+    (
+        "installs a file of a list under another name",
+        ["data=new", "name=app"],
+        FROM_FILE,
+        dict(listed=line(NEW_DATA, "app")),
+    ),
 )
 def installs_listed(directory, words, phases, listed=NEW_LIST, **offered):
     offer_list(directory, listed, **offered)
@@ -310,15 +390,50 @@ def installs_listed(directory, words, phases, listed=NEW_LIST, **offered):
     call(directory, words, ALREADY_INSTALLED, phases=[COMPARING], shown=6)
 
 
-@one_call_cases.table(*((f"rejects a list {what}", *row) for what, *row in (
-    ("with a malformed line", "MALFORMED_LINE", "line 4 is malformed", [4], dict(listed=NEW_LIST + b"text\n")),
-    ("with 128 digits that mean nothing", "MALFORMED_LINE", "line 1 is malformed", [1],
-     dict(listed=f"{sha512(NEW_DATA)}  {TARGET}\n".encode())),
-    ("with the name twice", "LISTED_TWICE", "line 5 is the second line with this name", [5], dict(listed=NEW_LIST + b"\n" + line(NEW_DATA))),
-    ("without the name", "NOT_LISTED", "the list does not contain this name", [], dict(listed=line(NEW_DATA, "other"))),
-    ("without a byte", "NOT_LISTED", "the list does not contain this name", [], dict(listed=b"")),
-    ("that is not signed", "SIGNATURE_REFUSED", "Signature verification failed", [], dict(listed=NEW_LIST + b"text\n", signed=NEW_LIST)),
-    ("that is not UTF-8", "NOT_UTF8", "stream did not contain valid UTF-8", [], dict(listed=NEW_LIST + b"\xff\n")))))
+@one_call_cases.table(
+    *(
+        (f"rejects a list {what}", *row)
+        for what, *row in (
+            ("with a malformed line", "MALFORMED_LINE", "line 4 is malformed", [4], dict(listed=NEW_LIST + b"text\n")),
+            (
+                "with 128 digits that mean nothing",
+                "MALFORMED_LINE",
+                "line 1 is malformed",
+                [1],
+                dict(listed=f"{sha512(NEW_DATA)}  {TARGET}\n".encode()),
+            ),
+            (
+                "with the name twice",
+                "LISTED_TWICE",
+                "line 5 is the second line with this name",
+                [5],
+                dict(listed=NEW_LIST + b"\n" + line(NEW_DATA)),
+            ),
+            (
+                "without the name",
+                "NOT_LISTED",
+                "the list does not contain this name",
+                [],
+                dict(listed=line(NEW_DATA, "other")),
+            ),
+            ("without a byte", "NOT_LISTED", "the list does not contain this name", [], dict(listed=b"")),
+            (
+                "that is not signed",
+                "SIGNATURE_REFUSED",
+                "Signature verification failed",
+                [],
+                dict(listed=NEW_LIST + b"text\n", signed=NEW_LIST),
+            ),
+            (
+                "that is not UTF-8",
+                "NOT_UTF8",
+                "stream did not contain valid UTF-8",
+                [],
+                dict(listed=NEW_LIST + b"\xff\n"),
+            ),
+        )
+    )
+)
 def rejects_list(directory, error, text, number, listed, **offered):
     """A list is rejected before any data is read."""
     directory.offer(**{"signed": listed, "names": LIST, **offered})
@@ -438,8 +553,12 @@ def rejects_target(directory):
 @one_call_cases.table("accepts either of two keys, and no other")
 def accepts_two_keys(directory):
     directory.put("other.pub", b"untrusted comment: other\n" + base64.b64encode(b"Ed" + bytes(8) + OTHER_KEY) + b"\n")
-    for words, key, is_accepted in (([], "other.pub", False), (["other=other.pub"], "other.pub", False), (["other=other.pub"], PK, True),
-                                    ([f"other={PK}"], "other.pub", True)):
+    for words, key, is_accepted in (
+        ([], "other.pub", False),
+        (["other=other.pub"], "other.pub", False),
+        (["other=other.pub"], PK, True),
+        ([f"other={PK}"], "other.pub", True),
+    ):
         directory.put_installed()
         ran = directory.run(["data=new", *words, key, "new.sig", TARGET])
         result, error = (INSTALLED, "OK") if is_accepted else (REJECTED, "DIFFERENT_KEY_IDS")
@@ -452,9 +571,14 @@ def build(scratch, directory, *words):
     program, out = os.path.join(scratch, "one_call"), os.path.join(scratch, "out")
     libraries = [f"{out}/libminisign-installing.a", f"{out}/libminisign.a"]
     static_library.run_make(f"OUT={out}", *words, *libraries)
-    static_library.run_or_fail([needs.compiler_with_libsodium(), "-std=c99", "-Wall", "-Wextra", "-Werror", f"-I{proved.ROOT}/include",
-                                "-o", program,
-                                f"{HERE}/one_call.c", *libraries, "-lsodium"], directory)
+    static_library.run_or_fail(
+        [
+            needs.compiler_with_libsodium(),
+            "-std=c99", "-Wall", "-Wextra", "-Werror", f"-I{proved.ROOT}/include", "-o", program, f"{HERE}/one_call.c",
+            *libraries, "-lsodium",
+        ],
+        directory,
+    )
     return program
 
 
@@ -470,8 +594,13 @@ def failure_of(scratch, preload, mutant):
     program = os.path.join(own, "one_call")
     sources = [f"{copy}/c/install/{name}.c" for name in ("installing", "results", "directory")]
     sources += [f"{copy}/c/shared/{name}.c" for name in ("error_words", "handles", "permissions", "stages", "streams")]
-    static_library.run_or_fail([needs.compiler_with_libsodium(), "-std=c11", "-pthread", f"-I{copy}/c", f"-I{copy}/include", "-o", program,
-                                f"{HERE}/one_call.c", *sources, f"{scratch}/out/libminisign.a", "-lsodium"])
+    static_library.run_or_fail(
+        [
+            needs.compiler_with_libsodium(),
+            "-std=c11", "-pthread", f"-I{copy}/c", f"-I{copy}/include", "-o", program, f"{HERE}/one_call.c", *sources,
+            f"{scratch}/out/libminisign.a", "-lsodium",
+        ]
+    )
     runner = InstallerRunner(program, Signer(own), own)
     runner.preload = preload
     try:

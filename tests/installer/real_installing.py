@@ -52,7 +52,10 @@ from updates import update_cases
 
 def cases_of(runner):
     """Yields all test cases: tuples of a name, a function, and its arguments."""
-    for cases in (update_cases, list_cases, owner_cases, concurrent_cases, cut_off_cases, check_cases, download_cases, command_line_cases):
+    for cases in (
+        update_cases, list_cases, owner_cases, concurrent_cases, cut_off_cases, check_cases, download_cases,
+        command_line_cases,
+    ):
         for name, case, *arguments in cases:
             yield name, runner.run_case, case, *arguments
     yield from permission_cases(runner, lambda path: runner.new_directory(path).path_of(TARGET),

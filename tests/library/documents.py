@@ -72,8 +72,10 @@ TEXT = re.compile(r'"((?:[^"\\]|\\.)*)"')
 
 
 # Files whose code defines names, and files whose comments are checked.
-CODE = (".rt", ".rt.txt", ".antt", ".antt.txt", ".c", ".h", ".js", ".mjs", ".ts", ".go", ".rs", ".py", ".sh", ".html", ".toml", ".json",
-        "Makefile", ".ci/run")
+CODE = (
+    ".rt", ".rt.txt", ".antt", ".antt.txt", ".c", ".h", ".js", ".mjs", ".ts", ".go", ".rs", ".py", ".sh", ".html",
+    ".toml", ".json", "Makefile", ".ci/run",
+)
 COMMENTED = (*CODE, ".css", ".txt", ".1", ".3", ".edit")
 # The syntax of comments, by the ending of the file, where it differs from Rattle's. In Python, a string in triple
 # quotes is a comment if it is a statement.
@@ -85,7 +87,9 @@ OTHER_COMMENTS = {
 }
 # Words that have the form of a name, because they have an underscore or a capital letter inside.
 NAMES_IN_COMMENTS = re.compile(r"(?<![\w`./:-])(?:[A-Za-z]\w+_\w+|[A-Za-z][a-z0-9]+[A-Z]\w*)(?![\w`])")
-PATHS_IN_COMMENTS = re.compile(r"(?<![\w`./-])(?:\.ci|bench|bindings|c|compare|crates|docs|examples|include|page|tests|tools)/[\w/-]+\.[a-z]+\b")
+PATHS_IN_COMMENTS = re.compile(
+    r"(?<![\w`./-])(?:\.ci|bench|bindings|c|compare|crates|docs|examples|include|page|tests|tools)/[\w/-]+\.[a-z]+\b"
+)
 # A path in a directory that only some machines or users have.
 MACHINE_PATH = re.compile(r"(?<![\w.])/(?:opt|work|root|home|Users)/\S*")
 # Words that have the form of a name but come from outside the repository.

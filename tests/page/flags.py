@@ -8,8 +8,8 @@ OK, NOT_BEGUN, BAD_LEGACY_FLAG = 0, 1, 6
 
 
 def check_allow_legacy_flag(person):
-    """Flags other than 0 and 1 are rejected before the state is checked, and the state is unchanged. (tests/c/random_calls.c has the
-    same test of the library for C.)"""
+    """Flags other than 0 and 1 are rejected before the state is checked, and the state is unchanged.
+    (tests/c/random_calls.c has the same test of the library for C.)"""
     person.open()
     key, sig = (list(read(CORPUS, name)) for name in ("first.pub", "hello.minisig"))
     for flag in (0, 1, 2, 3, 2**31, 2**32 - 1):

@@ -76,7 +76,11 @@ def check_comments_and_names(person):
 
 def check_shown_as_text(person, what):
     """Checks that no text became markup, and that the page fits into a wide and a narrow window."""
-    person.same(person.see("markup"), ["Verify a download", 0, []], f"{what}: the title, markup, and elements in the signer's texts")
+    person.same(
+        person.see("markup"),
+        ["Verify a download", 0, []],
+        f"{what}: the title, markup, and elements in the signer's texts",
+    )
     for size in ((), NARROW):
         person.resize(*size)
         person.check(person.see("fits"), f"{what}: an element overflows its container at {size or 'full size'}")

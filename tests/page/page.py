@@ -2,15 +2,14 @@
 """Checks that the page that verifies downloads works in Debian's Firefox and Chromium, without a window.
 
     tests/page/page.py [PAGE] [WORD ..]
-
-PAGE is a web page that `page/build.py` built, by default the page in `dist/`. `tools/dist.py --check` checks that `page/build.py`
-builds the same page, and wide_module.py compares its module with the proved one. The modules of this directory contain the tests.
-WORD selects the steps whose name contains it. To test changed sources of the page, pass a PAGE that `page/build.py` has built from them, without the Rattle
-kit. Each patch of the directory `mutants` breaks one thing in the sources, and a step has to detect it. The script prints a
-line for each failure; the last line is `N passed, M failed`.
-
-Needs Python 3.9 or later, chromium, chromium-driver, firefox-esr, binaryen, clang, a C compiler, make, libsodium with its header and
-minisign 0.11. It installs missing packages if it has permission.
+ PAGE is a web page that `page/build.py` built, by default the page in `dist/`. `tools/dist.py --check` checks that
+`page/build.py` builds the same page, and wide_module.py compares its module with the proved one. The modules of this
+directory contain the tests. WORD selects the steps whose name contains it. To test changed sources of the page, pass a
+PAGE that `page/build.py` has built from them, without the Rattle kit. Each patch of the directory `mutants` breaks one
+thing in the sources, and a step has to detect it. The script prints a line for each failure; the last line is `N
+passed, M failed`.
+ Needs Python 3.9 or later, chromium, chromium-driver, firefox-esr, binaryen, clang, a C compiler, make, libsodium with
+its header and minisign 0.11. It installs missing packages if it has permission.
 """
 
 import importlib
@@ -36,7 +35,10 @@ from firefox import Firefox
 from minisign_cases import Minisign
 
 # The modules with tests, in the order in which they run. Those of IN_CHROMIUM need Chromium's DevTools protocol.
-IN_BOTH = ("verdicts", "keys", "views", "random_actions", "replaced_inputs", "project_page", "releases", "saved_page", "signed_lists", "next_steps", "help_texts", "hostile", "robustness")
+IN_BOTH = (
+    "verdicts", "keys", "views", "random_actions", "replaced_inputs", "project_page", "releases", "saved_page",
+    "signed_lists", "next_steps", "help_texts", "hostile", "robustness",
+)
 IN_CHROMIUM = ("environment", "flags")
 
 
@@ -49,9 +51,9 @@ def steps_in(person):
 
 
 def run_step(person, step, begin):
-    """Runs a step in a full-size window, and returns the person for the next step. If the process that shows the page has died, the step
-    runs once more in a new browser, because a machine without memory kills this process first. (If the page itself causes the end, it
-    does so again.)"""
+    """Runs a step in a full-size window, and returns the person for the next step. If the process that shows the page
+    has died, the step runs once more in a new browser, because a machine without memory kills this process first. (If
+    the page itself causes the end, it does so again.)"""
     try:
         person.resize()
         step(person)

@@ -1,5 +1,5 @@
-"""Checks that users can see verdicts: the first one scrolls into view, and different verdicts look different in light, dark and forced
-colours, in windows of little height, and on paper.
+"""Checks that users can see verdicts: the first one scrolls into view, and different verdicts look different in light,
+dark and forced colours, in windows of little height, and on paper.
 """
 
 import contextlib
@@ -38,8 +38,8 @@ def check_verdict_in_view(person):
 
 
 def check_band(person):
-    """The band at the top of the window always shows the worst verdict. The three verdicts have different colours, words, signs and borders.
-    With forced colours they still have different words, signs and borders."""
+    """The band at the top of the window always shows the worst verdict. The three verdicts have different colours,
+    words, signs and borders. With forced colours they still have different words, signs and borders."""
     key, fits = person.first.line, person.signed("fits", b"x", trusted="t")
     fails = person.pair("fails", b"y", person.sign(b"x", trusted="t"))
     seen = {(place, is_forced): {} for place in BORDERS for is_forced in (False, True)}
@@ -49,7 +49,11 @@ def check_band(person):
     person.expect_each("verdict", {"fits": "waiting"}, "the band without a key")
     person.click("clear")
     person.expect_each("verdict", {}, "the band of a list that was cleared")
-    for link, typed, paths, verdict in ((f"#{key}", "", fits, "unchecked"), ("", key, fits, "good"), ("", key, (*fits, *fails), "bad")):
+    for link, typed, paths, verdict in (
+        (f"#{key}", "", fits, "unchecked"),
+        ("", key, fits, "good"),
+        ("", key, (*fits, *fails), "bad"),
+    ):
         person.resize()
         person.begin(typed, *paths, address=person.address + link)
         person.settled(verdict)
@@ -60,8 +64,11 @@ def check_band(person):
         for size in WINDOWS:
             person.resize(*size)
             for share in (0, 0.5, 1):
-                person.same(person.see("bandAt", share), [0, 0, True, True, True],
-                            f"the band with the verdict {verdict} at {size}, scrolled to {share}: left, top, full width, low, uncovered")
+                person.same(
+                    person.see("bandAt", share),
+                    [0, 0, True, True, True],
+                    f"the band with the verdict {verdict} at {size}, scrolled to {share}: left, top, full width, low, uncovered",
+                )
     for ((part, _), is_forced), looks in seen.items():
         what = f"{part}, {'forced colours' if is_forced else 'normal colours'}"
         person.same(set(looks), {"good", "unchecked", "bad"}, f"{what}: the verdicts")
@@ -72,8 +79,8 @@ def check_band(person):
 
 
 def check_low_window(person):
-    """With every verdict, the band covers at most a quarter of a window of little height, and shows the verdict, the first file and the next
-    step. A window of 320 by 256 pixels is what remains of 1280 by 1024 with a zoom of 400 %."""
+    """With every verdict, the band covers at most a quarter of a window of little height, and shows the verdict, the
+    first file and the next step. A window of 320 by 256 pixels is what remains of 1280 by 1024 with a zoom of 400 %."""
     person.begin(person.first.line, *person.signed("Example-1.0-x86_64.tar.gz", b"x", trusted="t"),
                  *person.signed("b.zip", b"x", trusted="t"))
     person.settled("a low window")
@@ -87,8 +94,8 @@ def check_low_window(person):
 
 
 def check_printed(person):
-    """When the page is printed, where browsers omit backgrounds, the texts of each verdict have enough contrast, and the band does not cover
-    other elements."""
+    """When the page is printed, where browsers omit backgrounds, the texts of each verdict have enough contrast, and
+    the band does not cover other elements."""
     person.begin(person.first.line, *person.signed("fits", b"x", trusted="t"))
     person.settled("on paper")
     for verdict in HEADINGS:
@@ -123,7 +130,11 @@ def check_focus(person):
 def check_labels(person):
     """Browsers do not translate names, keys and comments. Sizes have the correct plural, and all buttons have the same style."""
     key_id, other_id = (lines(key.text)[0].rpartition(b" ")[2].decode() for key in (person.first, person.second))
-    person.begin(person.first.line, *person.signed("namewise", b"x", trusted="commentwise"), person.put("otherwise.pub", person.first.text))
+    person.begin(
+        person.first.line,
+        *person.signed("namewise", b"x", trusted="commentwise"),
+        person.put("otherwise.pub", person.first.text),
+    )
     person.choose(*person.signed("badwise", b"xy", key="second"))
     person.choose(person.put("alonewise", b""))
     rows = {row.name: row for row in person.settled("words")}

@@ -35,13 +35,17 @@ REQUIRED_ERRORS = {0, 8, *range(20, 31), 61, 62, 81}
 
 
 def texts(person):
-    """Returns the corpus with random changes, a new signature with data of different lengths, and each error of keys and signatures."""
+    """Returns the corpus with random changes, a new signature with data of different lengths, and each error of keys
+    and signatures."""
     corpus, signed = kept_cases(), Case("", person.first.text, person.sign(b"data", trusted="t"), b"data")
     # Lengths around BLAKE2b's block size, and around the size of the pieces in which the page reads files.
     lengths = (0, 1, 127, 128, 129, 255, 256, 257, 1048575, 1048576, 1048577)
     cases = [*corpus, *random_cases(corpus, RANDOM_TEXTS), *(signed.changed("", data=bytes(length)) for length in lengths)]
     cases += [signed.changed(words, pk=text) for _, words, text in (*key_errors(signed.pk), *typed_key_errors(signed.pk))]
-    cases += [signed.changed(words, sig=text) for _, words, text in signature_errors(signed.sig, person.sign(signed.data, key="second"))]
+    cases += [
+        signed.changed(words, sig=text)
+        for _, words, text in signature_errors(signed.sig, person.sign(signed.data, key="second"))
+    ]
     return [{part: base64.b64encode(getattr(case, part)).decode() for part in ("pk", "sig", "data")} for case in cases]
 
 

@@ -51,8 +51,10 @@ CLAUSES = {
 # The functions that may be longer, by crate and name, and the reason.
 FUNCTIONS = {("minisign_base", "NamedFault::row"): "the table of all errors",
              ("minisign_install", "InstallFault::row"): "the table of the errors of installing"}
-WIDE_HINT = ("break clauses and comments, whose line breaks `rt fmt` keeps, and split imports into several, because `rt fmt` puts each "
-             "name of a broken import on a separate line")
+WIDE_HINT = (
+    "break clauses and comments, whose line breaks `rt fmt` keeps, and split imports into several, because `rt fmt` puts each "
+    "name of a broken import on a separate line"
+)
 TEXT = re.compile(r'"(?:[^"\\]|\\.)*"')
 ATTRIBUTE = re.compile(r"\s*#!?\[.*\]$")
 # A line of a file that consists of re-exports.

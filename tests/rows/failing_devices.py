@@ -1,5 +1,6 @@
-"""Test cases with failing readers and random sources. Each read of the data fails in turn, the data changes when it is read a second
-time, it comes in pieces, or there are too few random bytes. The cases for generating key pairs are in `generating_keys`.
+"""Test cases with failing readers and random sources. Each read of the data fails in turn, the data changes when it is
+read a second time, it comes in pieces, or there are too few random bytes. The cases for generating key pairs are in
+`generating_keys`.
 
 Each read returns one byte unless a case says otherwise, so that `abc` takes four reads.
 """
@@ -12,8 +13,8 @@ from verifying import (ACCEPTED, BY_BYTES, CHANGED_TEXT, KEY_TEXT, LEGACY_RECORD
 
 
 def failing(name, outcome, key, signature, reads=4, output=False):
-    """Yields test cases in which each of the `reads` reads fails in turn, and one in which the next read would fail, so that the result is
-    `outcome`."""
+    """Yields test cases in which each of the `reads` reads fails in turn, and one in which the next read would fail, so
+    that the result is `outcome`."""
     for read in range(1, reads + 2):
         yield from verification_cases(f"{name}: read {read} would fail", "ReadingFailed" if read <= reads else outcome, signature,
                           key=key, output=output, legacy=outcome != "LegacyNotAccepted", chunks=BY_BYTES, fail=read)
@@ -41,8 +42,8 @@ ROWS = [row for rows in (
         ("a changed comment signature", "CommentSignatureRefused", KEY_TEXT, CHANGED_TEXT),
         ("no key", "MissingPublicKeyComment", b"", PREHASHED_TEXT, 0),
         ("no signature", "MissingUntrustedComment", KEY_TEXT, b"", 0))),
-    # When the data is read a second time, it must be the verified data. It is copied while it is read, so a difference is noticed only at
-    # its end. With a legacy signature, the data is read only once.
+    # When the data is read a second time, it must be the verified data. It is copied while it is read, so a difference
+    # is noticed only at its end. With a legacy signature, the data is read only once.
     *(verification_cases(f"{name}: {content!r} becomes {second!r}", outcome, signature, content, output=True, legacy=True,
              chunks=(None, 1, 2, 3, 64), second=second)
       for name, signature in (("bare", PREHASHED_RECORD), ("text", PREHASHED_TEXT))

@@ -1,12 +1,12 @@
 #!/usr/bin/env python3
-"""Checks that `minisign_tool` gives exactly the expected output on real files, and that failing system calls, signals and kills do no
-harm (`tool_faults.py`).
+"""Checks that `minisign_tool` gives exactly the expected output on real files, and that failing system calls, signals
+and kills do no harm (`tool_faults.py`).
 
     tests/tool/real_runs.py [PROGRAM] [WORD ..]
-
-WORD selects the cases whose names contain it. PROGRAM is the program to test. By default, the script tests the programs that `rt ci` or
-`rt run` left in the directory `out` of `crates/minisign_tool`, one for each compiler. If there is none, it runs `rt run`. It prints a line
-for each case that failed or was skipped; the last line is `N passed, M failed`.
+ WORD selects the cases whose names contain it. PROGRAM is the program to test. By default, the script tests the
+programs that `rt ci` or `rt run` left in the directory `out` of `crates/minisign_tool`, one for each compiler. If there
+is none, it runs `rt run`. It prints a line for each case that failed or was skipped; the last line is `N passed, M
+failed`.
 
 Needs Python 3.9 or later and a C compiler, which it installs if it may.
 """
@@ -68,12 +68,20 @@ USAGE_CASES = [
 ]
 
 # The cases by command.
-CASES = {"usage": USAGE_CASES, "keygen": keygen_runs.CASES, "sign": sign_runs.CASES, "verify": VERIFY, "verify-raw": RAW, "cat": CAT}
+CASES = {
+    "usage": USAGE_CASES,
+    "keygen": keygen_runs.CASES,
+    "sign": sign_runs.CASES,
+    "verify": VERIFY,
+    "verify-raw": RAW,
+    "cat": CAT,
+}
 
 
 def run_as_nobody(program, scratch):
-    """Runs all cases of CASES with a program, as nobody if this process is root and may change its user. Returns the failures and the
-    number of cases. (The whole process changes its user, because starting each program as another user takes ten times as long.)"""
+    """Runs all cases of CASES with a program, as nobody if this process is root and may change its user. Returns the
+    failures and the number of cases. (The whole process changes its user, because starting each program as another user
+    takes ten times as long.)"""
     if os.geteuid() == 0:
         with contextlib.suppress(OSError):
             os.setgroups([])
@@ -93,7 +101,8 @@ def built_programs():
 
 
 def run_all(scratch):
-    """Runs the cases with the program of the command line, or with each built program. Returns the failures and the number of cases."""
+    """Runs the cases with the program of the command line, or with each built program. Returns the failures and the
+    number of cases."""
     os.chmod(scratch, 0o711)
     # These are installed now if they are missing, because the user nobody cannot install packages.
     needs.c_compiler()
