@@ -83,7 +83,8 @@ static void parses_signatures(void)
     CHECK(equals_hex(prehashed.key_id, KEY_ID) && memcmp(prehashed.algorithm, "ED", 2) == 0);
     CHECK(equals_hex(prehashed.signature, SIGNATURE_BYTES) && equals_hex(prehashed.comment_signature, COMMENT_SIGNATURE));
     CHECK(prehashed.legacy == 0 && prehashed.whole == 1 && prehashed.reserved == 0);
-    CHECK(prehashed.comment_len == sizeof HELLO_COMMENT - 1 && PREHASHED + prehashed.comment_offset == strstr(PREHASHED, HELLO_COMMENT));
+    CHECK(prehashed.comment_len == sizeof HELLO_COMMENT - 1
+          && PREHASHED + prehashed.comment_offset == strstr(PREHASHED, HELLO_COMMENT));
     CHECK(equals_hex(prehashed.text_digest, TEXT_DIGEST) && prehashed.mark != 0);
     CHECK(equals_hex(legacy.key_id, KEY_ID) && memcmp(legacy.algorithm, "Ed", 2) == 0);
     CHECK(legacy.legacy == 1 && legacy.whole == 1 && legacy.reserved == 0 && legacy.mark == prehashed.mark);

@@ -142,7 +142,8 @@ static void open_without_memory(const minisign_secret_key *opened)
     CHECK(seal(opened, "pw", 1024 * LARGE_ROWS, 1, message, sizeof message, &text_len) == MINISIGN_OK);
     CHECK(minisign_read_secret_key(message, text_len, &unopened) == MINISIGN_OK);
     requests = allocated_blocks = threads = hints = 0;
-    CHECK(minisign_open_sealed_key(&unopened, bytes_of("pw"), 2, MINISIGN_KEEP_EVERY_ROW, MINISIGN_USUAL_ROWS, &key) == MINISIGN_OK);
+    CHECK(minisign_open_sealed_key(&unopened, bytes_of("pw"), 2, MINISIGN_KEEP_EVERY_ROW, MINISIGN_USUAL_ROWS, &key)
+          == MINISIGN_OK);
     CHECK(requests > 0 && allocated_blocks == 0);
     /* These calls are made only if the library uses c/library/allocation.c. */
 #if defined(__LP64__) && defined(MADV_HUGEPAGE) && defined(MADV_POPULATE_WRITE) && !defined(MINISIGN_NO_THREADS)

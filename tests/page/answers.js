@@ -1,6 +1,6 @@
-// Collects the results of the page's module for keys, signatures and data: all error numbers, output structs and states, also for
-// signatures that were tampered with after parsing. tests/page/wide_module.py runs it with bindings/javascript/calls.js in Chromium,
-// which can load the module with 64-bit memory too.
+// Collects the results of the page's module for keys, signatures and data: all error numbers, output structs and
+// states, also for signatures that were tampered with after parsing. tests/page/wide_module.py runs it with
+// bindings/javascript/calls.js in Chromium, which can load the module with 64-bit memory too.
 
 function bytesOf(base64) {
   return Uint8Array.from(atob(base64), letter => letter.charCodeAt(0));
@@ -14,12 +14,13 @@ function textOf(answer) {
   return JSON.stringify(answer, (_, value) => value instanceof Uint8Array ? hexOf(value) : value);
 }
 
-// Returns the results for one case in a list. If the key cannot be parsed, neither as a file nor as a line, the signature is checked with
-// a key of zeros.
+// Returns the results for one case in a list. If the key cannot be parsed, neither as a file nor as a line, the
+// signature is checked with a key of zeros.
 function answersAbout(library, {pk, sig, data}) {
   const [keyText, signatureText, bytes] = [pk, sig, data].map(bytesOf);
   const results = [library.readKey(keyText, false), library.readKey(keyText, true)];
-  const key = results.find(result => result.number === 0)?.key ?? new Uint8Array(40), signature = library.readSignature(signatureText);
+  const key = results.find(result => result.number === 0)?.key ?? new Uint8Array(40);
+  const signature = library.readSignature(signatureText);
   results.push(signature);
   for (const change of [{text: signatureText.subarray(1)}, {value: signature.value.map((byte, at) => at === 147 ? 9 : byte)}]) {
     const state = library.begin();

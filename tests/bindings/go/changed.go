@@ -69,7 +69,7 @@ var changes = []change{
 	{"an untrusted comment of two lines", "SIGNATURE_NOT_BASE64", func(key *minisign.PublicKey, signature *minisign.Signature) {
 		signature.UntrustedComment = "untrusted comment: other\nof two lines"
 	}},
-	{"another trusted comment after a valid signature file", "BAD_COMMENT", func(key *minisign.PublicKey, signature *minisign.Signature) {
+	{"another trusted comment after a valid file", "BAD_COMMENT", func(key *minisign.PublicKey, signature *minisign.Signature) {
 		text, err := os.ReadFile(os.Args[3])
 		if err != nil {
 			panic(err)

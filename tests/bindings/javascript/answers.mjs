@@ -8,7 +8,7 @@
 //     node answers.mjs pieces [legacy]   passes the data in each form that the package accepts
 //     node answers.mjs read [legacy]     prints the fields of the parsed key and signature, and verifies with these objects
 //     node answers.mjs threads           verifies in four threads, which must print the same
-//     node answers.mjs growth COUNT      verifies COUNT times; prints by how many bytes memory grows from a tenth of COUNT to the end
+//     node answers.mjs growth COUNT      verifies COUNT times; prints by how many bytes memory grows after the first tenth
 //     node answers.mjs comment           verifies only the trusted comment, before there is data
 //
 // These commands use the published signature, whose data has four bytes. Each line has the expected result, a tab, and the actual
@@ -75,7 +75,8 @@ async function readAnswers(cases, options) {
     try {
       const signature = await readSignature(text), publicKey = await readPublicKey(key);
       const results = [await answerOf(data, signature, key, options), await answerOf(data, signature, publicKey, options)];
-      answers.push(`${publicKey.keyId} ${signature.keyId} ${signature.isLegacy} ${results[0] === results[1] ? results[0] : results}`);
+      const outcome = results[0] === results[1] ? results[0] : results;
+      answers.push(`${publicKey.keyId} ${signature.keyId} ${signature.isLegacy} ${outcome}`);
     } catch (why) {
       answers.push(`rejected ${nameOf(why)}`);
     }
@@ -196,7 +197,9 @@ async function wrongAnswers([[key, data, signature]]) {
     ["signal must be an AbortSignal, not object", verifyWith({signal: {aborted: false}})],
     ["unknown option signal", createVerifier(signature, key, {signal})],
   ];
-  return Promise.all(calls.map(async ([expected, promise]) => `TypeError: ${expected}\t${await promise.then(() => "accepted", String)}`));
+  return Promise.all(calls.map(
+    async ([expected, promise]) => `TypeError: ${expected}\t${await promise.then(() => "accepted", String)}`
+  ));
 }
 
 // Checks the properties and methods of a verifier, step by step.

@@ -63,8 +63,10 @@ async function answers({verify, MinisignError}, [key, data, signature]) {
   const forms = [data, new SavedBlob(pieces()), pieces(), new SavedStream({start}), data.subarray(1)];
   const lines = [];
   for (const form of forms) {
-    lines.push(await verify(form, signature, key).then(({trustedComment}) => `accepted ${trustedComment}`,
-                                                       why => why instanceof MinisignError ? `rejected ${why.code}` : `failed ${why}`));
+    lines.push(await verify(form, signature, key).then(
+      ({trustedComment}) => `accepted ${trustedComment}`,
+      why => why instanceof MinisignError ? `rejected ${why.code}` : `failed ${why}`
+    ));
   }
   return lines;
 }

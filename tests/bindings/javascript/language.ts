@@ -1,4 +1,5 @@
-// Checks that the package's type declarations need only the types of the language. `tests/bindings/javascript.py` compiles this program.
+// Checks that the package's type declarations need only the types of the language. `tests/bindings/javascript.py`
+// compiles this program.
 
 import {
   clearSecretKey, createSigner, createVerifier, ERRORS, generateSecretKey, MinisignError, parseTrustedComment,

@@ -87,7 +87,9 @@ const CHECKS = {
     const shrink = ({buffer}) => typeof buffer.resize === "function" ? buffer.resize(2 * MIB) : detach({buffer});
     for (const [name, change] of Object.entries({detach, shrink})) {
       for (const at of [4 * MIB, length - MIB]) {
-        for (const run of [(data, options) => sign(data, secretKey, options), (data, options) => verify(data, signature, key, options)]) {
+        const signing = (data, options) => sign(data, secretKey, options);
+        const verifying = (data, options) => verify(data, signature, key, options);
+        for (const run of [signing, verifying]) {
           const data = new Uint8Array(new ArrayBuffer(length, {maxByteLength: length}));
           const promise = run(data, {progress: bytes => bytes === at && change(data)});
           lines.push([`${name} ${at} TypeError`, `${name} ${at} ${await result(promise)}`]);
