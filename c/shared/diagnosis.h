@@ -14,6 +14,7 @@ enum text_kind {
 
 /* Hints for a truncated or damaged file. */
 #define COPY_HINT "download or copy the file again"
+#define DOWNLOAD_LIST_HINT "download the list and its signature again"
 #define SECRET_KEY_HINT "restore the file from a backup"
 
 /*
