@@ -2,7 +2,8 @@
 """Times the calls as C, dist/calls.c, compared with the archives of dist/, libsodium and Minisign's own program.
 
     bench/as_c.py [TURNS]
- The jobs are hashing, by calls and by `minisign -V`, and decrypting a key with the limits of `minisign -G`, by a call
+
+The jobs are hashing, by calls and by `minisign -V`, and decrypting a key with the limits of `minisign -G`, by a call
 and by `minisign -S`. All programs take turns; TURNS is the number of turns. The table has the minimum processor time,
 and the median ratio to the archives within a turn. The last lines compare the C with the goal and with libsodium's
 portable BLAKE2b. docs/PERFORMANCE.md has the results.

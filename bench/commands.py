@@ -3,7 +3,8 @@
 `openssl dgst -blake2b512`, `minisign -V` and `b2sum`.
 
     bench/commands.py [PROGRAM ..]
- `verify-raw` reads the file from standard input; `verify`, `cat` and `sign` open it by name. `cat` writes to /dev/null.
+
+`verify-raw` reads the file from standard input; `verify`, `cat` and `sign` open it by name. `cat` writes to /dev/null.
 `sign` uses an encrypted key, and reads the password from standard input. `verify` must also reject a legacy signature
 of the same file; its memory use shows that it does not hold the data in memory. PROGRAM is another build of the program
 under another name, for example one made by `rt run --cpu=x86-64-v3 -- x`.

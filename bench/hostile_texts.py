@@ -3,7 +3,8 @@
 attacker could make.
 
     bench/hostile_texts.py
- Prints the processor time and the peak memory of each run. Fails if a result is not what the file format requires, if
+
+Prints the processor time and the peak memory of each run. Fails if a result is not what the file format requires, if
 the memory is more than MAX_MEMORY times the size of the file plus BASE_MEMORY, or if a file of twice the size takes
 more than MAX_GROWTH times the time.
 

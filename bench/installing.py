@@ -3,7 +3,8 @@
 `cat`, `sync` and `mv`, and hashing with `b2sum`.
 
     bench/installing.py [DIRECTORY] [PROGRAM]
- The commands take turns. The printed ratio is that of `minisign-install` to the sum of the two others in the same turn.
+
+The commands take turns. The printed ratio is that of `minisign-install` to the sum of the two others in the same turn.
 The files are created in DIRECTORY, by default in a temporary directory, which must be on a disk. PROGRAM is a build of
 `minisign-install`. Without it, the script builds the program.
 

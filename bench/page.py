@@ -3,7 +3,8 @@
 `minisign -V` of the same file and signature.
 
     bench/page.py [ROUNDS [PAGE]]
- The programs take turns, each of a minute at most. ROUNDS is the number of turns. For each program, the script prints
+
+The programs take turns, each of a minute at most. ROUNDS is the number of turns. For each program, the script prints
 the minimum time; the minimum, median and maximum ratio to `c/minisign -V` within a turn; the minimum processor time, of
 all processes and of the busiest thread, which depends less on the load of the machine; and the peak memory of a process
 that shows the page, compared with that of an empty page in the same process. The memory is measured in a first turn,

@@ -2,7 +2,8 @@
 """Times `minisign_kdf`'s scrypt, compared with OpenSSL's, libsodium's and libscrypt-kdf's.
 
     bench/scrypt.py [cpu]
- All derive 64 bytes with r = 8 and p = 1, each in a separate process, taking turns. The keys are compared. The table
+
+All derive 64 bytes with r = 8 and p = 1, each in a separate process, taking turns. The keys are compared. The table
 has the minimum elapsed time of the call. With `cpu`, which is better on a busy machine, it has the minimum processor
 time; for this library, that is the time of the whole process.
 

@@ -3,7 +3,8 @@
 
     compare/compare.py run UPSTREAM [--seed N] [--count N] [--program FILE]
     compare/compare.py list UPSTREAM [--program FILE]
- UPSTREAM is the directory of the crate's own files. oracle/build.sh builds the crate, and a program that calls it and
+
+UPSTREAM is the directory of the crate's own files. oracle/build.sh builds the crate, and a program that calls it and
 answers requests, in a temporary directory. `run` makes N random requests of each kind from a seed, sends them to both
 programs, and prints each kind of difference that known.py does not list, with its shortest request. FILE is the program
 of this library, by default the one that `rt run` built. `list` writes the stored run of crates/minisign_compare (stdin,

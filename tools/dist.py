@@ -3,15 +3,18 @@
 
     tools/dist.py [PART ..]            proves the sources, builds the files and writes them
     tools/dist.py --check [PART ..]    proves the sources, builds the files and compares them with dist/ byte for byte
- PART is `calls` or `page`; the default is both. The files of dist/ are: archives of the proved calls of the crate
+
+PART is `calls` or `page`; the default is both. The files of dist/ are: archives of the proved calls of the crate
 minisign_c; the same calls translated to C (`portable_calls.py`); the page that verifies a download; `PROVED`, which
 names the kit and the sources that were proved; and `SHA256SUMS`. The head of PROVED is written by hand.
- Libraries that `rt lib` has already proved are used as they are; the others are proved first. With `--after OUTPUT`,
+
+Libraries that `rt lib` has already proved are used as they are; the others are proved first. With `--after OUTPUT`,
 the script uses the libraries that a finished `rt ci` has left here; OUTPUT is a file with the output of that `rt ci`.
 No file is written if a proof relies on results that an earlier `rt check` stored (`incremental=trusted`). In this case,
 run `rt ci` first, and then this script with `--after`. In CI, `--check` runs in parallel with `rt ci` and builds with
 the libraries that `rt ci` proves (`tests/shared/proved.py`).
- Another version of the kit with the same logic may produce other bytes, and so may another wasm-opt or zopfli for the
+
+Another version of the kit with the same logic may produce other bytes, and so may another wasm-opt or zopfli for the
 page. In that case, `--check` reports this, and compares all of the page except its module. (tests/c tests the archives
 of dist/.) It prints which files are identical, and one line per failure; the last line is `N passed, M failed`.
 

@@ -3,7 +3,8 @@
 
     tools/header.py            writes the files
     tools/header.py --check    fails if a file is not up to date; the last line is `N passed, M failed`
- From the crates come the numbers, names and comments of errors, steps and numberings in `include/minisign.h` and
+
+From the crates come the numbers, names and comments of errors, steps and numberings in `include/minisign.h` and
 `include/minisign_install.h`, those of hash functions in `include/minisign_list.h`, and the tables of errors in
 docs/FORMATS.md. From the headers come their attributes for gcc and clang, the boundary in front of the proved calls
 (`boundary.py`), and the manual pages (`manual.py`).

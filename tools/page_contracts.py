@@ -3,7 +3,8 @@
 
     tools/page_contracts.py            rewrites crates/minisign_page/src/lib.rt and specs/ListCalls.antt
     tools/page_contracts.py --check    fails if that would change the file
- An export is copied from its docstring to the brace that opens its body. The bodies are written by hand. Two names
+
+An export is copied from its docstring to the brace that opens its body. The bodies are written by hand. Two names
 differ: the prefix of the exports, and the definition of error numbers, because the page has no errors of installing.
 Only the page has the exports in PAGE_ONLY. The contracts use definitions of minisign_c, on which minisign_page does not
 depend, so these are copied to crates/minisign_page/specs/ListCalls.antt. The last line is `N passed, M failed`.

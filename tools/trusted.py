@@ -3,7 +3,8 @@
 
     tools/trusted.py            writes the document
     tools/trusted.py --check    fails if it is not up to date; the last line is `N passed, M failed`
- The document has parts: verdicts, opening keys, signing, devices, the calls from C, installing and lists. Each part
+
+The document has parts: verdicts, opening keys, signing, devices, the calls from C, installing and lists. Each part
 begins with its most important clauses. The script follows the names in these clauses to their definitions, then the
 names in these definitions, and so on. A definition is printed in the first part that reaches it, after the definition
 that uses it first. The first part also prints all definitions of the Rattle kit that it reaches, so that readers do not

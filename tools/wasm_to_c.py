@@ -10,8 +10,8 @@ large as its deepest call needs (`sp` is its end), and a copy of the data that c
 TABLE translates each arithmetic instruction, load and store. Blocks and branches become `goto`. Instructions that the
 translator does not know are errors: floats, vectors, indirect calls, growing memory, and recursion.
 
-tests/c/table_proofs.py proves each row of TABLE with z3, as clang compiles it. Control flow, local variables, the stack
-and the data are tested and not proved: tests/c/translated.py compares each row, and random functions, with another
+tests/c/instruction_proofs.py proves each row of TABLE with z3, as clang compiles it. Control flow, local variables, the stack
+and the data are tested and not proved: tests/c/wasm_translation.py compares each row, and random functions, with another
 implementation of WebAssembly.
 """
 

@@ -28,7 +28,7 @@ import sys
 HERE = os.path.dirname(os.path.realpath(__file__))
 sys.path += [HERE, *(os.path.join(HERE, "..", name) for name in ("shared", "c"))]
 
-import commands
+import document_commands
 import emulated
 import needs
 import portable
@@ -343,7 +343,7 @@ def check_by_git(checks, scratch):
     """Checks that a program can depend on the commit that packaging/tag.sh makes, by a git path of `example.com` and
     its tag or its commit, in a path with spaces, with few programs in PATH and no make. It is linked with the archives.
     A commit without a tag does not have the C files, and cannot be built."""
-    clone, repository = commands.Clone(scratch), os.path.join(scratch, "repository.git")
+    clone, repository = document_commands.Clone(scratch), os.path.join(scratch, "repository.git")
     os.rename(clone.top, repository)
     config = write(scratch, "gitconfig", f'[url "file://{scratch}/"]\n\tinsteadOf = https://example.com/\n'.encode())
     go = Go(scratch, PATH=shared_cases.make_path_directory(scratch, *NEEDED), GIT_CONFIG_GLOBAL=config, GOSUMDB="off",

@@ -20,7 +20,7 @@ import sys
 HERE = os.path.dirname(os.path.realpath(__file__))
 sys.path += [HERE, *(os.path.join(HERE, "..", name) for name in ("shared", "c"))]
 
-import commands
+import document_commands
 import needs
 import shared_cases
 import static_library
@@ -69,7 +69,7 @@ def check_package(checks, package, scratch):
         "CFLAGS": "-O0",
         "CGO_CFLAGS": "-O0",
     }
-    lines = commands.commands_of(readme)
+    lines = document_commands.commands_of(readme)
     checks.check(
         any(line.startswith(f"make -C {CLONE}/bindings {package}") for line in lines),
         f"{package}: README does not pack it",
@@ -102,7 +102,7 @@ def run_all(checks, scratch):
     needs.rust_compiler()
     needs.node()
     python()
-    clone = commands.Clone(scratch)
+    clone = document_commands.Clone(scratch)
     os.rename(clone.top, os.path.join(scratch, CLONE))
     for package in USERS:
         if package == "javascript" and not shutil.which("npm", path=static_library.path_without_kit()):

@@ -4,7 +4,8 @@ the directory `node_modules` of a program, and used in Node, and in a page and a
 without a network and without the Rattle kit.
 
     tests/bindings/javascript.py [PAGE]
- The WebAssembly module is taken from the web page PAGE, by default from the page in `dist/`. The script compares the
+
+The WebAssembly module is taken from the web page PAGE, by default from the page in `dist/`. The script compares the
 results with those of `c/minisign` and libsodium (`CASES`), and the errors and the sizes of structs with
 include/minisign.h. It also checks that
 

@@ -22,11 +22,11 @@ sys.path += [os.path.join(HERE, "..", name) for name in ("shared", "tool", "inst
 
 import test_script
 from command_lines import command_line_cases
-from cut_off import INITIAL_STATES, CUTS
+from interrupted_runs import INITIAL_STATES, CUTS
 from downloads import download_cases
 from installers import DOWNLOAD_AGAIN, ARGUMENT_ORDER, Signer
 from list_updates import DOWNLOAD_LIST_AGAIN, LINE_HINT, NO_LIMIT_ERROR, TWICE_HINT
-from real_installing import cases_of
+from installer_program import cases_of
 from running import expect, run_cases
 from runs import InstallerRunner
 

@@ -1,7 +1,8 @@
 """A test program that uses the installed Python package. `python.py` runs it.
 
     python_user.py IMPLEMENTATION COMMAND [ARGUMENT ..]
- IMPLEMENTATION is the implementation of Ed25519: `libsodium` or `cryptography`. COMMAND is a function of this module.
+
+IMPLEMENTATION is the implementation of Ed25519: `libsodium` or `cryptography`. COMMAND is a function of this module.
 `verify`, `pieces`, `fields`, `verify_listed` and `entries` print a line for each case on standard input; `make`,
 `sign`, `strength`, `encrypt`, `write` and `key_ids` use one key. Any other command is a function of `python_checks.py`,
 which is a separate module because its imports take long.

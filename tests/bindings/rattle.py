@@ -3,11 +3,13 @@
 rejects changed ones.
 
     tests/bindings/rattle.py
- The program is built in a copy of the example, with libraries that are already proved (tests/shared/proved.py). The
+
+The program is built in a copy of the example, with libraries that are already proved (tests/shared/proved.py). The
 script follows the commands of the example's README.md, except for `rt run`, which would prove all crates again;
-instead, it runs the built program with the same arguments. Prints a line for each failure; the last line is `N passed,
-M failed`.
- Needs Python 3.9 or later, the Rattle kit, a C compiler, libsodium with its header and archive, and minisign. Installs
+instead, it runs the built program with the same arguments. Prints a line for each failure; the last line is
+`N passed, M failed`.
+
+Needs Python 3.9 or later, the Rattle kit, a C compiler, libsodium with its header and archive, and minisign. Installs
 missing packages if it has permission, except the kit.
 """
 
@@ -23,7 +25,7 @@ import ed25519_edge_cases
 import needs
 import proved
 import test_script
-from commands import commands_of
+from document_commands import commands_of
 from shared_cases import TOP, read, run, write
 
 NAME = "verify_with_sodium"

@@ -14,7 +14,8 @@ bindings/rust under the name `minisign-verify`. The crates that they need come f
 - Each mutant of rust/mutants is detected.
 
 It prints a line for each failure; the last line is `N passed, M failed`.
- Needs Python 3.9 or later, cargo, rustc, make, clang, a C compiler, binutils, llvm, libsodium with its header,
+
+Needs Python 3.9 or later, cargo, rustc, make, clang, a C compiler, binutils, llvm, libsodium with its header,
 minisign, strace, git, pkg-config, and the Debian packages librust-cc-dev, librust-pkg-config-dev,
 librust-rpassword-dev, librust-zeroize-dev, libstd-rust-dev-windows, gcc-mingw-w64-x86-64, wine64,
 gcc-aarch64-linux-gnu, libc6-dev-arm64-cross and qemu-user-static. It installs missing packages if it has permission,
@@ -32,7 +33,7 @@ import sys
 HERE = os.path.dirname(os.path.realpath(__file__))
 sys.path += [HERE, *(os.path.join(HERE, "..", name) for name in ("shared", "c"))]
 
-import commands
+import document_commands
 import debian_crates
 import emulated
 import needs
@@ -378,7 +379,7 @@ def check_here(checks, programs, crate, scratch):
     status, why = user_crate.build(CC_x86_64_unknown_linux_gnu=compiler, MINISIGN_PORTABLE="")
     checks.check(status == 0 and os.path.exists(f"{compiler}-calls"), f"a compiler for one target: {why[-500:]}")
     check_libsodium(checks, crate, scratch)
-    dependency = f'minisign-proved = {{ git = "file://{commands.Clone(scratch).top}", default-features = false }}'
+    dependency = f'minisign-proved = {{ git = "file://{document_commands.Clone(scratch).top}", default-features = false }}'
     user_crate = UserCrate(programs, scratch, "git dependency", dependency)
     user_crate.check(
         checks, "a git dependency", {"v3_minisign_update": True, "v2_minisign_update": True}, CARGO_NET_OFFLINE="false"

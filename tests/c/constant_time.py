@@ -37,7 +37,7 @@ from collections import Counter, defaultdict, namedtuple
 HERE = os.path.dirname(os.path.realpath(__file__))
 sys.path.append(os.path.join(HERE, "..", "shared"))
 
-import cleared
+import cleared_secrets
 import needs
 import static_library
 import test_script
@@ -111,14 +111,14 @@ def compiler():
                       "valgrind", "gcc", "libc6-dev")
 
 
-class Builder(cleared.Builder):
+class Builder(cleared_secrets.Builder):
     """Builds constant_time.c with the builds of the proved functions."""
 
     def __init__(self, scratch):
         super().__init__(scratch)
         write(scratch, "secret_texts.h", secrets_text().encode())
 
-    def built(self, copy, top=cleared.proved.ROOT):
+    def built(self, copy, top=cleared_secrets.proved.ROOT):
         """Builds constant_time.c with a build of the proved functions, from the sources in `top`. Returns the path
         of the program."""
         variables = [f"CC={needs.program('clang', 'clang')}" if variable == "CC=clang" else variable for variable in copy.variables]
@@ -213,7 +213,7 @@ def places_over_limit(places, is_c, listed):
 # ---- Checks ----
 
 
-def outcomes_over(builder, copy, pool, top=cleared.proved.ROOT, names=None):
+def outcomes_over(builder, copy, pool, top=cleared_secrets.proved.ROOT, names=None):
     """Makes all calls, or those with these names, with a build. Maps their names to the outcomes."""
     program = builder.built(copy, top=top)
     names = names or calls_of(program)

@@ -9,7 +9,7 @@ verdicts with libsodium and with OpenSSL 3.0.
     encoded, and accept valid signatures.
   * OpenSSL, called from Debian's Python, must accept 64 zero bytes as a signature under a key of 32 zero bytes for some
     messages, as the documentation says. The library parses 56 letters A as this key.
-  * verify_over.c verifies the 293 vectors of tests/shared/ed25519_vectors.json with each implementation. OpenSSL by itself
+  * verify_legacy.c verifies the 293 vectors of tests/shared/ed25519_vectors.json with each implementation. OpenSSL by itself
     accepts some vectors that libsodium rejects. With the library, both must have the verdicts of libsodium.
 
 The script prints a line for each failure; the last line is `N passed, M failed`.
@@ -31,7 +31,7 @@ import ed25519_edge_cases
 import needs
 import static_library
 import test_script
-from copies import TOP
+from repository_copies import TOP
 from ed25519_edge_cases import FIELD_PRIME, GROUP_ORDER, SMALL_ORDER_Y
 from process import run
 from running import read
@@ -182,12 +182,12 @@ def openssl(compiler):
 
 def check_vectors(checks, scratch, library):
     """Checks that the library has the verdicts of libsodium, both with OpenSSL and with libsodium."""
-    compiler, program, vectors = needs.compiler_with_libsodium(), f"{scratch}/verify_over", ed25519_edge_cases.vectors()
+    compiler, program, vectors = needs.compiler_with_libsodium(), f"{scratch}/verify_legacy", ed25519_edge_cases.vectors()
     openssl(compiler)
-    command = [compiler, "-O2", "-Wall", "-Wextra", "-Werror", "-I", f"{TOP}/include", f"{TOP}/tests/c/verify_over.c", library,
+    command = [compiler, "-O2", "-Wall", "-Wextra", "-Werror", "-I", f"{TOP}/include", f"{TOP}/tests/c/verify_legacy.c", library,
                "-lcrypto", "-lsodium", "-pthread", "-o", program]
     status, output = run(command)
-    if not checks.check((status, output) == (0, ""), f"verify_over.c: {output[-800:]}"):
+    if not checks.check((status, output) == (0, ""), f"verify_legacy.c: {output[-800:]}"):
         return
     numbers, lines = {error.name: str(error.number) for error in c_header.both().enums["error"]}, []
     for vector in vectors:

@@ -456,7 +456,7 @@ def check_agent(checks, installed):
 
 
 def check_programs(checks, installed):
-    """Checks that the installed programs are equal to the built ones, which command_line.py, real_installing.py and
+    """Checks that the installed programs are equal to the built ones, which command_line.py, installer_program.py and
     check_program.py test."""
     for name, flag in (("minisign", "-v"), ("minisign-install", "--version"), ("minisign-check", "--version")):
         checks.check(

@@ -1,6 +1,6 @@
 /*
  * Checks calls that get no memory. Opening a secret key in the caller's memory must not allocate memory, start a thread
- * or call madvise. (asked_texts.c checks this for verifying.) In the other calls, each allocation fails in turn, by itself
+ * or call madvise. (minisign_files.c checks this for verifying.) In the other calls, each allocation fails in turn, by itself
  * and together with all later ones. Then the call must return MINISIGN_OUT_OF_MEMORY, leave the key unchanged, and free
  * all memory. The same must happen if there is too little memory for scrypt with the default limits.
  *

@@ -15,7 +15,7 @@ packages and licences.
     This is checked with apt-get, as for a Debian without packages.
   * debian/copyright and APKBUILD repeat what LICENSE says about the kit's code in dist/.
 
-(releases.py packs releases, and builds with Debian's flags, with clang and with musl; at_hand.py installs.) The
+(releases.py packs releases, and builds with Debian's flags, with clang and with musl; build_and_install.py installs.) The
 script prints a line for each failure; the last line is `N passed, M failed`.
 
 Needs make, binutils, gcc, libsodium with its header and archive, and gcc-aarch64-linux-gnu; missing packages are

@@ -36,7 +36,7 @@ import sys
 HERE = os.path.dirname(os.path.realpath(__file__))
 sys.path.append(os.path.join(HERE, "..", "shared"))
 
-import cleared
+import cleared_secrets
 import emulated
 import needs
 import static_library
@@ -181,7 +181,7 @@ MORE_KINDS = {kind.debian: kind for kind in (
 
 def check_processors(checks, scratch, checksums, kinds=KINDS):
     """Checks the library for other processors under qemu. On the processors that CI runs, also checks that no
-    secret is left in memory or registers. (cleared.py checks this for AArch64.)"""
+    secret is left in memory or registers. (cleared_secrets.py checks this for AArch64.)"""
     for kind in kinds:
         # gcc has no stack protector for hppa and alpha, which is one of the default flags.
         built = emulated.Emulated(checks, scratch, kind, *(["CFLAGS=-O2"] if kind.debian in ("hppa", "alpha") else []))
@@ -191,8 +191,10 @@ def check_processors(checks, scratch, checksums, kinds=KINDS):
             check_mutants(checks, built.scratch, checksums, [built.compiler, "-static"], mutants_of("c", "processor_mutants"),
                           kind.name, built.emulator)
         if kind in KINDS[1:]:
-            program = cleared.Builder(built.scratch).program(built.compiler, "-O2", library=built.library, linking=["-static"])
-            cleared.check_run(checks, kind.name, cleared.Run([*built.emulator, program]))
+            program = cleared_secrets.Builder(built.scratch).program(
+                built.compiler, "-O2", library=built.library, linking=["-static"]
+            )
+            cleared_secrets.check_run(checks, kind.name, cleared_secrets.Run([*built.emulator, program]))
 
 
 WINE = "/usr/lib/wine"
@@ -279,7 +281,7 @@ def check_systems(checks, scratch, _):
 
 PARTS = {"compilers": check_compilers, "archives": check_archives, "processors": check_processors, "windows": check_windows,
          "systems": check_systems}
-# The words on the command line name parts or processors, so selected.py must not skip any of these functions.
+# The words on the command line name parts or processors, so case_selection.py must not skip any of these functions.
 ALWAYS = tuple(check.__name__ for check in PARTS.values())
 
 

@@ -38,8 +38,8 @@ import proved
 import static_library
 import test_script
 from c_library import LESS, check_programs, programs_named
-from commands import is_secret_key
-from copies import TOP, Tree, files_below, repository_files
+from document_commands import is_secret_key
+from repository_copies import TOP, Tree, files_below, repository_files
 from packaging import make
 from process import run
 from running import read, write
@@ -295,7 +295,7 @@ def check_same_as_repository(checks, scratch, root):
 
 
 def check_without_archives(checks, scratch, top):
-    """Builds a release with PORTABLE=1, after the prebuilt archives were removed. (at_hand.py checks that a changed
+    """Builds a release with PORTABLE=1, after the prebuilt archives were removed. (build_and_install.py checks that a changed
     dist/calls.c is rejected.)"""
     for archive in glob.glob(f"{top}/dist/*.a"):
         os.remove(archive)
@@ -347,7 +347,7 @@ def check_alpine(checks, scratch, top):
     for file in ALPINE_FILES:
         checks.check(os.path.exists(f"{directory}/pkg/{file}"), f"Alpine's package has no {file}")
     compiler, library = emulated.musl_compiler(), f"{directory}/src/{name}/c/out/libminisign.a"
-    check_programs(checks, "musl", programs_named("asked_texts", "usage_errors"), compiler, library, "-static", *LESS)
+    check_programs(checks, "musl", programs_named("minisign_files", "usage_errors"), compiler, library, "-static", *LESS)
 
 
 def check_other_packages(checks, scratch, top):

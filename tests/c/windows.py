@@ -43,7 +43,7 @@ sys.path.append(os.path.join(HERE, "..", "shared"))
 
 import mutants
 import needs
-import selected
+import case_selection
 import static_library
 import test_script
 from checks import Checks
@@ -815,7 +815,7 @@ def failure_of(programs, scratch, parts, mutant):
 
 def check_mutants(checks, pool, programs, scratch):
     """Checks that the case that a mutant names notices it."""
-    tried = [mutant for mutant in mutants.mutants_of("c", "windows_mutants") if selected.is_selected(mutant.name, "mutants")]
+    tried = [mutant for mutant in mutants.mutants_of("c", "windows_mutants") if case_selection.is_selected(mutant.name, "mutants")]
     if tried:
         parts = Parts(scratch)
         for failure in pool.map(lambda mutant: failure_of(programs, scratch, parts, mutant), tried):
@@ -951,13 +951,13 @@ def run_all(checks, scratch):
     programs = (wine, *built, needs.minisign())
     try:
         with concurrent.futures.ThreadPoolExecutor(os.cpu_count() or 1) as pool:
-            selected_names = [name for name in CASES if selected.is_selected(name)]
+            selected_names = [name for name in CASES if case_selection.is_selected(name)]
             results = pool.map(lambda name: run_case(programs, scratch, name), selected_names)
             check_mutants(checks, pool, programs, scratch)
             for name, result in zip(selected_names, results):
                 add_results(checks, name, result)
             for check in (check_program, check_install, check_release):
-                if selected.is_selected(check.__name__):
+                if case_selection.is_selected(check.__name__):
                     check(checks, programs, scratch)
             check_one_layer(checks)
     finally:

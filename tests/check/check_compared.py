@@ -1,6 +1,7 @@
 """Test cases that run `minisign-check` on lists of other programs and on random lists. The results are compared with a model of the
 rules, with `sha256sum -c --strict` and with `signify -C`.
- `long_hash` is the hash function of digests with 128 digits on lines that name none: "sha512", or "blake2b" with the
+
+`long_hash` is the hash function of digests with 128 digits on lines that name none: "sha512", or "blake2b" with the
 option --blake2b.
 """
 

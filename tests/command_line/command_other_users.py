@@ -17,7 +17,7 @@ import subprocess
 import tempfile
 from collections import namedtuple
 
-from command_breaking import is_public, is_secret, is_signature
+from command_failures import is_public, is_secret, is_signature
 from command_running import (ENCRYPTED_KEY, PARENT_MODE, PASSWORD, PLAIN_KEY, PUBLIC_KEY, Programs, case, expect_end,
                              expect_prompt, put_files)
 from faults import mounted_in_memory

@@ -18,7 +18,7 @@ import needles
 import needs
 import static_library
 from at_terminal import SECONDS, AtTerminal
-from command_breaking import is_signature
+from command_failures import is_signature
 from command_running import (DATA, ENCRYPTED_KEY, HOME, PASSWORD, PLAIN_KEY, PUBLIC_KEY, Programs, case, expect_end,
                              expect_prompt, sealed)
 from process import run_measured, run_program

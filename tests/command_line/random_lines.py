@@ -32,7 +32,7 @@ sys.path += [os.path.join(HERE, "..", name) for name in ("shared", "verdicts")]
 
 import needs
 import test_script
-from command_breaking import TEMPORARY, is_secret
+from command_failures import TEMPORARY, is_secret
 from command_cases import keys_of
 from command_line import build_program, reset_signals
 from command_running import (DATA, ENCRYPTED_KEY, HOME, OTHER_PUBLIC_KEY, PASSWORD, PLAIN_KEY, PUBLIC_KEY, ProgramPaths,

@@ -14,7 +14,7 @@ import threading
 import time
 
 import needs
-from checking import UPDATER_DIRECTORY, offer_app, prepare_documented
+from check_option import UPDATER_DIRECTORY, offer_app, prepare_documented
 from installers import LATER_DATA, NEW_DATA, OLDER_VERSION, OLD_DATA, REJECTED
 from process import RunResult
 from running import Failure, expect, read

@@ -9,7 +9,7 @@ import subprocess
 from dataclasses import dataclass
 
 from concurrent_changes import reads_no_more
-from cut_off import break_each_call
+from interrupted_runs import break_each_call
 from installers import (ALREADY_INSTALLED, CHECK_ARGUMENTS, EXPIRED, EXPIRED_FIELD, FAILED, FIRST, LATER_DATA, MISUSED, NEW_DATA,
                         OLDER_VERSION, OLD_DATA, PK, RECORD, REJECTED, SAME_VERSION, TARGET, UNRECORDED, error_text)
 from running import expect

@@ -14,7 +14,8 @@ WORD selects the cases and mutants whose name contains it. recording.py records 
   * another process replaces or removes the installed file, or removes the lock file, before each call in turn;
   * another process breaks the rules, because it replaces the record while a run holds the lock. The rules do not bind this run any
     more, and `trace_reader` has to name the item of the other process.
- recording.py itself compares the options, the file name, the time and the exit status of a run with the expected ones.
+
+recording.py itself compares the options, the file name, the time and the exit status of a run with the expected ones.
 The mutants in recorded_mutants break the code that performs operations. For each mutant, a run of its case must have an
 offence.
 
@@ -50,7 +51,7 @@ import mutants
 import needs
 import proved
 import recording
-import selected
+import case_selection
 import static_library
 import test_script
 import updates
@@ -559,7 +560,7 @@ def offences(run, what, decided):
 
 def check_cases(checks, start, signer, what, names):
     for name, function in names.items():
-        if selected.is_selected(name):
+        if case_selection.is_selected(name):
             try:
                 runs = recorded_case(start, signer, function)
                 failures = [*failures_of_case(name, runs)]
@@ -584,7 +585,7 @@ def run_all(checks, scratch):
     check_cases(checks, program_starter(sources.program()), signer, "minisign-install", cases)
     check_cases(checks, load_package(scratch), signer, "the Python package", package_cases)
     for mutant in mutants.mutants_of("installer", "recorded_mutants"):
-        if selected.is_selected(mutant.name):
+        if case_selection.is_selected(mutant.name):
             why = check_mutant(sources, signer, mutant)
             checks.check(not why, why)
 

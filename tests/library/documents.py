@@ -37,7 +37,7 @@ GENERATED = "docs/TRUSTED.md"
 CALLS = re.compile(r"crates/([^/]+)/CALLING\.md")
 # The documents with commands and examples, and the script that runs their blocks of each language. A block without
 # a language shows output or lines of a file, and is not run.
-COMMANDS, PACKAGES = "tests/c/commands.py", "tests/bindings/install_commands.py"
+COMMANDS, PACKAGES = "tests/c/document_commands.py", "tests/bindings/install_commands.py"
 RUN_BY = {
     "README.md": {"sh": COMMANDS, "c": "tests/c/installed.py"},
     "docs/GUIDE.md": {"sh": "tests/tool/guide_commands.py", "rust": "tests/library/new_repository.py"},
@@ -53,7 +53,7 @@ RUN_BY = {
     "bindings/rust-minisign/README.md": {"toml": "tests/bindings/drop_in.py", "rust": "tests/bindings/drop_in.py"},
 }
 # The first lines of the code blocks that are indented instead of fenced: the usage, the output of a command, and
-# the files of examples/updater, which tests/installer/checking.py compares with the document.
+# the files of examples/updater, which tests/installer/check_option.py compares with the document.
 INDENTED = {"docs/LISTS.md": ["minisign-check -p PUBKEY [OPTION ..] LIST [FILE ..]"],
             "docs/INSTALLING.md": ["minisign-install [OPTION ..] PK DATA SIG TARGET", "2",
                                     "[Unit]", "[Service]", "[Unit]", "[Timer]", "[Install]", "#!/bin/sh"]}

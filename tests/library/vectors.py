@@ -26,7 +26,7 @@ sys.path[:0] = [os.path.join(TESTS, name) for name in ("rows", "tool", "shared",
 
 import named_errors
 import needs
-import real_runs
+import tool_program
 import rows
 import test_script
 from process import run
@@ -68,10 +68,10 @@ USED = (VECTORS, "minisign_fixtures", "minisign_examples")
 RUN_BY = {
     "row": "tests/rows/rows.py",
     "error": "tests/rows/rows.py",
-    "case": "tests/tool/real_runs.py",
+    "case": "tests/tool/tool_program.py",
     "edit": "tests/proofs/wrong_bodies.py",
     "fact": "tests/proofs/wrong_facts.py",
-    "memory": "tests/library/refused_memory.py",
+    "memory": "tests/library/failing_allocations.py",
 }
 # A value of at least this length may occur within a word of a test's text. A shorter value must be a separate word.
 MIN_SUBSTRING = 12
@@ -154,7 +154,7 @@ def text_of_error(name):
 def text_of_case(name):
     """Returns the text of the case `COMMAND: NAME` of tests/tool, with the files that the run must leave."""
     command, _, case_name = name.partition(": ")
-    cases = [case for case in real_runs.CASES.get(command, ()) if case.name == case_name]
+    cases = [case for case in tool_program.CASES.get(command, ()) if case.name == case_name]
     return " ".join(f"{case!r} {vars(case.check_directory) if case.check_directory else ''}" for case in cases) or None
 
 
@@ -290,7 +290,7 @@ def text_of_edit(name):
 
 
 def text_of_memory(path):
-    """Returns the text of a test in Rattle that `refused_memory.py` runs with failing allocations. The name of such
+    """Returns the text of a test in Rattle that `failing_allocations.py` runs with failing allocations. The name of such
     a test contains the NAME_PART of that script."""
     tree = ast.parse(read(RUN_BY["memory"]))
     name_part = next((ast.literal_eval(node.value) for node in tree.body

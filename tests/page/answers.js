@@ -1,5 +1,5 @@
 // Collects the results of the page's module for keys, signatures and data: all error numbers, output structs and
-// states, also for signatures that were tampered with after parsing. tests/page/wide_module.py runs it with
+// states, also for signatures that were tampered with after parsing. tests/page/module_32_bit.py runs it with
 // bindings/javascript/calls.js in Chromium, which can load the module with 64-bit memory too.
 
 function bytesOf(base64) {

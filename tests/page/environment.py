@@ -8,7 +8,7 @@ import re
 from help_texts import STATES, served
 from project_page import ZIP, Release
 from releases import LINK, build_page
-from views import NARROW
+from visible_verdicts import NARROW
 
 
 def check_network(person):
@@ -89,7 +89,7 @@ def check_narrow_screen(person):
 
 def check_keyboard_and_screen_reader(person):
     """The page can be used by keyboard and with a screen reader. It has both sentences about what it does not show.
-    (views.py checks the order in which Tab moves the focus.)"""
+    (visible_verdicts.py checks the order in which Tab moves the focus.)"""
     person.open()
     for name, words in (("limit-key", "that the key is the right one"), ("limit-page", "that the page itself is genuine")):
         text = person.text_of(name)

@@ -16,7 +16,7 @@ from minisign_cases import pattern
 from process import run_with_stderr
 from running import read
 from texts import lines, record_of, with_line, with_record
-from views import WINDOWS
+from visible_verdicts import WINDOWS
 
 TITLE = "Verify a download of <b>Example & \"others\"</b>"
 # The elements that ask for more than the download, and words about keys, which a project's page must not show.

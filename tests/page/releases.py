@@ -6,7 +6,7 @@ import build
 from minisign_cases import pattern
 from person import MIN_CONTRAST
 from project_page import TAR, ZIP, Release
-from views import NARROW
+from visible_verdicts import NARROW
 
 NAME, VERSION, HEADING = "Example", "1.2.3", "Files of Example 1.2.3"
 LINK = "https://example.org/app-1.0.zip?a=1&b='2'"

@@ -53,7 +53,7 @@ class Programs:
 
 def check_corpus(person):
     """The corpus and random changes of it have the verdicts of the C program, for the same reasons.
-    (tests/verdicts/real_minisign.py compares the C program with minisign on the same texts.)"""
+    (tests/verdicts/minisign_verdicts.py compares the C program with minisign on the same texts.)"""
     corpus, by_key, counted = kept_cases(), {}, {True: 0, False: 0}
     for case in corpus + random_cases(corpus, TEXT_COUNT if person.is_chromium else FIREFOX_TEXT_COUNT):
         by_key.setdefault(case.pk, []).append(case)

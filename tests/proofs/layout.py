@@ -10,8 +10,8 @@
 
 The script prints a warning for each clause with more than three lines or 300 characters, where a run of white space
 counts as one, and for each function with more than 50 lines. CLAUSES and FUNCTIONS list the exceptions and their
-reasons. A warning is not a failure. The script prints a line for each failure; the last line is `N passed, M
-failed`.
+reasons. A warning is not a failure. The script prints a line for each failure; the last line is
+`N passed, M failed`.
 
 Needs Python 3.9 or later.
 """

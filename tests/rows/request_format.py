@@ -1,5 +1,6 @@
 """Encodes requests to the program `minisign_compare`, and the expected responses.
- compare/oracle/README.md describes requests and responses. A request is a name followed by words. In the test cases, a
+
+compare/oracle/README.md describes requests and responses. A request is a name followed by words. In the test cases, a
 word is bytes or a string, which are sent in hexadecimal digits; an integer, a boolean or None; or a `Word`, which is
 sent unchanged.
 """

@@ -2,7 +2,8 @@
 """Checks the results of the library's calls for the test cases in the modules of this directory.
 
     tests/rows/rows.py [MODULE ..]
- MODULE is the name of a module, such as `signing`; by default all modules are run. The program `minisign_compare`,
+
+MODULE is the name of a module, such as `signing`; by default all modules are run. The program `minisign_compare`,
 which `rt ci` or `rt run` has built, makes the calls. No expected value was computed by a crate of this repository. They
 come from standards, from Python's hashlib and base64, or from the upstream program minisign, or were worked out by hand
 from a definition. A module has its test cases in `ROWS`, and the files that they name in `FILES`. These files are

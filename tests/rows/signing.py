@@ -1,5 +1,6 @@
 """Test cases for signing with the record of a secret key, and for verifying the signatures.
- The signer is key A of `toy`. Random bytes are zeros unless a case says otherwise. There are two cases for the same
+
+The signer is key A of `toy`. Random bytes are zeros unless a case says otherwise. There are two cases for the same
 data: one reads it at once, the other one byte by byte.
 """
 

@@ -21,7 +21,7 @@ from collections import namedtuple
 from dataclasses import dataclass, field
 
 import needs
-import selected
+import case_selection
 from process import with_report_pipe
 
 # The time limit of a run.
@@ -180,7 +180,7 @@ def run_cases(cases):
     Returns the failures and the number of cases that were not skipped."""
     failures, count = [], 0
     for name, run, *arguments in cases:
-        if not selected.is_selected(name):
+        if not case_selection.is_selected(name):
             continue
         try:
             run(*arguments)

@@ -19,7 +19,7 @@ sys.path += [os.path.join(HERE, "..", name) for name in ("shared", "c")]
 
 import proved
 import test_script
-from commands import Clone, commands_of, run_in_shell
+from document_commands import Clone, commands_of, run_in_shell
 from running import read, write
 
 PROGRAM = "crates/minisign_tool/out/minisign_tool"

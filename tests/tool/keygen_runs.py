@@ -1,4 +1,4 @@
-"""Test cases for `minisign_tool keygen`, which real_runs.py runs: the two files that it leaves, its prompts, and that the
+"""Test cases for `minisign_tool keygen`, which tool_program.py runs: the two files that it leaves, its prompts, and that the
 secret key can be decrypted."""
 
 import toy

@@ -1,4 +1,4 @@
-"""Test cases for `minisign_tool sign`, which real_runs.py runs: the file that it leaves, its prompt, and that the signature
+"""Test cases for `minisign_tool sign`, which tool_program.py runs: the file that it leaves, its prompt, and that the signature
 is accepted."""
 
 import base64

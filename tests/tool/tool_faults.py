@@ -1,4 +1,4 @@
-"""Test cases with faults for `minisign_tool`, which real_runs.py runs. The program is killed at each of its system
+"""Test cases with faults for `minisign_tool`, which tool_program.py runs. The program is killed at each of its system
 calls, each call fails in turn, the disk is full, a file size limit is reached, or the data is larger than the memory.
 After each run, every file is the old or the new one, complete. Unless the program was killed, no temporary file is left.
 """

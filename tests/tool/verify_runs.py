@@ -1,5 +1,5 @@
 """Test cases for the commands `verify`, `cat` and `verify-raw` of `minisign_tool`: their messages and exit statuses, and the data
-that `cat` copies. real_runs.py runs them. `verify` and `cat` have the same arguments and share most cases."""
+that `cat` copies. tool_program.py runs them. `verify` and `cat` have the same arguments and share most cases."""
 
 import os
 from dataclasses import replace

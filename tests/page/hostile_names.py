@@ -2,7 +2,7 @@
 
 from minisign_cases import Case, sign_by_libsodium, with_comment
 from texts import with_line
-from views import NARROW
+from visible_verdicts import NARROW
 
 # Trusted comments, and how the page has to show those that it does not show unchanged.
 HOSTILE_COMMENTS = {

@@ -1,6 +1,6 @@
 /*
  * Calls functions of the library, and after each call searches all registers and all writable memory for secrets.
- * cleared.py runs this program, and writes the secrets ("needles") to needles.h: the first needle is the seed of a secret
+ * cleared_secrets.py runs this program, and writes the secrets ("needles") to needles.h: the first needle is the seed of a secret
  * key, and the fourth is a password.
  *
  * For each call and each needle, the program prints a line: the name of the call, the name of the needle, and how often it

@@ -2,7 +2,7 @@
 """Checks that `minisign-install` leaves the old or the new update at the target, complete and verified, whatever
 happens.
 
-    tests/installer/real_installing.py [PROGRAM] [WORD ..]
+    tests/installer/installer_program.py [PROGRAM] [WORD ..]
 
 PROGRAM is a build of minisign-install. Without it, the script builds the program with the static library of `dist/`. WORD selects
 the cases whose name contains it. Minisign's own program makes keys and signatures.
@@ -10,11 +10,11 @@ the cases whose name contains it. Minisign's own program makes keys and signatur
 - updates.py: newer, older and bad updates, and each option;
 - list_updates.py: updates that a signed list contains;
 - command_lines.py: command lines and messages;
-- checking.py: --check, and the systemd unit of docs/INSTALLING.md;
+- check_option.py: --check, and the systemd unit of docs/INSTALLING.md;
 - downloads.py: the updater script of docs/INSTALLING.md;
 - owners.py and permissions.py: runs by root, links and access control lists;
 - concurrent_changes.py: concurrent runs, stalled pipes, and files that others change during a run;
-- cut_off.py: kills, failures and interruptions of each system call, failing allocations, a full disk, and crashes of the
+- interrupted_runs.py: kills, failures and interruptions of each system call, failing allocations, a full disk, and crashes of the
 machine. After each, the next run has to finish the update.
 
 tests/bindings/python_installing.py runs most of the cases with the Python package. Prints a line for each case that
@@ -33,13 +33,13 @@ HERE = os.path.dirname(os.path.realpath(__file__))
 sys.path.append(os.path.join(HERE, "..", "shared"))
 
 import needs
-import selected
+import case_selection
 import static_library
 import test_script
-from checking import check_cases
+from check_option import check_cases
 from command_lines import command_line_cases
 from concurrent_changes import concurrent_cases
-from cut_off import cut_off_cases
+from interrupted_runs import cut_off_cases
 from downloads import download_cases
 from installers import NAME, PK, TARGET, Signer
 from list_updates import list_cases
@@ -66,12 +66,12 @@ def cases_of(runner):
 def run_all(scratch):
     """Runs all cases and returns the failures and the number of cases."""
     os.chmod(scratch, 0o711)
-    program = selected.file_argument() or os.path.join(scratch, "out", NAME)
-    if not selected.file_argument():
+    program = case_selection.file_argument() or os.path.join(scratch, "out", NAME)
+    if not case_selection.file_argument():
         needs.compiler_with_libsodium()
         static_library.run_make(f"OUT={scratch}/out", program)
     return run_cases(cases_of(InstallerRunner(program, Signer(scratch), tempfile.mkdtemp(dir=scratch))))
 
 
 if __name__ == "__main__":
-    sys.exit(test_script.run_cases("real-installing", run_all))
+    sys.exit(test_script.run_cases("installer-program", run_all))

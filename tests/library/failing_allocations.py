@@ -1,7 +1,7 @@
 #!/usr/bin/env python3
 """Runs tests of the crates with failing allocations and with little memory.
 
-    tests/library/refused_memory.py
+    tests/library/failing_allocations.py
 
   * Each test with `refused_allocations` in its name must pass if any one of its allocations fails. Such a test passes if the
     tested call succeeds or returns `out of memory`. It runs repeatedly, with its first, second, .. allocation failing, until
@@ -101,4 +101,4 @@ def run_all(scratch):
 
 
 if __name__ == "__main__":
-    sys.exit(test_script.run_cases("refused-memory", run_all, Failure))
+    sys.exit(test_script.run_cases("failing-allocations", run_all, Failure))

@@ -1,7 +1,7 @@
 #!/usr/bin/env python3
 """Checks that the page's module for 32-bit addresses, made by wasm-opt, gives the same results as the proved 64-bit module.
 
-    tests/page/wide_module.py
+    tests/page/module_32_bit.py
 
 The page of `dist/` contains the module for 32 bits; the kit proves and builds the one for 64 bits. Both get the same texts in
 Chromium: the corpus with changes, and at least one text for each error of a key or signature. (tests/bindings/javascript.py
@@ -79,4 +79,4 @@ def run_all(checks, scratch):
 
 
 if __name__ == "__main__":
-    sys.exit(test_script.run_checks("wide_module", run_all, RuntimeError, build.NotPossible))
+    sys.exit(test_script.run_checks("module-32-bit", run_all, RuntimeError, build.NotPossible))

@@ -2,11 +2,12 @@
 """Checks that `minisign_tool` gives exactly the expected output on real files, and that failing system calls, signals
 and kills do no harm (`tool_faults.py`).
 
-    tests/tool/real_runs.py [PROGRAM] [WORD ..]
- WORD selects the cases whose names contain it. PROGRAM is the program to test. By default, the script tests the
+    tests/tool/tool_program.py [PROGRAM] [WORD ..]
+
+WORD selects the cases whose names contain it. PROGRAM is the program to test. By default, the script tests the
 programs that `rt ci` or `rt run` left in the directory `out` of `crates/minisign_tool`, one for each compiler. If there
-is none, it runs `rt run`. It prints a line for each case that failed or was skipped; the last line is `N passed, M
-failed`.
+is none, it runs `rt run`. It prints a line for each case that failed or was skipped; the last line is
+`N passed, M failed`.
 
 Needs Python 3.9 or later and a C compiler, which it installs if it may.
 """
@@ -24,7 +25,7 @@ sys.path.append(os.path.join(HERE, "..", "shared"))
 
 import keygen_runs
 import needs
-import selected
+import case_selection
 import sign_runs
 import test_script
 import tool_faults
@@ -95,7 +96,7 @@ def built_programs():
     """Returns the paths of the built programs, one for each compiler. If there is none, `rt run` proves and builds them."""
     program = os.path.join(CRATE, "out", "minisign_tool")
     if not os.path.exists(program):
-        print("real_runs.py: building the program by `rt run`, which proves it first", flush=True)
+        print("tool_program.py: building the program by `rt run`, which proves it first", flush=True)
         subprocess.run(["rt", "run"], cwd=CRATE, stdin=subprocess.DEVNULL, stdout=subprocess.DEVNULL, stderr=subprocess.DEVNULL)
     return [each for each in (program, program + ".by-rattle") if os.path.exists(each)]
 
@@ -108,7 +109,7 @@ def run_all(scratch):
     needs.c_compiler()
     needs.program("setfacl", "acl")
     failures, count = [], 0
-    for program in [selected.file_argument()] if selected.file_argument() else built_programs():
+    for program in [case_selection.file_argument()] if case_selection.file_argument() else built_programs():
         directory = tempfile.mkdtemp(dir=scratch)
         copy = shutil.copy(program, os.path.join(directory, "program"))
         with contextlib.suppress(OSError):
@@ -121,4 +122,4 @@ def run_all(scratch):
 
 
 if __name__ == "__main__":
-    sys.exit(test_script.run_cases("real-runs", run_all))
+    sys.exit(test_script.run_cases("tool-program", run_all))

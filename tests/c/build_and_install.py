@@ -2,7 +2,7 @@
 """Checks that a user can build, install and uninstall everything with the usual programs. The script works in a
 copy of the repository whose path has spaces.
 
-    tests/c/at_hand.py
+    tests/c/build_and_install.py
 
 With only a C compiler, make, binutils and Debian's base system in PATH, and so without the kit and Python:
 
@@ -38,7 +38,7 @@ import installed
 import needs
 import static_library
 import test_script
-from copies import TOP, Tree, copy_tree, files_below
+from repository_copies import TOP, Tree, copy_tree, files_below
 from process import run
 from python import python
 from running import read, write
@@ -316,4 +316,4 @@ def run_all(checks, scratch):
 
 
 if __name__ == "__main__":
-    sys.exit(test_script.run_checks("at-hand", run_all, ValueError))
+    sys.exit(test_script.run_checks("build-and-install", run_all, ValueError))

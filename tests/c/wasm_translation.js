@@ -1,6 +1,6 @@
-// Makes calls to the functions of a WebAssembly module in Node. translated.py runs this program:
+// Makes calls to the functions of a WebAssembly module in Node. wasm_translation.py runs this program:
 //
-//     node translated.js MODULE DESCRIPTION < CALLS > RESULTS
+//     node wasm_translation.js MODULE DESCRIPTION < CALLS > RESULTS
 //
 // DESCRIPTION is a JSON file with the names and parameter types of the functions, the name of the global variable for the
 // stack pointer, the end of the stack, and the address and length of the buffer. A call consists of the index of the function,

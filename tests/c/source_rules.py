@@ -1,7 +1,7 @@
 #!/usr/bin/env python3
 """Checks rules for the sources in each directory of `c/`, for the manual pages, and for builds.
 
-    tests/c/rooms.py
+    tests/c/source_rules.py
 
   * No name has two meanings in the directories of the programs and the one that they share.
   * A directory includes headers of other directories only as docs/ARCHITECTURE.md says.
@@ -135,7 +135,7 @@ def messages_of(text):
 def check_messages(checks, files):
     """Checks that each message occurs in a test or in Minisign, except those in NOT_CAUSED."""
     tests = {path for directory in TEST_DIRECTORIES for path in glob.glob(f"{HERE}/../{directory}/*.[cp]*")} - {
-        f"{HERE}/../c/rooms.py"
+        f"{HERE}/../c/source_rules.py"
     }
     named, found = b"".join(map(read, [*sorted(tests), needs.minisign()])).decode(errors="replace"), set()
     for path, text in files.items():
@@ -206,4 +206,4 @@ def run_all(checks, scratch):
 
 
 if __name__ == "__main__":
-    sys.exit(test_script.run_checks("rooms", run_all))
+    sys.exit(test_script.run_checks("source-rules", run_all))

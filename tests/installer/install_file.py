@@ -2,12 +2,13 @@
 """Checks the function `minisign_install_file` of minisign_installing.h: its results, its messages, and how it uses the
 functions that its caller passes.
 
-    tests/installer/one_call.py [WORD ..]
+    tests/installer/install_file.py [WORD ..]
 
-WORD selects the cases whose name contains it. The cases run the program one_call.c, which is linked with the static libraries and
-calls the function once. `real_installing.py` tests the same code through `minisign-install`, and tests/bindings/python.py tests it
-through the Python package. The mutants in one_call_mutants break the code of `minisign_install_file`. For each mutant, one case has
-to fail. Prints a line for each failure; the last line is `N passed, M failed`.
+WORD selects the cases whose name contains it. The cases run the program install_file.c, which is linked with the static
+libraries and calls the function once. `installer_program.py` tests the same code through `minisign-install`, and
+tests/bindings/python.py tests it through the Python package. The mutants in install_file_mutants break the code of
+`minisign_install_file`. For each mutant, one case has to fail. Prints a line for each failure; the last line is
+`N passed, M failed`.
 
 Needs Python 3.9 or later, make, a C compiler, libsodium with its header, minisign and git.
 """
@@ -48,7 +49,7 @@ ERROR, CAUSE, HINT, WARNING = range(1, 5)
 # The phases of an installation of data from a file, and of data from a function.
 FROM_FILE = (COPYING, VERIFYING, RENAMING)
 FROM_FUNCTION = (RECEIVING, COPYING, VERIFYING, RENAMING)
-# The signature file and the data as messages name them. one_call.c passes no name of the signature file.
+# The signature file and the data as messages name them. install_file.c passes no name of the signature file.
 SIGNATURE = "NULL"
 DATA = "new"
 
@@ -58,7 +59,7 @@ def lines_of(ran):
 
 
 def call(directory, words, result, error="OK", phases=(), messages=(), shown="", **options):
-    """Runs one_call.c with these words, and expects that it prints this result, this error, these phases and messages
+    """Runs install_file.c with these words, and expects that it prints this result, this error, these phases and messages
     (tuples of kind, file, text, errno and, if it is about a line of a list, the number of the line), and no others. If
     `shown` is a version number, the function must also pass this number and the trusted comment to its caller."""
     arguments = [*words, PK, "new.sig", TARGET]
@@ -568,13 +569,13 @@ def accepts_two_keys(directory):
 
 def build(scratch, directory, *words):
     """Builds the program with the static libraries, and returns its path."""
-    program, out = os.path.join(scratch, "one_call"), os.path.join(scratch, "out")
+    program, out = os.path.join(scratch, "install_file"), os.path.join(scratch, "out")
     libraries = [f"{out}/libminisign-installing.a", f"{out}/libminisign.a"]
     static_library.run_make(f"OUT={out}", *words, *libraries)
     static_library.run_or_fail(
         [
             needs.compiler_with_libsodium(),
-            "-std=c99", "-Wall", "-Wextra", "-Werror", f"-I{proved.ROOT}/include", "-o", program, f"{HERE}/one_call.c",
+            "-std=c99", "-Wall", "-Wextra", "-Werror", f"-I{proved.ROOT}/include", "-o", program, f"{HERE}/install_file.c",
             *libraries, "-lsodium",
         ],
         directory,
@@ -591,13 +592,13 @@ def failure_of(scratch, preload, mutant):
     """Tries a mutant. Returns an error if its case passes, otherwise an empty string."""
     copy, own = mutants.copy_sources(scratch, "c", "include"), tempfile.mkdtemp(dir=scratch)
     mutants.apply(mutant, copy)
-    program = os.path.join(own, "one_call")
+    program = os.path.join(own, "install_file")
     sources = [f"{copy}/c/install/{name}.c" for name in ("installing", "results", "directory")]
     sources += [f"{copy}/c/shared/{name}.c" for name in ("error_words", "handles", "permissions", "stages", "streams")]
     static_library.run_or_fail(
         [
             needs.compiler_with_libsodium(),
-            "-std=c11", "-pthread", f"-I{copy}/c", f"-I{copy}/include", "-o", program, f"{HERE}/one_call.c", *sources,
+            "-std=c11", "-pthread", f"-I{copy}/c", f"-I{copy}/include", "-o", program, f"{HERE}/install_file.c", *sources,
             f"{scratch}/out/libminisign.a", "-lsodium",
         ]
     )
@@ -615,7 +616,7 @@ def run_all(scratch):
     runner = InstallerRunner(build(scratch, None), Signer(scratch), tempfile.mkdtemp(dir=scratch))
     failures, count = run_cases(cases_of(runner))
     if len(sys.argv) < 2:
-        found = mutants.mutants_of("installer", "one_call_mutants")
+        found = mutants.mutants_of("installer", "install_file_mutants")
         # Each mutant is tried in a process of its own, because cases may change the user ID of the process.
         with concurrent.futures.ProcessPoolExecutor(os.cpu_count() or 1) as pool:
             failures += filter(None, pool.map(partial(failure_of, scratch, runner.preload), found))
@@ -624,4 +625,4 @@ def run_all(scratch):
 
 
 if __name__ == "__main__":
-    sys.exit(test_script.run_cases("one-call", run_all))
+    sys.exit(test_script.run_cases("install-file", run_all))

@@ -43,7 +43,7 @@ def select_checks(module):
 
         return run_if_selected
 
-    if not words() or hasattr(module, "selected"):
+    if not words() or hasattr(module, "case_selection"):
         return
     for name, function in [*vars(module).items()]:
         if name.startswith("check_") and callable(function) and name not in getattr(module, "ALWAYS", ()):

@@ -1,9 +1,9 @@
 #!/usr/bin/env python3
 """Checks the translator from WebAssembly to C that writes dist/calls.c: the translated functions must return the
-same results in C as in Node (translated.js). The translator is `tools/wasm_to_c.py`; its output includes
+same results in C as in Node (wasm_translation.js). The translator is `tools/wasm_to_c.py`; its output includes
 `c/library/portable/machine.h`.
 
-    tests/c/translated.py
+    tests/c/wasm_translation.py
 
   * Each numeric instruction is tried on pairs of edge cases and of random numbers, including those for which it traps; each
     load and store on random buffers.
@@ -234,7 +234,7 @@ class Runners:
             write(self.scratch, "module.wasm", module.bytes()),
             write(self.scratch, "description.json", json.dumps(description).encode()),
         ]
-        command = [self.node, "--experimental-wasm-memory64", "--no-warnings", f"{HERE}/translated.js", *paths]
+        command = [self.node, "--experimental-wasm-memory64", "--no-warnings", f"{HERE}/wasm_translation.js", *paths]
         ran = run_program(command, self.scratch, b"".join(calls), SECONDS)
         if ran.status or len(ran.stdout) != RESULT_BYTES * len(calls):
             # Probably this Node has no memories with addresses of 64 bits, so it counts as a missing program.
@@ -313,11 +313,11 @@ def add_places(module, _):
 
 
 def grammar():
-    """Maps each name in translated_grammar.txt to its productions. A line with `K` is read twice, with i32 and with i64
+    """Maps each name in wasm_translation_grammar.txt to its productions. A line with `K` is read twice, with i32 and with i64
     for K. A production with the weight N (`xN`) occurs N times. The head of the file explains the notation."""
     found = {f"{what} {kind}": [name for name in wasm_to_c.IN_C if name.startswith(f"{kind}.{what}")]
              for what in ("load", "store") for kind in BITS}
-    for line in re.findall(r"(?m)^[^#\n].*", read(HERE, "translated_grammar.txt").decode()):
+    for line in re.findall(r"(?m)^[^#\n].*", read(HERE, "wasm_translation_grammar.txt").decode()):
         head, _, texts = line.partition(": ")
         for kind in BITS if "K" in head else ("",):
             name, _, times = head.replace("K", kind).partition(" x")
@@ -558,4 +558,4 @@ def run_all(checks, scratch):
 
 
 if __name__ == "__main__":
-    sys.exit(test_script.run_checks("translated", run_all))
+    sys.exit(test_script.run_checks("wasm-translation", run_all))

@@ -1,12 +1,12 @@
 #!/usr/bin/env python3
 """Checks that the functions of the library and the program `c/minisign` leave no secrets in memory.
 
-    tests/c/cleared.py
+    tests/c/cleared_secrets.py
 
-The library. cleared.c creates keys, decrypts them (also with scrypt memory of the caller) and signs with them. After each
+The library. cleared_secrets.c creates keys, decrypts them (also with scrypt memory of the caller) and signs with them. After each
 step it searches all registers and all writable memory for secrets: the seed of the key and its first half, the
 password, also in the form that scrypt hashes, the output of scrypt, and the base64 encoding of the key. They may be
-only in the caller's variables. cleared.c is linked with each build of the proved functions, with glibc and musl,
+only in the caller's variables. cleared_secrets.c is linked with each build of the proved functions, with glibc and musl,
 with -O0 and -O2, and runs on AArch64 under qemu. The script also compares the stack use with the limits in
 minisign.h.
 
@@ -56,7 +56,7 @@ LEVELS = {"-O0": ("CFLAGS=-O0", "CPPFLAGS="), "-O2": ()}
 # The variables for make for each build of the proved functions: the archives for x86-64-v2 (also in place of the one
 # for x86-64-v3) and for x86-64-v3, and the C source, in which the compiler decides what is left in memory.
 BUILDS_OF_FUNCTIONS = (["V3=../dist/calls-x86-64-v2.a", "C_CALLS="], ["C_CALLS="], ["PORTABLE=1"])
-# The step of cleared.c in which a secret is left in memory, and the number of all steps.
+# The step of cleared_secrets.c in which a secret is left in memory, and the number of all steps.
 LEFT_ON_PURPOSE = "leaving a secret on purpose"
 STEP_COUNT = 22
 # The needles that must be found in the caller's variables after each step, because they are there.
@@ -76,7 +76,7 @@ def searched_secrets():
 
 
 class Run:
-    """Runs cleared.c and parses its output.
+    """Runs cleared_secrets.c and parses its output.
 
     `found` maps the step and the needle to four counts: how often the needle was found in registers, on the stack,
     elsewhere, and in the caller's variables. `depths` maps a step to the number of bytes of the stack that were
@@ -96,7 +96,7 @@ class Run:
 
 
 class Builder:
-    """Builds the library and cleared.c, from the sources or from a changed copy of them."""
+    """Builds the library and cleared_secrets.c, from the sources or from a changed copy of them."""
 
     def __init__(self, scratch):
         self.scratch = scratch
@@ -119,12 +119,12 @@ class Builder:
         return f"{out}/{target}"
 
     def program(self, compiler, level, *variables, top=proved.ROOT, linking=(), library=None):
-        """Builds cleared.c and returns its path. It is linked with `library`, or with a library that is built with
+        """Builds cleared_secrets.c and returns its path. It is linked with `library`, or with a library that is built with
         these variables."""
         library = library or self.make("libminisign.a", f"CC={compiler}", *LEVELS[level], *variables, top=top)
-        path = os.path.join(os.path.dirname(library), "cleared")
+        path = os.path.join(os.path.dirname(library), "cleared_secrets")
         flags = ["-I", os.path.join(top, "include"), "-I", self.scratch, "-I", SHARED, "-o", path]
-        sources = [os.path.join(HERE, "cleared.c"), library, *linking]
+        sources = [os.path.join(HERE, "cleared_secrets.c"), library, *linking]
         static_library.run_or_fail([*compiler.split(), "-std=c11", *STRICT, level, *flags, *sources])
         return path
 
@@ -308,4 +308,4 @@ def run_all(checks, scratch):
 
 
 if __name__ == "__main__":
-    sys.exit(test_script.run_checks("cleared", run_all))
+    sys.exit(test_script.run_checks("cleared-secrets", run_all))

@@ -2,7 +2,7 @@
 """Checks that the commands in README.md, examples/README.md, docs/INSTALLING.md, docs/LISTS.md and
 docs/QUESTIONS.md work.
 
-    tests/c/commands.py
+    tests/c/document_commands.py
 
 The script runs all commands in one shell at a terminal, one after the other, in a clone of the repository. Each
 command must exit with the status that its document gives, and all commands together must leave the files that the
@@ -27,7 +27,7 @@ import needs
 import static_library
 import test_script
 from at_terminal import AtTerminal
-from copies import TOP, copy_tree, files_below
+from repository_copies import TOP, copy_tree, files_below
 from running import read, write
 
 DOCUMENTS = ("README.md", "examples/README.md", "docs/INSTALLING.md", "docs/LISTS.md", "docs/QUESTIONS.md")
@@ -169,4 +169,4 @@ def run_all(checks, scratch):
 
 
 if __name__ == "__main__":
-    sys.exit(test_script.run_checks("commands", run_all))
+    sys.exit(test_script.run_checks("document-commands", run_all))

@@ -2,7 +2,7 @@
 """Checks that builds compare dist/ with its SHA-256 hashes and with the sources, and that they work with each of
 the programs sha256sum, shasum and sha256. If none of these works, nothing may be built.
 
-    tests/c/sums.py
+    tests/c/dist_checksums.py
 
 The script works in a copy of the repository, with few programs in PATH. It replaces sha256sum by shasum, by sha256,
 by a program that prints nothing or a wrong hash, or by nothing. In each of these cases it runs tools/sha256.sh,
@@ -26,7 +26,7 @@ sys.path.append(os.path.join(HERE, "..", "shared"))
 import debian_crates
 import needs
 import test_script
-from copies import BASE, TOOLS, copy_tree
+from repository_copies import BASE, TOOLS, copy_tree
 from process import run
 from running import read, write
 from texts import flip_bit
@@ -266,4 +266,4 @@ def run_all(checks, scratch):
 
 
 if __name__ == "__main__":
-    sys.exit(test_script.run_checks("sums", run_all))
+    sys.exit(test_script.run_checks("dist-checksums", run_all))

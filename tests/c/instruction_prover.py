@@ -1,7 +1,7 @@
 #!/usr/bin/env python3
 """Proves that functions of an LLVM module compute WebAssembly instructions, for all arguments and all memory.
 
-    tests/c/table_prover.py MODULE.ll ROWS.json
+    tests/c/instruction_prover.py MODULE.ll ROWS.json
 
 ROWS.json is a list of [FUNCTION, INSTRUCTION, OFFSET, SECOND]. The function takes the operands of the instruction
 and returns its result. OFFSET is the constant that a load or store adds to its address. SECOND is the second
@@ -9,7 +9,7 @@ operand if it is a constant, and not a parameter of the function; otherwise it i
 program prints a line with its name, a tab, and `proved` or the problem: arguments for which the results differ, or
 the reason why there is no proof.
 
-table_proofs.py runs this program. Needs z3 for Python, which is Debian's package python3-z3, and so Debian's Python.
+instruction_proofs.py runs this program. Needs z3 for Python, which is Debian's package python3-z3, and so Debian's Python.
 """
 
 import json
@@ -123,7 +123,7 @@ def memory_verdict(function, kind, operation, offset):
     what, size, sign = re.fullmatch(r"(load|store)(\d*)_?([us]?)", operation).groups()
     bits, contents, address = int(kind[1:]), memory(), z3.BitVec("a", ADDRESS_BITS)
     narrow, value, extra = int(size or bits), z3.BitVec("b", bits), z3.BitVec("other", ADDRESS_BITS)
-    # translated.py gives the function of a load a second parameter, which is not used.
+    # wasm_translation.py gives the function of a load a second parameter, which is not used.
     outcome = execute(function, [address, value if what == "store" else extra], contents)
     ends = z3.And(z3.Not(outcome.ends), z3.Not(outcome.undefined))
     if what == "store":

@@ -2,7 +2,7 @@
 """Checks that the static library and the original Minisign write the same key files, and that each of them can use
 the keys of the other.
 
-    tests/c/made_keys.py
+    tests/c/key_compatibility.py
 
   * With the limits of `minisign -G` and the same random bytes, the key files are equal, byte for byte. (fixed_random_and_time.c
     is preloaded into Minisign.)
@@ -233,4 +233,4 @@ def run_all(checks, scratch):
 
 
 if __name__ == "__main__":
-    sys.exit(test_script.run_checks("made-keys", run_all))
+    sys.exit(test_script.run_checks("key-compatibility", run_all))

@@ -2,7 +2,7 @@
  * Calls `minisign_install_file` once, with options and functions that the words choose, and prints what it passed to the
  * functions.
  *
- *     one_call [WORD ..] PK SIG TARGET
+ *     install_file [WORD ..] PK SIG TARGET
  *
  * The words:
  *

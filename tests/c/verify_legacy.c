@@ -2,7 +2,7 @@
  * Verifies legacy signatures with the library and the Ed25519 implementation of OpenSSL or libsodium. ed25519_inputs.py runs
  * this program:
  *
- *     verify_over openssl|libsodium
+ *     verify_legacy openssl|libsodium
  *
  * Each line of standard input is a case: the public key file, the data and the signature file, in hexadecimal, or "-" if
  * empty. For each case, the program prints the error number that the library returns, and 1 if the Ed25519 function by itself

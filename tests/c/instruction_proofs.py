@@ -3,10 +3,10 @@
 `tools/wasm_to_c.py`, has a table with the C expression for each instruction; the expressions use
 `c/library/portable/machine.h`.
 
-    tests/c/table_proofs.py
+    tests/c/instruction_proofs.py
 
 For each row of the table, the translator writes a function, clang compiles it to LLVM IR with -O2, and
-table_prover.py reads the IR. z3 must prove, for all operands and all memory, that the function returns and stores
+instruction_prover.py reads the IR. z3 must prove, for all operands and all memory, that the function returns and stores
 what the WebAssembly specification says, that it ends the program exactly if the instruction traps, and that it has
 no undefined behaviour otherwise. Shifts by a constant, which the translator writes differently, are proved for each
 distance. Loads and stores are proved for both forms of machine.h. The C expression of each row must also have the
@@ -16,7 +16,7 @@ To show that the proofs find mistakes, the script tries wrong rows and the mutan
 not be proved.
 
 The proofs do not cover control flow, local variables, the stack, the data, `copy` and `fill`, the later passes of
-clang, and other compilers. translated.py tests these. The script prints a line for each failure; the last line is
+clang, and other compilers. wasm_translation.py tests these. The script prints a line for each failure; the last line is
 `N passed, M failed`.
 
 Needs clang and Debian's Python with z3; missing packages are installed if that is permitted.
@@ -37,18 +37,18 @@ sys.path += [os.path.join(TOP, *each) for each in (("tests", "shared"), ("tools"
 
 import needs
 import test_script
-import translated
+import wasm_translation
 import wasm_to_c
 from mutants import applied_to, mutants_of
 from process import run
 from running import write
 from static_library import run_or_fail
 
-PROVER = os.path.join(HERE, "table_prover.py")
+PROVER = os.path.join(HERE, "instruction_prover.py")
 SHIFTS = ("shl", "shr_u", "shr_s")
 # The two forms of loads and stores in machine.h: one byte at a time, or all bytes at once.
 FORMS = ("-DHAS_UNALIGNED_ACCESS=0", "-DHAS_UNALIGNED_ACCESS=1")
-# The offsets that the functions of translated.py add to the addresses of loads and stores.
+# The offsets that the functions of wasm_translation.py add to the addresses of loads and stores.
 OFFSETS = {"load": 3, "store": 5}
 
 # Wrong rows. The first two are wrong for a single operand. The next two have undefined behaviour for some operands,
@@ -83,12 +83,12 @@ def python():
 
 
 def rows_and_module(has_constants):
-    """Returns the rows in the form of ROWS.json for table_prover.py, and a module with a function for each row.
+    """Returns the rows in the form of ROWS.json for instruction_prover.py, and a module with a function for each row.
     With has_constants, there are also rows and functions for each shift by a constant."""
-    module = translated.Module()
-    translated.add_numbers(module, random.Random(0))
+    module = wasm_translation.Module()
+    wasm_translation.add_numbers(module, random.Random(0))
     # The calls that this generator yields are not needed here.
-    list(translated.add_memory(module, random.Random(0)))
+    list(wasm_translation.add_memory(module, random.Random(0)))
     rows = []
     for name in wasm_to_c.IN_C:
         what = re.match(r"load|store|", name.split(".")[1])[0]
@@ -122,7 +122,7 @@ class Proofs:
     def __init__(self, scratch):
         self.scratch, self.verdicts = scratch, {}
 
-    def unproved(self, machine=translated.MACHINE, form=FORMS[0], has_constants=False):
+    def unproved(self, machine=wasm_translation.MACHINE, form=FORMS[0], has_constants=False):
         """Maps the rows without a proof to the reasons. Also returns the names of all rows, and the number of
         functions with new IR."""
         rows, module = rows_and_module(has_constants)
@@ -178,7 +178,7 @@ def check_rows(checks, proofs):
 
 def check_mutants(checks, proofs):
     """Checks that wrong rows, rows with wrong types, and rows with the mutants of machine.h are not proved."""
-    for name, text in [*WRONG_ROWS.items(), *translated.TABLE_MUTATIONS.items()]:
+    for name, text in [*WRONG_ROWS.items(), *wasm_translation.TABLE_MUTATIONS.items()]:
         with mock.patch.dict(wasm_to_c.IN_C, {name: text}):
             unproved, *_ = proofs.unproved()
         checks.same([*unproved], [f"machine_{name.replace('.', '_')}"], f"unproved rows with {text} as the C for {name}")
@@ -186,7 +186,7 @@ def check_mutants(checks, proofs):
         with mock.patch.dict(wasm_to_c.IN_C, {name: text}):
             checks.same(wrong_types(proofs.scratch), [name], f"rows with a wrong type, with {text} as the C for {name}")
     for mutant in mutants_of("c", "machine_mutants"):
-        unproved, _, new = proofs.unproved(applied_to(translated.MACHINE, mutant))
+        unproved, _, new = proofs.unproved(applied_to(wasm_translation.MACHINE, mutant))
         checks.check(
             unproved or (mutant.name in NO_ROW_CHANGED and new == 0),
             f"all rows are proved with the mutant {mutant.name} of machine.h",
@@ -200,4 +200,4 @@ def run_all(checks, scratch):
 
 
 if __name__ == "__main__":
-    sys.exit(test_script.run_checks("table_proofs", run_all))
+    sys.exit(test_script.run_checks("instruction-proofs", run_all))
