@@ -47,7 +47,7 @@ CALLS, CALL_PAGES = 50_000, 256
 KEYS, KEY_PAGES = 20_000, 512
 # The directory of Debian's Go sources, and the path of go-minisign below it.
 SOURCES, GO_MINISIGN = "/usr/share/gocode", "github.com/jedisct1/go-minisign"
-# The changes of go/changed.go that go-minisign accepts, because it does not check the first line.
+# The changes of go/changed_fields.go that go-minisign accepts, because it does not check the first line.
 ACCEPTED_BY_GO_MINISIGN = ["no untrusted comment", "another first line", "an untrusted comment of two lines"]
 # The number of damaged cases that this module and go-minisign verify.
 DAMAGED_COUNT = 20_000
@@ -187,7 +187,7 @@ def compare_results(program, scratch, minisign, cases):
 
 
 def verdicts(program):
-    """Runs a program of go/changed.go. Returns for each change its name, the error that it has to be rejected with, or
+    """Runs a program of go/changed_fields.go. Returns for each change its name, the error that it has to be rejected with, or
     an empty string, the verdict, and the error text."""
     output = run([program, *shared_cases.PUBLISHED_PATHS])[1].decode()
     return re.findall(r"^(.*): (\w*): (true|false), (.*)$", output, re.M)
@@ -224,7 +224,7 @@ def check_go_minisign(checks, go, scratch, program):
             differences.add(why)
             checks.check(why in table and table[why](case), f"{case.name}: this module: {our_line}; go-minisign: {their_line}")
     checks.check(differences == {*REJECTED_ONLY_HERE, *REJECTED_ONLY_BY_GO_MINISIGN}, f"go-minisign differs in {differences}")
-    rows = verdicts(go.build_with_go_minisign("changed.go", f"{scratch}/their"))
+    rows = verdicts(go.build_with_go_minisign("changed_fields.go", f"{scratch}/their"))
     checks.check(len(rows) >= 28, f"only {len(rows)} changes with go-minisign")
     for name, why, verdict, _ in rows:
         expected = "false" if why and name not in ACCEPTED_BY_GO_MINISIGN else "true"
@@ -329,7 +329,7 @@ def check_as_c(checks, go, scratch, package, minisign):
             ("as C", [], ["-tags", "portable"], {}),
             ("for ARM", emulated.emulator(arm), UNOPTIMIZED, {"GOOS": "linux", "GOARCH": "arm", "CC": emulated.compiler(arm)}),
             ("for Windows", [windows.program], UNOPTIMIZED, {"GOOS": "windows", "CC": mingw})):
-        program = go.build("answers.go", os.path.join(scratch, what.replace(" ", "-")), package, *words, **environment)
+        program = go.build("verifying.go", os.path.join(scratch, what.replace(" ", "-")), package, *words, **environment)
         asked = Program(checks, *before, program, name=what, **windows.variables)
         asked.check_verdicts(minisign, shared_cases.corpus(), (["verify"], True))
         is_as_c = what == "for Windows" or "machine_minisign_update" in symbols_of(program)
@@ -364,12 +364,12 @@ def check_by_git(checks, scratch):
     checks.check(status == 1 and "there is a tag" in output, f"a second tag: status {status}: {output}")
     for version in (commit, f"v{shared_cases.VERSION}"):
         directory = os.path.join(scratch, f"a user's module at {version}")
-        program = go.build("answers.go", directory, f"example.com/repository.git/bindings/go@{version}")
+        program = go.build("verifying.go", directory, f"example.com/repository.git/bindings/go@{version}")
         output = Program(checks, program).run("verify", cases=shared_cases.corpus()[:1])[1]
         has_archive = "machine_minisign_update" not in symbols_of(program)
         checks.check(output.startswith(b"accepted") and has_archive, f"by a git path at {version}: {output!r}")
     try:
-        go.build("answers.go", os.path.join(scratch, "without a tag"), f"example.com/repository.git/bindings/go@{untagged}")
+        go.build("verifying.go", os.path.join(scratch, "without a tag"), f"example.com/repository.git/bindings/go@{untagged}")
         checks.check(False, "a commit without a tag can be built")
     except static_library.NotBuilt as why:
         checks.check("archive.h" in str(why), f"a commit without a tag: {why}")
@@ -406,8 +406,8 @@ def check_mutants(checks, go, package, scratch, minisign):
         elif word == "lists":
             check_lists(Program(checks, build("lists")), os.path.join(directory, "listed"), minisign)
         else:
-            compare_results(Program(checks, build("answers")), directory, minisign, shared_cases.corpus())
-            check_changed(checks, build("changed"))
+            compare_results(Program(checks, build("verifying")), directory, minisign, shared_cases.corpus())
+            check_changed(checks, build("changed_fields"))
 
     compiled = with_compiled_c(go, package, scratch)
     shared_cases.check_mutants(checks, compiled, "bindings/go", mutants_of("bindings", "go", "mutants"), scratch, ask)
@@ -428,9 +428,9 @@ def run_all(checks, scratch):
         ]
         return [Program(checks, path, name=os.path.basename(os.path.dirname(path))) for path in paths]
 
-    program, racing = programs("answers.go", "answers")
+    program, racing = programs("verifying.go", "verifying")
     checks.check(
-        go.run(os.path.join(scratch, "answers"), "vet", "./...") == "",
+        go.run(os.path.join(scratch, "verifying"), "vet", "./...") == "",
         "go vet reports problems in a program that uses the module",
     )
     compare_results(program, scratch, minisign, shared_cases.all_cases(checks, minisign))
@@ -447,7 +447,7 @@ def run_all(checks, scratch):
     lists, racing = programs("lists.go", "lists")
     check_lists(lists, os.path.join(scratch, "listed"), minisign)
     racing.check_pairs(24, "files", os.path.join(scratch, "listed-racing"))
-    check_changed(checks, go.build("changed.go", os.path.join(scratch, "changed"), package, **Go.OPTIMIZED))
+    check_changed(checks, go.build("changed_fields.go", os.path.join(scratch, "changed"), package, **Go.OPTIMIZED))
     check_go_minisign(checks, go, scratch, program)
     check_readme(checks, go, scratch, package, minisign)
     check_mutants(checks, go, package, scratch, minisign)

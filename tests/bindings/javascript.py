@@ -55,7 +55,7 @@ PACKAGE = os.path.join(TOP, "bindings", "javascript")
 PROGRAMS = [
     os.path.join(HERE, "javascript", f"{name}.mjs")
     for name in (
-        "answers", "signing", "streams", "writable", "saving", "bare", "options", "long", "files", "heap", "bundled",
+        "verifying", "signing", "streams", "writable", "saving", "without_globals", "options", "long_data", "files", "heap", "bundled",
         "bundled_signing", "lists",
     )
 ]
@@ -230,7 +230,7 @@ def check_options(program, *_):
 def check_long(program, *_):
     """Checks that other tasks run while long data is verified or signed, so that an AbortSignal can stop the call."""
     for least, word in ((6, "verifying"), (1, "signing"), (3, "timers"), (2, "same"), (8, "cut")):
-        by_node(program.checks, program.directory, "long.mjs").check_pairs(least, word, PUBLISHED_PATHS[0], PUBLISHED_PATHS[2])
+        by_node(program.checks, program.directory, "long_data.mjs").check_pairs(least, word, PUBLISHED_PATHS[0], PUBLISHED_PATHS[2])
 
 
 def check_writable(program, *_):
@@ -431,7 +431,7 @@ def check_readme(checks, user, scratch, minisign):
 def check_types(checks, user):
     """Checks that the type declarations need neither the DOM library nor those of Node, and accept types of the DOM library."""
     compiler = needs.program("tsc", "node-typescript")
-    for what in ("language", "web"):
+    for what in ("language_types", "web_types"):
         for kind in ("ts", "json"):
             shutil.copy(os.path.join(HERE, "javascript", f"{what}.{kind}"), user)
         status, output, why = run([compiler, "-p", f"{what}.json"], user)
@@ -448,7 +448,7 @@ def check_bare(checks, user):
         *(("context", [word for word in GLOBALS if word != left_out]) for left_out in GLOBALS),
     ]
     for where, names in rows:
-        status, output, why = by_node(checks, user, "bare.mjs").run(where, *names, cases=[PUBLISHED])
+        status, output, why = by_node(checks, user, "without_globals.mjs").run(where, *names, cases=[PUBLISHED])
         works = output.decode().splitlines() == expected
         checks.check(works == (names is GLOBALS), f"in a bare {where} with {names}: {output} {status} {why[-500:]}")
 
@@ -547,7 +547,7 @@ def check_mutants(checks, user, scratch, minisign):
         elif word in IN_DIRECTORIES:
             IN_DIRECTORIES[word](checks, copied, new_directory(directory, word), minisign)
         else:
-            CASES[word](by_node(checks, copied, "answers.mjs"), minisign, shared_cases.corpus())
+            CASES[word](by_node(checks, copied, "verifying.mjs"), minisign, shared_cases.corpus())
 
     package = os.path.join(user, "node_modules", "minisign-proved")
     all_mutants = mutants_of("bindings", "javascript", "mutants")
@@ -559,7 +559,7 @@ def run_all(checks, scratch):
     user, minisign = install(scratch, page), shared_cases.build_c_minisign(scratch)
     check_sources(checks, user)
     cases = shared_cases.all_cases(checks, minisign)
-    program = by_node(checks, user, "answers.mjs")
+    program = by_node(checks, user, "verifying.mjs")
     for ask in CASES.values():
         ask(program, minisign, cases)
     program.check_verdicts(minisign, cases, (["threads"], False))

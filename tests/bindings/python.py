@@ -89,7 +89,7 @@ def check_loaded(checks, what, compiler, library, before=(), **variables):
             os.path.join(TOP, "include"),
             "-o",
             program,
-            os.path.join(HERE, "python", "loaded.c"),
+            os.path.join(HERE, "python", "load_library.c"),
         ]
     )
     output = run([*before, program, library], environment=variables)[1].decode()

@@ -64,7 +64,7 @@ WITHOUT_SODIUM = 'minisign-proved = {{ path = "{crate}", default-features = fals
 
 # The variants of `Error` that the crate minisign-verify has, by the name of the error in the header. STREAM_VARIANTS
 # are those for data in pieces.
-VARIANTS = dict(line.split() for line in read(HERE, "rust", "known.txt").decode().splitlines())
+VARIANTS = dict(line.split() for line in read(HERE, "rust", "error_variants.txt").decode().splitlines())
 STREAM_VARIANTS = {**VARIANTS, "LEGACY_NOT_ACCEPTED": "UnsupportedLegacyMode"}
 
 
@@ -189,9 +189,9 @@ def check_archives(checks, sys_crate):
 
 
 def check_inside(checks, cargo, crate, scratch):
-    """Runs inside.rs within the crate: the structs have the layout of the C structs of the header, and secret keys are cleared."""
+    """Runs struct_layout.rs within the crate: the structs have the layout of the C structs of the header, and secret keys are cleared."""
     sys_crate = f"{os.path.dirname(crate)}/minisign-proved-sys-{shared_cases.VERSION}"
-    source, inside, lines = read(sys_crate, GENERATED_SYS), read(HERE, "rust", "inside.rs").decode(), []
+    source, inside, lines = read(sys_crate, GENERATED_SYS), read(HERE, "rust", "struct_layout.rs").decode(), []
     for place, expected in shared_cases.struct_layout(scratch).items():
         struct, _, field = place.partition(".")
         if f"pub struct {struct} " in source.decode():
@@ -224,7 +224,7 @@ def fields_line(fields):
 
 
 def compare_results(program, scratch, minisign, cases):
-    """Checks the results of the program answers.rs, which uses the crate."""
+    """Checks the results of the program verifying.rs, which uses the crate."""
     program.check_verdicts(minisign, cases, (["verify"], True), (["strict"], False), (["reader"], False),
                         *((["pieces", str(length)], False) for length in (1, 128, 1000, 0)))
     program.check_errors(["strict"], shared_cases.rejected_cases(), reason(VARIANTS))
@@ -438,7 +438,7 @@ def check_mutants(checks, cargo, crate, scratch, minisign):
     built in one directory, so that cargo compiles only the files that differ from the previous mutant."""
     crate_path = os.path.join(scratch, "changed")
     users = {name: new_crate(scratch, f"mutants-{name}", depends_on(RENAMED, crate_path, os.path.dirname(crate)), f"{name}.rs")
-             for name in ("answers", "lists")}
+             for name in ("verifying", "lists")}
 
     def check_mutant(checks, changed, directory, word):
         shutil.rmtree(crate_path, ignore_errors=True)
@@ -446,7 +446,7 @@ def check_mutants(checks, cargo, crate, scratch, minisign):
         # cargo rebuilds files that are newer than the last build. A restored file is older than the build of the previous mutant.
         os.utime(os.path.join(crate_path, "src", "lib.rs"))
         cargo.run(
-            users["lists" if word == "lists" else "answers"],
+            users["lists" if word == "lists" else "verifying"],
             "build",
             RUSTFLAGS="",
             CARGO_INCREMENTAL="1",
@@ -467,9 +467,9 @@ def check_toolchain(checks, scratch, toolchain, minisign, is_first):
     cargo = Cargo(scratch, *toolchain, **({} if is_first else Cargo.UNOPTIMIZED))
     # UNOPTIMIZED because `cargo package` also builds the crate.
     crate = shared_cases.pack_and_unpack("rust", scratch, {**cargo.environment, **Cargo.UNOPTIMIZED}, CARGO=cargo.cargo)
-    answers = new_crate(scratch, "answers", depends_on(RENAMED, crate), "answers.rs")
-    cargo.run(answers, "build", "--release")
-    program = Program(checks, shutil.copy(os.path.join(cargo.target, "release", "user"), answers))
+    user = new_crate(scratch, "verifying", depends_on(RENAMED, crate), "verifying.rs")
+    cargo.run(user, "build", "--release")
+    program = Program(checks, shutil.copy(os.path.join(cargo.target, "release", "user"), user))
     few_cases = shared_cases.corpus() + shared_cases.damaged_cases(60)
     compare_results(program, scratch, minisign, shared_cases.all_cases(checks, minisign) if is_first else few_cases)
     lists = new_crate(scratch, "lists", depends_on(RENAMED, crate), "lists.rs")

@@ -53,7 +53,7 @@ def check_modules(person, page):
     """Compares the results of the two modules in an empty page."""
     asked = texts(person)
     person.check(len(asked) >= RANDOM_TEXTS + 50, f"{len(asked)} texts, expected {RANDOM_TEXTS + 50} or more")
-    script = build.script_of(f"{build.PACKAGE}/calls.js") + build.script_of("tests/page/answers.js") + """
+    script = build.script_of(f"{build.PACKAGE}/calls.js") + build.script_of("tests/page/module_results.js") + """
       return answersOf(Library, ...arguments).catch(why => [String(why)]);"""
     person.go("about:blank")
     narrow, wide = (person.run(script, base64.b64encode(module).decode(), asked)

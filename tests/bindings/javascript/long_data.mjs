@@ -1,7 +1,7 @@
 // Checks that long data does not block the event loop, in Node. javascript.py copies this program into a user's directory, beside
 // `node_modules`.
 //
-//     node long.mjs CHECK KEY SIGNATURE    runs one of CHECKS; SIGNATURE is a valid signature of other data
+//     node long_data.mjs CHECK KEY SIGNATURE    runs one of CHECKS; SIGNATURE is a valid signature of other data
 //
 // Each line has the expected result, a tab, and the actual result.
 

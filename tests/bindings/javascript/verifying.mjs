@@ -4,19 +4,19 @@
 // These commands verify the cases on standard input, one on each line, and print a line for each. With `legacy`, legacy signatures
 // are allowed.
 //
-//     node answers.mjs cases [legacy]    passes the data as bytes
-//     node answers.mjs pieces [legacy]   passes the data in each form that the package accepts
-//     node answers.mjs read [legacy]     prints the fields of the parsed key and signature, and verifies with these objects
-//     node answers.mjs threads           verifies in four threads, which must print the same
-//     node answers.mjs growth COUNT      verifies COUNT times; prints by how many bytes memory grows after the first tenth
-//     node answers.mjs comment           verifies only the trusted comment, before there is data
+//     node verifying.mjs cases [legacy]    passes the data as bytes
+//     node verifying.mjs pieces [legacy]   passes the data in each form that the package accepts
+//     node verifying.mjs read [legacy]     prints the fields of the parsed key and signature, and verifies with these objects
+//     node verifying.mjs threads           verifies in four threads, which must print the same
+//     node verifying.mjs growth COUNT      verifies COUNT times; prints by how many bytes memory grows after the first tenth
+//     node verifying.mjs comment           verifies only the trusted comment, before there is data
 //
 // These commands use the published signature, whose data has four bytes. Each line has the expected result, a tab, and the actual
 // result:
 //
-//     node answers.mjs verifier          checks the properties and methods of a verifier
-//     node answers.mjs wrong             checks the errors for arguments of wrong types and for unknown options
-//     node answers.mjs letters           checks which strings are accepted as the base64 of a key
+//     node verifying.mjs verifier          checks the properties and methods of a verifier
+//     node verifying.mjs wrong             checks the errors for arguments of wrong types and for unknown options
+//     node verifying.mjs letters           checks which strings are accepted as the base64 of a key
 
 import {Readable} from "node:stream";
 import {runInNewContext} from "node:vm";

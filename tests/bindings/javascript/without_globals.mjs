@@ -1,9 +1,9 @@
 // A test program that verifies with the package where the only globals are those of the language and those on the command line:
 //
-//     node --experimental-vm-modules bare.mjs context GLOBAL ..    in a new context
-//     node --experimental-vm-modules bare.mjs thread GLOBAL ..     in a thread, after deleting all other globals
+//     node --experimental-vm-modules without_globals.mjs context GLOBAL ..    in a new context
+//     node --experimental-vm-modules without_globals.mjs thread GLOBAL ..     in a thread, after deleting all other globals
 //
-// It reads a case from standard input, as answers.mjs does. It verifies the data in each form, and then other data, and prints a
+// It reads a case from standard input, as verifying.mjs does. It verifies the data in each form, and then other data, and prints a
 // line for each.
 
 import {webcrypto} from "node:crypto";
