@@ -42,10 +42,10 @@
  * install from this file. If the check ends with MINISIGN_DUE_ALREADY_INSTALLED, read nothing, and make a run with an
  * empty file, which syncs the installed file.
  *
- * The record contains the version number, the field of the trusted comment from which it was read, the public key
- * under which the update was verified, and the digest of the data or, with is_list, of the list. New data and a new record are first written to
- * temporary files in the directory of the target, with random names. They are synced before they are renamed, so what
- * is renamed is always complete.
+ * The record contains the version number, the field of the trusted comment from which it was read, the public key under
+ * which the update was verified, and the digest of the data or, with is_list, of the list. New data and a new record
+ * are first written to temporary files in the directory of the target, with random names. They are synced before they
+ * are renamed, so what is renamed is always complete.
  *
  * If an update has the recorded version number, the installed file may be the update, so it is read and verified. If it
  * is the update, the file and the directory are synced, and the run ends with MINISIGN_DUE_ALREADY_INSTALLED. If it is
@@ -211,8 +211,8 @@ enum minisign_due minisign_install_due(const minisign_installation *installation
  *
  * The errors, in this order: MINISIGN_NOT_DUE, if another call reports this operation, or the run has ended (nothing is
  * changed); MINISIGN_OTHER_SIZE, for MINISIGN_DUE_COPY_DATA, if the data is shorter than the field "size:" of the
- * trusted comment says, and is_list is not set. Then the run is rejected for this error, and you continue with the operation that is due. Since
- * 0.3.
+ * trusted comment says, and is_list is not set. Then the run is rejected for this error, and you continue with the
+ * operation that is due. Since 0.3.
  */
 MINISIGN_MUST_USE enum minisign_error minisign_install_done(minisign_installation *installation);
 
@@ -221,8 +221,8 @@ MINISIGN_MUST_USE enum minisign_error minisign_install_done(minisign_installatio
  * Report every piece, and report the end of the data with minisign_install_done.
  *
  * The errors, in this order: MINISIGN_NOT_DUE, after which nothing is changed; MINISIGN_OTHER_SIZE, if the data is
- * longer than the field "size:" of the trusted comment says, and is_list is not set. Then the run is rejected for this error, and you continue
- * with the operation that is due. Since 0.3.
+ * longer than the field "size:" of the trusted comment says, and is_list is not set. Then the run is rejected for this
+ * error, and you continue with the operation that is due. Since 0.3.
  */
 MINISIGN_MUST_USE enum minisign_error minisign_install_copied(
     minisign_installation *installation, size_t piece_len);

@@ -26,7 +26,6 @@ struct text_file {
 
 #define ARGUMENT_ORDER_HINT "give PK DATA SIG TARGET in this order"
 #define DOWNLOAD_HINT "download the file and its signature again"
-#define DOWNLOAD_LIST_HINT "download the list and its signature again"
 
 static minisign_public_key keys[MAX_PUBLIC_KEYS];
 static struct text_file signature_text, list_text;

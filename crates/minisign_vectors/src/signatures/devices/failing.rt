@@ -1,7 +1,7 @@
 //! Tests of devices (sources, sinks, prompts and random sources) of which one operation fails and
 //! later operations succeed, which no request to `minisign_compare` can describe. For each call of
 //! the library, each of its devices fails at its first operation, then at its second one, and so on,
-//! until the call succeeds. `tests/rows/failing_devices.py` has data that fails at a read, for `sign`,
+//! until the call succeeds. `tests/rows/failing_readers.py` has data that fails at a read, for `sign`,
 //! `verify` and `verify_texts`.
 
 use crate::keys::sealed::calls::{OpeningCall, opened};

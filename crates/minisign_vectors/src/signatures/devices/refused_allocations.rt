@@ -1,5 +1,5 @@
 //! Tests that calls give the right result or out of memory, whichever allocation fails. With enough
-//! memory each call succeeds. `tests/library/refused_memory.py` runs each test with each of its
+//! memory each call succeeds. `tests/library/failing_allocations.py` runs each test with each of its
 //! allocations failing in turn. A buffer that cannot grow is a sink that fails, so a call with one
 //! may also return `WritingFailed`.
 
