@@ -3,10 +3,10 @@
 
     bench/as_c.py [TURNS]
 
-The jobs are hashing, by calls and by `minisign -V`, and decrypting a key with the limits of `minisign -G`, by a call and by
-`minisign -S`. All programs take turns; TURNS is the number of turns. The table has the minimum processor time, and the median ratio to
-the archives within a turn. The last lines compare the C with the goal and with libsodium's portable BLAKE2b. docs/PERFORMANCE.md has
-the results.
+The jobs are hashing, by calls and by `minisign -V`, and decrypting a key with the limits of `minisign -G`, by a call
+and by `minisign -S`. All programs take turns; TURNS is the number of turns. The table has the minimum processor time,
+and the median ratio to the archives within a turn. The last lines compare the C with the goal and with libsodium's
+portable BLAKE2b. docs/PERFORMANCE.md has the results.
 
 Needs: Python 3.9 or later, make, binutils, gcc, clang, libsodium with its header, minisign, and 1.1 GB of memory.
 """
@@ -34,7 +34,8 @@ LIBRARIES = {ARCHIVES: [], "the archive for x86-64-v2": [f"V3={static_library.DI
 
 
 def build(directory, name, words):
-    """Builds the programs with a library: the one that hashes, the one that decrypts keys, and `c/minisign`. Returns their directory."""
+    """Builds the programs with a library: the one that hashes, the one that decrypts keys, and `c/minisign`. Returns
+    their directory."""
     out = os.path.join(directory, name.replace(" ", "-"))
     compiler = installed(needs.compiler_with_libsodium)
     static_library.run_make(f"OUT={out}", f"CC={compiler}", *words)
@@ -67,15 +68,23 @@ def jobs(directory):
     signing, verifying = ("-S", "-s", key, "-m", data), ("-V", "-q", "-p", f"{key}.pub", "-m", large)
     programs = {**{name: f"{out}/minisign" for name, out in outs.items()}, "Minisign": minisign}
     return {
-        f"hashing {MIB} MiB": {**{name: (lambda out=out: called(f"{out}/as_c", "library", str(MIB))) for name, out in outs.items()},
-                               "libsodium": lambda: called(f"{first}/as_c", "sodium", str(MIB)),
-                               PLAIN: lambda: called(f"{first}/as_c", "plain", str(MIB))},
-        f"`-V` of {MIB} MiB": {name: (lambda program=program: measured([program, *verifying]).processor_seconds)
-                               for name, program in programs.items()},
-        "a call that decrypts a key": {**{name: (lambda out=out: called(f"{out}/usual_keys", "open", key)) for name, out in outs.items()},
-                                    "libsodium's derivation": lambda: called(f"{first}/usual_keys", "sodium")},
-        "`-S` with that key": {name: (lambda program=program: measured([program, *signing], typed).processor_seconds)
-                               for name, program in programs.items()},
+        f"hashing {MIB} MiB": {
+            **{name: (lambda out=out: called(f"{out}/as_c", "library", str(MIB))) for name, out in outs.items()},
+            "libsodium": lambda: called(f"{first}/as_c", "sodium", str(MIB)),
+            PLAIN: lambda: called(f"{first}/as_c", "plain", str(MIB)),
+        },
+        f"`-V` of {MIB} MiB": {
+            name: (lambda program=program: measured([program, *verifying]).processor_seconds)
+            for name, program in programs.items()
+        },
+        "a call that decrypts a key": {
+            **{name: (lambda out=out: called(f"{out}/usual_keys", "open", key)) for name, out in outs.items()},
+            "libsodium's derivation": lambda: called(f"{first}/usual_keys", "sodium"),
+        },
+        "`-S` with that key": {
+            name: (lambda program=program: measured([program, *signing], typed).processor_seconds)
+            for name, program in programs.items()
+        },
     }
 
 

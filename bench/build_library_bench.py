@@ -33,10 +33,21 @@ def build(directory):
     why = proved.build_libraries(crate.dependencies)
     if why:
         raise proved.NotBuilt(why)
-    made = proved.rattle("build", NAME, directory, "--toolchain", proved.toolchain(), "--backend", "llvm", "-o", f"{NAME}.o", crate=crate)
+    made = proved.rattle(
+        "build", NAME, directory, "--toolchain", proved.toolchain(), "--backend", "llvm", "-o", f"{NAME}.o", crate=crate
+    )
     proved.require_success(made, NAME)
     libraries = [f"{kit}/c/libos_c.a", f"{kit}/c/liblibc_c.a"]
-    linked = [f"{kit}/bin/rattle-link", "--target", "x86_64-unknown-linux-gnu", "--toolchain", proved.toolchain(), "-o", NAME, f"{NAME}.o"]
+    linked = [
+        f"{kit}/bin/rattle-link",
+        "--target",
+        "x86_64-unknown-linux-gnu",
+        "--toolchain",
+        proved.toolchain(),
+        "-o",
+        NAME,
+        f"{NAME}.o",
+    ]
     proved.require_success(proved.run([*linked, *libraries], directory), NAME)
 
 

@@ -4,10 +4,10 @@
 
     bench/commands.py [PROGRAM ..]
 
-`verify-raw` reads the file from standard input; `verify`, `cat` and `sign` open it by name. `cat` writes to /dev/null. `sign` uses an
-encrypted key, and reads the password from standard input. `verify` must also reject a legacy signature of the same file; its memory
-use shows that it does not hold the data in memory. PROGRAM is another build of the program under another name, for example one made
-by `rt run --cpu=x86-64-v3 -- x`.
+`verify-raw` reads the file from standard input; `verify`, `cat` and `sign` open it by name. `cat` writes to /dev/null.
+`sign` uses an encrypted key, and reads the password from standard input. `verify` must also reject a legacy signature
+of the same file; its memory use shows that it does not hold the data in memory. PROGRAM is another build of the program
+under another name, for example one made by `rt run --cpu=x86-64-v3 -- x`.
 
 Needs: Python 3.9 or later, coreutils' b2sum, openssl and minisign, which it installs as root on Debian, and the program,
 which `rt run -- x` in crates/minisign_tool proves and builds in that crate's directory `out`. It makes its input in a

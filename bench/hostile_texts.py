@@ -4,8 +4,9 @@ attacker could make.
 
     bench/hostile_texts.py
 
-Prints the processor time and the peak memory of each run. Fails if a result is not what the file format requires, if the memory is more
-than MAX_MEMORY times the size of the file plus BASE_MEMORY, or if a file of twice the size takes more than MAX_GROWTH times the time.
+Prints the processor time and the peak memory of each run. Fails if a result is not what the file format requires, if
+the memory is more than MAX_MEMORY times the size of the file plus BASE_MEMORY, or if a file of twice the size takes
+more than MAX_GROWTH times the time.
 
 Needs: Python 3.9 or later, and the program, built by `rt run -- x` in crates/minisign_tool.
 """
@@ -40,7 +41,8 @@ SIGNED = ""
 
 
 def with_long_line(text, at, letter=b"A"):
-    """Returns a function that makes files of a given length from a valid file: it appends `letter` repeatedly to line `at`, counted from 1."""
+    """Returns a function that makes files of a given length from a valid file: it appends `letter` repeatedly to line
+    `at`, counted from 1."""
 
     def of_length(length):
         lines = text.splitlines(keepends=True)
@@ -77,7 +79,8 @@ def signature_texts():
 
 
 def long_comment_signature(length):
-    """Returns a valid signature file whose comment signature has this many additional base64 letters. Only its first 64 bytes are read."""
+    """Returns a valid signature file whose comment signature has this many additional base64 letters. Only its first 64
+    bytes are read."""
     signature = toy.signature_record(DATA)
     comment_signature = toy.signature_of(signature[10:] + b"t") + bytes(length * 3 // 4)
     return toy.signature_text(DATA, comment_signature=comment_signature)
@@ -99,7 +102,8 @@ def long_secret_key(length):
 
 
 def runs():
-    """Yields each run: its name, which file is large, the function that makes this file, the expected message, and the arguments."""
+    """Yields each run: its name, which file is large, the function that makes this file, the expected message, and the
+    arguments."""
     for name, make, message in public_texts():
         yield f"verify, public key: {name}", "key", make, message, ["verify", "key", "data", "signature"]
     for name, make, message in signature_texts():
@@ -109,7 +113,8 @@ def runs():
 
 
 def measure(directory, arguments, message):
-    """Returns the minimum processor time and the peak memory of ROUNDS runs. Ends the script if a run does not print this message."""
+    """Returns the minimum processor time and the peak memory of ROUNDS runs. Ends the script if a run does not print
+    this message."""
     results = [run([TOOL, *arguments], directory=directory) for _ in range(ROUNDS)]
     expected = int(message.startswith("error")), toy.WARNING + message
     for result in results:

@@ -1,12 +1,12 @@
 #!/usr/bin/env python3
-"""Times `minisign-install` on a file of 1 GiB, in elapsed time, compared with doing the same by hand: copying with `cat`, `sync` and
-`mv`, and hashing with `b2sum`.
+"""Times `minisign-install` on a file of 1 GiB, in elapsed time, compared with doing the same by hand: copying with
+`cat`, `sync` and `mv`, and hashing with `b2sum`.
 
     bench/installing.py [DIRECTORY] [PROGRAM]
 
-The commands take turns. The printed ratio is that of `minisign-install` to the sum of the two others in the same turn. The files are
-created in DIRECTORY, by default in a temporary directory, which must be on a disk. PROGRAM is a build of `minisign-install`. Without
-it, the script builds the program.
+The commands take turns. The printed ratio is that of `minisign-install` to the sum of the two others in the same turn.
+The files are created in DIRECTORY, by default in a temporary directory, which must be on a disk. PROGRAM is a build of
+`minisign-install`. Without it, the script builds the program.
 
 Needs: Python 3.9 or later, make, a C compiler, libsodium with its header, minisign and coreutils, and 4 GiB of disk space.
 """
@@ -51,7 +51,9 @@ def main():
         print(f"{name:20} {statistics.median(turn[name].seconds for turn in turns):8.2f} s "
               f"{statistics.median(turn[name].processor_seconds for turn in turns):8.2f} s of the processor "
               f"{max(turn[name].memory for turn in turns):8.1f} MiB")
-    ratio = statistics.median(turn["minisign-install"].seconds / (turn["cat, sync, mv"].seconds + turn["b2sum"].seconds) for turn in turns)
+    ratio = statistics.median(
+        turn["minisign-install"].seconds / (turn["cat, sync, mv"].seconds + turn["b2sum"].seconds) for turn in turns
+    )
     print(f"minisign-install takes {ratio:.2f} of the time of the two others together")
 
 

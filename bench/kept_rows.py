@@ -96,8 +96,8 @@ def rows_memory(n_log2, k):
 
 
 def mixing_time(n_log2, best):
-    """Returns the time for computing one row from the previous one, in seconds. It follows from the two greatest k, whose runs differ
-    only in the number of rows that are computed again."""
+    """Returns the time for computing one row from the previous one, in seconds. It follows from the two greatest k,
+    whose runs differ only in the number of rows that are computed again."""
     low, high = STEPS[-2:]
     return (best[high].processor - best[low].processor) / ((high - low) / 2 * (1 << n_log2))
 

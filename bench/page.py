@@ -4,11 +4,12 @@
 
     bench/page.py [ROUNDS [PAGE]]
 
-The programs take turns, each of a minute at most. ROUNDS is the number of turns. For each program, the script prints the minimum time;
-the minimum, median and maximum ratio to `c/minisign -V` within a turn; the minimum processor time, of all processes and of the
-busiest thread, which depends less on the load of the machine; and the peak memory of a process that shows the page, compared with that
-of an empty page in the same process. The memory is measured in a first turn, which is not timed, because later a browser may still
-hold memory of earlier pages. PAGE is the page to time, by default the one of dist/.
+The programs take turns, each of a minute at most. ROUNDS is the number of turns. For each program, the script prints
+the minimum time; the minimum, median and maximum ratio to `c/minisign -V` within a turn; the minimum processor time, of
+all processes and of the busiest thread, which depends less on the load of the machine; and the peak memory of a process
+that shows the page, compared with that of an empty page in the same process. The memory is measured in a first turn,
+which is not timed, because later a browser may still hold memory of earlier pages. PAGE is the page to time, by default
+the one of dist/.
 
 Needs what tests/page/page.py needs, and 1 GB of disk space.
 """
@@ -46,7 +47,8 @@ VERDICT = """return new Promise(done => {
 
 @dataclass(frozen=True)
 class Turn:
-    """A finished run: its elapsed seconds, the processor seconds of all threads and of the busiest thread, and its memory in MiB."""
+    """A finished run: its elapsed seconds, the processor seconds of all threads and of the busiest thread, and its
+    memory in MiB."""
 
     seconds: float
     processor: float

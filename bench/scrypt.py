@@ -3,9 +3,9 @@
 
     bench/scrypt.py [cpu]
 
-All derive 64 bytes with r = 8 and p = 1, each in a separate process, taking turns. The keys are compared. The table has the minimum
-elapsed time of the call. With `cpu`, which is better on a busy machine, it has the minimum processor time; for this library, that is
-the time of the whole process.
+All derive 64 bytes with r = 8 and p = 1, each in a separate process, taking turns. The keys are compared. The table
+has the minimum elapsed time of the call. With `cpu`, which is better on a busy machine, it has the minimum processor
+time; for this library, that is the time of the whole process.
 
 Needs: Python 3.9 or later whose hashlib has scrypt (OpenSSL's), 1.1 GB of memory, the program `library_bench`, which
 build_library_bench.py builds, and the packages libsodium23 and libscrypt-kdf1, which it installs as root on Debian.

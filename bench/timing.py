@@ -54,7 +54,8 @@ class Run:
 
 
 def run(command, stdin_path=None, stdout_path=None, directory=None):
-    """Runs a command in a directory. The output of the result is standard error, and also standard output unless that goes to a file."""
+    """Runs a command in a directory. The output of the result is standard error, and also standard output unless that
+    goes to a file."""
     memory, finished = 0.0, 0
     with open(stdin_path or os.devnull, "rb") as stdin, open(stdout_path or os.devnull, "wb") as stdout:
         if stdout_path:

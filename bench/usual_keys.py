@@ -63,8 +63,14 @@ def jobs(directory):
     measured([minisign, "-G", "-p", public, "-s", key], typed)
     opening, making = ("-S", "-s", key, "-m", data), ("-G", "-f", "-p", made_public, "-s", made)
     return {
-        "a call that makes a key, and libsodium's derivation": (lambda: called(calls, "make"), lambda: called(calls, "sodium")),
-        "a call that decrypts a key, and libsodium's derivation": (lambda: called(calls, "open", key), lambda: called(calls, "sodium")),
+        "a call that makes a key, and libsodium's derivation": (
+            lambda: called(calls, "make"),
+            lambda: called(calls, "sodium"),
+        ),
+        "a call that decrypts a key, and libsodium's derivation": (
+            lambda: called(calls, "open", key),
+            lambda: called(calls, "sodium"),
+        ),
         "`-S`, which decrypts a key": (lambda: ran(typed, ours, *opening), lambda: ran(typed, minisign, *opening)),
         "`-G`, which makes a key": (lambda: ran(typed, ours, *making), lambda: ran(typed, minisign, *making)),
     }
@@ -84,7 +90,9 @@ def main():
         took = [statistics.median(turn[at][1] for turn in taken) for at in (1, 3)]
         ratios = [statistics.median(turn[ours][at] / turn[theirs][at] for turn in taken)
                   for ours, theirs in ((1, 3), (0, 2)) for at in (0, 1)]
-        print(f"| {name} | {took[0]:.2f} s | {took[1]:.2f} s | {ratios[0]:.2f}, {ratios[1]:.2f} | {ratios[2]:.2f}, {ratios[3]:.2f} |")
+        print(
+            f"| {name} | {took[0]:.2f} s | {took[1]:.2f} s | {ratios[0]:.2f}, {ratios[1]:.2f} | {ratios[2]:.2f}, {ratios[3]:.2f} |"
+        )
 
 
 if __name__ == "__main__":

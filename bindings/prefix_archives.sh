@@ -27,7 +27,8 @@ for archive in dist/calls-*.a; do
         done
     } > names
     # For an archive for another processor, objcopy may fail or copy it unchanged.
-    if "${OBJCOPY:-objcopy}" --redefine-syms=names "$archive" changed.a 2>/dev/null && grep -q "${prefix}_minisign_update" changed.a; then
+    if "${OBJCOPY:-objcopy}" --redefine-syms=names "$archive" changed.a 2>/dev/null &&
+        grep -q "${prefix}_minisign_update" changed.a; then
         mv changed.a "$archive"
         sum=$(sh "$tools/sha256.sh" "$archive")
         sed "s/^.*  ${archive#dist/}\$/${sum%% *}  ${archive#dist/}/" dist/SHA256SUMS > sums

@@ -4,11 +4,11 @@
     compare/compare.py run UPSTREAM [--seed N] [--count N] [--program FILE]
     compare/compare.py list UPSTREAM [--program FILE]
 
-UPSTREAM is the directory of the crate's own files. oracle/build.sh builds the crate, and a program that calls it and answers
-requests, in a temporary directory. `run` makes N random requests of each kind from a seed, sends them to both programs, and prints
-each kind of difference that known.py does not list, with its shortest request. FILE is the program of this library, by default the
-one that `rt run` built. `list` writes the stored run of crates/minisign_compare (stdin, stdout and data/) again, from the answers of
-the crate. README.md says more.
+UPSTREAM is the directory of the crate's own files. oracle/build.sh builds the crate, and a program that calls it and
+answers requests, in a temporary directory. `run` makes N random requests of each kind from a seed, sends them to both
+programs, and prints each kind of difference that known_differences.py does not list, with its shortest request. FILE is the program
+of this library, by default the one that `rt run` built. `list` writes the stored run of crates/minisign_compare (stdin,
+stdout and data/) again, from the answers of the crate. README.md says more.
 
 Needs Python 3.9 or later and rustc, which it installs if it has permission.
 """
@@ -27,7 +27,7 @@ CRATE = os.path.join(HERE, '..', 'crates', 'minisign_compare')
 DIFFERENCES = os.path.join(HERE, '..', 'docs', 'DIFFERENCES.md')
 # `needs`, which finds or installs programs, is a module of the tests.
 sys.path[:0] = [HERE, os.path.join(HERE, '..', 'tests', 'shared')]
-import known  # noqa: E402
+import known_differences  # noqa: E402
 import needs  # noqa: E402
 import requests  # noqa: E402
 
@@ -61,8 +61,8 @@ def answers(program, lines, directory):
 
 
 def summary(request, answer):
-    """Returns the kind of a request and its answer: a tuple of the request's name, the outcome, flags, options of the data, flags in the
-    answer, and effects of the call. Values that differ from request to request are left out."""
+    """Returns the kind of a request and its answer: a tuple of the request's name, the outcome, flags, options of the
+    data, flags in the answer, and effects of the call. Values that differ from request to request are left out."""
     error = answer.error()
     outcome = (error[0], re.sub(rb'[0-9A-F]{16}', b'ID', error[1])) if error else answer.kind()
     words = request.split(' ')
@@ -75,7 +75,7 @@ def summary(request, answer):
 
 
 def run(arguments):
-    """Compares the answers of both programs. Returns true if known.py names every difference."""
+    """Compares the answers of both programs. Returns true if known_differences.py names every difference."""
     lines = list(dict.fromkeys(requests.all_requests(arguments.seed, arguments.count)))
     # These requests change the table of accepted signatures, so their order matters, and repeated ones must not be removed.
     lines += requests.tables(random.Random(arguments.seed))
@@ -85,10 +85,10 @@ def run(arguments):
     entries, names, differences = collections.Counter(), collections.Counter(), collections.defaultdict(list)
     for request, line, answered in zip(lines, theirs, ours):
         names[request.split(' ')[0]] += 1
-        expected, explained = known.expected(request, line)
+        expected, explained = known_differences.expected(request, line)
         entries.update(explained)
-        if not expected.matches(known.Answer(answered)):
-            differences[summary(request, known.Answer(answered))].append((request, expected.line(), answered))
+        if not expected.matches(known_differences.Answer(answered)):
+            differences[summary(request, known_differences.Answer(answered))].append((request, expected.line(), answered))
     with open(DIFFERENCES, encoding='utf-8') as file:
         listed = file.read()
     unlisted = [entry for entry in entries if entry not in listed]
@@ -107,8 +107,9 @@ def run(arguments):
 
 
 def select_requests(lines, expected):
-    """Returns the indices of the requests for the stored run: short requests with all kinds of answers, and each outcome with each form
-    of data (read in pieces, from a position, with an error, or changed before it is read again)."""
+    """Returns the indices of the requests for the stored run: short requests with all kinds of answers, and each
+    outcome with each form of data (read in pieces, from a position, with an error, or changed before it is read
+    again)."""
     kinds = []
     for request, answer in zip(lines, expected):
         name, outcome, flags, parts, marks, done = summary(request, answer)
@@ -124,16 +125,16 @@ def select_requests(lines, expected):
 
 
 def store(arguments):
-    """Writes the stored run: the requests, the crate's answers after the rules of known.py, and the files."""
+    """Writes the stored run: the requests, the crate's answers after the rules of known_differences.py, and the files."""
     plain = list(dict.fromkeys(requests.all_requests(arguments.seed, arguments.count)))
     last = list(requests.tables(random.Random(arguments.seed)))
     with tempfile.TemporaryDirectory() as directory, tempfile.TemporaryDirectory() as files:
         oracle = build_oracle(arguments, directory)
         theirs = answers(oracle, plain, files)
-        answered = [known.expected(request, line)[0] for request, line in zip(plain, theirs)]
+        answered = [known_differences.expected(request, line)[0] for request, line in zip(plain, theirs)]
         lines = [plain[at] for at in select_requests(plain, answered)] + last
         theirs = answers(oracle, lines, files)
-    expected = [known.expected(request, line)[0].line() for request, line in zip(lines, theirs)]
+    expected = [known_differences.expected(request, line)[0].line() for request, line in zip(lines, theirs)]
     os.makedirs(os.path.join(CRATE, 'data'), exist_ok=True)
     for name, body in requests.files().items():
         with open(os.path.join(CRATE, 'data', name), 'wb') as file:

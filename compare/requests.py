@@ -43,7 +43,8 @@ def is_utf8(data):
 
 
 def sealed_record(password, opslimit, memlimit, salt=bytes(range(32)), keynum=KEYNUM, kdf=b'Sc'):
-    """Returns the record of a secret key that is encrypted with the password, with these limits. They have to be small: N 2^1 to 2^8."""
+    """Returns the record of a secret key that is encrypted with the password, with these limits. They have to be small:
+    N 2^1 to 2^8."""
     operations = max(32768, opslimit)
     n_log2 = 1
     if operations < memlimit // 32:

@@ -125,7 +125,7 @@ extern "C" {
  *   They do not clear what you hold: passwords, key files, and each minisign_unopened_key and minisign_secret_key. If
  *   a signal handler runs on another stack (sigaltstack), the system saves registers there, which the library cannot
  *   clear. Registers are cleared on x86-64 and AArch64 with ELF, and under Linux on s390x, 32-bit ARM and 64-bit
- *   RISC-V. Elsewhere only memory and stack are cleared. tests/c/cleared.py tests this on x86-64 and AArch64, with
+ *   RISC-V. Elsewhere only memory and stack are cleared. tests/c/cleared_secrets.py tests this on x86-64 and AArch64, with
  *   glibc and with musl, with the archives and with the C code, compiled with -O0 and -O2. It generates keys, opens
  *   them and signs with them, also with a wrong checksum and while signals arrive. Then it searches all writable
  *   memory and all registers for the first half of the secret key and for its first 16 bytes, for the base64 of the

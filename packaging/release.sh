@@ -23,7 +23,8 @@ list_files() {
     if test -e .git; then
         git ls-files -- $parts
     else
-        find $parts -type d \( -name out -o -name target -o -name __pycache__ \) -prune -o -type f ! -name '*.pyc' ! -path 'bindings/go/*.[ach]' -print
+        find $parts -type d \( -name out -o -name target -o -name __pycache__ \) -prune \
+            -o -type f ! -name '*.pyc' ! -path 'bindings/go/*.[ach]' -print
     fi | grep -vx 'c/release.md' | while read -r path; do
         test ! -e "$path" || printf '%s\n' "$path"
     done | LC_ALL=C sort

@@ -33,5 +33,8 @@ fi
 echo "$passed passed, $failed failed" >"$file.count"
 times >"$file.times"
 awk -v clock="$SECONDS" -v name="$*" '{ split($1, user, /[ms]/); split($2, system_, /[ms]/) }
-    END { printf "== %s: %d s, %d of the processor\n", name, clock, 60 * (user[1] + system_[1]) + user[2] + system_[2] }' "$file.times"
+    END {
+        processor = 60 * (user[1] + system_[1]) + user[2] + system_[2]
+        printf "== %s: %d s, %d of the processor\n", name, clock, processor
+    }' "$file.times"
 ((failed == 0))

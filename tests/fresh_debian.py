@@ -32,7 +32,7 @@ sys.path += [os.path.join(HERE, directory) for directory in ("shared", "c")]
 
 import needs
 import static_library
-from copies import copy_tree
+from repository_copies import copy_tree
 from proved import NotBuilt
 from running import read
 

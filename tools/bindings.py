@@ -48,13 +48,16 @@ def name_of(constant):
     return "".join(word.capitalize() for word in constant.removeprefix("minisign_").split("_"))
 
 
-# Calls for which only a declaration is generated, and no function. In the packages, the library allocates the memory of scrypt, values are
-# cleared by code of the package's language, and keys are never sealed with limits below the minimum. Only the Rust package has the kinds
-# of errors and the records of secret keys, which it clears; bindings/rust/src/raw.rs makes these calls by hand-written code.
-WITHOUT_FUNCTION = ("minisign_opening_memory", "minisign_open_sealed_key_in_place", "minisign_clear", "minisign_secret_key_text_with_any_limits",
-                  "minisign_error_kind", "minisign_secret_key_record")
-# Calls for lists that each package makes by hand-written code. Two of them return the number of a line even after an error. The third one
-# reads and changes a length; packages do not write lists.
+# Calls for which only a declaration is generated, and no function. In the packages, the library allocates the memory of
+# scrypt, values are cleared by code of the package's language, and keys are never sealed with limits below the minimum.
+# Only the Rust package has the kinds of errors and the records of secret keys, which it clears;
+# bindings/rust/src/raw.rs makes these calls by hand-written code.
+WITHOUT_FUNCTION = (
+    "minisign_opening_memory", "minisign_open_sealed_key_in_place", "minisign_clear",
+    "minisign_secret_key_text_with_any_limits", "minisign_error_kind", "minisign_secret_key_record",
+)
+# Calls for lists that each package makes by hand-written code. Two of them return the number of a line even after an
+# error. The third one reads and changes a length; packages do not write lists.
 LISTS_BY_HAND = ("minisign_list_find", "minisign_list_entries", "minisign_list_append")
 
 
@@ -62,8 +65,8 @@ LISTS_BY_HAND = ("minisign_list_find", "minisign_list_entries", "minisign_list_a
 
 
 def role_of(call, parameter, after, header):
-    """Returns the kind of a parameter, which is a key of the tables below, and the number of parameters that form one value: two for
-    a pointer and its length, otherwise one."""
+    """Returns the kind of a parameter, which is a key of the tables below, and the number of parameters that form one
+    value: two for a pointer and its length, otherwise one."""
     structs = header.structs
     if parameter.kind in header.in_parts:
         return "parts", 1
@@ -119,8 +122,14 @@ def in_words(call, header, table, kind_of, length_of, field_of=str):
     columns = [[], [], [], [], []]
 
     def filled(role, parameter):
-        return {"name": parameter.name, "of": kind_of(parameter.kind, header), "count": parameter.count, "mut": "" if parameter.const else "mut ",
-                "room": buffer_size_of(call, parameter, header, length_of, field_of), "parts": table["between parts"].join(parts_of(parameter))}
+        return {
+            "name": parameter.name,
+            "of": kind_of(parameter.kind, header),
+            "count": parameter.count,
+            "mut": "" if parameter.const else "mut ",
+            "room": buffer_size_of(call, parameter, header, length_of, field_of),
+            "parts": table["between parts"].join(parts_of(parameter)),
+        }
 
     def parts_of(parameter):
         for role, part in roles(call, header, header.structs[parameter.kind] if parameter.kind in header.in_parts else ()):
@@ -227,7 +236,10 @@ def python_errors(header):
     for comment, name, number in header.errors:
         text += f"class {name_of(name)}(MinisignError):\n{docstring(comment, '    ')}\n    number = {number}\n\n\n"
     text += "BY_NUMBER: \"dict[int, type[MinisignError]]\" = {\n"
-    text += "".join(f"    {error.number}: {name_of(error.name)},\n" for error in header.errors) + "}\n\n__all__ = [\n    \"MinisignError\",\n"
+    text += (
+        "".join(f"    {error.number}: {name_of(error.name)},\n" for error in header.errors)
+        + "}\n\n__all__ = [\n    \"MinisignError\",\n"
+    )
     return text + "".join(f'    "{name_of(error.name)}",\n' for error in header.errors) + "]\n"
 
 
@@ -239,7 +251,10 @@ def python_header(header):
     for members in (members for enum, members in header.enums.items() if enum != "error"):
         text += "\n" + "".join(f"{member.name} = {member.number}\n" for member in members)
     for struct, fields in header.structs.items():
-        kinds = ["c_char_p" if field.star else ctype(field.kind, header) + (field.count and f" * {field.count}") for field in fields]
+        kinds = [
+            "c_char_p" if field.star else ctype(field.kind, header) + (field.count and f" * {field.count}")
+            for field in fields
+        ]
         inside = "".join(f'        ("{field.name}", {kind}),\n' for field, kind in zip(fields, kinds))
         text += f"\n\nclass {name_of(struct)}(Structure):\n    _fields_ = [\n{inside}    ]\n"
     text += by_hand(PYTHON, "\n\n# Bytes that a call only reads.", "self._library = library\n")
@@ -248,7 +263,9 @@ def python_header(header):
         result = "error" if call.answer == "enum minisign_error" else ctype(call.answer, header)
         text += f"        library.{call.name}.restype = {result}\n"
         text += in_brackets(f"        library.{call.name}.argtypes = (", parameters, ")", is_list=True) + "\n"
-    return text + "".join(python_call(call, header) for call in header.calls if call.name not in (*WITHOUT_FUNCTION, *LISTS_BY_HAND))
+    return text + "".join(
+        python_call(call, header) for call in header.calls if call.name not in (*WITHOUT_FUNCTION, *LISTS_BY_HAND)
+    )
 
 
 def python_call(call, header):
@@ -299,7 +316,8 @@ GO_WITHOUT_FUNCTION = (*WITHOUT_FUNCTION, *LISTS_BY_HAND, "minisign_version", "m
 
 
 def go_flat(call, header):
-    """Returns a C function that takes the fields of a struct of parts one by one, because Go may not store its pointers in a C struct."""
+    """Returns a C function that takes the fields of a struct of parts one by one, because Go may not store its pointers
+    in a C struct."""
     parameters, lines = [], []
     for parameter in header.taken(call):
         struct, _, field = parameter.name.rpartition("->")
@@ -308,17 +326,26 @@ def go_flat(call, header):
             lines.append(f"memcpy({struct}.{field}, {field}, sizeof {struct}.{field});")
         elif struct:
             lines.append(f"{struct}.{field} = {field};")
-    arguments = ", ".join(f"&{parameter.name}" if parameter.kind in header.in_parts else parameter.name for parameter in call.parameters)
+    arguments = ", ".join(
+        f"&{parameter.name}" if parameter.kind in header.in_parts else parameter.name for parameter in call.parameters
+    )
     (struct,) = (parameter for parameter in call.parameters if parameter.kind in header.in_parts)
     whole = ", ".join(word.replace(" ", "\0") for word in parameters)
     head = textwrap.wrap(f"static {call.answer} flat_{call.name}({whole})", 110, subsequent_indent=" " * 8)
     inside = [f"{struct.kind} {struct.name};", "", *lines, f"return {call.name}({arguments});"]
-    return "\n".join([*(line.replace("\0", " ") for line in head), "{", *(f"    {line}" if line else "" for line in inside), "}"]) + "\n"
+    return (
+        "\n".join(
+            [*(line.replace("\0", " ") for line in head), "{", *(f"    {line}" if line else "" for line in inside), "}"]
+        )
+        + "\n"
+    )
 
 
 def go_call(call, header):
     """Returns a Go function that makes a call, and returns its results and its error."""
-    parameters, before, arguments, types, results = in_words(call, header, GO_ROLES, lambda kind, _: kind.replace("enum ", "enum_"), "len({})".format)
+    parameters, before, arguments, types, results = in_words(
+        call, header, GO_ROLES, lambda kind, _: kind.replace("enum ", "enum_"), "len({})".format
+    )
     is_flat = any(parameter.kind in header.in_parts for parameter in call.parameters)
     expression = f"C.{'flat_' * is_flat}{call.name}({', '.join(arguments)})"
     if call.answer == "enum minisign_error":
@@ -340,7 +367,11 @@ def go_call(call, header):
 
 def go_header(header):
     calls = [call for call in header.calls if call.name not in GO_WITHOUT_FUNCTION]
-    flat = "".join(go_flat(call, header) for call in calls if any(parameter.kind in header.in_parts for parameter in call.parameters))
+    flat = "".join(
+        go_flat(call, header)
+        for call in calls
+        if any(parameter.kind in header.in_parts for parameter in call.parameters)
+    )
     text = by_hand(GO, "// SPDX", "#include <minisign_list.h>\n") + f"\n{flat}*/\nimport \"C\"\n"
     return text + by_hand(GO, "\n// The calls of minisign.h", "1\n}\n") + "".join(go_call(call, header) for call in calls)
 
@@ -351,8 +382,13 @@ JAVASCRIPT_ROLES = {
     "password": ("{name}", "", "{name} === null ? 0 : 1, {name} ?? NOTHING, BigInt({name}?.length ?? 0)", "", ""),
     "array": ("{name}", "", "{name}", "", ""),
     "bytes": ("{name}", "", "{name}, BigInt({name}.length)", "", ""),
-    "text": ("", "const {name} = new Uint8Array({room});\nconst length = new Uint8Array(8);", "{name}, BigInt({name}.length), length",
-             "", "cut({name}, length)"),
+    "text": (
+        "",
+        "const {name} = new Uint8Array({room});\nconst length = new Uint8Array(8);",
+        "{name}, BigInt({name}.length), length",
+        "",
+        "cut({name}, length)",
+    ),
     "message": ("", "const {name} = new Uint8Array({room});", "{name}, BigInt({name}.length)", "", "{name}"),
     "struct": ("{name}", "", "{name}", "", ""),
     "new struct": ("", "const {name} = new Uint8Array({of});", "{name}", "", "{name}"),
@@ -365,16 +401,24 @@ JAVASCRIPT_ROLES = {
 }
 JAVASCRIPT_WIDTH = 80
 # The calls for signing and for secret keys. tools/signing_module.py has the same list.
-SIGNING_CALLS = ("read_secret_key", "open_unsealed_key", "open_sealed_key", "take_secret_key", "public_key_of", "comment_message", "signed_text",
-           "secret_key_text", "public_key_text")
+SIGNING_CALLS = (
+    "read_secret_key", "open_unsealed_key", "open_sealed_key", "take_secret_key", "public_key_of", "comment_message",
+    "signed_text", "secret_key_text", "public_key_text",
+)
 # The structs that header.js reads and writes, and the sizes of their numbers.
 JAVASCRIPT_STRUCTS = ("public_key", "unopened_key", "secret_key", "new_key", "sealing")
 NUMBER_SIZES = {"uint8_t": 1, "uint32_t": 4, "uint64_t": 8}
 # The marks of the generated part of calls.js, and the fields that it reads.
 JAVASCRIPT_MADE, JAVASCRIPT_END = "made by tools/bindings.py ----\n\n", "// ---- End of the generated part ----"
-READ_FIELDS = {"public_key": ("key", "key_id"), "signature": ("key_id", "legacy"),
-           "list_entry": ("line", "name_offset", "name_len", "digest", "hash", "is_escaped"),
-           "questions": ("public_key", "digest", "signature", "comment_signature", "message_len", "comment_offset", "comment_len", "legacy")}
+READ_FIELDS = {
+    "public_key": ("key", "key_id"),
+    "signature": ("key_id", "legacy"),
+    "list_entry": ("line", "name_offset", "name_len", "digest", "hash", "is_escaped"),
+    "questions": (
+        "public_key", "digest", "signature", "comment_signature", "message_len", "comment_offset", "comment_len",
+        "legacy",
+    ),
+}
 
 
 def places_of(fields):
@@ -400,7 +444,11 @@ def named(text, header):
     """Replaces names of the header by those of JavaScript and Go, and sizes by numbers."""
     for size in header.sizes:
         text = text.replace(f"{size.name} + ", f"{size.number} + ")
-    return re.sub(r"(?<![\w.\"])(?!enum_)[a-z]+(?:_[a-z0-9]+)+\b", lambda found: re.sub("_(.)", lambda letter: letter[1].upper(), found[0]), text)
+    return re.sub(
+        r"(?<![\w.\"])(?!enum_)[a-z]+(?:_[a-z0-9]+)+\b",
+        lambda found: re.sub("_(.)", lambda letter: letter[1].upper(), found[0]),
+        text,
+    )
 
 
 def javascript_call(call, header):
@@ -419,7 +467,10 @@ def javascript_call(call, header):
 
 def javascript_header(header):
     text = by_hand(JAVASCRIPT, "// SPDX", "loaded.js\";\n\n")
-    text += "".join(f"export const {name} = {value}{'n' * value.startswith('0x')};\n" for name, value in [*header.numbers, *header.texts])
+    text += "".join(
+        f"export const {name} = {value}{'n' * value.startswith('0x')};\n"
+        for name, value in [*header.numbers, *header.texts]
+    )
     text += "\nexport const STRUCTS = {\n"
     for struct in JAVASCRIPT_STRUCTS:
         fields = header.structs[f"minisign_{struct}"]
@@ -435,7 +486,10 @@ def javascript_header(header):
 def javascript_calls(header):
     """Returns calls.js, with its generated part: answers and structs."""
     begin, _, rest = sources.read(JAVASCRIPT_CALLS).partition(JAVASCRIPT_MADE)
-    places = {struct: dict(places_of(header.structs[f"minisign_{struct}"])) for struct in ("state", "list", "public_key", *READ_FIELDS)}
+    places = {
+        struct: dict(places_of(header.structs[f"minisign_{struct}"]))
+        for struct in ("state", "list", "public_key", *READ_FIELDS)
+    }
     generated = "".join(f"const {member.name} = {member.number:#x};\n" for member in header.enums["answer"])
     generated += "".join(f"const {member.name} = {member.number};\n" for member in header.enums["hash"])
     generated += "\n// The sizes of the structs, and the offsets of the fields that are read.\n"
@@ -444,7 +498,11 @@ def javascript_calls(header):
         if struct in READ_FIELDS:
             read = [f"{name}: {fields[name]}" for name in READ_FIELDS[struct]]
             line = f"const {struct.upper()} = {{ {', '.join(read)} }};\n"
-            generated += line if len(line) <= JAVASCRIPT_WIDTH else f"const {struct.upper()} = {{\n" + "".join(f"  {word},\n" for word in read) + "};\n"
+            generated += (
+                line
+                if len(line) <= JAVASCRIPT_WIDTH
+                else f"const {struct.upper()} = {{\n" + "".join(f"  {word},\n" for word in read) + "};\n"
+            )
     return f"{begin}{JAVASCRIPT_MADE}{generated}\n{JAVASCRIPT_END}{rest.partition(JAVASCRIPT_END)[2]}"
 
 
@@ -463,9 +521,13 @@ def javascript_types(header):
 RUST_TYPES = {"uint8_t": "u8", "char": "u8", "void": "u8", "uint32_t": "u32", "uint64_t": "u64", "size_t": "usize"}
 
 RUST_ROLES = {
-    "password": ("{name}: Option<&[u8]>",
-                 "let (with_{name}, {name}) = ({name}.is_some().into(), {name}.unwrap_or_default());", "with_{name}, {name}.as_ptr(), {name}.len()",
-                 "", ""),
+    "password": (
+        "{name}: Option<&[u8]>",
+        "let (with_{name}, {name}) = ({name}.is_some().into(), {name}.unwrap_or_default());",
+        "with_{name}, {name}.as_ptr(), {name}.len()",
+        "",
+        "",
+    ),
     "array": ("{name}: &[{of}; {count}]", "", "{name}", "", ""),
     "new array": ("", "let mut {name} = [0; {count}];", "&mut {name}", "[{of}; {count}]", "{name}"),
     "bytes": ("{name}: &[u8]", "", "{name}.as_ptr(), {name}.len()", "", ""),
@@ -532,7 +594,9 @@ def rust_unsafe(before, name, arguments, after):
 
 def rust_call(call, header):
     """Returns a Rust function that makes a call and returns its results."""
-    parameters, before, arguments, types, results = in_words(call, header, RUST_ROLES, rust_type, "{}.len()".format, "{} as usize".format)
+    parameters, before, arguments, types, results = in_words(
+        call, header, RUST_ROLES, rust_type, "{}.len()".format, "{} as usize".format
+    )
     arguments = [word for words in arguments for word in ([words] if "\n" in words else words.split(", "))]
     call_between = lambda before, after: rust_unsafe(before, f"sys::{call.name}", arguments, after)
     result, value = in_one(types) or "()", in_one(results)
@@ -561,8 +625,12 @@ def rust_sys_type(kind, header):
 def rust_struct(struct, fields, header):
     """Returns a struct with a constant of zeros. A struct that holds a secret is cleared when it is dropped."""
     text = f"\n#[derive({RUST_DERIVED[struct]})]" if struct in RUST_DERIVED else ""
-    kinds = [f"[{rust_sys_type(field.kind, header)}; {field.count}]" if field.count else "*const " * bool(field.star) + rust_sys_type(field.kind, header)
-             for field in fields]
+    kinds = [
+        f"[{rust_sys_type(field.kind, header)}; {field.count}]"
+        if field.count
+        else "*const " * bool(field.star) + rust_sys_type(field.kind, header)
+        for field in fields
+    ]
     inside = "".join(f"    pub {field.name}: {kind},\n" for field, kind in zip(fields, kinds))
     zeros = [f"{field.name}: {f'[0; {field.count}]' if field.count else '0'}" for field in fields]
     text += f"\n#[repr(C)]\npub struct {struct} {{\n{inside}}}\n"
@@ -580,8 +648,15 @@ def rust_declaration(call, header):
     """Returns the declaration of a call in Rust."""
     parameters = []
     for parameter in call.parameters:
-        of, array, pointer = rust_sys_type(parameter.kind, header), "&" if parameter.const else "&mut ", "*const " if parameter.const else "*mut "
-        parameters.append(f"{parameter.name}: " + (f"{array}[{of}; {parameter.count}]" if parameter.count else f"{pointer}{of}" if parameter.star else of))
+        of, array, pointer = (
+            rust_sys_type(parameter.kind, header),
+            "&" if parameter.const else "&mut ",
+            "*const " if parameter.const else "*mut ",
+        )
+        parameters.append(
+            f"{parameter.name}: "
+            + (f"{array}[{of}; {parameter.count}]" if parameter.count else f"{pointer}{of}" if parameter.star else of)
+        )
     result = {"void": ");", "size_t": ") -> usize;"}.get(call.answer, ") -> u32;")
     return in_lines(" " * 4, f"pub fn {call.name}(", parameters, result) + "\n"
 
@@ -590,7 +665,12 @@ def rust_constants(header):
     """Returns the names, types and values of the header's numbers and texts, without `MINISIGN_`."""
     kinds = [(name, "u64" if value.startswith("0x") else "usize", value) for name, value in header.numbers]
     kinds += [*((size.name, "usize", size.number) for size in header.sizes), *((name, "&str", text) for name, text in header.texts)]
-    return kinds + [(member.name, "u32", member.number) for enum, members in header.enums.items() if enum != "error" for member in members]
+    return kinds + [
+        (member.name, "u32", member.number)
+        for enum, members in header.enums.items()
+        if enum != "error"
+        for member in members
+    ]
 
 
 def rust_sys_header(header):
@@ -610,8 +690,15 @@ def rust_header(header):
         text += f"    pub const {name}: Reason = Reason({number});\n"
     text += "\n    /// Returns the name in `minisign.h` without `MINISIGN_`, or \"\" for an unknown number.\n"
     text += "    #[must_use]\n    pub fn name(self) -> &'static str {\n        match self.0 {\n            0 => \"OK\",\n"
-    text += "".join(f'            {error.number} => "{error.name}",\n' for error in header.errors) + '            _ => "",\n        }\n    }\n'
-    text += "}\n\n" + "".join(f"pub const {name}: {kind} = sys::MINISIGN_{name};\n" for name, kind, value in rust_constants(header)) + "\n"
+    text += (
+        "".join(f'            {error.number} => "{error.name}",\n' for error in header.errors)
+        + '            _ => "",\n        }\n    }\n'
+    )
+    text += (
+        "}\n\n"
+        + "".join(f"pub const {name}: {kind} = sys::MINISIGN_{name};\n" for name, kind, value in rust_constants(header))
+        + "\n"
+    )
     text += "".join(f"pub type {name_of(struct)} = sys::{struct};\n" for struct in header.structs)
     text += by_hand(RUST, "\n/// Returns an error unless", "Reason::NOT_UTF8)\n}\n")
     return text + "".join(rust_call(call, header) for call in header.calls if call.name not in (*WITHOUT_FUNCTION, *LISTS_BY_HAND))
@@ -620,9 +707,17 @@ def rust_header(header):
 def generated_files():
     """Yields the paths and texts of the generated files."""
     header, installing_too = parsed(sources.read(HEADER), sources.read(LISTS)), every()
-    for path, make in ((RUST, rust_header), (RUST_SYS, rust_sys_header), (GO_ERRORS, go_errors), (GO, go_header), (JAVASCRIPT_ERRORS, javascript_errors),
-                       (JAVASCRIPT_TYPES, javascript_types), (JAVASCRIPT, javascript_header),
-                       (JAVASCRIPT_CALLS, javascript_calls), (PYTHON_ERRORS, python_errors)):
+    for path, make in (
+        (RUST, rust_header),
+        (RUST_SYS, rust_sys_header),
+        (GO_ERRORS, go_errors),
+        (GO, go_header),
+        (JAVASCRIPT_ERRORS, javascript_errors),
+        (JAVASCRIPT_TYPES, javascript_types),
+        (JAVASCRIPT, javascript_header),
+        (JAVASCRIPT_CALLS, javascript_calls),
+        (PYTHON_ERRORS, python_errors),
+    ):
         yield path, make(header)
     yield PYTHON, python_header(installing_too)
 

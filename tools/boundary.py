@@ -30,7 +30,11 @@ def plain(kind):
 
 def plain_parameter(parameter):
     """Returns the type of a parameter as the proved calls declare it."""
-    return parameter.const + ("uint8_t" if parameter.kind == "void" else plain(parameter.kind)) + (" *" if parameter.star or parameter.count else "")
+    return (
+        parameter.const
+        + ("uint8_t" if parameter.kind == "void" else plain(parameter.kind))
+        + (" *" if parameter.star or parameter.count else "")
+    )
 
 
 def lengths(parameters):
@@ -73,8 +77,17 @@ def call_text(call, parameters, secrets):
     if sees_secrets:
         before, after = ([f"    {call.answer} result;", ""], ["    return result;"]) if result else ([], [])
         body = [*before, *body, "    minisign_clear_used();", *after]
-    return "\n".join([in_lines(f"PROVED({plain(call.answer)}, {call.name}, (", map(plain_parameter, parameters), "));"), "",
-                      in_lines(f"{call.answer} {call.name}(", (parameter.text for parameter in call.parameters), ")"), "{", *body, "}", ""])
+    return "\n".join(
+        [
+            in_lines(f"PROVED({plain(call.answer)}, {call.name}, (", map(plain_parameter, parameters), "));"),
+            "",
+            in_lines(f"{call.answer} {call.name}(", (parameter.text for parameter in call.parameters), ")"),
+            "{",
+            *body,
+            "}",
+            "",
+        ]
+    )
 
 
 def head_of(file, end):
@@ -87,7 +100,12 @@ def head_of(file, end):
 
 def boundary_text(header):
     """Returns boundary.c."""
-    return "\n".join([head_of(FILE, rf"\w+ {HAND_WRITTEN_CALL}\(void\)\n\{{.*?\n\}}"), *(call_text(call, [*header.taken(call)], header.secrets) for call in proved_calls(header))])
+    return "\n".join(
+        [
+            head_of(FILE, rf"\w+ {HAND_WRITTEN_CALL}\(void\)\n\{{.*?\n\}}"),
+            *(call_text(call, [*header.taken(call)], header.secrets) for call in proved_calls(header)),
+        ]
+    )
 
 
 # ---------------------------------------------------------------------------------------------------------------
@@ -99,7 +117,12 @@ NUMBER_BITS = {"uint64_t": 64, "size_t": 64, "uint32_t": 32}
 
 def numbers_in(header):
     """Returns the structs with numbers that a caller reads or writes, and the names and sizes of these numbers."""
-    found = {name: [(field.name, NUMBER_BITS[field.kind]) for field in fields if field.kind in NUMBER_BITS and not field.count] for name, fields in header.structs.items()}
+    found = {
+        name: [
+            (field.name, NUMBER_BITS[field.kind]) for field in fields if field.kind in NUMBER_BITS and not field.count
+        ]
+        for name, fields in header.structs.items()
+    }
     return {name: numbers for name, numbers in found.items() if numbers and name not in header.in_parts}
 
 
@@ -122,10 +145,17 @@ def turned(parameter, length, structs):
                 [f"*{name} = ({kind}) load{NUMBER_BITS[kind]}(address(&{copy}));"], f"address(&{copy})")
     if kind in structs and length:
         # On a little-endian processor, the buffer is not read.
-        loop = "if (!IS_LITTLE_ENDIAN) {{\n        for (size_t i = 0; i < {1}; i++) {{\n            {2}_{3}(&{0}[i]);\n        }}\n    }}"
+        loop = (
+            "if (!IS_LITTLE_ENDIAN) {{\n        for (size_t i = 0; i < {1}; i++) {{\n            {2}_{3}(&{0}[i]);\n   "
+            "     }}\n    }}"
+        )
         return [loop.format(name, length.name, "given", kind)], [loop.format(name, length.name, "got", kind)], f"address({name})"
     if kind in structs and parameter.const:
-        return [f"{kind} {name}_kept;", f"const {kind} *{name}_lent = LENT({kind}, {name}, &{name}_kept);"], [], f"address({name}_lent)"
+        return (
+            [f"{kind} {name}_kept;", f"const {kind} *{name}_lent = LENT({kind}, {name}, &{name}_kept);"],
+            [],
+            f"address({name}_lent)",
+        )
     if kind in structs:
         return [f"given_{kind}({name});"], [f"got_{kind}({name});"], f"address({name})"
     return [], [], f"address({name})"
@@ -150,11 +180,26 @@ def pointers_call(call, structs):
     machine_kinds = [machine_kind(parameter.kind, parameter.star or parameter.count) for parameter in call.parameters]
     # Declarations come before statements.
     before.sort(key=lambda line: not re.match(r"(const )?[\w]+ \*?\w+( =|;)", line))
-    return "\n".join([in_lines(f"{kind} machine_{call.name}(", machine_kinds, ");"), "",
-                      in_lines(f"{answer} portable_{call.name}(", (f"{plain_parameter(parameter)}{'' if plain_parameter(parameter)[-1] == '*' else ' '}{parameter.name}"
-                                                                for parameter in call.parameters), ")"), "{",
-                      *(f"    {line}" for line in before), in_lines(f"    {prefix}{cast}machine_{call.name}(", words, ");"),
-                      *(f"    {line}" for line in after), "}", ""])
+    return "\n".join(
+        [
+            in_lines(f"{kind} machine_{call.name}(", machine_kinds, ");"),
+            "",
+            in_lines(
+                f"{answer} portable_{call.name}(",
+                (
+                    f"{plain_parameter(parameter)}{'' if plain_parameter(parameter)[-1] == '*' else ' '}{parameter.name}"
+                    for parameter in call.parameters
+                ),
+                ")",
+            ),
+            "{",
+            *(f"    {line}" for line in before),
+            in_lines(f"    {prefix}{cast}machine_{call.name}(", words, ");"),
+            *(f"    {line}" for line in after),
+            "}",
+            "",
+        ]
+    )
 
 
 def taken_by_names(header, call):
@@ -164,7 +209,9 @@ def taken_by_names(header, call):
 
 def pointers_text(header):
     """Returns pointers.c."""
-    structs, calls = numbers_in(header), [call._replace(parameters=[*taken_by_names(header, call)]) for call in proved_calls(header)]
+    structs, calls = numbers_in(header), [
+        call._replace(parameters=[*taken_by_names(header, call)]) for call in proved_calls(header)
+    ]
     pointers = [parameter for call in calls for parameter in call.parameters if parameter.star]
     used = {(verb, parameter.kind) for parameter in pointers for verb in ("given", *([] if parameter.const else ["got"]))}
     head = head_of(POINTERS, re.escape("/* ---- Made by tools/header.py ---- */"))

@@ -61,12 +61,26 @@ class Header:
                     file.write(text)
             macros = [*macros_of(directory, names)]
             declared = [*declarations(directory, names, macros)]
-        values = {name.removeprefix(PROBE): number for _, found in enums_of(declared) for _, name, number in found if name.startswith(PROBE)}
+        values = {
+            name.removeprefix(PROBE): number
+            for _, found in enums_of(declared)
+            for _, name, number in found
+            if name.startswith(PROBE)
+        }
         self.texts = [(name, body) for name, _, body in macros if body.startswith('"')]
         self.numbers = [(name, shown(values[name])) for name, lengths, _ in macros if name in values and lengths is None]
-        self.sizes = [Size(name, str(values[name]), re.split(", ?", lengths)) for name, lengths, _ in macros if name in values and lengths is not None]
-        self.enums = {name.removeprefix("minisign_"): [Member(comment, member.removeprefix("MINISIGN_"), number) for comment, member, number in found]
-                      for name, found in enums_of(declared) if name}
+        self.sizes = [
+            Size(name, str(values[name]), re.split(", ?", lengths))
+            for name, lengths, _ in macros
+            if name in values and lengths is not None
+        ]
+        self.enums = {
+            name.removeprefix("minisign_"): [
+                Member(comment, member.removeprefix("MINISIGN_"), number) for comment, member, number in found
+            ]
+            for name, found in enums_of(declared)
+            if name
+        }
         self.structs = {node["name"]: [value(field, text) for field in inner(node, "FieldDecl")]
                         for node, text in declared if node["kind"] == "RecordDecl"}
         self.calls = [*calls_of(declared)]
@@ -77,8 +91,12 @@ class Header:
         """Yields the parameters of the proved call, which has the fields of a struct of `in_parts` in its place."""
         for parameter in call.parameters:
             if parameter.kind in self.in_parts:
-                yield from (field._replace(const="const " if field.star or field.count else "", name=f"{parameter.name}->{field.name}")
-                            for field in self.structs[parameter.kind])
+                yield from (
+                    field._replace(
+                        const="const " if field.star or field.count else "", name=f"{parameter.name}->{field.name}"
+                    )
+                    for field in self.structs[parameter.kind]
+                )
             else:
                 yield parameter
 
@@ -108,7 +126,15 @@ def run_clang(directory, main, *flags):
     path = os.path.join(directory, "main.c")
     with open(path, "w", encoding="utf-8") as file:
         file.write(main)
-    command = [needs.program("clang", "clang"), "-std=c11", "-DMINISIGN_READ_ROLES", "-I", os.path.join(ROOT, "include"), *flags, path]
+    command = [
+        needs.program("clang", "clang"),
+        "-std=c11",
+        "-DMINISIGN_READ_ROLES",
+        "-I",
+        os.path.join(ROOT, "include"),
+        *flags,
+        path,
+    ]
     ran = subprocess.run(command, stdin=subprocess.DEVNULL, stdout=subprocess.PIPE, stderr=subprocess.PIPE)
     if ran.returncode:
         raise Unfit(f"clang: {ran.stderr.decode(errors='replace')[:1000]}")
@@ -137,7 +163,11 @@ def declarations(directory, names, macros):
 
     clang prints the file of a location only if it differs from that of the previous location.
     """
-    numbers = [(name, "" if lengths is None else f"({', '.join('0' for _ in lengths.split(','))})") for name, lengths, body in macros if not body.startswith('"')]
+    numbers = [
+        (name, "" if lengths is None else f"({', '.join('0' for _ in lengths.split(','))})")
+        for name, lengths, body in macros
+        if not body.startswith('"')
+    ]
     probes = "".join(f"    {PROBE}{name} = MINISIGN_{name}{given},\n" for name, given in numbers)
     main = including(names) + (f"enum {{\n{probes}}};\n" if probes else "")
     tree, file = json.loads(run_clang(directory, main, "-fsyntax-only", "-fparse-all-comments", "-Xclang", "-ast-dump=json")), ""
@@ -178,8 +208,14 @@ def enums_of(declared):
     """Yields each enum: its name, and the comment, name and value of each member."""
     for node, _ in declared:
         if node["kind"] == "EnumDecl":
-            yield node.get("name", ""), [(comment_of(each), each["name"], int(next(part["value"] for part in within(each) if part.get("kind") == "ConstantExpr")))
-                                         for each in inner(node, "EnumConstantDecl")]
+            yield node.get("name", ""), [
+                (
+                    comment_of(each),
+                    each["name"],
+                    int(next(part["value"] for part in within(each) if part.get("kind") == "ConstantExpr")),
+                )
+                for each in inner(node, "EnumConstantDecl")
+            ]
 
 
 def shown(number):
@@ -187,7 +223,8 @@ def shown(number):
 
 
 def value(node, text):
-    """Returns a parameter or a field. The length of an array comes from the text, because clang drops it from the type of a parameter."""
+    """Returns a parameter or a field. The length of an array comes from the text, because clang drops it from the type
+    of a parameter."""
     place = node["loc"].get("expansionLoc", node["loc"])
     after = re.match(r"\w+\[(\d+)\]", text[place["offset"]:])
     found = TYPE.fullmatch(node["type"]["qualType"])
@@ -224,7 +261,12 @@ def calls_of(declared):
         elif not re.fullmatch(r"[^;]*;\s*", text[end:begin]):
             raise Unfit(f"{node['name']} has no comment directly above it; put #define lines above the comment")
         end = place_of(node["range"]["end"])
-        yield Call(node["type"]["qualType"].partition(" (")[0], node["name"], [value(each, text) for each in inner(node, "ParmVarDecl")], comment)
+        yield Call(
+            node["type"]["qualType"].partition(" (")[0],
+            node["name"],
+            [value(each, text) for each in inner(node, "ParmVarDecl")],
+            comment,
+        )
 
 
 def place_of(place):

@@ -4,18 +4,19 @@
     tools/dist.py [PART ..]            proves the sources, builds the files and writes them
     tools/dist.py --check [PART ..]    proves the sources, builds the files and compares them with dist/ byte for byte
 
-PART is `calls` or `page`; the default is both. The files of dist/ are: archives of the proved calls of the crate minisign_c; the same
-calls translated to C (`portable_calls.py`); the page that verifies a download; `PROVED`, which names the kit and the sources that
-were proved; and `SHA256SUMS`. The head of PROVED is written by hand.
+PART is `calls` or `page`; the default is both. The files of dist/ are: archives of the proved calls of the crate
+minisign_c; the same calls translated to C (`portable_calls.py`); the page that verifies a download; `PROVED`, which
+names the kit and the sources that were proved; and `SHA256SUMS`. The head of PROVED is written by hand.
 
-Libraries that `rt lib` has already proved are used as they are; the others are proved first. With `--after OUTPUT`, the script uses the
-libraries that a finished `rt ci` has left here; OUTPUT is a file with the output of that `rt ci`. No file is written if a proof relies
-on results that an earlier `rt check` stored (`incremental=trusted`). In this case, run `rt ci` first, and then this script with
-`--after`. In CI, `--check` runs in parallel with `rt ci` and builds with the libraries that `rt ci` proves (`tests/shared/proved.py`).
+Libraries that `rt lib` has already proved are used as they are; the others are proved first. With `--after OUTPUT`,
+the script uses the libraries that a finished `rt ci` has left here; OUTPUT is a file with the output of that `rt ci`.
+No file is written if a proof relies on results that an earlier `rt check` stored (`incremental=trusted`). In this case,
+run `rt ci` first, and then this script with `--after`. In CI, `--check` runs in parallel with `rt ci` and builds with
+the libraries that `rt ci` proves (`tests/shared/proved.py`).
 
-Another version of the kit with the same logic may produce other bytes, and so may another wasm-opt or zopfli for the page. In that case,
-`--check` reports this, and compares all of the page except its module. (tests/c tests the archives of dist/.) It prints which files
-are identical, and one line per failure; the last line is `N passed, M failed`.
+Another version of the kit with the same logic may produce other bytes, and so may another wasm-opt or zopfli for the
+page. In that case, `--check` reports this, and compares all of the page except its module. (tests/c tests the archives
+of dist/.) It prints which files are identical, and one line per failure; the last line is `N passed, M failed`.
 
 Needs Python 3.9 or later, clang, the Rattle kit, and what `page/build.py` needs.
 """
@@ -105,7 +106,10 @@ def built_calls(directory, is_check):
         verdict = proved.build_archive(CALLS, archive, *flags, *incremental, compilers=compilers if name == C_CALLS_OF else None)
         yield Built(name, read(archive), {name: verdict, "sources of the calls": build.sources_sum("calls")})
     names = [call.name for call in boundary.proved_calls(c_header.every())]
-    line = f"{C_CALLS}, by tools/wasm_to_c.py, which is tested and not proved; sum of the bitcode {hashlib.sha256(read(bitcode)).hexdigest()}"
+    line = (
+        f"{C_CALLS}, by tools/wasm_to_c.py, which is tested and not proved; sum of the bitcode"
+        f" {hashlib.sha256(read(bitcode)).hexdigest()}"
+    )
     yield Built(C_CALLS, portable_calls.text(bitcode, names, directory).encode(), {TRANSLATED: line})
 
 
@@ -144,13 +148,17 @@ def make(parts):
     """Proves, builds and writes these parts."""
     kit, (head, lines) = kit_line(), read_proved()
     if lines["kit"] != kit and {*parts} != {*PARTS}:
-        raise needs.Missing(f"dist/ was made by {lines['kit']}, but {kit} is installed: name no part, so that one kit makes all of dist/")
+        raise needs.Missing(
+            f"dist/ was made by {lines['kit']}, but {kit} is installed: name no part, so that one kit makes all of dist/"
+        )
     lines["kit"] = kit
     files = built(parts)
     for file in files:
         if FROM_EARLIER_RUNS in file.lines.get(file.name, ""):
-            raise proved.NotBuilt(f"the verdict of {file.name} says {FROM_EARLIER_RUNS}, because it rests on proofs that an earlier `rt check` "
-                                  "kept. Nothing was written.\nhint: run `rt ci | tee said`, and then `python3 tools/dist.py --after said`")
+            raise proved.NotBuilt(
+                f"the verdict of {file.name} says {FROM_EARLIER_RUNS}, because it rests on proofs that an earlier `rt check` "
+                "kept. Nothing was written.\nhint: run `rt ci | tee said`, and then `python3 tools/dist.py --after said`"
+            )
     for file in files:
         write(file.name, file.data)
         lines.update(file.lines)
@@ -181,7 +189,11 @@ def check_sources(report, parts, lines):
         crate, key = PARTS[part], f"sources of the {part}"
         expected = {*proved.crates()[crate].dependencies, crate}
         report.check({*below, *more} == expected, "tools/sources.sh", f"it must name exactly {crate} and the crates that it uses")
-        report.check(lines.get(key) == build.sources_sum(part), "dist", f"the {key} have changed since dist/ was built: run tools/dist.py")
+        report.check(
+            lines.get(key) == build.sources_sum(part),
+            "dist",
+            f"the {key} have changed since dist/ was built: run tools/dist.py",
+        )
 
 
 def check_verdicts(report, lines):
@@ -200,9 +212,16 @@ def check_built(report, file, lines, kit):
     if is_same:
         print(f"dist: {file.name} has the same bytes as what was proved and built now", flush=True)
     if is_same or old_tools == new_tools:
-        report.check(is_same, f"dist/{file.name}", f"it is not what was proved and built now from these sources, {len(file.data)} bytes")
+        report.check(
+            is_same,
+            f"dist/{file.name}",
+            f"it is not what was proved and built now from these sources, {len(file.data)} bytes",
+        )
         return
-    print(f"dist: {file.name} has other bytes with {' and '.join(new_tools)} than with {' and '.join(old_tools)}, which made dist/", flush=True)
+    print(
+        f"dist: {file.name} has other bytes with {' and '.join(new_tools)} than with {' and '.join(old_tools)}, which made dist/",
+        flush=True,
+    )
     if file.name == PAGE_FILE:
         # Left out are the module, the hashes of the script in the policy, and the name of the tool that lowered the module.
         bare = [re.sub(rb'const MODULE = "[^"]*"|\'sha256-[^\']*\'', b"", page).replace(lowered_by(page).encode(), b"")
@@ -217,7 +236,11 @@ def check(parts):
     check_verdicts(report, lines)
     check_sources(report, parts, lines)
     module = build.taken_from(os.path.join(DIST, PAGE_FILE))[0]
-    report.check(lines.get(MODULE) == build.sha256_of(module), f"dist/{PAGE_FILE}", f"its module is not the one that {PROVED} names")
+    report.check(
+        lines.get(MODULE) == build.sha256_of(module),
+        f"dist/{PAGE_FILE}",
+        f"its module is not the one that {PROVED} names",
+    )
     logics = [re.search(r"logic \S+", version)[0] for version in (lines["kit"], kit)]
     report.check(logics[0] == logics[1], "dist", f"it was proved by {lines['kit']}, and the installed {kit} has another logic")
     for file in built(parts, is_check=True):
@@ -226,7 +249,11 @@ def check(parts):
         is_proved = [verdict is not None and verdict.startswith("logic=proved ") for verdict in verdicts]
         report.check(is_proved == [file.name != C_CALLS] * 2, file.name, f"the verdicts are {verdicts}")
         if file.name == C_CALLS and lines["kit"] == kit:
-            report.check(lines.get(TRANSLATED) == file.lines[TRANSLATED], PROVED, f"it does not say from which bitcode {C_CALLS} is translated")
+            report.check(
+                lines.get(TRANSLATED) == file.lines[TRANSLATED],
+                PROVED,
+                f"it does not say from which bitcode {C_CALLS} is translated",
+            )
     if "calls" in parts:
         check_translated(report, lines)
     return report.end()
@@ -235,7 +262,11 @@ def check(parts):
 def check_translated(report, lines):
     """Checks that PROVED names the bitcode from which the C is translated, and does not claim that the C is proved."""
     found = [line for line in read(PROVED).decode().partition("\n\n")[2].splitlines() if C_CALLS in line]
-    report.check(found == [f"{TRANSLATED}: {lines.get(TRANSLATED)}"] and "logic=proved" not in found[0], PROVED, f"its lines about {C_CALLS} are {found}")
+    report.check(
+        found == [f"{TRANSLATED}: {lines.get(TRANSLATED)}"] and "logic=proved" not in found[0],
+        PROVED,
+        f"its lines about {C_CALLS} are {found}",
+    )
 
 
 def main(words):

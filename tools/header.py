@@ -4,10 +4,10 @@
     tools/header.py            writes the files
     tools/header.py --check    fails if a file is not up to date; the last line is `N passed, M failed`
 
-Generated from the crates: the numbers, names and comments of errors in `include/minisign.h`, of operations and numberings in
-`include/minisign_install.h`, and of hash functions in `include/minisign_list.h`; and the tables of errors in docs/FORMATS.md.
-Generated from the headers: their attributes for gcc and clang, the boundary in front of the proved calls (`boundary.py`), and
-the manual pages (`manual.py`).
+Generated from the crates: the numbers, names and comments of errors in `include/minisign.h`, of operations and
+numberings in `include/minisign_install.h`, and of hash functions in `include/minisign_list.h`; and the tables of errors
+in docs/FORMATS.md. Generated from the headers: their attributes for gcc and clang, the boundary in front of the proved
+calls (`boundary.py`), and the manual pages (`manual.py`).
 
 The name of a number in C is its name in the crate, in capitals after `MINISIGN_`, unless `NAMES` has another one. Its
 comment is the first sentence of the doc comment in the crate. The head of `c/library/boundary.c`, and the head and the
@@ -69,8 +69,8 @@ class Number(namedtuple("Number", "number variant comment")):
         return NAMES.get(self.variant, re.sub(r"(?<=[a-z0-9])(?=[A-Z])", "_", self.variant).upper())
 
 
-# The generated enums of minisign_install.h and minisign_list.h: the first word of the comments around the generated text (see
-# `header_text`), the prefix of the enum's members, and the name and the file of the enum in the crate.
+# The generated enums of minisign_install.h and minisign_list.h: the first word of the comments around the generated
+# text (see `header_text`), the prefix of the enum's members, and the name and the file of the enum in the crate.
 Choice = namedtuple("Choice", "place prefix enum file")
 DUE = Choice("Operations", "DUE", "Operation", f"{INSTALL}/src/installation.rt")
 NUMBERING = Choice("Numberings", "NUMBERING", "Numbering", f"{INSTALL}/src/comments.rt")
@@ -101,7 +101,8 @@ def comments_of(file, enum):
 
 
 def first_sentence(comment):
-    """Returns the first sentence of a comment of the source, as plain text: code loses its backticks, and is quoted unless it is a name."""
+    """Returns the first sentence of a comment of the source, as plain text: code loses its backticks, and is quoted
+    unless it is a name."""
     bare = " ".join(re.sub(r"(?m)^ *///", "", comment).split())
     sentence = re.match(r"(?:`[^`]*`|[^.`])*\.", bare)[0]
     return re.sub(r"`([^`]*)`", lambda code: code[1] if re.fullmatch(r"\w+", code[1]) else f'"{code[1]}"', sentence)
@@ -154,7 +155,11 @@ def install_rows(comments):
 
 def list_rows(comments):
     """Returns the errors of lists, in the form of `fault_rows`."""
-    rows = re.findall(r'^list_row \(?(\w+)(?: \w+\))? = row (\d+) (\w+) \(codes "([^"]*)"\)$', read(f"{OF_LISTS}/specs/Faults.antt"), re.M)
+    rows = re.findall(
+        r'^list_row \(?(\w+)(?: \w+\))? = row (\d+) (\w+) \(codes "([^"]*)"\)$',
+        read(f"{OF_LISTS}/specs/Faults.antt"),
+        re.M,
+    )
     if {name for name, *_ in rows} != {*comments} - {"Library"}:
         raise Unfit("list_row must have one row for each error of lists")
     return rows
@@ -195,7 +200,12 @@ def kinds_text():
     misuse = re.search(r"^misuse_kind = (\d+)$", read("crates/minisign_external/specs/Numbers.antt"), re.M)
     first = ["    /* The number is 0, or it has no meaning in this header. */\n    MINISIGN_KIND_NONE = 0",
              f"    /* API misuse. */\n    MINISIGN_KIND_MISUSE = {misuse[1]}"]
-    return enum_text("kind", numbers_of(comments_of(KINDS, "ErrorKind"), "crates/minisign_external/specs/Numbers.antt", "kind_number"), "KIND_", first)
+    return enum_text(
+        "kind",
+        numbers_of(comments_of(KINDS, "ErrorKind"), "crates/minisign_external/specs/Numbers.antt", "kind_number"),
+        "KIND_",
+        first,
+    )
 
 
 def operations(comments):
@@ -220,8 +230,8 @@ def hashes_text():
     return enum_text("hash", numbers, f"{HASHES.prefix}_", [NO_HASH])
 
 
-# With these attributes gcc and clang warn about NULL, and gcc about a length that is greater than its buffer. clang has no attribute
-# `access`. The pragma is there because each call is declared a second time.
+# With these attributes gcc and clang warn about NULL, and gcc about a length that is greater than its buffer. clang has
+# no attribute `access`. The pragma is there because each call is declared a second time.
 ATTRIBUTES = """#if defined(__GNUC__) && !defined(__TINYC__)
 #pragma GCC diagnostic push
 #pragma GCC diagnostic ignored "-Wredundant-decls"
@@ -240,7 +250,8 @@ ATTRIBUTES = """#if defined(__GNUC__) && !defined(__TINYC__)
 
 
 def attributes_text(header):
-    """Returns the attributes of each call: which pointers must not be NULL, and which point to as many elements as the next parameter says."""
+    """Returns the attributes of each call: which pointers must not be NULL, and which point to as many elements as the
+    next parameter says."""
     lines = []
     for call in header.calls:
         accesses, not_null = [], []
@@ -294,7 +305,10 @@ def formats_text(numbers, rows, comments):
     in_c = {error.variant: f"`MINISIGN_{error.name}`" for error in numbers}
     uses = [(str(misuse.number), in_c[misuse.variant], f"`{dict(texts)[misuse.variant]}`") for misuse in misuses()]
     # For an error with a name in C, the header says when it is returned.
-    named = [(f"`{name}`", number, in_c.get(name, ""), kind, f"`{text}`", "" if name in in_c else comments[name]) for name, number, kind, text in rows]
+    named = [
+        (f"`{name}`", number, in_c.get(name, ""), kind, f"`{text}`", "" if name in in_c else comments[name])
+        for name, number, kind, text in rows
+    ]
     tables = {"numbers": table(("Number", "Name in C", "Text"), uses),
               "errors": table(("Name", "Number", "Name in C", "Kind", "Text", "When"), named)}
     text = read(FORMATS)

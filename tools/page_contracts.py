@@ -5,10 +5,10 @@ verification page in page/.
     tools/page_contracts.py            rewrites crates/minisign_page/src/lib.rt and specs/ListCalls.antt
     tools/page_contracts.py --check    fails if that would change one of these files
 
-An export is copied from its docstring to the brace that opens its body. The bodies are written by hand. The copy has another prefix
-(page_ for minisign_), and the changes in RENAMED, because the page has no errors of installing. Only the page has the exports in
-PAGE_ONLY. The contracts use definitions of minisign_c, on which minisign_page does not depend, so these are copied to
-crates/minisign_page/specs/ListCalls.antt. The last line is `N passed, M failed`.
+An export is copied from its docstring to the brace that opens its body. The bodies are written by hand. The copy has
+another prefix (page_ for minisign_), and the changes in RENAMED, because the page has no errors of installing. Only the
+page has the exports in PAGE_ONLY. The contracts use definitions of minisign_c, on which minisign_page does not depend,
+so these are copied to crates/minisign_page/specs/ListCalls.antt. The last line is `N passed, M failed`.
 
 Needs Python 3.9 or later.
 """

@@ -30,7 +30,10 @@ done
 exec "{clang}" "$@"
 """
 # The lines and attributes of a module that name the processor.
-OF_PROCESSOR = re.compile(r'^target (?:datalayout|triple) = .*\n| "(?:target-cpu|tune-cpu|target-features|probe-stack|stack-probe-size)"="[^"]*"', re.M)
+OF_PROCESSOR = re.compile(
+    r'^target (?:datalayout|triple) = .*\n| "(?:target-cpu|tune-cpu|target-features|probe-stack|stack-probe-size)"="[^"]*"',
+    re.M,
+)
 # WebAssembly with the instructions that all engines have in 2025, without vectors.
 FLAGS = ["-mcpu=lime1", "-O3", "-ffunction-sections", "-fdata-sections"]
 
@@ -40,8 +43,8 @@ def clang():
 
 
 def keeping_compilers(directory):
-    """Creates a directory like that of the kit's compilers, whose clang saves the module that it compiles. Returns this directory and
-    the path of the saved module."""
+    """Creates a directory like that of the kit's compilers, whose clang saves the module that it compiles. Returns this
+    directory and the path of the saved module."""
     compilers, saved = os.path.join(directory, "compilers"), os.path.join(directory, "saved.bc")
     os.makedirs(os.path.join(compilers, "bin"))
     for name in os.listdir(proved.toolchain()):
@@ -79,7 +82,10 @@ def wasm_object(bitcode, directory):
         file.write("int nothing;\n")
     target = re.findall(r"^target .*\n", text_of(f"--target={proved.WASM}", empty, directory=directory), re.M)
     # Only converts the bitcode to text: without optimizing, clang leaves the module as it is.
-    module = text_of("--target=x86_64-unknown-linux-gnu", "-x", "ir", bitcode, "-O0", "-Xclang", "-disable-llvm-passes", directory=directory)
+    module = text_of(
+        "--target=x86_64-unknown-linux-gnu", "-x", "ir", bitcode, "-O0", "-Xclang", "-disable-llvm-passes",
+        directory=directory,
+    )
     if re.search(r"^define [^\n]*\balign \d", module, re.M):
         raise proved.NotBuilt("the calls rely on an alignment of structs that 32-bit systems do not guarantee")
     with open(module_path, "w", encoding="utf-8") as file:

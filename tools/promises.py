@@ -4,9 +4,10 @@
     tools/promises.py            writes the tables
     tools/promises.py --check    fails if a table is not up to date; the last line is `N passed, M failed`
 
-A comment above an `ensures` clause describes the clauses below it, up to the next comment. An empty line `//` separates paragraphs of
-the comment. Clauses before the first such comment are described by the first paragraph of the function's doc comment, and an
-implementation with a contract by the first paragraph of its doc comment. A clause without a comment must not follow an empty line.
+A comment above an `ensures` clause describes the clauses below it, up to the next comment. An empty line `//`
+separates paragraphs of the comment. Clauses before the first such comment are described by the first paragraph of the
+function's doc comment, and an implementation with a contract by the first paragraph of its doc comment. A clause
+without a comment must not follow an empty line.
 
 The document marks the place of each table with a line:
 
@@ -16,10 +17,10 @@ The document marks the place of each table with a line:
     <!-- calls of CRATE: PLACES -->           one row for each call: the first sentence of its paragraph in bold type, or if
                                               there is none, of its first paragraph; and the next sentence if the first is short
 
-Rows of a table with the same text are merged. PLACES are modules, types and functions, or prefixes such as `minisign_install_*`. A
-table has the public calls of these places, in the order of PLACES. Without PLACES, it has all calls of the crate that are in no other
-table. If a crate has a table, each of its public calls with a clause must be in a table, except those of the modules that are listed
-after `; without: `.
+Rows of a table with the same text are merged. PLACES are modules, types and functions, or prefixes such as
+`minisign_install_*`. A table has the public calls of these places, in the order of PLACES. Without PLACES, it has all
+calls of the crate that are in no other table. If a crate has a table, each of its public calls with a clause must be in
+a table, except those of the modules that are listed after `; without: `.
 
 Needs Python 3.9 or later.
 """
@@ -74,7 +75,8 @@ class Call:
         self.item, self.module, self.is_public = item, module, is_public
 
     def match(self, place, modules):
-        """Returns how specifically a place names this call: 0 if it does not, 1 by its module, 2 by its type or a prefix, 3 by its name."""
+        """Returns how specifically a place names this call: 0 if it does not, 1 by its module, 2 by its type or a
+        prefix, 3 by its name."""
         item = self.item
         if place in modules:
             return int(place == self.module)

@@ -25,11 +25,17 @@ CALLS = ["read_secret_key", "open_unsealed_key", "open_sealed_key", "take_secret
 SOURCES = ["dist/calls.c", "c/library/portable/allocation.c", "bindings/javascript/module/memory.c"]
 INCLUDED = ["bindings/javascript/module", "c/library", "c/library/portable"]
 # The instructions that browsers have had since 2021. HAS_UNALIGNED_ACCESS: loads and stores may have any alignment.
-MACHINE = ["--target=wasm32", "-mbulk-memory", "-mmutable-globals", "-msign-ext", "-mnontrapping-fptoint", "-DHAS_UNALIGNED_ACCESS=1"]
+MACHINE = [
+    "--target=wasm32", "-mbulk-memory", "-mmutable-globals", "-msign-ext", "-mnontrapping-fptoint",
+    "-DHAS_UNALIGNED_ACCESS=1",
+]
 COMPILING = ["-std=c11", "-O2", "-nostdlib", "-nostdlibinc", "-DMINISIGN_MALLOC_ALONE", "-ffunction-sections", "-fdata-sections"]
 # A stack of 256 KiB, followed by memory for what is copied in and out. At most 2 GiB; a key of minisign -G takes half of it.
-LINKING = ["--no-entry", "--gc-sections", "--strip-all", "--export=__heap_base", "--initial-memory=1048576", "--max-memory=2147483648",
-           "-z", "stack-size=262144", *(f"--export=machine_minisign_{call}" for call in CALLS)]
+LINKING = [
+    "--no-entry", "--gc-sections", "--strip-all", "--export=__heap_base", "--initial-memory=1048576",
+    "--max-memory=2147483648", "-z", "stack-size=262144",
+    *(f"--export=machine_minisign_{call}" for call in CALLS),
+]
 
 
 def compiled():
@@ -38,7 +44,19 @@ def compiled():
         module_path, clang = os.path.join(directory, "made.wasm"), os.environ.get("CLANG", "clang")
         included = [f"-I{os.path.join(ROOT, name)}" for name in INCLUDED]
         for name in SOURCES:
-            subprocess.run([clang, *MACHINE, *COMPILING, *included, "-c", os.path.join(ROOT, name), "-o", object_of(directory, name)], check=True)
+            subprocess.run(
+                [
+                    clang,
+                    *MACHINE,
+                    *COMPILING,
+                    *included,
+                    "-c",
+                    os.path.join(ROOT, name),
+                    "-o",
+                    object_of(directory, name),
+                ],
+                check=True,
+            )
         # clang as the linker would run wasm-opt if it is installed, which changes the bytes.
         linker = subprocess.run([clang, "-print-prog-name=wasm-ld"], stdout=subprocess.PIPE, check=True).stdout.decode().strip()
         subprocess.run([linker, *LINKING, *(object_of(directory, name) for name in SOURCES), "-o", module_path], check=True)

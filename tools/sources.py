@@ -40,7 +40,8 @@ class Unfit(Exception):
 
 
 def write_or_check(generated_files):
-    """Writes the files that `generated_files` yields, as paths and texts, or compares them if `--check` is given. Returns the exit status."""
+    """Writes the files that `generated_files` yields, as paths and texts, or compares them if `--check` is given.
+    Returns the exit status."""
     if sys.argv[1:] not in ([], ["--check"]):
         sys.exit(sys.modules["__main__"].__doc__)
     checks, is_check = Checks(), sys.argv[1:] == ["--check"]
@@ -74,9 +75,9 @@ def files_below(directory, ending=""):
 # Items of Rattle.
 
 
-# A clause: a `requires` or an `ensures`. The name may be empty. `text` is the text in the braces, and `whole` the text of the clause.
-# `comment` is the comment directly above the clause, and `is_apart` is true if an empty line is above the comment or the clause.
-# `begin` and `end` are offsets in the file.
+# A clause: a `requires` or an `ensures`. The name may be empty. `text` is the text in the braces, and `whole` the text
+# of the clause. `comment` is the comment directly above the clause, and `is_apart` is true if an empty line is above
+# the comment or the clause. `begin` and `end` are offsets in the file.
 Clause = namedtuple("Clause", "kind name text whole comment is_apart begin end")
 # A `.rt` file: its items, including nested ones, and what its ghost code imports. `imports` maps the name in the file to the module
 # and the name there, which is empty for a whole module.
@@ -364,7 +365,10 @@ class Library:
                 base = os.path.join(directory, "src", *path[:length])
                 for file in filter(os.path.exists, (base + ".rt", os.path.join(base, "lib.rt"))):
                     for item in read_source(file).items:
-                        if item.what in ("struct", "enum", "trait", "const", "type", "union") and item.name in (*path[length:], name):
+                        if item.what in ("struct", "enum", "trait", "const", "type", "union") and item.name in (
+                            *path[length:],
+                            name,
+                        ):
                             return item
         return None
 

@@ -34,7 +34,8 @@ list_files() {
         directories="$directories crates/$crate/src crates/$crate/specs crates/$crate/proofs"
     done
     for directory in $directories; do
-        test ! -e "$directory" || find "$directory" -type f -name '[!.]*[!~]' ! -name minisign.html ! -name '*.pyc' ! -name '*.md' -print
+        test ! -e "$directory" ||
+            find "$directory" -type f -name '[!.]*[!~]' ! -name minisign.html ! -name '*.pyc' ! -name '*.md' -print
     done
 }
 

@@ -4,11 +4,12 @@
     tools/trusted.py            writes the document
     tools/trusted.py --check    fails if it is not up to date; the last line is `N passed, M failed`
 
-The document has parts: verdicts, opening keys, signing, devices, the calls from C, installing and lists. Each part begins
-with its most important clauses. The script follows the names in these clauses to their definitions, then the names in these
-definitions, and so on. A definition is printed in the first part that reaches it, after the definition that uses it first. The
-first part also prints all definitions of the Rattle kit that it reaches, so that readers do not need the kit. The other definitions
-of the kit are listed by name at the end. In some parts, definitions in files that are better read as a whole are listed by name, too.
+The document has parts: verdicts, opening keys, signing, devices, the calls from C, installing and lists. Each part
+begins with its most important clauses. The script follows the names in these clauses to their definitions, then the
+names in these definitions, and so on. A definition is printed in the first part that reaches it, after the definition
+that uses it first. The first part also prints all definitions of the Rattle kit that it reaches, so that readers do not
+need the kit. The other definitions of the kit are listed by name at the end. In some parts, definitions in files that
+are better read as a whole are listed by name, too.
 
 The following is written by hand in the document itself: everything before and after the parts, and the title and the text of each
 part up to its first clause or list. Only the numbers of definitions and lines in this text are generated.
@@ -38,14 +39,27 @@ SIGNING = Part((("minisign", "sign_bytes", "headline"),))
 DEVICES = Part((("minisign", "verify_texts", "headline"), ("minisign", "SecretKey::from_box", "headline"),
                 ("minisign", "sign_texts", "headline")))
 # The calls from C, and what a sequence of them promises.
-FROM_C = Part((("minisign_c", "verify_in_sequence", "number"), ("minisign_c", "verify_in_sequence", "accepted"), ("minisign_c", "sign_in_sequence", "verifies")),
-              # The table of errors is in docs/FORMATS.md.
-              files=r"/crates/minisign_base/specs/Faults\.antt")
-# The definitions of minisign_install that are printed in full are those in the files that this pattern does not match: the laws, the
-# relation that describes an application, and the installer as one function. The others are listed by name.
+FROM_C = Part(
+    (
+        ("minisign_c", "verify_in_sequence", "number"),
+        ("minisign_c", "verify_in_sequence", "accepted"),
+        ("minisign_c", "sign_in_sequence", "verifies"),
+    ),
+    # The table of errors is in docs/FORMATS.md.
+    files=r"/crates/minisign_base/specs/Faults\.antt",
+)
+# The definitions of minisign_install that are printed in full are those in the files that this pattern does not match:
+# the laws, the relation that describes an application, and the installer as one function. The others are listed by
+# name.
 OF_APPLICATIONS = r"/crates/minisign_install/(?!specs/(?:Applications|Histories|StepRuns|Step|Decisions|Listings|Traces)\.)"
-INSTALLING = Part((("minisign_install", "any_application_is_safe", "safe"), ("minisign_install", "any_application_is_safe", "durable"),
-                   ("minisign_install", "any_good_update_arrives", "installed")), files=OF_APPLICATIONS)
+INSTALLING = Part(
+    (
+        ("minisign_install", "any_application_is_safe", "safe"),
+        ("minisign_install", "any_application_is_safe", "durable"),
+        ("minisign_install", "any_good_update_arrives", "installed"),
+    ),
+    files=OF_APPLICATIONS,
+)
 RUNS = Part((("minisign_install", "any_history_keeps_the_version", "versions"),), files=OF_APPLICATIONS)
 # The function that decides if a recorded run follows these rules.
 RECORDED = Part((("minisign_install", "first_unlawful_line", "lawful"),), files=OF_APPLICATIONS)
@@ -246,12 +260,16 @@ def block_of(language, definitions, text_by=text_of):
 
 # Explains the built-in names that the first part uses.
 BUILT_IN = """\
-- `ℕ` is the type of the natural numbers: `zero`, and `suc n`, which is n + 1. The signs of arithmetic are explained under [Notation](#notation).
+- `ℕ` is the type of the natural numbers: `zero`, and `suc n`, which is n + 1. The signs of arithmetic are explained \
+under [Notation](#notation).
 - `compare m n` gives `Ordering.lt`, `Ordering.eq` or `Ordering.gt`.
 - `native_or` and `native_xor` are the bitwise "or" and "exclusive or" of two numbers.
-- A `String` of the logic is a text in quotes, and `code` gives the code point of a character. The `String` of `std_alloc` is the string type of the library std; `bytes.items` is the list of its bytes. In `codes`, `nil` and `∷ᴸ` are the `[]` and `∷` of lists.
+- A `String` of the logic is a text in quotes, and `code` gives the code point of a character. The `String` of `std_alloc` \
+is the string type of the library std; `bytes.items` is the list of its bytes. In `codes`, `nil` and \
+`∷ᴸ` are the `[]` and `∷` of lists.
 - `Unit` is a type with one value, `tt`, and `⊥` a type without values.
-- You can skip `lit≤`, `leb→le`, `subst`, `T`, `refl` and the definitions that they use. They occur only in proofs inside values, for example that `=` is a printable character, and do not change any result.
+- You can skip `lit≤`, `leb→le`, `subst`, `T`, `refl` and the definitions that they use. They occur \
+only in proofs inside values, for example that `=` is a printable character, and do not change any result.
 - The structs also contain types and conditions (`ghost`) that no definition above uses."""
 
 
@@ -357,7 +375,10 @@ class Writer:
 
     def built_in(self):
         """Returns the sentence that lists the built-in names."""
-        return f"These names have no definition, because the logic itself has them: {names_of(self.trusted.built_in)}, `Type`, `→`, `×`, `λ`."
+        return (
+            f"These names have no definition, because the logic itself has them: {names_of(self.trusted.built_in)},"
+            " `Type`, `→`, `×`, `λ`."
+        )
 
     def part(self, number, part):
         """Returns the text of a part: its clauses, its definitions in the order of use, the names of those that are not

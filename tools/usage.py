@@ -26,9 +26,20 @@ from sources import Unfit, read
 # user replaces.
 Program = namedtuple("Program", "name document directory statuses places")
 PROGRAMS = (
-    Program("minisign-install", "docs/INSTALLING.md", "c/install", "include/minisign_installing.h",
-            ("OPTION", "PK", "DATA", "SIG", "TARGET", "FIELD", "KEY", "NAME", "FILE", "MODE", "BYTES", "SECONDS")),
-    Program("minisign-check", "docs/LISTS.md", "c/check", "c/check/outcomes.h", ("OPTION", "PUBKEY", "KEY", "LIST", "FILE", "SIG", "DIR")),
+    Program(
+        "minisign-install",
+        "docs/INSTALLING.md",
+        "c/install",
+        "include/minisign_installing.h",
+        ("OPTION", "PK", "DATA", "SIG", "TARGET", "FIELD", "KEY", "NAME", "FILE", "MODE", "BYTES", "SECONDS"),
+    ),
+    Program(
+        "minisign-check",
+        "docs/LISTS.md",
+        "c/check",
+        "c/check/outcomes.h",
+        ("OPTION", "PUBKEY", "KEY", "LIST", "FILE", "SIG", "DIR"),
+    ),
 )
 # The tables of the document, with their heads. Not every text has all of them.
 HEADS = {"statuses": "| Status | What happened |", "options": "| Option | What it does |",

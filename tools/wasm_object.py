@@ -24,31 +24,79 @@ def named(first, operands, names):
 
 
 for first, operands, names in (
-        (0x28, "place", "i32.load i64.load f32.load f64.load i32.load8_s i32.load8_u i32.load16_s i32.load16_u i64.load8_s i64.load8_u "
-                        "i64.load16_s i64.load16_u i64.load32_s i64.load32_u i32.store i64.store f32.store f64.store i32.store8 "
-                        "i32.store16 i64.store8 i64.store16 i64.store32"),
-        (0x45, "", "i32.eqz i32.eq i32.ne i32.lt_s i32.lt_u i32.gt_s i32.gt_u i32.le_s i32.le_u i32.ge_s i32.ge_u "
-                   "i64.eqz i64.eq i64.ne i64.lt_s i64.lt_u i64.gt_s i64.gt_u i64.le_s i64.le_u i64.ge_s i64.ge_u"),
-        (0x67, "", "i32.clz i32.ctz i32.popcnt i32.add i32.sub i32.mul i32.div_s i32.div_u i32.rem_s i32.rem_u i32.and i32.or "
-                   "i32.xor i32.shl i32.shr_s i32.shr_u i32.rotl i32.rotr"),
-        (0x79, "", "i64.clz i64.ctz i64.popcnt i64.add i64.sub i64.mul i64.div_s i64.div_u i64.rem_s i64.rem_u i64.and i64.or "
-                   "i64.xor i64.shl i64.shr_s i64.shr_u i64.rotl i64.rotr"),
-        (0xA7, "", "i32.wrap_i64 i32.trunc_f32_s i32.trunc_f32_u i32.trunc_f64_s i32.trunc_f64_u i64.extend_i32_s i64.extend_i32_u"),
-        (0xC0, "", "i32.extend8_s i32.extend16_s i64.extend8_s i64.extend16_s i64.extend32_s")):
+    (
+        0x28,
+        "place",
+        "i32.load i64.load f32.load f64.load i32.load8_s i32.load8_u i32.load16_s i32.load16_u i64.load8_s i64.load8_u "
+        "i64.load16_s i64.load16_u i64.load32_s i64.load32_u i32.store i64.store f32.store f64.store i32.store8 "
+        "i32.store16 i64.store8 i64.store16 i64.store32",
+    ),
+    (
+        0x45,
+        "",
+        "i32.eqz i32.eq i32.ne i32.lt_s i32.lt_u i32.gt_s i32.gt_u i32.le_s i32.le_u i32.ge_s i32.ge_u "
+        "i64.eqz i64.eq i64.ne i64.lt_s i64.lt_u i64.gt_s i64.gt_u i64.le_s i64.le_u i64.ge_s i64.ge_u",
+    ),
+    (
+        0x67,
+        "",
+        "i32.clz i32.ctz i32.popcnt i32.add i32.sub i32.mul i32.div_s i32.div_u i32.rem_s i32.rem_u i32.and i32.or "
+        "i32.xor i32.shl i32.shr_s i32.shr_u i32.rotl i32.rotr",
+    ),
+    (
+        0x79,
+        "",
+        "i64.clz i64.ctz i64.popcnt i64.add i64.sub i64.mul i64.div_s i64.div_u i64.rem_s i64.rem_u i64.and i64.or "
+        "i64.xor i64.shl i64.shr_s i64.shr_u i64.rotl i64.rotr",
+    ),
+    (
+        0xA7,
+        "",
+        "i32.wrap_i64 i32.trunc_f32_s i32.trunc_f32_u i32.trunc_f64_s i32.trunc_f64_u i64.extend_i32_s i64.extend_i32_u",
+    ),
+    (0xC0, "", "i32.extend8_s i32.extend16_s i64.extend8_s i64.extend16_s i64.extend32_s"),
+):
     INSTRUCTIONS.update(named(first, operands, names))
 
 # Instructions that are not supported, with their names for the error message.
 UNSUPPORTED = {
-    0x11: "call_indirect", 0x12: "return_call", 0x13: "return_call_indirect", 0x1C: "select of a type", 0x25: "table.get",
-    0x26: "table.set", 0x3F: "memory.size", 0x40: "memory.grow", 0x43: "f32.const", 0x44: "f64.const", 0xD0: "ref.null",
-    0xD1: "ref.is_null", 0xD2: "ref.func", 0xFC08: "memory.init", 0xFC09: "data.drop",
-    **dict(enumerate("f32.eq f32.ne f32.lt f32.gt f32.le f32.ge f64.eq f64.ne f64.lt f64.gt f64.le f64.ge".split(), 0x5B)),
-    **dict(enumerate((f"f{bits}.{name}" for bits in (32, 64) for name in "abs neg ceil floor trunc nearest sqrt add sub mul div min max "
-                      "copysign".split()), 0x8B)),
-    **dict(enumerate("i64.trunc_f32_s i64.trunc_f32_u i64.trunc_f64_s i64.trunc_f64_u f32.convert_i32_s f32.convert_i32_u "
-                     "f32.convert_i64_s f32.convert_i64_u f32.demote_f64 f64.convert_i32_s f64.convert_i32_u f64.convert_i64_s "
-                     "f64.convert_i64_u f64.promote_f32 i32.reinterpret_f32 i64.reinterpret_f64 f32.reinterpret_i32 "
-                     "f64.reinterpret_i64".split(), 0xAE)),
+    0x11: "call_indirect",
+    0x12: "return_call",
+    0x13: "return_call_indirect",
+    0x1C: "select of a type",
+    0x25: "table.get",
+    0x26: "table.set",
+    0x3F: "memory.size",
+    0x40: "memory.grow",
+    0x43: "f32.const",
+    0x44: "f64.const",
+    0xD0: "ref.null",
+    0xD1: "ref.is_null",
+    0xD2: "ref.func",
+    0xFC08: "memory.init",
+    0xFC09: "data.drop",
+    **dict(
+        enumerate("f32.eq f32.ne f32.lt f32.gt f32.le f32.ge f64.eq f64.ne f64.lt f64.gt f64.le f64.ge".split(), 0x5B)
+    ),
+    **dict(
+        enumerate(
+            (
+                f"f{bits}.{name}"
+                for bits in (32, 64)
+                for name in "abs neg ceil floor trunc nearest sqrt add sub mul div min max " "copysign".split()
+            ),
+            0x8B,
+        )
+    ),
+    **dict(
+        enumerate(
+            "i64.trunc_f32_s i64.trunc_f32_u i64.trunc_f64_s i64.trunc_f64_u f32.convert_i32_s f32.convert_i32_u "
+            "f32.convert_i64_s f32.convert_i64_u f32.demote_f64 f64.convert_i32_s f64.convert_i32_u f64.convert_i64_s "
+            "f64.convert_i64_u f64.promote_f32 i32.reinterpret_f32 i64.reinterpret_f64 f32.reinterpret_i32 "
+            "f64.reinterpret_i64".split(),
+            0xAE,
+        )
+    ),
 }
 
 # The types of relocations for addresses: in an offset of an instruction, in a constant, and in data.
@@ -176,7 +224,14 @@ class Object:
 
     def read_section(self, number, read):
         """Reads a section. Those of tables, memory, exports and elements, and the number of segments, are not needed."""
-        readers = {0: self.read_named, 1: self.read_types, 2: self.read_imports, 3: self.read_functions, 10: self.read_bodies, 11: self.read_data}
+        readers = {
+            0: self.read_named,
+            1: self.read_types,
+            2: self.read_imports,
+            3: self.read_functions,
+            10: self.read_bodies,
+            11: self.read_data,
+        }
         if number in readers:
             readers[number](read)
         elif number not in (4, 5, 7, 9, 12):

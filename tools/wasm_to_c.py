@@ -10,8 +10,8 @@ large as its deepest call needs (`sp` is its end), and a copy of the data that c
 TABLE translates each arithmetic instruction, load and store. Blocks and branches become `goto`. Instructions that the
 translator does not know are errors: floats, vectors, indirect calls, growing memory, and recursion.
 
-tests/c/table_proofs.py proves each row of TABLE with z3, as clang compiles it. Control flow, local variables, the stack
-and the data are tested and not proved: tests/c/translated.py compares each row, and random functions, with another
+tests/c/instruction_proofs.py proves each row of TABLE with z3, as clang compiles it. Control flow, local variables, the stack
+and the data are tested and not proved: tests/c/wasm_translation.py compares each row, and random functions, with another
 implementation of WebAssembly.
 """
 
@@ -370,7 +370,8 @@ class Body:
 
 
 def in_c(text, a, b):
-    """Returns the C expression of a row of TABLE with its operands. An operand that is a whole argument of a call gets no parentheses."""
+    """Returns the C expression of a row of TABLE with its operands. An operand that is a whole argument of a call gets
+    no parentheses."""
     values = {"a": a, "b": b}
     return re.sub(r"(?<=\w\()([ab])(?=[,)])|(?<=, )([ab])(?=\))|\b([ab])\b",
                   lambda value: in_parentheses(values[value[3]]) if value[3] else values[value[1] or value[2]].text, text)
@@ -501,7 +502,10 @@ class Translation:
                 *(f"    {pointer}" for pointer in self.pointers), "}", ""]
 
     def declaration(self, function, name, extra_parameters=(), words="", first=0):
-        parameters = [*(f"u64 {name}" for name in extra_parameters), *(f"{TYPES[kind]} l{at}" for at, kind in enumerate(function.parameters, first))]
+        parameters = [
+            *(f"u64 {name}" for name in extra_parameters),
+            *(f"{TYPES[kind]} l{at}" for at, kind in enumerate(function.parameters, first)),
+        ]
         return f"{words}{TYPES[function.results[0]] if function.results else 'void'} {name}({', '.join(parameters) or 'void'})"
 
     def function_lines(self, number, body):
@@ -511,8 +515,15 @@ class Translation:
         text = re.sub(r"(?m)^ *(again\d+):;\n", lambda value: value[0] if f"goto {value[1]};" in text else "", text)
         used = {*re.findall(r"\b(?:l\d+|sp|table)\b", text)}
         names = [(f"l{at}", kind) for at, kind in enumerate(function.locals)]
-        variables = [(kind, [name for name, its_kind in names[len(function.parameters):] if its_kind == kind and name in used]) for kind in TYPES]
-        unused = [each for each in [*body.extra_parameters, *(name for name, _ in names[:len(function.parameters)])] if each not in used]
+        variables = [
+            (kind, [name for name, its_kind in names[len(function.parameters) :] if its_kind == kind and name in used])
+            for kind in TYPES
+        ]
+        unused = [
+            each
+            for each in [*body.extra_parameters, *(name for name, _ in names[: len(function.parameters)])]
+            if each not in used
+        ]
         return ["", self.declaration(function, self.name(number), body.extra_parameters, "static "), "{",
                 *(f"    {TYPES[kind]} {', '.join(f'{name} = 0' for name in of_kind[at:at + 16])};" for kind, of_kind in variables
                   for at in range(0, len(of_kind), 16)),

@@ -22,8 +22,8 @@ sources=$(dirname "$prefix")/libsodium-sources
 
 for program in apt-get dpkg-source autoreconf libtoolize automake flock "$target-gcc"; do
     command -v "$program" >/dev/null || {
-        echo "windows_libsodium.sh: $program is missing: install dpkg-dev, autoconf, automake, libtool and gcc-mingw-w64-x86-64," >&2
-        echo "or name another build of libsodium by SODIUM_PREFIX=" >&2
+        echo "windows_libsodium.sh: $program is missing: install dpkg-dev, autoconf, automake, libtool and" >&2
+        echo "gcc-mingw-w64-x86-64, or name another build of libsodium by SODIUM_PREFIX=" >&2
         exit 1
     }
 done

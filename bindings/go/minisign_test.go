@@ -102,8 +102,10 @@ func TestTrustedCommentIsVerifiedWithoutData(t *testing.T) {
 		}
 		for _, piece := range []string{"", testCase.data} {
 			fmt.Fprint(verifier, piece)
-			if good, err := verifier.VerifyTrustedComment(); good != (testCase.commentErr == nil) || err != testCase.commentErr {
-				t.Fatalf("%q, %q: VerifyTrustedComment() = %v, %v, expected %v", testCase.signature.TrustedComment, piece, good, err, testCase.commentErr)
+			good, err := verifier.VerifyTrustedComment()
+			if good != (testCase.commentErr == nil) || err != testCase.commentErr {
+				t.Fatalf("%q, %q: VerifyTrustedComment() = %v, %v, expected %v",
+					testCase.signature.TrustedComment, piece, good, err, testCase.commentErr)
 			}
 		}
 		if good, err := verifier.Verify(); good != (testCase.err == nil) || err != testCase.err {

@@ -224,7 +224,9 @@ type listQuestions struct {
 }
 
 // askList makes all checks of a list that need no Ed25519. The trusted comment must name the list, unless anyName is true.
-func askList(publicKey *PublicKey, signature *parsedSignature, text, name []byte, anyName bool, longDigest LongDigest) (*listQuestions, error) {
+func askList(
+	publicKey *PublicKey, signature *parsedSignature, text, name []byte, anyName bool, longDigest LongDigest,
+) (*listQuestions, error) {
 	key, err := publicKey.raw()
 	if err != nil {
 		return nil, err
@@ -264,7 +266,10 @@ func lineError(err C.enum_minisign_error, line C.uint64_t) error {
 
 func (list *rawList) find(name []byte) (*C.minisign_list_entry, error) {
 	entry, line := new(C.minisign_list_entry), C.uint64_t(0)
-	err := C.minisign_list_find(list.raw, pointer(list.text), C.size_t(len(list.text)), list.longDigest, pointer(name), C.size_t(len(name)), entry, &line)
+	err := C.minisign_list_find(
+		list.raw, pointer(list.text), C.size_t(len(list.text)), list.longDigest,
+		pointer(name), C.size_t(len(name)), entry, &line,
+	)
 	return entry, lineError(err, line)
 }
 
@@ -273,7 +278,10 @@ func (list *rawList) entries() ([]ListEntry, error) {
 	// because &raw[0] needs one.
 	raw := make([]C.minisign_list_entry, (len(list.text)+1)/68+1)
 	count, line := C.size_t(0), C.uint64_t(0)
-	err := C.minisign_list_entries(list.raw, pointer(list.text), C.size_t(len(list.text)), list.longDigest, &raw[0], C.size_t(len(raw)), &count, &line)
+	err := C.minisign_list_entries(
+		list.raw, pointer(list.text), C.size_t(len(list.text)), list.longDigest,
+		&raw[0], C.size_t(len(raw)), &count, &line,
+	)
 	entries := make([]ListEntry, count)
 	for index := range entries {
 		entries[index] = list.entry(&raw[index])

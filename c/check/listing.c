@@ -20,7 +20,6 @@
 
 #define KEY_HINT "use -p PUBKEY to name the public key file, or -P KEY to give the key itself"
 #define SIGNATURE_HINT "use -x SIG to name the signature of the list"
-#define DOWNLOAD_LIST_HINT "download the list and its signature again"
 
 /* The content of a file, in memory. */
 struct file_content {

@@ -26,7 +26,6 @@ struct text_file {
 
 #define ARGUMENT_ORDER_HINT "give PK DATA SIG TARGET in this order"
 #define DOWNLOAD_HINT "download the file and its signature again"
-#define LIST_DOWNLOAD_HINT "download the list and its signature again"
 
 static minisign_public_key keys[MAX_PUBLIC_KEYS];
 static struct text_file signature_text, list_text;
@@ -224,7 +223,7 @@ static const struct {
 static const char *hint_for_error(enum minisign_error error, bool has_list)
 {
     if (has_list && (error == MINISIGN_SIGNATURE_REFUSED || error == MINISIGN_COMMENT_SIGNATURE_REFUSED)) {
-        return LIST_DOWNLOAD_HINT;
+        return DOWNLOAD_LIST_HINT;
     }
     for (size_t i = 0; i < sizeof hints / sizeof hints[0]; i++) {
         if (hints[i].error == error) {

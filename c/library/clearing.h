@@ -6,7 +6,7 @@
 /*
  * The number of bytes of the stack that are cleared, below the caller's frame. The deepest of the proved calls uses 3
  * KiB, including what the C library uses below it. If the dynamic linker resolves a function of the C library in
- * between, it is 6 KiB. tests/c/cleared.py measures this. The rest is for signals: if a signal arrives during the call,
+ * between, it is 6 KiB. tests/c/cleared_secrets.py measures this. The rest is for signals: if a signal arrives during the call,
  * the system saves all registers on the same stack, below the frames of the call.
  */
 #define CLEARED_BYTES 16384

@@ -14,6 +14,7 @@ enum text_kind {
 
 /* Hints for a truncated or damaged file. The second one is for a secret key, which cannot be downloaded again. */
 #define COPY_HINT "download or copy the file again"
+#define DOWNLOAD_LIST_HINT "download the list and its signature again"
 #define SECRET_KEY_HINT "restore the file from a backup"
 
 /*

@@ -28,7 +28,7 @@ import sys
 HERE = os.path.dirname(os.path.realpath(__file__))
 sys.path += [HERE, *(os.path.join(HERE, "..", name) for name in ("shared", "c"))]
 
-import commands
+import document_commands
 import emulated
 import needs
 import portable
@@ -47,7 +47,7 @@ CALLS, CALL_PAGES = 50_000, 256
 KEYS, KEY_PAGES = 20_000, 512
 # The directory of Debian's Go sources, and the path of go-minisign below it.
 SOURCES, GO_MINISIGN = "/usr/share/gocode", "github.com/jedisct1/go-minisign"
-# The changes of go/changed.go that go-minisign accepts, because it does not check the first line.
+# The changes of go/changed_fields.go that go-minisign accepts, because it does not check the first line.
 ACCEPTED_BY_GO_MINISIGN = ["no untrusted comment", "another first line", "an untrusted comment of two lines"]
 # The number of damaged cases that this module and go-minisign verify.
 DAMAGED_COUNT = 20_000
@@ -83,15 +83,19 @@ REJECTED_ONLY_HERE = {
     "NOT_UTF8": lambda case: any(text.decode(errors="ignore").encode() != text for text in (case.key, case.signature)),
     "UNTRUSTED_COMMENT_PREFIX": lambda case: not case.signature.startswith(b"untrusted comment: "),
     "PUBLIC_KEY_LENGTH": lambda case: len(line_of(case.key, 2)) != 56,
-    "SIGNATURE_NOT_BASE64": lambda case: continues_after_line_break(case) or not all(is_canonical(line_of(case.signature, number)) for number in (2, 4)),
+    "SIGNATURE_NOT_BASE64": lambda case: continues_after_line_break(case)
+    or not all(is_canonical(line_of(case.signature, number)) for number in (2, 4)),
     # A comment signature that is cut short is 64 zero bytes in a Signature.
-    "WEAK_ED25519": lambda case: continues_after_line_break(case) or case in [vector for vector, _ in shared_cases.vector_files()],
+    "WEAK_ED25519": lambda case: continues_after_line_break(case)
+    or case in [vector for vector, _ in shared_cases.vector_files()],
 }
 # Cases that go-minisign rejects and this module accepts: by the text of go-minisign's error, a function that returns true for them.
 REJECTED_ONLY_BY_GO_MINISIGN = {
-    "Invalid encoded signature": lambda case: [len(line_of(case.signature, number).rstrip(b"\r=")) for number in (2, 4)] != [99, 86]
-                                 or len(case.signature.rstrip(b"\r\n").split(b"\n")) > 4,
-    "Invalid encoded public key": lambda case: case.key.rstrip(b"\r\n").count(b"\n") > 1 or len(line_of(case.key, 2).rstrip(b"\r")) != 56,
+    "Invalid encoded signature": lambda case: [len(line_of(case.signature, number).rstrip(b"\r=")) for number in (2, 4)]
+    != [99, 86]
+    or len(case.signature.rstrip(b"\r\n").split(b"\n")) > 4,
+    "Invalid encoded public key": lambda case: case.key.rstrip(b"\r\n").count(b"\n") > 1
+    or len(line_of(case.key, 2).rstrip(b"\r")) != 56,
     "Invalid global signature": has_spaces_around_comment,
     "Incompatible signature algorithm": lambda case: base64.b64decode(line_of(case.key, 2))[:2] != b"Ed",
 }
@@ -100,16 +104,27 @@ REJECTED_ONLY_BY_GO_MINISIGN = {
 class Go:
     """Runs go without a network, and with its cache in a separate directory.
 
-    C is compiled without optimization, which takes less time, unless `OPTIMIZED` is passed. (tests/c/portable.py compiles the C with
-    many compilers and flags.) The garbage collector of the Go compiler is turned off, which also takes less time."""
+    C is compiled without optimization, which takes less time, unless `OPTIMIZED` is passed. (tests/c/portable.py
+    compiles the C with many compilers and flags.) The garbage collector of the Go compiler is turned off, which also
+    takes less time."""
 
     OPTIMIZED = {"CGO_CFLAGS": "-g -O2"}
 
     def __init__(self, scratch, **environment):
         self.go = needs.program("go", "golang-go")
-        self.environment = {"GOPROXY": "off", "GOFLAGS": "", "GOCACHE": f"{scratch}/cache", "GOPATH": f"{scratch}/path", "GOGC": "off",
-                            "GOTOOLCHAIN": "local", "CGO_ENABLED": "1", "CC": needs.c_compiler(), "CGO_CFLAGS": "-O0",
-                            "PATH": static_library.path_without_kit(), **environment}
+        self.environment = {
+            "GOPROXY": "off",
+            "GOFLAGS": "",
+            "GOCACHE": f"{scratch}/cache",
+            "GOPATH": f"{scratch}/path",
+            "GOGC": "off",
+            "GOTOOLCHAIN": "local",
+            "CGO_ENABLED": "1",
+            "CC": needs.c_compiler(),
+            "CGO_CFLAGS": "-O0",
+            "PATH": static_library.path_without_kit(),
+            **environment,
+        }
 
     def run(self, directory, *words, **environment):
         return static_library.run_or_fail([self.go, *words], directory, **{**self.environment, **environment})
@@ -129,7 +144,11 @@ class Go:
 
     def build_with_go_minisign(self, source, directory):
         """Builds a program from a source file of tests/bindings/go with go-minisign instead. Returns its path."""
-        needs.need(lambda: os.path.isdir(f"{SOURCES}/src/{GO_MINISIGN}") or None, "go-minisign", "golang-github-jedisct1-go-minisign-dev")
+        needs.need(
+            lambda: os.path.isdir(f"{SOURCES}/src/{GO_MINISIGN}") or None,
+            "go-minisign",
+            "golang-github-jedisct1-go-minisign-dev",
+        )
         os.makedirs(directory)
         write(directory, source, read(HERE, "go", source).replace(b'"proved/minisign"', f'"{GO_MINISIGN}"'.encode()))
         self.run(directory, "build", "-o", "program", GO111MODULE="off", GOPATH=SOURCES)
@@ -149,7 +168,8 @@ def check_sources(checks):
 
 
 def fields_line(fields):
-    """Returns the line that `read` prints: the key IDs of a key and a signature, as bytes and as text, and the signature's algorithm."""
+    """Returns the line that `read` prints: the key IDs of a key and a signature, as bytes and as text, and the
+    signature's algorithm."""
     ids = fields.key_id, fields.signature_key_id
     return " ".join([*(key_id.hex() for key_id in ids), *map(shared_cases.key_id_text, ids), "Ed" if fields.is_legacy else "ED"])
 
@@ -167,8 +187,8 @@ def compare_results(program, scratch, minisign, cases):
 
 
 def verdicts(program):
-    """Runs a program of go/changed.go. Returns for each change its name, the error that it has to be rejected with, or an empty string, the
-    verdict, and the error text."""
+    """Runs a program of go/changed_fields.go. Returns for each change its name, the error that it has to be rejected with, or
+    an empty string, the verdict, and the error text."""
     output = run([program, *shared_cases.PUBLISHED_PATHS])[1].decode()
     return re.findall(r"^(.*): (\w*): (true|false), (.*)$", output, re.M)
 
@@ -183,21 +203,28 @@ def check_changed(checks, program):
 
 
 def check_go_minisign(checks, go, scratch, program):
-    """Checks that go-minisign has the same verdicts on cases, and on fields that the caller changed, except for those in the tables, and
-    that each row of the tables is needed."""
+    """Checks that go-minisign has the same verdicts on cases, and on fields that the caller changed, except for those
+    in the tables, and that each row of the tables is needed."""
     cases = shared_cases.corpus() + shared_cases.damaged_cases(DAMAGED_COUNT) + [case for case, _ in shared_cases.vector_files()]
     go_minisign = Program(checks, go.build_with_go_minisign("verdicts.go", f"{scratch}/verdicts"))
     ours, theirs = (each.run("verify", cases=cases)[1].decode().splitlines() for each in (program, go_minisign))
-    checks.check(len(ours) == len(theirs) == len(cases) > DAMAGED_COUNT, f"{len(ours)} and {len(theirs)} verdicts on {len(cases)} cases")
+    checks.check(
+        len(ours) == len(theirs) == len(cases) > DAMAGED_COUNT,
+        f"{len(ours)} and {len(theirs)} verdicts on {len(cases)} cases",
+    )
     differences = set()
     for case, our_line, their_line in zip(cases, ours, theirs):
         if our_line.startswith("accepted") != their_line.startswith("true"):
             is_ours = our_line.startswith("rejected")
-            why, table = (our_line.split()[1], REJECTED_ONLY_HERE) if is_ours else (their_line.partition(", ")[2], REJECTED_ONLY_BY_GO_MINISIGN)
+            why, table = (
+                (our_line.split()[1], REJECTED_ONLY_HERE)
+                if is_ours
+                else (their_line.partition(", ")[2], REJECTED_ONLY_BY_GO_MINISIGN)
+            )
             differences.add(why)
             checks.check(why in table and table[why](case), f"{case.name}: this module: {our_line}; go-minisign: {their_line}")
     checks.check(differences == {*REJECTED_ONLY_HERE, *REJECTED_ONLY_BY_GO_MINISIGN}, f"go-minisign differs in {differences}")
-    rows = verdicts(go.build_with_go_minisign("changed.go", f"{scratch}/their"))
+    rows = verdicts(go.build_with_go_minisign("changed_fields.go", f"{scratch}/their"))
     checks.check(len(rows) >= 28, f"only {len(rows)} changes with go-minisign")
     for name, why, verdict, _ in rows:
         expected = "false" if why and name not in ACCEPTED_BY_GO_MINISIGN else "true"
@@ -205,7 +232,8 @@ def check_go_minisign(checks, go, scratch, program):
 
 
 def check_errors(program):
-    """Checks that each error has the number, the name and the text of the header, and that errors.Is finds it in an error that wraps it."""
+    """Checks that each error has the number, the name and the text of the header, and that errors.Is finds it in an
+    error that wraps it."""
     names, output = {number: name for name, number in shared_cases.ERRORS.items()}, program.run("errors")[1].decode().splitlines()
     program.checks.check(len(output) == 1000 and len(names) > 50, f"{len(output)} numbers of errors")
     for number, line in enumerate(output):
@@ -221,8 +249,8 @@ def check_lists(program, scratch, minisign):
 
 
 def check_signing(program, scratch, minisign, decrypts=True):
-    """Checks that the program and `c/minisign` can read each other's keys and signatures, that a key does not print its secret and is
-    cleared, and that nil arguments are rejected."""
+    """Checks that the program and `c/minisign` can read each other's keys and signatures, that a key does not print its
+    secret and is cleared, and that nil arguments are rejected."""
     program.check_pairs(20, "shown")
     program.check_pairs(9, "wrong")
     shared_cases.check_signing(program, scratch, minisign, decrypts=decrypts)
@@ -230,15 +258,15 @@ def check_signing(program, scratch, minisign, decrypts=True):
     shared_cases.check_new_key_files(program, os.path.join(scratch, "written"))
 
 
-# The file of tests/corpus that is copied to `app`; true if its published signature is there; and the status, output and error of the example
-# of README.md that verifies it.
+# The file of tests/corpus that is copied to `app`; true if its published signature is there; and the status, output and
+# error of the example of README.md that verifies it.
 README_CASES = [("test", True, 0, "trusted comment: timestamp:1556193335\tfile:test\n", ""),
             ("hello", True, 1, "", "Signature verification failed"), ("test", False, 1, "", "no such file or directory")]
 
 
 def check_readme(checks, go, scratch, package, minisign):
-    """Checks the examples of README.md, each pasted into a file of a user's module: they compile; accept a file that the key has signed,
-    and reject another one; generate a key, sign with it, and verify a stream."""
+    """Checks the examples of README.md, each pasted into a file of a user's module: they compile; accept a file that
+    the key has signed, and reject another one; generate a key, sign with it, and verify a stream."""
     directory = os.path.join(scratch, "readme")
     os.makedirs(directory)
     for number, example in enumerate(shared_cases.readme_blocks("go")):
@@ -262,7 +290,10 @@ def check_readme(checks, go, scratch, package, minisign):
     write(directory, "app-3", b"version 3")
     output = go.run(directory, "test", "-mod=mod", "-count=1", "-v", ".")
     checks.check("--- PASS: TestExamples" in output, f"the examples that sign: {output[-800:]}")
-    checks.check(os.stat(os.path.join(directory, "new.key")).st_mode & 0o777 == 0o600, "the mode of the key that the example generates")
+    checks.check(
+        os.stat(os.path.join(directory, "new.key")).st_mode & 0o777 == 0o600,
+        "the mode of the key that the example generates",
+    )
     verified = run([minisign, "-V", "-Q", "-p", "new.pub", "-m", "app-3"], directory)
     checks.check(verified[:2] == (0, b"version:3\tfile:app\n"), f"c/minisign verifies what the example has signed: {verified}")
 
@@ -271,15 +302,15 @@ def check_readme(checks, go, scratch, package, minisign):
 
 # All programs that Debian's Go runs to build the module and a program that uses it. make is not one of them.
 NEEDED = ("go", "gcc", "ld", "as", "git")
-# Flags that turn off optimization. For another system or the race detector, all of Go's standard library is compiled, which takes less time
-# without optimization. crypto is optimized, because an emulator runs it.
+# Flags that turn off optimization. For another system or the race detector, all of Go's standard library is compiled,
+# which takes less time without optimization. crypto is optimized, because an emulator runs it.
 UNOPTIMIZED = ["-gcflags=all=-N -l -dwarf=false", "-gcflags=crypto/...=-dwarf=false", "-ldflags=-w"]
 NO_CGO = "minisign needs cgo: set CGO_ENABLED=1, and CC to a C compiler for this system"
 
 
 def check_own_tests(checks, go, package):
-    """Runs the module's own tests and examples: under the race detector with the archive for x86-64 that the other programs are not linked
-    with, and for AArch64 in an emulator."""
+    """Runs the module's own tests and examples: under the race detector with the archive for x86-64 that the other
+    programs are not linked with, and for AArch64 in an emulator."""
     checks.check(go.run(package, "vet", "./...") == "", "go vet reports problems in the module")
     arm = emulated.AARCH64
     with_races = [*UNOPTIMIZED, "-exec", "env -u GOGC", "-race", "-tags", "amd64.v3"], {}
@@ -298,7 +329,7 @@ def check_as_c(checks, go, scratch, package, minisign):
             ("as C", [], ["-tags", "portable"], {}),
             ("for ARM", emulated.emulator(arm), UNOPTIMIZED, {"GOOS": "linux", "GOARCH": "arm", "CC": emulated.compiler(arm)}),
             ("for Windows", [windows.program], UNOPTIMIZED, {"GOOS": "windows", "CC": mingw})):
-        program = go.build("answers.go", os.path.join(scratch, what.replace(" ", "-")), package, *words, **environment)
+        program = go.build("verifying.go", os.path.join(scratch, what.replace(" ", "-")), package, *words, **environment)
         asked = Program(checks, *before, program, name=what, **windows.variables)
         asked.check_verdicts(minisign, shared_cases.corpus(), (["verify"], True))
         is_as_c = what == "for Windows" or "machine_minisign_update" in symbols_of(program)
@@ -309,10 +340,10 @@ def check_as_c(checks, go, scratch, package, minisign):
 
 
 def check_by_git(checks, scratch):
-    """Checks that a program can depend on the commit that packaging/tag.sh makes, by a git path of `example.com` and its tag or its commit,
-    in a path with spaces, with few programs in PATH and no make. It is linked with the archives. A commit without a tag does not have the C
-    files, and cannot be built."""
-    clone, repository = commands.Clone(scratch), os.path.join(scratch, "repository.git")
+    """Checks that a program can depend on the commit that packaging/tag.sh makes, by a git path of `example.com` and
+    its tag or its commit, in a path with spaces, with few programs in PATH and no make. It is linked with the archives.
+    A commit without a tag does not have the C files, and cannot be built."""
+    clone, repository = document_commands.Clone(scratch), os.path.join(scratch, "repository.git")
     os.rename(clone.top, repository)
     config = write(scratch, "gitconfig", f'[url "file://{scratch}/"]\n\tinsteadOf = https://example.com/\n'.encode())
     go = Go(scratch, PATH=shared_cases.make_path_directory(scratch, *NEEDED), GIT_CONFIG_GLOBAL=config, GOSUMDB="off",
@@ -323,19 +354,22 @@ def check_by_git(checks, scratch):
     checks.ended("packaging/tag.sh", process.run(["sh", "packaging/tag.sh"], repository), says=tags)
     commit, branch = (clone.git("rev-parse", name, at=repository).strip() for name in (f"v{shared_cases.VERSION}", "HEAD"))
     added = {*clone.git("diff", "--name-only", untagged, commit, at=repository).split()}
-    checks.check(added and all(re.fullmatch(r"bindings/go/[\w-]+\.[ach]", name) for name in added), f"the tagged commit adds {added}")
+    checks.check(
+        added and all(re.fullmatch(r"bindings/go/[\w-]+\.[ach]", name) for name in added),
+        f"the tagged commit adds {added}",
+    )
     after = branch, clone.git("ls-files", at=repository), clone.git("status", "--porcelain", at=repository)
     checks.check((untagged, files, "") == after, "packaging/tag.sh moved the branch or changed its index")
     status, output = process.run(["sh", "packaging/tag.sh"], repository)
     checks.check(status == 1 and "there is a tag" in output, f"a second tag: status {status}: {output}")
     for version in (commit, f"v{shared_cases.VERSION}"):
         directory = os.path.join(scratch, f"a user's module at {version}")
-        program = go.build("answers.go", directory, f"example.com/repository.git/bindings/go@{version}")
+        program = go.build("verifying.go", directory, f"example.com/repository.git/bindings/go@{version}")
         output = Program(checks, program).run("verify", cases=shared_cases.corpus()[:1])[1]
         has_archive = "machine_minisign_update" not in symbols_of(program)
         checks.check(output.startswith(b"accepted") and has_archive, f"by a git path at {version}: {output!r}")
     try:
-        go.build("answers.go", os.path.join(scratch, "without a tag"), f"example.com/repository.git/bindings/go@{untagged}")
+        go.build("verifying.go", os.path.join(scratch, "without a tag"), f"example.com/repository.git/bindings/go@{untagged}")
         checks.check(False, "a commit without a tag can be built")
     except static_library.NotBuilt as why:
         checks.check("archive.h" in str(why), f"a commit without a tag: {why}")
@@ -353,8 +387,8 @@ def check_without_cgo(checks, go, scratch, package):
 
 
 def with_compiled_c(go, package, scratch):
-    """Returns a copy of the package whose C files are already compiled into an object that go links. The mutants are in Go files, so C need
-    not be compiled for each."""
+    """Returns a copy of the package whose C files are already compiled into an object that go links. The mutants are in
+    Go files, so C need not be compiled for each."""
     copied = shutil.copytree(package, os.path.join(scratch, "with-compiled-c"))
     sources = go.run(copied, "list", "-f", '{{join .CFiles " "}}').split()
     static_library.run_or_fail([go.environment["CC"], "-O2", "-I.", "-r", "-nostdlib", "-o", "compiled.syso", *sources], copied)
@@ -372,8 +406,8 @@ def check_mutants(checks, go, package, scratch, minisign):
         elif word == "lists":
             check_lists(Program(checks, build("lists")), os.path.join(directory, "listed"), minisign)
         else:
-            compare_results(Program(checks, build("answers")), directory, minisign, shared_cases.corpus())
-            check_changed(checks, build("changed"))
+            compare_results(Program(checks, build("verifying")), directory, minisign, shared_cases.corpus())
+            check_changed(checks, build("changed_fields"))
 
     compiled = with_compiled_c(go, package, scratch)
     shared_cases.check_mutants(checks, compiled, "bindings/go", mutants_of("bindings", "go", "mutants"), scratch, ask)
@@ -388,11 +422,17 @@ def run_all(checks, scratch):
     def programs(source, name):
         """Builds a program twice: as a user builds it, and with the race detector."""
         ways = ("", [], Go.OPTIMIZED), ("-racing", ["-race", *UNOPTIMIZED], {})
-        paths = [go.build(source, os.path.join(scratch, name + what), package, *words, **environment) for what, words, environment in ways]
+        paths = [
+            go.build(source, os.path.join(scratch, name + what), package, *words, **environment)
+            for what, words, environment in ways
+        ]
         return [Program(checks, path, name=os.path.basename(os.path.dirname(path))) for path in paths]
 
-    program, racing = programs("answers.go", "answers")
-    checks.check(go.run(os.path.join(scratch, "answers"), "vet", "./...") == "", "go vet reports problems in a program that uses the module")
+    program, racing = programs("verifying.go", "verifying")
+    checks.check(
+        go.run(os.path.join(scratch, "verifying"), "vet", "./...") == "",
+        "go vet reports problems in a program that uses the module",
+    )
     compare_results(program, scratch, minisign, shared_cases.all_cases(checks, minisign))
     check_errors(program)
     few = shared_cases.corpus() + shared_cases.damaged_cases(60)
@@ -407,7 +447,7 @@ def run_all(checks, scratch):
     lists, racing = programs("lists.go", "lists")
     check_lists(lists, os.path.join(scratch, "listed"), minisign)
     racing.check_pairs(24, "files", os.path.join(scratch, "listed-racing"))
-    check_changed(checks, go.build("changed.go", os.path.join(scratch, "changed"), package, **Go.OPTIMIZED))
+    check_changed(checks, go.build("changed_fields.go", os.path.join(scratch, "changed"), package, **Go.OPTIMIZED))
     check_go_minisign(checks, go, scratch, program)
     check_readme(checks, go, scratch, package, minisign)
     check_mutants(checks, go, package, scratch, minisign)

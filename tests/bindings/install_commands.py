@@ -20,7 +20,7 @@ import sys
 HERE = os.path.dirname(os.path.realpath(__file__))
 sys.path += [HERE, *(os.path.join(HERE, "..", name) for name in ("shared", "c"))]
 
-import commands
+import document_commands
 import needs
 import shared_cases
 import static_library
@@ -31,11 +31,16 @@ from shared_cases import TOP, read, run, write
 CLONE = "minisign-in-rattle"
 # The beginning of commands that are left out, because they change the system.
 LEFT_OUT = "apt install "
-# A user's project in each language: the files that describe it, its program in tests/bindings, the path of that in the project, and the
-# command that runs it.
+# A user's project in each language: the files that describe it, its program in tests/bindings, the path of that in the
+# project, and the command that runs it.
 USERS = {
     "go": ({"go.mod": "module user\n"}, "installed.go", "main.go", "go run ."),
-    "rust": ({"Cargo.toml": '[package]\nname = "user"\nversion = "1.0.0"\nedition = "2021"\n\n'}, "installed.rs", "src/main.rs", "cargo run --quiet --offline"),
+    "rust": (
+        {"Cargo.toml": '[package]\nname = "user"\nversion = "1.0.0"\nedition = "2021"\n\n'},
+        "installed.rs",
+        "src/main.rs",
+        "cargo run --quiet --offline",
+    ),
     "python": ({}, "installed.py", "installed.py", "env/bin/python installed.py"),
     "javascript": ({"package.json": "{}"}, "installed.mjs", "installed.mjs", "node --no-warnings installed.mjs"),
 }
@@ -53,14 +58,29 @@ def check_package(checks, package, scratch):
     shutil.copy(shared_cases.PUBLISHED_PATHS[2], os.path.join(scratch, "app.minisig"))
     os.symlink(os.path.join("..", CLONE), os.path.join(scratch, CLONE))
     # C is compiled without optimization, which takes less time.
-    environment = {"PATH": static_library.path_without_kit(), "HOME": scratch, "GOPROXY": "off", "GOFLAGS": "", "GOTOOLCHAIN": "local",
-                   "CARGO_HOME": f"{scratch}/.cargo", "CARGO_NET_OFFLINE": "true", "CFLAGS": "-O0", "CGO_CFLAGS": "-O0"}
-    lines = commands.commands_of(readme)
-    checks.check(any(line.startswith(f"make -C {CLONE}/bindings {package}") for line in lines), f"{package}: README does not pack it")
+    environment = {
+        "PATH": static_library.path_without_kit(),
+        "HOME": scratch,
+        "GOPROXY": "off",
+        "GOFLAGS": "",
+        "GOTOOLCHAIN": "local",
+        "CARGO_HOME": f"{scratch}/.cargo",
+        "CARGO_NET_OFFLINE": "true",
+        "CFLAGS": "-O0",
+        "CGO_CFLAGS": "-O0",
+    }
+    lines = document_commands.commands_of(readme)
+    checks.check(
+        any(line.startswith(f"make -C {CLONE}/bindings {package}") for line in lines),
+        f"{package}: README does not pack it",
+    )
     for line in lines:
         if not line.startswith(LEFT_OUT):
             status, output, errors = run(["sh", "-c", line], scratch, environment)
-            checks.check(status == 0, f"{package}: {line}: status {status}: {output.decode(errors='replace')[-500:]}{errors[-800:]}")
+            checks.check(
+                status == 0,
+                f"{package}: {line}: status {status}: {output.decode(errors='replace')[-500:]}{errors[-800:]}",
+            )
     for data, expected in ((b"test", "true\n"), (b"another", "false\n")):
         write(scratch, "app", data)
         status, output, errors = run(["sh", "-c", program], scratch, environment)
@@ -70,12 +90,19 @@ def check_package(checks, package, scratch):
 
 def run_all(checks, scratch):
     needs.compiler_with_libsodium()
-    for name, package in (("make", "make"), ("ld", "binutils"), ("go", "golang-go"), ("cargo", "cargo"), ("clang", "clang"), ("wasm-ld", "lld")):
+    for name, package in (
+        ("make", "make"),
+        ("ld", "binutils"),
+        ("go", "golang-go"),
+        ("cargo", "cargo"),
+        ("clang", "clang"),
+        ("wasm-ld", "lld"),
+    ):
         needs.program(name, package)
     needs.rust_compiler()
     needs.node()
     python()
-    clone = commands.Clone(scratch)
+    clone = document_commands.Clone(scratch)
     os.rename(clone.top, os.path.join(scratch, CLONE))
     for package in USERS:
         if package == "javascript" and not shutil.which("npm", path=static_library.path_without_kit()):

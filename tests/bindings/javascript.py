@@ -5,8 +5,9 @@ without a network and without the Rattle kit.
 
     tests/bindings/javascript.py [PAGE]
 
-The WebAssembly module is taken from the web page PAGE, by default from the page in `dist/`. The script compares the results with those of
-`c/minisign` and libsodium (`CASES`), and the errors and the sizes of structs with include/minisign.h. It also checks that
+The WebAssembly module is taken from the web page PAGE, by default from the page in `dist/`. The script compares the
+results with those of `c/minisign` and libsodium (`CASES`), and the errors and the sizes of structs with
+include/minisign.h. It also checks that
 
 - the types need neither the DOM library nor those of Node;
 - each example of README.md is a complete program that runs and has the right types;
@@ -51,22 +52,31 @@ from shared_cases import PUBLISHED, PUBLISHED_PATHS, TOP, Program, read, run, wr
 from texts import record_of, text_of
 
 PACKAGE = os.path.join(TOP, "bindings", "javascript")
-PROGRAMS = [os.path.join(HERE, "javascript", f"{name}.mjs") for name in (
-    "answers", "signing", "streams", "writable", "saving", "bare", "options", "long", "files", "heap", "bundled", "bundled_signing", "lists")]
+PROGRAMS = [
+    os.path.join(HERE, "javascript", f"{name}.mjs")
+    for name in (
+        "verifying", "signing", "streams", "writable", "saving", "without_globals", "options", "long_data", "files", "heap", "bundled",
+        "bundled_signing", "lists",
+    )
+]
 MODULE, SIGNING_MODULE = "module.js", "signing_module.js"
 # The files that tools/bindings.py generates, and the part of calls.js that it generates.
 GENERATED = ("errors.js", "header.js")
-GENERATED_IN_CALLS = re.compile("// ---- From include/minisign.h, made by tools/bindings.py ----.*// ---- End of the generated part ----",
-                                re.S)
-# The globals that the package uses, besides those of the language. Browsers, workers, Node and Deno have them, because they belong to the
-# "Minimum common web platform API".
+GENERATED_IN_CALLS = re.compile(
+    "// ---- From include/minisign.h, made by tools/bindings.py ----.*// ---- End of the generated part ----", re.S
+)
+# The globals that the package uses, besides those of the language. Browsers, workers, Node and Deno have them, because
+# they belong to the "Minimum common web platform API".
 GLOBALS = ("TextDecoder", "TextEncoder", "WebAssembly", "atob", "crypto")
-# The numbers of calls and of keys, and the maximum growth of memory after the first tenth of them, in bytes. If each key kept a page of a
-# module's memory, the memory would grow by more.
+# The numbers of calls and of keys, and the maximum growth of memory after the first tenth of them, in bytes. If each
+# key kept a page of a module's memory, the memory would grow by more.
 CALLS, CALL_GROWTH = 5_000, 800_000
 KEYS, KEY_GROWTH = 1_000, 16 * 1048576
 # The cases of streams.mjs. Each runs in a separate process, because an error event without a listener ends the process.
-STREAMS = ("aborted", "cancelled", "descriptors", "late", "event", "both", "absent", "opening", "begun", "between", "web", "accepted")
+STREAMS = (
+    "aborted", "cancelled", "descriptors", "late", "event", "both", "absent", "opening", "begun", "between", "web",
+    "accepted",
+)
 # The error codes that verification can return, except those for API misuse.
 VERIFICATION_ERRORS = {8, *range(16, 33), 44, 45, 81}
 
@@ -90,15 +100,18 @@ def text_of_package(name):
 
 
 def check_sources(checks, user):
-    """Checks that package.json names the files and the version, that only calls.js calls the module, and that the errors and the layout of
-    structs match include/minisign.h."""
+    """Checks that package.json names the files and the version, that only calls.js calls the module, and that the
+    errors and the layout of structs match include/minisign.h."""
     described = json.loads(text_of_package("package.json"))
     checks.same(described["version"], shared_cases.VERSION, "the version of package.json")
     names = {name for name in os.listdir(os.path.join(user, "node_modules", "minisign-proved")) if name.endswith((".js", ".ts"))}
     checks.check(set(described["files"]) == names, f"package.json names {described['files']}, and there are {sorted(names)}")
     for name in sorted(names - {MODULE, SIGNING_MODULE, *GENERATED}):
         bare = re.sub(r"/\*.*?\*/", "", GENERATED_IN_CALLS.sub("", text_of_package(name)), flags=re.S)
-        checks.check(name == "calls.js" or not re.search(r"page_|WebAssembly\.|\.memory\b|\.calls\b", bare), f"{name} calls the module")
+        checks.check(
+            name == "calls.js" or not re.search(r"page_|WebAssembly\.|\.memory\b|\.calls\b", bare),
+            f"{name} calls the module",
+        )
     shared_cases.check_readme(checks, "javascript")
     check_imports(checks, sorted(names))
     expected, table = shared_cases.ERRORS, re.search(r"ERRORS = Object\.freeze\(\{(.*?)\}\)", text_of_package("errors.js"), re.S)[1]
@@ -107,10 +120,20 @@ def check_sources(checks, user):
     typed = set(re.findall(r'"([A-Z0-9_]+)"', re.search(r"type ErrorCode =(.*?);", text_of_package("errors.d.ts"), re.S)[1]))
     checks.check(typed == set(expected), f"errors.d.ts has other errors than the header: {typed ^ set(expected)}")
     places = shared_cases.struct_layout(user)
-    structs = {"STATE": "state", "KEY": "public_key", "SIGNATURE": "signature", "QUESTIONS": "questions", "LIST": "list", "LIST_ENTRY": "list_entry"}
+    structs = {
+        "STATE": "state",
+        "KEY": "public_key",
+        "SIGNATURE": "signature",
+        "QUESTIONS": "questions",
+        "LIST": "list",
+        "LIST_ENTRY": "list_entry",
+    }
     found = re.findall(rf"const ({'|'.join(structs)})_BYTES = (\d+);", text_of_package("calls.js"))
     sizes = {name: int(size) for name, size in found}
-    checks.check(sizes == {name: places[f"minisign_{struct}"] for name, struct in structs.items()}, f"calls.js has other sizes than the header: {sizes}")
+    checks.check(
+        sizes == {name: places[f"minisign_{struct}"] for name, struct in structs.items()},
+        f"calls.js has other sizes than the header: {sizes}",
+    )
     for struct, count in (("SIGNATURE", 2), ("QUESTIONS", 8), ("LIST_ENTRY", 6)):
         fields = re.search(rf"const {struct} = \{{(.*?)\}};", text_of_package("calls.js"), re.S)[1]
         offsets = {name: int(offset) for name, offset in re.findall(r"(\w+): (\d+)", fields)}
@@ -140,10 +163,19 @@ def check_imports(checks, names):
 
 
 def by_node(checks, user, program):
-    """Returns a `Program` that runs a script of a user's directory by Node. Warnings are turned off, because Node 18 warns that Ed25519
-    is experimental."""
-    return Program(checks, os.environ.get("NODE") or needs.node(), "--expose-gc", "--experimental-vm-modules", program, name=program,
-                   directory=user, NODE_NO_WARNINGS="1", PATH=static_library.path_without_kit())
+    """Returns a `Program` that runs a script of a user's directory by Node. Warnings are turned off, because Node 18
+    warns that Ed25519 is experimental."""
+    return Program(
+        checks,
+        os.environ.get("NODE") or needs.node(),
+        "--expose-gc",
+        "--experimental-vm-modules",
+        program,
+        name=program,
+        directory=user,
+        NODE_NO_WARNINGS="1",
+        PATH=static_library.path_without_kit(),
+    )
 
 
 def check_cases(program, minisign, cases):
@@ -173,7 +205,8 @@ def check_streams(program, *_):
 
 
 def check_fields(program, minisign, _):
-    """Checks the key IDs and legacy flags of parsed keys and signatures, and that verifying with the parsed objects gives the same results."""
+    """Checks the key IDs and legacy flags of parsed keys and signatures, and that verifying with the parsed objects
+    gives the same results."""
     def form(fields):
         comment, = shared_cases.accepted_comments(minisign, [fields.case], allow_legacy)
         ids = " ".join(map(shared_cases.key_id_text, (fields.key_id, fields.signature_key_id)))
@@ -197,12 +230,12 @@ def check_options(program, *_):
 def check_long(program, *_):
     """Checks that other tasks run while long data is verified or signed, so that an AbortSignal can stop the call."""
     for least, word in ((6, "verifying"), (1, "signing"), (3, "timers"), (2, "same"), (8, "cut")):
-        by_node(program.checks, program.directory, "long.mjs").check_pairs(least, word, PUBLISHED_PATHS[0], PUBLISHED_PATHS[2])
+        by_node(program.checks, program.directory, "long_data.mjs").check_pairs(least, word, PUBLISHED_PATHS[0], PUBLISHED_PATHS[2])
 
 
 def check_writable(program, *_):
-    """Checks the streams of verifiers and signers, the fields of trusted comments, the code of each error, and that many signatures share
-    one instance of the signing module."""
+    """Checks the streams of verifiers and signers, the fields of trusted comments, the code of each error, and that
+    many signatures share one instance of the signing module."""
     for least, word in ((15, "streams"), (21, "fields"), (11, "codes"), (3, "instances")):
         by_node(program.checks, program.directory, "writable.mjs").check_pairs(least, word, *PUBLISHED_PATHS)
 
@@ -229,8 +262,9 @@ CASES = {"cases": check_cases, "pieces": check_pieces, "read": check_fields, "ar
 
 
 def check_signing(checks, user, scratch, minisign, decrypts=True):
-    """Checks that the program and `c/minisign` can read each other's keys and signatures, that keys do not show their secret and are
-    cleared, that arguments of wrong types are rejected and streams closed, and that threads can sign concurrently."""
+    """Checks that the program and `c/minisign` can read each other's keys and signatures, that keys do not show their
+    secret and are cleared, that arguments of wrong types are rejected and streams closed, and that threads can sign
+    concurrently."""
     program = by_node(checks, user, "signing.mjs")
     program.check_pairs(44, "checks", PUBLISHED_PATHS[1])
     program.check_threads()
@@ -245,8 +279,8 @@ KEY_IDS = [0, 1, 0x0F, 0x10, 0xABCDEF0123, 0x0123456789ABCDEF, 0xE7620F1842B4E81
 
 
 def check_files(checks, user, scratch, minisign):
-    """Checks that default trusted comments and key IDs are those of `c/minisign`, and that a new key file is readable by its owner only and
-    replaces no existing file."""
+    """Checks that default trusted comments and key IDs are those of `c/minisign`, and that a new key file is readable
+    by its owner only and replaces no existing file."""
     os.makedirs(os.path.join(scratch, "below"))
     os.makedirs(os.path.join(scratch, "full"))
     program, secret = by_node(checks, user, "files.mjs"), os.path.join(scratch, "key")
@@ -273,18 +307,23 @@ def check_files(checks, user, scratch, minisign):
         checks.check((status, output.decode()) == (0, expected), f"the key ID {number:#x}: {output} {why}, expected {expected!r}")
 
 
-# The maximum number of copies of the seed in the heap of malloc. WebCrypto leaves a few copies in freed memory, but not one per signature.
+# The maximum number of copies of the seed in the heap of malloc. WebCrypto leaves a few copies in freed memory, but not
+# one per signature.
 MAX_FREED = 10
 # The number of searches if the seed is found. A leak is found in each search. Freed memory may keep a copy until malloc reuses it.
 SEARCHES = 3
 
 
 def check_memory(checks, user, scratch, minisign):
-    """Checks that the seed of a key is never in the heap of the JavaScript engine, where it could not be cleared, and that clearing the key
-    leaves at most the copies of WebCrypto."""
+    """Checks that the seed of a key is never in the heap of the JavaScript engine, where it could not be cleared, and
+    that clearing the key leaves at most the copies of WebCrypto."""
     run([minisign, "-G", "-W", "-s", "open", "-p", "pub"], scratch)
     write(scratch, "sealed", shared_cases.sealed(read(scratch, "open"), shared_cases.KEY_LIMITS[4][0]))
-    program, ways = by_node(checks, user, "heap.mjs"), (["generate"], ["read", f"{scratch}/open"], ["read", f"{scratch}/sealed", shared_cases.PASSWORD])
+    program, ways = by_node(checks, user, "heap.mjs"), (
+        ["generate"],
+        ["read", f"{scratch}/open"],
+        ["read", f"{scratch}/sealed", shared_cases.PASSWORD],
+    )
     for words in ways:
         environment = dict(os.environ, **program.environment)
         for _ in range(SEARCHES):
@@ -301,15 +340,22 @@ ONLY_IN_SIGNING = ("pkcs8", "minisign_signed_text", "minisign_read_secret_key")
 
 
 def check_bundles(checks, user, scratch, _):
-    """Checks that the bundle of a program that only verifies contains no code for signing, that the bundle of a program that signs contains
-    all of it, and that both run."""
+    """Checks that the bundle of a program that only verifies contains no code for signing, that the bundle of a program
+    that signs contains all of it, and that both run."""
     esbuild, of_module = needs.program("esbuild", "esbuild"), read(user, "node_modules", "minisign-proved", SIGNING_MODULE).decode()
     of_signing = [*ONLY_IN_SIGNING, re.search('"(.*)"', of_module)[1][:1000]]
     words = [part.hex() for part in PUBLISHED[1:]]
     for name, comment in (("bundled", "timestamp:1556193335\tfile:test"), ("bundled_signing", "signed")):
-        for form in [[f"--format={form}", f"--platform={platform}"] for form in ("esm", "cjs", "iife") for platform in ("node", "browser", "neutral")]:
+        for form in [
+            [f"--format={form}", f"--platform={platform}"]
+            for form in ("esm", "cjs", "iife")
+            for platform in ("node", "browser", "neutral")
+        ]:
             bundle = os.path.join(scratch, "bundle.mjs" if "esm" in form[0] else "bundle.cjs")
-            result = run([esbuild, f"{name}.mjs", "--bundle", "--minify", "--log-level=warning", f"--outfile={bundle}", *form], user)
+            result = run(
+                [esbuild, f"{name}.mjs", "--bundle", "--minify", "--log-level=warning", f"--outfile={bundle}", *form],
+                user,
+            )
             text = read(bundle).decode()
             has = [part in text for part in of_signing]
             is_right = has == [name == "bundled_signing"] * len(has)
@@ -318,18 +364,31 @@ def check_bundles(checks, user, scratch, _):
             checks.check((status, output.decode()) == (0, f"{comment}\n"), f"esbuild {name} {form}: {status} {output} {errors}")
             if name == "bundled":
                 named = re.search(r"bundle is (\d+) kB", text_of_package("README.md"))
-                checks.check(named and abs(len(text) - 1000 * int(named[1])) < 1000, f"README.md does not say that a bundle has {len(text)} bytes")
+                checks.check(
+                    named and abs(len(text) - 1000 * int(named[1])) < 1000,
+                    f"README.md does not say that a bundle has {len(text)} bytes",
+                )
 
 
 def check_readme(checks, user, scratch, minisign):
-    """Checks that the examples of the README have the right types and run in one project, in their order. The examples that verify reject
-    changed data, and `c/minisign` accepts the signature that the example for signing writes."""
+    """Checks that the examples of the README have the right types and run in one project, in their order. The examples
+    that verify reject changed data, and `c/minisign` accepts the signature that the example for signing writes."""
     directory = shutil.copytree(user, os.path.join(scratch, "user"))
     blocks = shared_cases.readme_blocks("javascript")
-    for name, text in (("app", read(PUBLISHED_PATHS[1])), ("app.minisig", read(PUBLISHED_PATHS[2])), ("release.zip", b"a release\n")):
+    for name, text in (
+        ("app", read(PUBLISHED_PATHS[1])),
+        ("app.minisig", read(PUBLISHED_PATHS[2])),
+        ("release.zip", b"a release\n"),
+    ):
         write(directory, name, text)
     run([minisign, "-G", "-W", "-s", "list.key", "-p", "list.pub"], directory)
-    write(directory, "SHA256SUMS", "".join(f"{shared_cases.hex_digest('sha256', read(directory, name))}  {name}\n" for name in ("app", "release.zip")).encode())
+    write(
+        directory,
+        "SHA256SUMS",
+        "".join(
+            f"{shared_cases.hex_digest('sha256', read(directory, name))}  {name}\n" for name in ("app", "release.zip")
+        ).encode(),
+    )
     run([minisign, "-S", "-s", "list.key", "-m", "SHA256SUMS", "-t", "version:2\tfile:SHA256SUMS"], directory)
     for number, block in enumerate(blocks):
         write(directory, f"readme-{number}.mjs", block.encode())
@@ -350,7 +409,10 @@ def check_readme(checks, user, scratch, minisign):
     for number, (data, expected, reason) in enumerate(rows):
         program = by_node(checks, directory, f"readme-{number}.mjs")
         status, output, why = program.run()
-        checks.check(status == 0 and re.fullmatch(expected, output.decode()) and why == "", f"README example {number}: {status} {output} {why}")
+        checks.check(
+            status == 0 and re.fullmatch(expected, output.decode()) and why == "",
+            f"README example {number}: {status} {output} {why}",
+        )
         if reason:
             write(directory, data, read(directory, data) + b"x")
             status, output, why = program.run()
@@ -359,13 +421,17 @@ def check_readme(checks, user, scratch, minisign):
     status, _, why = run([minisign, "-V", "-q", "-p", "minisign.pub", "-m", "release.zip"], directory)
     checks.check(status == 0, f"c/minisign rejects the signature of the README's example: {why}")
     checks.same(read(directory, "installed.zip"), b"a release\n", "the file that the README's last example saved")
-    checks.same(os.stat(os.path.join(directory, "minisign.key")).st_mode & 0o777, 0o600, "the mode of the key file that the README's example made")
+    checks.same(
+        os.stat(os.path.join(directory, "minisign.key")).st_mode & 0o777,
+        0o600,
+        "the mode of the key file that the README's example made",
+    )
 
 
 def check_types(checks, user):
     """Checks that the type declarations need neither the DOM library nor those of Node, and accept types of the DOM library."""
     compiler = needs.program("tsc", "node-typescript")
-    for what in ("language", "web"):
+    for what in ("language_types", "web_types"):
         for kind in ("ts", "json"):
             shutil.copy(os.path.join(HERE, "javascript", f"{what}.{kind}"), user)
         status, output, why = run([compiler, "-p", f"{what}.json"], user)
@@ -373,11 +439,16 @@ def check_types(checks, user):
 
 
 def check_bare(checks, user):
-    """Checks that the package works in a context and in a thread whose only globals are GLOBALS, and fails if one of them is missing."""
+    """Checks that the package works in a context and in a thread whose only globals are GLOBALS, and fails if one of
+    them is missing."""
     expected = ["accepted timestamp:1556193335\tfile:test"] * 4 + ["rejected SIGNATURE_REFUSED"]
-    rows = [("context", GLOBALS), ("thread", GLOBALS), *(("context", [word for word in GLOBALS if word != left_out]) for left_out in GLOBALS)]
+    rows = [
+        ("context", GLOBALS),
+        ("thread", GLOBALS),
+        *(("context", [word for word in GLOBALS if word != left_out]) for left_out in GLOBALS),
+    ]
     for where, names in rows:
-        status, output, why = by_node(checks, user, "bare.mjs").run(where, *names, cases=[PUBLISHED])
+        status, output, why = by_node(checks, user, "without_globals.mjs").run(where, *names, cases=[PUBLISHED])
         works = output.decode().splitlines() == expected
         checks.check(works == (names is GLOBALS), f"in a bare {where} with {names}: {output} {status} {why[-500:]}")
 
@@ -386,7 +457,8 @@ SECONDS = 600
 
 
 class Handler(http.server.SimpleHTTPRequestHandler):
-    """Serves the files of a directory without logging. The content security policy is that of README.md, plus what the tests need."""
+    """Serves the files of a directory without logging. The content security policy is that of README.md, plus what the
+    tests need."""
 
     def end_headers(self):
         policy = re.search(r"for example `(script-src [^`]*)`", text_of_package("README.md"))[1]
@@ -442,9 +514,16 @@ def check_answers(checks, what, answers, scratch, minisign, cases):
     checks.same(answers["signs"], "version:2,true,false,version:2,true,false KEY_NOT_OPENED", f"{what}, signing")
     for name, text in zip(("sealed", "sealed.pub"), answers["pair"]):
         write(scratch, name, text.encode())
-    run([minisign, "-S", "-s", "sealed", "-m", "public", "-x", "sig", "-t", what], scratch, data=f"{shared_cases.PASSWORD}\n".encode())
+    run(
+        [minisign, "-S", "-s", "sealed", "-m", "public", "-x", "sig", "-t", what],
+        scratch,
+        data=f"{shared_cases.PASSWORD}\n".encode(),
+    )
     verified = run([minisign, "-V", "-Q", "-p", "sealed.pub", "-m", "public", "-x", "sig"], scratch)
-    checks.check(verified[:2] == (0, f"{what}\n".encode()), f"{what}: c/minisign cannot sign with the encrypted key of the package: {verified}")
+    checks.check(
+        verified[:2] == (0, f"{what}\n".encode()),
+        f"{what}: c/minisign cannot sign with the encrypted key of the package: {verified}",
+    )
 
 
 # The checks that need a new directory, by the names that mutants give after `must fail:`.
@@ -468,7 +547,7 @@ def check_mutants(checks, user, scratch, minisign):
         elif word in IN_DIRECTORIES:
             IN_DIRECTORIES[word](checks, copied, new_directory(directory, word), minisign)
         else:
-            CASES[word](by_node(checks, copied, "answers.mjs"), minisign, shared_cases.corpus())
+            CASES[word](by_node(checks, copied, "verifying.mjs"), minisign, shared_cases.corpus())
 
     package = os.path.join(user, "node_modules", "minisign-proved")
     all_mutants = mutants_of("bindings", "javascript", "mutants")
@@ -480,7 +559,7 @@ def run_all(checks, scratch):
     user, minisign = install(scratch, page), shared_cases.build_c_minisign(scratch)
     check_sources(checks, user)
     cases = shared_cases.all_cases(checks, minisign)
-    program = by_node(checks, user, "answers.mjs")
+    program = by_node(checks, user, "verifying.mjs")
     for ask in CASES.values():
         ask(program, minisign, cases)
     program.check_verdicts(minisign, cases, (["threads"], False))

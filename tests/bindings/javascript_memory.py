@@ -18,8 +18,8 @@ def needles_of(seed):
     return [seed[:16], seed[16:], b"".join(struct.pack("<Q", byte << 32) for byte in seed[:16])]
 
 
-# glibc's malloc aligns the heaps for threads to this size. The first word of such a heap points to its arena, which is in a heap at one of
-# these offsets.
+# glibc's malloc aligns the heaps for threads to this size. The first word of such a heap points to its arena, which is
+# in a heap at one of these offsets.
 ARENA = 64 * 1048576
 ARENA_OFFSETS = (0x20, 0x30)
 # The maximum number of garbage collections until malloc has few copies.
@@ -36,8 +36,8 @@ def areas_of(pid):
 
 
 def is_of_malloc(memory, begin, name, address):
-    """Returns True if an address is in a heap of malloc. `begin` and `name` are those of its memory area. The engine's heap is in other
-    areas."""
+    """Returns True if an address is in a heap of malloc. `begin` and `name` are those of its memory area. The engine's
+    heap is in other areas."""
     base = address - address % ARENA
     if name or base < begin:
         return name == "[heap]"
@@ -61,8 +61,8 @@ def count_in(pid, needles):
 
 
 def search(command, directory, environment, most_freed):
-    """Runs heap.mjs, and searches for the seed while the key is in use and after it was cleared. Returns the counts of `count_in` for both.
-    After clearing, garbage is collected until malloc has at most `most_freed` copies."""
+    """Runs heap.mjs, and searches for the seed while the key is in use and after it was cleared. Returns the counts of
+    `count_in` for both. After clearing, garbage is collected until malloc has at most `most_freed` copies."""
     process = subprocess.Popen(command, stdin=subprocess.PIPE, stdout=subprocess.PIPE, cwd=directory, env=environment)
     try:
         text = process.stdout.readline() + process.stdout.readline()

@@ -27,8 +27,9 @@ import test_script
 from mutants import copy_sources, mutants_of
 from shared_cases import TOP, check_mutants, read, run
 
-# For each language: its files, from the top of the repository; the maximum width of lines; and the formatter, its Debian package and its
-# arguments. If all files have the right layout, the formatter prints nothing and exits with status 0.
+# For each language: its files, from the top of the repository; the maximum width of lines; and the formatter, its
+# Debian package and its arguments. If all files have the right layout, the formatter prints nothing and exits with
+# status 0.
 LANGUAGES = {
     "Rust": (["bindings/rust*/*.rs", "bindings/rust*/examples/*.rs", "bindings/rust*/src/**/*.rs"], 100,
              ["rustfmt", "rustfmt", "--check", "--edition", "2021"]),
@@ -40,7 +41,8 @@ LANGUAGES = {
 MODULES = ["bindings/javascript/module.js", "bindings/javascript/signing_module.js"]
 PACKAGE = "bindings/javascript/package.json"
 
-# Patterns of JavaScript that prettier would write differently, by name: anywhere in a file, and outside of strings, templates and comments.
+# Patterns of JavaScript that prettier would write differently, by name: anywhere in a file, and outside of strings,
+# templates and comments.
 IN_LINES = {
     "a tab": r"\t",
     "spaces at the end of a line": r"(?m)[ ]$",
@@ -84,7 +86,10 @@ def check_language(checks, language, top):
     checks.check(len(names) >= 5, f"{language}: only {names}")
     if formatter:
         status, output, errors = run([needs.program(*formatter[:2]), *formatter[2:], *names], top)
-        checks.check(status == 0 and output.strip() == b"", f"{formatter[0]}: {output.decode(errors='replace')[:600]}{errors[:600]}")
+        checks.check(
+            status == 0 and output.strip() == b"",
+            f"{formatter[0]}: {output.decode(errors='replace')[:600]}{errors[:600]}",
+        )
     for name in names:
         text = read(top, name).decode()
         for number, line in enumerate(text.split("\n"), 1):

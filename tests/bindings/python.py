@@ -47,7 +47,7 @@ from static_library import run_or_fail
 USER, CHECKS, INSTALLER = (os.path.join(HERE, f"python_{name}.py") for name in ("user", "checks", "installing"))
 PACKAGE = "minisign_proved"
 SOURCES = os.path.join(TOP, "bindings", "python")
-# Functions that run even if only other checks are selected (tests/shared/selected.py): building the wheel needs their results.
+# Functions that run even if only other checks are selected (tests/shared/case_selection.py): building the wheel needs their results.
 ALWAYS = ("check_builds",)
 
 
@@ -80,15 +80,27 @@ def build(sources, programs, **environment):
 def check_loaded(checks, what, compiler, library, before=(), **variables):
     """Checks that a program can load the library and hash with it, and that the library has the installer, except on Windows."""
     program = os.path.join(os.path.dirname(library), "loaded.exe")
-    run_or_fail([compiler, "-std=c11", "-w", "-I", os.path.join(TOP, "include"), "-o", program, os.path.join(HERE, "python", "loaded.c")])
+    run_or_fail(
+        [
+            compiler,
+            "-std=c11",
+            "-w",
+            "-I",
+            os.path.join(TOP, "include"),
+            "-o",
+            program,
+            os.path.join(HERE, "python", "load_library.c"),
+        ]
+    )
     output = run([*before, program, library], environment=variables)[1].decode()
     expected = rf"\d+ {hashlib.blake2b(bytes([7]) * 1000).hexdigest()} with{'out' if what == 'Windows' else ''} installer\r?\n"
     checks.check(re.fullmatch(expected, output), f"{what}: {output}")
 
 
 def check_builds(checks, archive, scratch):
-    """Builds the source distribution of the package in a path with spaces: from C sources by Debian's compiler and with musl, for AArch64
-    with dist/calls-aarch64.a, and for Windows. Checks that a compiler without GNU options is rejected with an error that says so."""
+    """Builds the source distribution of the package in a path with spaces: from C sources by Debian's compiler and with
+    musl, for AArch64 with dist/calls-aarch64.a, and for Windows. Checks that a compiler without GNU options is rejected
+    with an error that says so."""
     programs, arm, windows = shared.make_path_directory(scratch, *NEEDED), emulated.AARCH64, portable.Windows(scratch)
 
     def unpacked(name):
@@ -98,9 +110,11 @@ def check_builds(checks, archive, scratch):
 
     gcc, mingw = needs.c_compiler(), needs.program("x86_64-w64-mingw32-gcc", "gcc-mingw-w64-x86-64")
     for what, compiler, before, is_portable, machine in (
-            ("C alone", gcc, [], "1", "linux_x86_64"),
-            ("musl", needs.program("musl-gcc", "musl-tools"), [], "1", "linux_x86_64"),
-            ("AArch64", emulated.compiler(arm), emulated.emulator(arm), "", "linux_aarch64"), ("Windows", mingw, [windows.program], "", "win_amd64")):
+        ("C alone", gcc, [], "1", "linux_x86_64"),
+        ("musl", needs.program("musl-gcc", "musl-tools"), [], "1", "linux_x86_64"),
+        ("AArch64", emulated.compiler(arm), emulated.emulator(arm), "", "linux_aarch64"),
+        ("Windows", mingw, [windows.program], "", "win_amd64"),
+    ):
         sources = unpacked(what)
         status, why, library = build(sources, programs, CC=compiler, MINISIGN_PORTABLE=is_portable)
         if checks.check(status == 0, f"{what}: the build failed: {why[-1000:]}"):
@@ -118,12 +132,15 @@ def check_builds(checks, archive, scratch):
         checks.check(status == 0, why)
         check_loaded(checks, "a mutant", gcc, library)
 
-    shared.check_mutants(checks, unpacked("mutants"), "bindings/python", mutants_of("bindings", "python", "setup_mutants"), scratch, run_case)
+    shared.check_mutants(
+        checks, unpacked("mutants"), "bindings/python", mutants_of("bindings", "python", "setup_mutants"), scratch, run_case
+    )
     return programs
 
 
 def build_wheel(checks, scratch):
-    """Builds the wheel from the source distribution, with the archives of proved functions in dist/, and checks it. Returns its path."""
+    """Builds the wheel from the source distribution, with the archives of proved functions in dist/, and checks it.
+    Returns its path."""
     package = shared.pack_and_unpack("python", scratch, PYTHON=python())
     archive, = glob.glob(os.path.join(scratch, "packed", "*.tar.gz"))
     command = [python(), "-m", "pip", "wheel", "-q", "--no-index", "--no-build-isolation", "--no-deps", "-w", scratch, archive]
@@ -134,8 +151,14 @@ def build_wheel(checks, scratch):
         metadata, = (wheel.read(name).decode() for name in wheel.namelist() if name.endswith("METADATA"))
     sources = {os.path.basename(path) for path in glob.glob(os.path.join(package, "src", PACKAGE, "*.p*"))}
     checks.check(names == sources | {"libminisign.so", "py.typed"}, f"the wheel has {sorted(names)}")
-    checks.check(f"\nVersion: {shared.VERSION}\n" in metadata, f"the header has version {shared.VERSION}, and the wheel {metadata[:200]}")
-    checks.check("Requires-Dist" not in metadata and "Name: minisign-proved\n" in metadata, f"the metadata of the wheel: {metadata[:300]}")
+    checks.check(
+        f"\nVersion: {shared.VERSION}\n" in metadata,
+        f"the header has version {shared.VERSION}, and the wheel {metadata[:200]}",
+    )
+    checks.check(
+        "Requires-Dist" not in metadata and "Name: minisign-proved\n" in metadata,
+        f"the metadata of the wheel: {metadata[:300]}",
+    )
     checks.check(re.search(r"-py3-none-linux_(x86_64|aarch64)\.whl$", path) is not None, f"the name of the wheel: {path}")
     return path
 
@@ -159,8 +182,8 @@ def check_sources(checks):
         checks.check(ast.parse(read(path), path, feature_version=(3, 9)))
 
 
-# A program that prints what the package declares: the errors; the sizes of structs, and the offsets of their fields; and the constants and the
-# structs of minisign_installing.h, named by the C expressions that give the same numbers.
+# A program that prints what the package declares: the errors; the sizes of structs, and the offsets of their fields;
+# and the constants and the structs of minisign_installing.h, named by the C expressions that give the same numbers.
 DECLARED = r"""
 import ctypes, json, re
 from minisign_proved import _calls, _header, errors, installing
@@ -170,8 +193,11 @@ for name, struct in vars(_header).items():
         name = "minisign" + re.sub("([A-Z])", r"_\1", name).lower()
         places[name] = ctypes.sizeof(struct)
         places.update((f"{name}.{field}", getattr(struct, field).offset) for field, _ in struct._fields_)
-for name, struct in (("minisign_installing_options", installing.InstallingOptions), ("minisign_installing_message", installing.Message),
-                     ("minisign_installing_progress", installing.Phase)):
+for name, struct in (
+    ("minisign_installing_options", installing.InstallingOptions),
+    ("minisign_installing_message", installing.Message),
+    ("minisign_installing_progress", installing.Phase),
+):
     installer[f"sizeof({name})"] = ctypes.sizeof(struct)
     for field, _ in struct._fields_:
         value = getattr(struct, field)
@@ -179,14 +205,18 @@ for name, struct in (("minisign_installing_options", installing.InstallingOption
 for name, value in vars(installing).items():
     if name.startswith(("STATUS_", "PHASE_", "MESSAGE_")):
         installer[f"MINISIGN_{name}"] = value
-print(json.dumps([[[number, kind.__name__, str(_calls.error_of(number))] for number, kind in errors.BY_NUMBER.items()], places, installer]))
+errors_found = [[number, kind.__name__, str(_calls.error_of(number))] for number, kind in errors.BY_NUMBER.items()]
+print(json.dumps([errors_found, places, installer]))
 """
 
 
 def check_headers(checks, scratch, python_path, package):
-    """Checks that the library is linked with the archives of dist/, and that the exceptions, constants and structs of the package are those
-    of the headers. Of minisign_installing.h, the package declares only a part."""
-    checks.check("v3_minisign_update" in shared.symbols_of(f"{package}/libminisign.so"), "the library is not linked with the archives")
+    """Checks that the library is linked with the archives of dist/, and that the exceptions, constants and structs of
+    the package are those of the headers. Of minisign_installing.h, the package declares only a part."""
+    checks.check(
+        "v3_minisign_update" in shared.symbols_of(f"{package}/libminisign.so"),
+        "the library is not linked with the archives",
+    )
     errors, places, installer = json.loads(run_or_fail([python_path, "-c", DECLARED]))
     expected = [[number, "".join(map(str.capitalize, name.split("_"))), shared.error_texts()[name]]
                 for name, number in shared.ERRORS.items()]
@@ -199,7 +229,9 @@ def check_headers(checks, scratch, python_path, package):
 def check_types(checks, python_path, package):
     """Checks the type annotations of the package, and its use in the tests, with mypy."""
     mypy = needs.program("mypy", "mypy")
-    status, output, why = run([mypy, "--strict", "--cache-dir=/dev/null", "--python-executable", python_path, package, USER, CHECKS])
+    status, output, why = run(
+        [mypy, "--strict", "--cache-dir=/dev/null", "--python-executable", python_path, package, USER, CHECKS]
+    )
     checks.check(status == 0, f"types: {output.decode()[-1000:]}{why[-300:]}")
 
 
@@ -235,7 +267,9 @@ def check_examples(checks, python_path, scratch):
         write(scratch, name, data)
     minisign = lambda *words: run([needs.minisign(), *words], scratch)
     minisign("-G", "-W", "-p", "app.pub", "-s", "app.key")
-    digests = "".join(f"{shared.hex_digest('sha256', data)}  {name}\n" for name, data in (("app-2", b"version 2"), ("data", b"data")))
+    digests = "".join(
+        f"{shared.hex_digest('sha256', data)}  {name}\n" for name, data in (("app-2", b"version 2"), ("data", b"data"))
+    )
     write(scratch, "SHA256SUMS", digests.encode())
     for name, comment in (("app-2", "version:2\tfile:app"), ("data", "data"), ("SHA256SUMS", "file:SHA256SUMS")):
         minisign("-S", "-s", "app.key", "-m", name, "-t", comment)
@@ -261,7 +295,12 @@ def check_mutants(checks, python_path, package, scratch, minisign):
     """Checks that each mutant of the package is detected by the case that it names."""
     def run_case(checks, changed, directory, word):
         # libsodium is used where possible, because it loads faster.
-        user = user_of(checks, python_path, "cryptography" if word in ("vectors", "strict") else "libsodium", os.path.dirname(changed))
+        user = user_of(
+            checks,
+            python_path,
+            "cryptography" if word in ("vectors", "strict") else "libsodium",
+            os.path.dirname(changed),
+        )
         cases = {"verify": lambda: user.check_errors(["verify", "reject"], shared.rejected_cases()),
                  "fields": lambda: user.check_fields(["fields"], fields_line),
                  "pieces": lambda: user.check_verdicts(minisign, shared.corpus(), (["pieces"], True)),
@@ -272,7 +311,9 @@ def check_mutants(checks, python_path, package, scratch, minisign):
                  "sign": lambda: shared.check_signing(user, os.path.join(directory, "signed"), minisign)}
         cases.get(word, lambda: user.check_pairs(1, word, directory))()
 
-    shared.check_mutants(checks, package, f"bindings/python/src/{PACKAGE}", mutants_of("bindings", "python", "mutants"), scratch, run_case)
+    shared.check_mutants(
+        checks, package, f"bindings/python/src/{PACKAGE}", mutants_of("bindings", "python", "mutants"), scratch, run_case
+    )
 
 
 def run_all(checks, scratch):

@@ -32,7 +32,7 @@ import stat
 import struct
 import sys
 import threading
-from typing import Any, Callable, Dict, Iterator, List, NamedTuple, Sequence, Tuple, Type
+from typing import Any, Callable, Dict, Iterator, List, NamedTuple, Optional, Sequence, Tuple, Type
 from unittest import mock
 
 import minisign_proved as minisign
@@ -173,7 +173,10 @@ def keys(scratch: str) -> None:
         (minisign.UnreadableComment, "x" * 9000),
         (minisign.NotUtf8, "\udcff"),
     ):
-        rejects(kind, lambda comment=comment: key.sign(data, trusted_comment=comment), f"the comment {comment[:9]!r}")  # type: ignore[misc]
+        def sign(comment: str = comment) -> object:
+            return key.sign(data, trusted_comment=comment)
+
+        rejects(kind, sign, f"the comment {comment[:9]!r}")
 
     minisign.change_password(os.path.join(scratch, "ours.key"), None, None)
     same(oct(mode_of(os.path.join(scratch, "ours.key"))), "0o600", "the mode of a key file after change_password")
@@ -378,8 +381,8 @@ def writing(scratch: str) -> None:
 
 
 def check_syncs(call: Callable[[], object], what: str, number: int, fails: bool = False) -> None:
-    """Checks that a call syncs a file and then its directory. Syncing the directory fails with this errno, unless it is 0. `fails` says
-    whether the call then fails."""
+    """Checks that a call syncs a file and then its directory. Syncing the directory fails with this errno, unless it is
+    0. `fails` says whether the call then fails."""
     synced: List[str] = []
 
     def sync(descriptor: int) -> None:
@@ -478,7 +481,10 @@ def parts(scratch: str) -> None:
         (made, "key_id"),
         (made, "is_legacy"),
     ):
-        rejects(AttributeError, lambda value=value, name=name: setattr(value, name, getattr(another_key, name, b"")), f"setting {name}")  # type: ignore[misc]
+        def set_attribute(value: object = value, name: str = name) -> None:
+            setattr(value, name, getattr(another_key, name, b""))
+
+        rejects(AttributeError, set_attribute, f"setting {name}")
 
 
 def documentation(scratch: str) -> None:
@@ -500,8 +506,8 @@ def documentation(scratch: str) -> None:
 
 
 def passwords(scratch: str) -> None:
-    """Checks that an encrypted key is decrypted only with the right password, and that the password can be changed. The first password is
-    used with the lowest limits, the second with the default limits."""
+    """Checks that an encrypted key is decrypted only with the right password, and that the password can be changed. The
+    first password is used with the lowest limits, the second with the default limits."""
     key = SecretKey.generate()
     text = key.to_bytes("pass \u00e9", low_memory=True, operations_limit=2**19, memory_limit=2**24)
     sealed = write(scratch, "sealed.key", text)
@@ -511,7 +517,10 @@ def passwords(scratch: str) -> None:
         ("", minisign.WrongPassword),
         ("\ud800", minisign.NotUtf8),
     ):
-        rejects(wrong, lambda password=password: SecretKey.from_file(sealed, password), f"the password {password}")  # type: ignore[misc]
+        def read_key(password: Optional[str] = password) -> object:
+            return SecretKey.from_file(sealed, password)
+
+        rejects(wrong, read_key, f"the password {password}")
     rejects(
         minisign.WrongPassword,
         lambda: minisign.change_password(sealed, "old", "newer"),
@@ -535,7 +544,8 @@ def passwords(scratch: str) -> None:
 
 
 def installing(scratch: str) -> None:
-    """Checks the cases of installing that tests/installer does not have: data of other kinds, and errors that Python code raises."""
+    """Checks the cases of installing that tests/installer does not have: data of other kinds, and errors that Python
+    code raises."""
     key, directory = SecretKey.generate(), os.path.join(scratch, "there")
     public, other_public = key.public_key, SecretKey.generate().public_key
     os.mkdir(directory)
@@ -669,7 +679,8 @@ def check_early_exceptions(fails_unchanged: Callable[..., None]) -> None:
 
 
 def check_installing_from_list(key: SecretKey, scratch: str, place: str) -> None:
-    """`install` and `check` with a signed list: what Python code does with the list, the meaning of 128 digits, and the size limit."""
+    """`install` and `check` with a signed list: what Python code does with the list, the meaning of 128 digits, and the
+    size limit."""
     public, list_path, path = key.public_key, os.path.join(scratch, "SHA512SUMS"), os.path.join(scratch, "update")
 
     def offer(text: str, number: int, name: str = "SHA512SUMS") -> Signature:
@@ -696,7 +707,12 @@ def check_installing_from_list(key: SecretKey, scratch: str, place: str) -> None
     update = offer(line, 5)
     reading_end, writing_end = os.pipe()
     for data in (io.BytesIO(b"two"), f"/dev/fd/{reading_end}"):
-        rejects(ValueError, lambda: install(update, data), f"a list and {data!r} without most", "^most must be passed with list_path")
+        rejects(
+            ValueError,
+            lambda: install(update, data),
+            f"a list and {data!r} without most",
+            "^most must be passed with list_path",
+        )
     os.write(writing_end, b"two")
     os.close(writing_end)
     check(install(update, f"/dev/fd/{reading_end}", most=3) is True, "a file of a list from a pipe")
@@ -712,7 +728,10 @@ def check_installing_from_list(key: SecretKey, scratch: str, place: str) -> None
                 call(update)
                 check(False, f"{error.__name__} is not raised")
             except error as why:
-                check(why.line == at and str(why).startswith(f"line {at}: ") == bool(at), f"{error.__name__}: {why}, line {why.line}")
+                check(
+                    why.line == at and str(why).startswith(f"line {at}: ") == bool(at),
+                    f"{error.__name__}: {why}, line {why.line}",
+                )
     pathlib.Path(list_path).write_text("text\n")
     rejects(minisign.SignatureRefused, lambda: install(update), "a list that is not signed", "^Signature verification failed$")
     rejects(minisign.OtherList, lambda: install(offer(line, 6, "app")), "a list of another name")
@@ -834,7 +853,8 @@ def lists(scratch: str) -> None:
 
 
 def weak_update(comment: bytes) -> Tuple[PublicKey, Signature]:
-    """Returns a public key and a signature that are valid for every file if Ed25519 accepts small orders: the neutral element, and S = 0."""
+    """Returns a public key and a signature that are valid for every file if Ed25519 accepts small orders: the neutral
+    element, and S = 0."""
     key_id, neutral = b"weak key", b"\1" + bytes(31)
     key, signature, second = map(
         base64.b64encode, (b"Ed" + key_id + neutral, b"ED" + key_id + neutral + bytes(32), neutral + bytes(32))
@@ -844,7 +864,8 @@ def weak_update(comment: bytes) -> Tuple[PublicKey, Signature]:
 
 
 def check_offers(key: SecretKey, path: str, place: str) -> None:
-    """Checks the results of `check` if version 2 is installed, and that an update without an expiry date is rejected if it must have one."""
+    """Checks the results of `check` if version 2 is installed, and that an update without an expiry date is rejected if
+    it must have one."""
     for offer, number in ((minisign.Offer.NEWER, 3), (minisign.Offer.THERE, 2), (minisign.Offer.OLDER, 1)):
         comment = f"version:{number}\tfile:app\tnote:\u00e9"
         update = key.sign(path, trusted_comment=comment)
@@ -872,8 +893,8 @@ def check_offers(key: SecretKey, path: str, place: str) -> None:
 
 
 def signals(scratch: str) -> None:
-    """Checks that a signal that arrives between the renaming of the record and that of the target ends the process only after both, and that
-    no signal handler is left."""
+    """Checks that a signal that arrives between the renaming of the record and that of the target ends the process only
+    after both, and that no signal handler is left."""
     key = SecretKey.generate()
     path, place = write(scratch, "update", b"one"), os.path.join(scratch, "app")
 
@@ -941,8 +962,8 @@ OTHER_TYPES: Sequence[object] = ([1, 2], (1, 2), {1: 2}, set(), object())
 
 
 class Kind(NamedTuple):
-    """Test values for a kind of argument: values of wrong types, invalid values of right types, and functions that convert a valid value to
-    another valid form."""
+    """Test values for a kind of argument: values of wrong types, invalid values of right types, and functions that
+    convert a valid value to another valid form."""
 
     wrong: Sequence[object]
     bad: Sequence[object] = ()
@@ -1044,8 +1065,8 @@ OR_NONE = " or none"
 
 
 class Call:
-    """A function or a method, the object that has it, and for each argument its kind and a valid value. If the object or a value is a
-    function here, it is called before each call, and its result is used."""
+    """A function or a method, the object that has it, and for each argument its kind and a valid value. If the object
+    or a value is a function here, it is called before each call, and its result is used."""
 
     def __init__(self, name: str, owner: object, /, **arguments: Tuple[str, object]) -> None:
         self.name, self.owner, self.arguments = name, owner, arguments
@@ -1232,7 +1253,8 @@ def table(scratch: str) -> List[Call]:
 
 
 def public_calls() -> Iterator[Tuple[str, Callable[..., object]]]:
-    """Yields the names and functions of the package, and the constructors and methods of its classes, except for errors and results."""
+    """Yields the names and functions of the package, and the constructors and methods of its classes, except for errors
+    and results."""
     for name in minisign.__all__:
         item = getattr(minisign, name)
         if inspect.isfunction(item):

@@ -22,18 +22,20 @@ sys.path += [os.path.join(HERE, "..", name) for name in ("shared", "tool", "inst
 
 import test_script
 from command_lines import command_line_cases
-from cut_off import INITIAL_STATES, CUTS
+from interrupted_runs import INITIAL_STATES, CUTS
 from downloads import download_cases
 from installers import DOWNLOAD_AGAIN, ARGUMENT_ORDER, Signer
 from list_updates import DOWNLOAD_LIST_AGAIN, LINE_HINT, NO_LIMIT_ERROR, TWICE_HINT
-from real_installing import cases_of
+from installer_program import cases_of
 from running import expect, run_cases
 from runs import InstallerRunner
 
 FAILED, MISUSED, REJECTED, OLDER, IN_USE, NOT_ON_DISK, UNRECORDED, SAME, EXPIRED, THERE = range(1, 11)
 OFFERS = {minisign.Offer.NEWER: 0, minisign.Offer.THERE: THERE, minisign.Offer.OLDER: OLDER}
-OPTIONS = ["first", "again", "check", "must-expire", "new-key", "roll-back", "key=", "name=", "list=", "blake2b", "numbering=", "mode=",
-           "max-size=", "most=", "wait="]
+OPTIONS = [
+    "first", "again", "check", "must-expire", "new-key", "roll-back", "key=", "name=", "list=", "blake2b",
+    "numbering=", "mode=", "max-size=", "most=", "wait=",
+]
 UNITS = {"K": 10, "M": 20}
 
 # The exit statuses of `minisign-install` for errors. For all other errors the status is that of a rejected update.
@@ -55,9 +57,13 @@ HINTS = {
     minisign.MissingTrustedComment: "download or copy the file again",
     **dict.fromkeys((minisign.OlderUpdate, minisign.Expired), "download the latest update"),
     **dict.fromkeys((minisign.SignatureRefused, minisign.CommentSignatureRefused, minisign.OtherSize), DOWNLOAD_AGAIN),
-    minisign.OtherList: "rename the list if it was signed under another name", minisign.MalformedLine: LINE_HINT,
-    minisign.ListedTwice: TWICE_HINT, minisign.DigestMismatch: "download the file again, or the list if it is older than the file",
-    **dict.fromkeys((minisign.NotListed, minisign.BadName), "use --name NAME if the list has the file under a name other than {name}"),
+    minisign.OtherList: "rename the list if it was signed under another name",
+    minisign.MalformedLine: LINE_HINT,
+    minisign.ListedTwice: TWICE_HINT,
+    minisign.DigestMismatch: "download the file again, or the list if it is older than the file",
+    **dict.fromkeys(
+        (minisign.NotListed, minisign.BadName), "use --name NAME if the list has the file under a name other than {name}"
+    ),
 }
 NO_NUMBER = {"version": 'omit --numbering version if the comment has a field "timestamp:"',
              "timestamp": 'use --numbering version if the comment has a field "version:"'}
@@ -75,11 +81,18 @@ WORDS = {
 }
 # The messages that it prints for malformed keys.
 MALFORMED = {
-    minisign.BarePublicKeyLength: "a public key has 56 characters, but this has {length}\nhint: copy the second line of the public key file",
-    minisign.BarePublicKeyNotBase64: "this is not a public key: it is not base64\nhint: copy the second line of the public key file",
+    minisign.BarePublicKeyLength: (
+        "a public key has 56 characters, but this has {length}\nhint: copy the second line of the public key file"
+    ),
+    minisign.BarePublicKeyNotBase64: (
+        "this is not a public key: it is not base64\nhint: copy the second line of the public key file"
+    ),
 }
 # With a list, the errors that are about the list, and the texts that name a line of it.
-ABOUT_LIST = (minisign.SignatureRefused, minisign.NotUtf8, minisign.BadName, minisign.MalformedLine, minisign.NotListed, minisign.ListedTwice)
+ABOUT_LIST = (
+    minisign.SignatureRefused, minisign.NotUtf8, minisign.BadName, minisign.MalformedLine, minisign.NotListed,
+    minisign.ListedTwice,
+)
 LINES = {minisign.MalformedLine: "line {} is malformed", minisign.ListedTwice: "line {} is the second line with this name"}
 HINTS_OF_CAUSES = {
     "this directory does not exist": "create it first",
@@ -99,8 +112,13 @@ def failure(why, place):
     hint = next((hint for front, hint in HINTS_OF_CAUSES.items() if cause.startswith(front)), None)
     if cause.startswith("this is "):
         kind = cause if why.filename == place else ""
-        hint = ("use the path that it points to" if "symbolic link" in kind else "give the path of a file in it" if "directory" in kind
-                else "remove it or move it away")
+        hint = (
+            "use the path that it points to"
+            if "symbolic link" in kind
+            else "give the path of a file in it"
+            if "directory" in kind
+            else "remove it or move it away"
+        )
     return f"error: {why.filename}: {cause}" + ("" if is_own_text else f" (os error {why.errno})"), hint
 
 
@@ -111,7 +129,16 @@ def rejection(data, signature, place, name, list_path, numbering, error):
         return f"error: {list_path}: this file is larger than 1 MiB", None
     if list_path is not None and isinstance(error, ABOUT_LIST):
         file, text = list_path, LINES.get(type(error), text).format(error.line)
-    elif isinstance(error, (minisign.SignatureRefused, minisign.OlderUpdate, minisign.OtherSize, minisign.TooLong, minisign.DigestMismatch)):
+    elif isinstance(
+        error,
+        (
+            minisign.SignatureRefused,
+            minisign.OlderUpdate,
+            minisign.OtherSize,
+            minisign.TooLong,
+            minisign.DigestMismatch,
+        ),
+    ):
         file = data
     elif STATUSES.get(type(error)) == UNRECORDED:
         file = os.path.join(os.path.dirname(place) or ".", f".{os.path.basename(place)}.number")
@@ -157,9 +184,14 @@ def install(words):
     if most is not None:
         most = int(most.rstrip("KM")) << UNITS.get(most[-1], 0)
     try:
-        public_keys = [read_text(minisign.PublicKey.from_base64, text) for text in keys] or read_text(minisign.PublicKey.from_file, key)
+        public_keys = [read_text(minisign.PublicKey.from_base64, text) for text in keys] or read_text(
+            minisign.PublicKey.from_file, key
+        )
         text = read_text(minisign.Signature.from_file, signature)
-        flags = {name.replace("-", "_"): f"--{name}" in options for name in ("first", "again", "must-expire", "new-key", "roll-back")}
+        flags = {
+            name.replace("-", "_"): f"--{name}" in options
+            for name in ("first", "again", "must-expire", "new-key", "roll-back")
+        }
         parameters = {**flags, "numbering": numbering, "name": name, "list_path": list_path}
         if "--blake2b" in options:
             parameters["long_digest"] = "blake2b"
@@ -191,10 +223,12 @@ def install(words):
 # ---- Runs of the program ----
 
 # Cases that test the command line or the messages of a program, which functions do not have.
-LEFT_OUT = {"shows progress at a terminal", "works with a closed error stream", "installs nothing if an allocation fails",
-            "exits normally if its error pipe has no reader", "--check shows only signed text, without control characters",
-            "--list --check shows the comment of the list",
-            "docs/INSTALLING.md shows the updater's files", "systemd accepts the updater's service and timer", "warns that --mode does not change an installed file"}
+LEFT_OUT = {
+    "shows progress at a terminal", "works with a closed error stream", "installs nothing if an allocation fails",
+    "exits normally if its error pipe has no reader", "--check shows only signed text, without control characters",
+    "--list --check shows the comment of the list", "docs/INSTALLING.md shows the updater's files",
+    "systemd accepts the updater's service and timer", "warns that --mode does not change an installed file",
+}
 INCLUDED = {"takes a name that begins with a dash", "takes a file name other than the signed one"}
 
 

@@ -2,9 +2,10 @@
 
     python_user.py IMPLEMENTATION COMMAND [ARGUMENT ..]
 
-IMPLEMENTATION is the implementation of Ed25519: `libsodium` or `cryptography`. COMMAND is a function of this module. `verify`, `pieces`,
-`fields`, `verify_listed` and `entries` print a line for each case on standard input; `make`, `sign`, `strength`, `encrypt`, `write` and
-`key_ids` use one key. Any other command is a function of `python_checks.py`, which is a separate module because its imports take long.
+IMPLEMENTATION is the implementation of Ed25519: `libsodium` or `cryptography`. COMMAND is a function of this module.
+`verify`, `pieces`, `fields`, `verify_listed` and `entries` print a line for each case on standard input; `make`,
+`sign`, `strength`, `encrypt`, `write` and `key_ids` use one key. Any other command is a function of `python_checks.py`,
+which is a separate module because its imports take long.
 
 Needs Python 3.9 or later.
 """
@@ -61,7 +62,8 @@ def split(data: bytes, choose: random.Random) -> Iterator[bytes]:
 
 
 def pieces() -> None:
-    """Verifies each case with the data passed as bytes, as a file and in pieces. Prints the result, or all results if they differ."""
+    """Verifies each case with the data passed as bytes, as a file and in pieces. Prints the result, or all results if
+    they differ."""
     choose = random.Random(3)
     for key, data, text in read_cases():
         signature = Signature(text)
@@ -92,8 +94,8 @@ def fields() -> None:
 
 
 def read_list_cases() -> Iterator[List[bytes]]:
-    """Yields the parts of each case on standard input: the key, the list, its signature, its name, the hash function of digests of 128
-    digits, the name of a file, and its data."""
+    """Yields the parts of each case on standard input: the key, the list, its signature, its name, the hash function of
+    digests of 128 digits, the name of a file, and its data."""
     for line in sys.stdin:
         yield [bytes.fromhex(part.strip("-\n")) for part in line.split(" ")]
 
@@ -109,7 +111,8 @@ def listed_result(verification: Callable[[], Tuple[SignedList, ListEntry]]) -> s
 
 
 def verify_listed() -> None:
-    """Verifies the file of each case, passed in several ways, with the signed list. Prints the result, or all results if they differ."""
+    """Verifies the file of each case, passed in several ways, with the signed list. Prints the result, or all results
+    if they differ."""
     choose = random.Random(4)
     with tempfile.TemporaryDirectory() as directory:
         for key, text, signature, list_name, long_digest, name, data in read_list_cases():
@@ -137,8 +140,13 @@ def entries() -> None:
     """Prints the entries of each list on one line: line, hash function, digest, name, and True for an escaped name."""
     for key, text, signature, list_name, long_digest, *_ in read_list_cases():
         signed = SignedList(text, PublicKey(key), Signature(signature), list_name, long_digest=long_digest.decode())
-        print(*(f"{entry.line} {entry.hash} {entry.digest.hex()} {entry.name.encode().hex()} {entry.is_escaped}" for entry in signed.entries()),
-              sep=",")
+        print(
+            *(
+                f"{entry.line} {entry.hash} {entry.digest.hex()} {entry.name.encode().hex()} {entry.is_escaped}"
+                for entry in signed.entries()
+            ),
+            sep=",",
+        )
 
 
 # ---- Keys and signing ----

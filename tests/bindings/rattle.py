@@ -1,14 +1,16 @@
 #!/usr/bin/env python3
-"""Checks that the program in examples/rattle can be built, accepts files that Minisign's own program signed, and rejects changed ones.
+"""Checks that the program in examples/rattle can be built, accepts files that Minisign's own program signed, and
+rejects changed ones.
 
     tests/bindings/rattle.py
 
-The program is built in a copy of the example, with libraries that are already proved (tests/shared/proved.py). The script follows the
-commands of the example's README.md, except for `rt run`, which would prove all crates again; instead, it runs the built program with
-the same arguments. Prints a line for each failure; the last line is `N passed, M failed`.
+The program is built in a copy of the example, with libraries that are already proved (tests/shared/proved.py). The
+script follows the commands of the example's README.md, except for `rt run`, which would prove all crates again;
+instead, it runs the built program with the same arguments. Prints a line for each failure; the last line is
+`N passed, M failed`.
 
-Needs Python 3.9 or later, the Rattle kit, a C compiler, libsodium with its header and archive, and minisign. Installs missing packages
-if it has permission, except the kit.
+Needs Python 3.9 or later, the Rattle kit, a C compiler, libsodium with its header and archive, and minisign. Installs
+missing packages if it has permission, except the kit.
 """
 
 import os
@@ -23,7 +25,7 @@ import ed25519_edge_cases
 import needs
 import proved
 import test_script
-from commands import commands_of
+from document_commands import commands_of
 from shared_cases import TOP, read, run, write
 
 NAME = "verify_with_sodium"
@@ -55,9 +57,9 @@ def build(scratch, libsodium):
 
 
 def check_files(checks, program, scratch):
-    """Checks that the program accepts a signed file, with the file names of README.md, and rejects other keys, files and signatures. One
-    of the rejected signatures is a legacy signature under a public key of small order, which would be valid for every file. The
-    program rejects it before it calls libsodium."""
+    """Checks that the program accepts a signed file, with the file names of README.md, and rejects other keys, files
+    and signatures. One of the rejected signatures is a legacy signature under a public key of small order, which would
+    be valid for every file. The program rejects it before it calls libsodium."""
 
     def minisign(*arguments):
         return run([needs.minisign(), *arguments], scratch)
@@ -90,7 +92,10 @@ def check_files(checks, program, scratch):
 def run_all(checks, scratch):
     _, archive, _ = run([needs.compiler_with_libsodium(), "-print-file-name=libsodium.a"])
     program, output = build(os.path.join(scratch, "copy"), archive.decode().strip())
-    checks.check(re.search(r"logic=proved", output) is not None, f"the output of the build does not say logic=proved: {output[-1500:]}")
+    checks.check(
+        re.search(r"logic=proved", output) is not None,
+        f"the output of the build does not say logic=proved: {output[-1500:]}",
+    )
     check_files(checks, program, scratch)
 
 

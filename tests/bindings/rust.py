@@ -15,11 +15,12 @@ bindings/rust under the name `minisign-verify`. The crates that they need come f
 
 It prints a line for each failure; the last line is `N passed, M failed`.
 
-Needs Python 3.9 or later, cargo, rustc, make, clang, a C compiler, binutils, llvm, libsodium with its header, minisign,
-strace, git, pkg-config, and the Debian packages librust-cc-dev, librust-pkg-config-dev, librust-rpassword-dev,
-librust-zeroize-dev, libstd-rust-dev-windows, gcc-mingw-w64-x86-64, wine64, gcc-aarch64-linux-gnu, libc6-dev-arm64-cross and
-qemu-user-static. It installs missing packages if it has permission, and downloads Rust's standard library for AArch64 once, with apt-get. If PATH has another
-cargo before Debian's, that cargo is tested too.
+Needs Python 3.9 or later, cargo, rustc, make, clang, a C compiler, binutils, llvm, libsodium with its header,
+minisign, strace, git, pkg-config, and the Debian packages librust-cc-dev, librust-pkg-config-dev,
+librust-rpassword-dev, librust-zeroize-dev, libstd-rust-dev-windows, gcc-mingw-w64-x86-64, wine64,
+gcc-aarch64-linux-gnu, libc6-dev-arm64-cross and qemu-user-static. It installs missing packages if it has permission,
+and downloads Rust's standard library for AArch64 once, with apt-get. If PATH has another cargo before Debian's, that
+cargo is tested too.
 """
 
 import glob
@@ -32,7 +33,7 @@ import sys
 HERE = os.path.dirname(os.path.realpath(__file__))
 sys.path += [HERE, *(os.path.join(HERE, "..", name) for name in ("shared", "c"))]
 
-import commands
+import document_commands
 import debian_crates
 import emulated
 import needs
@@ -44,10 +45,12 @@ from mutants import mutants_of
 from shared_cases import TOP, Program, read, record_of, run, write
 
 CRATE, SYS = (os.path.join(TOP, "bindings", name) for name in ("rust", "rust-sys"))
-# The files of bindings/rust that are written by hand. Only those in src/raw may contain `unsafe`. The other constants are the files of
-# bindings/rust and bindings/rust-sys that tools/bindings.py generates.
-BY_HAND = ["src/lib.rs", "src/base64.rs", "src/files.rs", "src/records.rs", "src/signing.rs", "src/raw.rs", "src/raw/sodium.rs", "src/lists.rs",
-           "src/raw/lists.rs"]
+# The files of bindings/rust that are written by hand. Only those in src/raw may contain `unsafe`. The other constants
+# are the files of bindings/rust and bindings/rust-sys that tools/bindings.py generates.
+BY_HAND = [
+    "src/lib.rs", "src/base64.rs", "src/files.rs", "src/records.rs", "src/signing.rs", "src/raw.rs",
+    "src/raw/sodium.rs", "src/lists.rs", "src/raw/lists.rs",
+]
 GENERATED, GENERATED_SYS = "src/raw/header.rs", "src/header.rs"
 # Symbols of libsodium, which a program without the feature `sodium` must not have.
 NO_SODIUM = dict.fromkeys(("crypto_sign", "sodium_init", "randombytes"), False)
@@ -59,14 +62,15 @@ RENAMED = 'minisign-verify = {{ package = "minisign-proved", path = "{crate}" }}
 PLAIN = 'minisign-proved = {{ path = "{crate}" }}'
 WITHOUT_SODIUM = 'minisign-proved = {{ path = "{crate}", default-features = false }}'
 
-# The variants of `Error` that the crate minisign-verify has, by the name of the error in the header. STREAM_VARIANTS are those for data in
-# pieces.
-VARIANTS = dict(line.split() for line in read(HERE, "rust", "known.txt").decode().splitlines())
+# The variants of `Error` that the crate minisign-verify has, by the name of the error in the header. STREAM_VARIANTS
+# are those for data in pieces.
+VARIANTS = dict(line.split() for line in read(HERE, "rust", "error_variants.txt").decode().splitlines())
 STREAM_VARIANTS = {**VARIANTS, "LEGACY_NOT_ACCEPTED": "UnsupportedLegacyMode"}
 
 
 def toolchains():
-    """Returns the paths of Debian's cargo and rustc, followed by those of the first cargo and rustc in PATH if they are different."""
+    """Returns the paths of Debian's cargo and rustc, followed by those of the first cargo and rustc in PATH if they are
+    different."""
     pairs = [(needs.program("cargo", "cargo"), needs.rust_compiler())]
     first = (shutil.which("cargo"), shutil.which("rustc"))
     if all(first) and not os.path.samefile(first[0], pairs[0][0]):
@@ -75,8 +79,8 @@ def toolchains():
 
 
 def depends_on(form, crate, unpacked=None, used=("minisign-proved-sys",)):
-    """Returns the lines of Cargo.toml for a dependency on a crate, with patches for the packed crates that it uses. These are in the
-    directory `unpacked`, by default the directory that contains the crate."""
+    """Returns the lines of Cargo.toml for a dependency on a crate, with patches for the packed crates that it uses.
+    These are in the directory `unpacked`, by default the directory that contains the crate."""
     unpacked = unpacked or os.path.dirname(crate)
     patches = "".join(f'{name} = {{ path = "{unpacked}/{name}-{shared_cases.VERSION}" }}\n' for name in used)
     return f"{form.format(crate=crate)}\n\n[patch.crates-io]\n{patches}"
@@ -84,7 +88,11 @@ def depends_on(form, crate, unpacked=None, used=("minisign-proved-sys",)):
 
 def patch_options(unpacked, *names):
     """Returns options with which cargo takes these crates from the directory `unpacked`."""
-    return [word for name in names for word in ("--config", f'patch.crates-io.{name}.path="{unpacked}/{name}-{shared_cases.VERSION}"')]
+    return [
+        word
+        for name in names
+        for word in ("--config", f'patch.crates-io.{name}.path="{unpacked}/{name}-{shared_cases.VERSION}"')
+    ]
 
 
 def new_crate(scratch, name, dependency, source):
@@ -97,8 +105,8 @@ def new_crate(scratch, name, dependency, source):
 
 
 class Cargo:
-    """Runs cargo without a network, and with its caches in a separate directory. The variables of `UNOPTIMIZED` make builds faster: C is
-    compiled without optimization, and Rust without debug information."""
+    """Runs cargo without a network, and with its caches in a separate directory. The variables of `UNOPTIMIZED` make
+    builds faster: C is compiled without optimization, and Rust without debug information."""
 
     UNOPTIMIZED = {"CFLAGS": "-O0", "CARGO_PROFILE_DEV_DEBUG": "0", "CARGO_PROFILE_DEV_STRIP": "debuginfo"}
 
@@ -122,8 +130,13 @@ class Cargo:
 
 
 # The beginnings of the sections of each Rust crate's README, in this order. The first section is an example.
-README_SECTIONS = ["```rust\n", "## (?:How to|Install and) switch\n", "## What is different from ", "## What is proved, and what is not\n",
-                "## Requirements and limits\n"]
+README_SECTIONS = [
+    "```rust\n",
+    "## (?:How to|Install and) switch\n",
+    "## What is different from ",
+    "## What is proved, and what is not\n",
+    "## Requirements and limits\n",
+]
 # Words that the table in the last section of each README must contain in its first column.
 README_TOPICS = ["Licence", "C compiler", "libsodium", "Targets", "`no_std`", "WebAssembly", "async", "[Ss]ize", "[Bb]uild time"]
 
@@ -148,18 +161,25 @@ def check_sources(checks):
         words = "\n".join(lines).replace("unsafe_code", "")
         checks.check(name.startswith("src/raw") or "unsafe" not in words, f"{name}: `unsafe` outside of src/raw")
     files = {os.path.relpath(path, CRATE) for path in glob.glob(f"{CRATE}/src/**", recursive=True) if os.path.isfile(path)}
-    checks.check(files == {*BY_HAND, GENERATED}, f"the crate has the files {sorted(files)}, expected {sorted({*BY_HAND, GENERATED})}")
+    checks.check(
+        files == {*BY_HAND, GENERATED},
+        f"the crate has the files {sorted(files)}, expected {sorted({*BY_HAND, GENERATED})}",
+    )
 
 
 def check_tests(checks, cargo, crate, least, *options):
     """Checks that at least `least` tests of a crate pass, and none fails. The examples in its documentation are among them."""
     status, output = cargo.try_to_run(crate, "test", *options, **Cargo.UNOPTIMIZED)
     passed = sum(int(count) for count in re.findall(r"(\d+) passed; 0 failed", output))
-    checks.check(status == 0 and passed >= least, f"{os.path.basename(crate)}: {passed} tests passed, at least {least} expected: {output[-1500:]}")
+    checks.check(
+        status == 0 and passed >= least,
+        f"{os.path.basename(crate)}: {passed} tests passed, at least {least} expected: {output[-1500:]}",
+    )
 
 
 def check_archives(checks, sys_crate):
-    """Checks that the symbols in the archives of the packed crate have prefixes, so that a user does not need objcopy to link them."""
+    """Checks that the symbols in the archives of the packed crate have prefixes, so that a user does not need objcopy
+    to link them."""
     archives = glob.glob(f"{sys_crate}/library/dist/calls-*.a")
     for archive in archives:
         prefix, data = re.search(r"(\w+)\.a$", archive)[1], read(archive)
@@ -169,9 +189,9 @@ def check_archives(checks, sys_crate):
 
 
 def check_inside(checks, cargo, crate, scratch):
-    """Runs inside.rs within the crate: the structs have the layout of the C structs of the header, and secret keys are cleared."""
+    """Runs struct_layout.rs within the crate: the structs have the layout of the C structs of the header, and secret keys are cleared."""
     sys_crate = f"{os.path.dirname(crate)}/minisign-proved-sys-{shared_cases.VERSION}"
-    source, inside, lines = read(sys_crate, GENERATED_SYS), read(HERE, "rust", "inside.rs").decode(), []
+    source, inside, lines = read(sys_crate, GENERATED_SYS), read(HERE, "rust", "struct_layout.rs").decode(), []
     for place, expected in shared_cases.struct_layout(scratch).items():
         struct, _, field = place.partition(".")
         if f"pub struct {struct} " in source.decode():
@@ -187,7 +207,8 @@ def check_inside(checks, cargo, crate, scratch):
 
 
 def reason(known):
-    """Returns a function that returns the expected line for an error: the variant of Error, then the name, code and text in the header."""
+    """Returns a function that returns the expected line for an error: the variant of Error, then the name, code and
+    text in the header."""
     def line_of(name):
         kind, text = known.get(name, "InvalidEncoding"), re.escape(shared_cases.error_texts()[name])
         detail = {"InvalidEncoding": rf"\({name}\)", "InvalidSignature": rf"\({name}\)", "IoError": r"\(.*\)"}.get(kind, "")
@@ -196,13 +217,14 @@ def reason(known):
 
 
 def fields_line(fields):
-    """Returns the line that `read` prints: the key IDs of a key and a signature, as bytes and as text, and `true` for a legacy signature."""
+    """Returns the line that `read` prints: the key IDs of a key and a signature, as bytes and as text, and `true` for a
+    legacy signature."""
     ids = fields.key_id, fields.signature_key_id
     return " ".join([*(key_id.hex() for key_id in ids), *map(shared_cases.key_id_text, ids), str(fields.is_legacy).lower()])
 
 
 def compare_results(program, scratch, minisign, cases):
-    """Checks the results of the program answers.rs, which uses the crate."""
+    """Checks the results of the program verifying.rs, which uses the crate."""
     program.check_verdicts(minisign, cases, (["verify"], True), (["strict"], False), (["reader"], False),
                         *((["pieces", str(length)], False) for length in (1, 128, 1000, 0)))
     program.check_errors(["strict"], shared_cases.rejected_cases(), reason(VARIANTS))
@@ -223,7 +245,8 @@ def compare_results(program, scratch, minisign, cases):
 
 
 def check_lists(program, scratch, minisign):
-    """Checks the results of the program lists.rs, which verifies files with signed lists, for cases and for files in a directory."""
+    """Checks the results of the program lists.rs, which verifies files with signed lists, for cases and for files in a
+    directory."""
     program.check_lists(minisign, spell_boolean=lambda is_true: str(is_true).lower())
     os.makedirs(scratch)
     write(scratch, "app", b"data")
@@ -238,7 +261,10 @@ def check_lists(program, scratch, minisign):
 # ---- Builds ----
 
 # All programs that Debian's cargo runs to build the packed crate and a user's crate. make and objcopy are not among them.
-BUILD_PROGRAMS = ("cargo", "rustc", "gcc", "cc", "ld", "as", "ar", "git", "sh", "sha256sum", "find", "sort", "grep", "xargs", "cut", "dirname")
+BUILD_PROGRAMS = (
+    "cargo", "rustc", "gcc", "cc", "ld", "as", "ar", "git", "sh", "sha256sum", "find", "sort", "grep", "xargs", "cut",
+    "dirname",
+)
 WINDOWS, ARM = "x86_64-pc-windows-gnu", "aarch64-unknown-linux-gnu"
 NOT_GNU_ERROR = "cl does not accept the options of gcc: set CC_x86_64_unknown_linux_gnu to gcc or clang"
 # A C compiler that records each call, to show that the environment variables of the crate cc choose it.
@@ -247,21 +273,23 @@ DEBIAN_LIBRARIES = "/usr/lib/x86_64-linux-gnu"
 
 
 def messages():
-    """Returns the expected output of target.rs. It verifies data with the published signature, and prints the two messages that it would
-    verify with Ed25519: the digest of its own data, and the signature followed by the trusted comment."""
+    """Returns the expected output of target.rs. It verifies data with the published signature, and prints the two
+    messages that it would verify with Ed25519: the digest of its own data, and the signature followed by the trusted
+    comment."""
     signature = shared_cases.PUBLISHED.signature
     second = record_of(signature)[10:] + signature.split(b"\n")[2].removeprefix(b"trusted comment: ")
     return f"{hashlib.blake2b(bytes([7]) * 1000).hexdigest()}\n{second.hex()}\nOk(())\n"
 
 
-# A file of tests/corpus, which is copied to `app`; and the status, output and error of the example of README.md that verifies `app` with the
-# published signature.
+# A file of tests/corpus, which is copied to `app`; and the status, output and error of the example of README.md that
+# verifies `app` with the published signature.
 README_CASES = [("test", 0, "timestamp:1556193335\tfile:test\n", ""), ("hello", 1, "", "InvalidSignature(SIGNATURE_REFUSED)")]
 
 
 def check_readme(checks, cargo, scratch, crate, minisign):
-    """Checks that the examples of README.md compile, pasted into one file of a crate with the dependency of README.md; that they accept a
-    signed file and reject another one; and that they generate a key, sign with it, and verify a stream."""
+    """Checks that the examples of README.md compile, pasted into one file of a crate with the dependency of README.md;
+    that they accept a signed file and reject another one; and that they generate a key, sign with it, and verify a
+    stream."""
     directory = os.path.join(scratch, "readme")
     dependency, = re.findall(r"^```toml\n(.*?)^```$", read(CRATE, "README.md").decode(), re.M | re.S)
     os.makedirs(os.path.join(directory, "src", "bin"))
@@ -286,7 +314,10 @@ def check_readme(checks, cargo, scratch, crate, minisign):
     status, output, errors = run([f"{programs}/readme"], directory)
     is_right = (status, output.decode()) == (0, "version:3\tfile:app\n9 bytes were read\n")
     checks.check(is_right, f"the examples that sign: {status} {output} {errors}")
-    checks.check(os.stat(os.path.join(directory, "new.key")).st_mode & 0o777 == 0o600, "the mode of the key that the example generates")
+    checks.check(
+        os.stat(os.path.join(directory, "new.key")).st_mode & 0o777 == 0o600,
+        "the mode of the key that the example generates",
+    )
     verified = run([minisign, "-V", "-Q", "-p", "new.pub", "-m", "app-3"], directory)
     checks.check(verified[:2] == (0, b"version:3\tfile:app\n"), f"c/minisign verifies the signature of the example: {verified}")
 
@@ -296,7 +327,9 @@ class UserCrate:
 
     def __init__(self, programs, scratch, name, dependency):
         self.directory = new_crate(scratch, name, dependency, "target.rs")
-        self.cargo = Cargo(self.directory, *(os.path.join(needs.DEBIAN_PROGRAMS, name) for name in ("cargo", "rustc")), PATH=programs)
+        self.cargo = Cargo(
+            self.directory, *(os.path.join(needs.DEBIAN_PROGRAMS, name) for name in ("cargo", "rustc")), PATH=programs
+        )
 
     def build(self, target="", **environment):
         """Builds the crate, and returns the exit status and all output."""
@@ -304,12 +337,15 @@ class UserCrate:
         return self.cargo.try_to_run(self.directory, "build", *words, **{**Cargo.UNOPTIMIZED, **environment})
 
     def check(self, checks, what, names, before=(), target="", ending="", variables=None, **environment):
-        """Builds the crate, and runs it with the environment variables `variables`. Checks its output, and that it has exactly those symbols
-        of `names` whose value is true."""
+        """Builds the crate, and runs it with the environment variables `variables`. Checks its output, and that it has
+        exactly those symbols of `names` whose value is true."""
         status, output = self.build(target, **environment)
         if not checks.check(status == 0, f"{what}: the build failed: {output[-1000:]}"):
             return
-        program, (key, _, signature) = os.path.join(self.cargo.target, target, "debug", f"user{ending}"), shared_cases.PUBLISHED_PATHS
+        program, (key, _, signature) = (
+            os.path.join(self.cargo.target, target, "debug", f"user{ending}"),
+            shared_cases.PUBLISHED_PATHS,
+        )
         status, output, errors = run([*before, program, key, signature], environment=variables)
         checks.check(output.decode().replace("\r", "") == messages(), f"{what}: status {status}, {output.decode()}{errors[-500:]}")
         symbols = shared_cases.symbols_of(program)
@@ -326,11 +362,16 @@ def rust_for_arm():
 
 
 def check_here(checks, programs, crate, scratch):
-    """Checks builds for this system, in a path with spaces and without make and libsodium: with the archives, from C, with other compilers,
-    and as a git dependency."""
+    """Checks builds for this system, in a path with spaces and without make and libsodium: with the archives, from C,
+    with other compilers, and as a git dependency."""
     user_crate = UserCrate(programs, scratch, "a user's crate", depends_on(WITHOUT_SODIUM, crate))
     for what, has_archives, is_portable in (("with the archives", True, ""), ("from C", False, "1")):
-        user_crate.check(checks, f"without make, {what}", {"v3_minisign_update": has_archives, **NO_SODIUM}, MINISIGN_PORTABLE=is_portable)
+        user_crate.check(
+            checks,
+            f"without make, {what}",
+            {"v3_minisign_update": has_archives, **NO_SODIUM},
+            MINISIGN_PORTABLE=is_portable,
+        )
     status, why = user_crate.build(CC="cl", MINISIGN_PORTABLE="")
     checks.check(status != 0 and NOT_GNU_ERROR in why, f"a compiler without GNU options: {why[-500:]}")
     compiler = write(scratch, "recording", RECORDING.encode())
@@ -338,14 +379,16 @@ def check_here(checks, programs, crate, scratch):
     status, why = user_crate.build(CC_x86_64_unknown_linux_gnu=compiler, MINISIGN_PORTABLE="")
     checks.check(status == 0 and os.path.exists(f"{compiler}-calls"), f"a compiler for one target: {why[-500:]}")
     check_libsodium(checks, crate, scratch)
-    dependency = f'minisign-proved = {{ git = "file://{commands.Clone(scratch).top}", default-features = false }}'
+    dependency = f'minisign-proved = {{ git = "file://{document_commands.Clone(scratch).top}", default-features = false }}'
     user_crate = UserCrate(programs, scratch, "git dependency", dependency)
-    user_crate.check(checks, "a git dependency", {"v3_minisign_update": True, "v2_minisign_update": True}, CARGO_NET_OFFLINE="false")
+    user_crate.check(
+        checks, "a git dependency", {"v3_minisign_update": True, "v2_minisign_update": True}, CARGO_NET_OFFLINE="false"
+    )
 
 
 def check_libsodium(checks, crate, scratch):
-    """Checks that the build finds libsodium with pkg-config or in SODIUM_LIB_DIR, and links the shared or the static library as the variables
-    say. Without pkg-config, the error says what to install."""
+    """Checks that the build finds libsodium with pkg-config or in SODIUM_LIB_DIR, and links the shared or the static
+    library as the variables say. Without pkg-config, the error says what to install."""
     user_crate = UserCrate(static_library.path_without_kit(), scratch, "with libsodium", depends_on(PLAIN, crate))
     for variables, is_shared in (({}, True), ({"SODIUM_LIB_DIR": DEBIAN_LIBRARIES}, False),
                                  ({"SODIUM_LIB_DIR": DEBIAN_LIBRARIES, "SODIUM_SHARED": "1"}, True)):
@@ -355,13 +398,20 @@ def check_libsodium(checks, crate, scratch):
     programs = shared_cases.make_path_directory(os.path.join(scratch, "for-libsodium"), *BUILD_PROGRAMS)
     without_pkg_config = UserCrate(programs, scratch, "without pkg-config", depends_on(PLAIN, crate))
     status, why = without_pkg_config.build()
-    checks.check(status != 0 and "libsodium was not found: install it" in why and "SODIUM_LIB_DIR" in why, f"without pkg-config: {why[-800:]}")
+    checks.check(
+        status != 0 and "libsodium was not found: install it" in why and "SODIUM_LIB_DIR" in why,
+        f"without pkg-config: {why[-800:]}",
+    )
 
 
 def check_targets(checks, programs, crate, scratch):
     """Checks the crate for Windows, under wine, and for AArch64, under qemu."""
     wine, arm = portable.Windows(scratch), emulated.AARCH64
-    needs.need(lambda: True if os.path.isdir(f"/usr/lib/rustlib/{WINDOWS}") else None, "Rust for Windows", "libstd-rust-dev-windows")
+    needs.need(
+        lambda: True if os.path.isdir(f"/usr/lib/rustlib/{WINDOWS}") else None,
+        "Rust for Windows",
+        "libstd-rust-dev-windows",
+    )
     needs.program("x86_64-w64-mingw32-gcc", "gcc-mingw-w64-x86-64")
     emulator, compiler, library = emulated.emulator(arm), emulated.compiler(arm), rust_for_arm()
     for name in ("x86_64-w64-mingw32-gcc", os.path.basename(compiler)):
@@ -372,22 +422,36 @@ def check_targets(checks, programs, crate, scratch):
     os.makedirs(f"{scratch}/sysroot/lib")
     os.symlink(f"{library}/usr/lib/rustlib", f"{scratch}/sysroot/lib/rustlib")
     linker = {f"CARGO_TARGET_{ARM.upper().replace('-', '_')}_LINKER": compiler}
-    user_crate.check(checks, "for AArch64", {"aarch64_minisign_update": True}, emulator, ARM, RUSTFLAGS=f"--sysroot {scratch}/sysroot", **linker)
+    user_crate.check(
+        checks,
+        "for AArch64",
+        {"aarch64_minisign_update": True},
+        emulator,
+        ARM,
+        RUSTFLAGS=f"--sysroot {scratch}/sysroot",
+        **linker,
+    )
 
 
 def check_mutants(checks, cargo, crate, scratch, minisign):
-    """Checks that the checks of a user's crate fail with each mutant. A mutant may cause warnings. All mutants are built in one directory,
-    so that cargo compiles only the files that differ from the previous mutant."""
+    """Checks that the checks of a user's crate fail with each mutant. A mutant may cause warnings. All mutants are
+    built in one directory, so that cargo compiles only the files that differ from the previous mutant."""
     crate_path = os.path.join(scratch, "changed")
     users = {name: new_crate(scratch, f"mutants-{name}", depends_on(RENAMED, crate_path, os.path.dirname(crate)), f"{name}.rs")
-             for name in ("answers", "lists")}
+             for name in ("verifying", "lists")}
 
     def check_mutant(checks, changed, directory, word):
         shutil.rmtree(crate_path, ignore_errors=True)
         os.rename(changed, crate_path)
         # cargo rebuilds files that are newer than the last build. A restored file is older than the build of the previous mutant.
         os.utime(os.path.join(crate_path, "src", "lib.rs"))
-        cargo.run(users["lists" if word == "lists" else "answers"], "build", RUSTFLAGS="", CARGO_INCREMENTAL="1", **Cargo.UNOPTIMIZED)
+        cargo.run(
+            users["lists" if word == "lists" else "verifying"],
+            "build",
+            RUSTFLAGS="",
+            CARGO_INCREMENTAL="1",
+            **Cargo.UNOPTIMIZED,
+        )
         program = Program(checks, f"{cargo.target}/debug/user")
         if word == "lists":
             check_lists(program, os.path.join(directory, "listed"), minisign)
@@ -398,18 +462,23 @@ def check_mutants(checks, cargo, crate, scratch, minisign):
 
 
 def check_toolchain(checks, scratch, toolchain, minisign, is_first):
-    """Checks the builds of one cargo. With the first cargo, it checks more cases, and also memory, threads, mutants and other targets."""
+    """Checks the builds of one cargo. With the first cargo, it checks more cases, and also memory, threads, mutants and
+    other targets."""
     cargo = Cargo(scratch, *toolchain, **({} if is_first else Cargo.UNOPTIMIZED))
     # UNOPTIMIZED because `cargo package` also builds the crate.
     crate = shared_cases.pack_and_unpack("rust", scratch, {**cargo.environment, **Cargo.UNOPTIMIZED}, CARGO=cargo.cargo)
-    answers = new_crate(scratch, "answers", depends_on(RENAMED, crate), "answers.rs")
-    cargo.run(answers, "build", "--release")
-    program = Program(checks, shutil.copy(os.path.join(cargo.target, "release", "user"), answers))
+    user = new_crate(scratch, "verifying", depends_on(RENAMED, crate), "verifying.rs")
+    cargo.run(user, "build", "--release")
+    program = Program(checks, shutil.copy(os.path.join(cargo.target, "release", "user"), user))
     few_cases = shared_cases.corpus() + shared_cases.damaged_cases(60)
     compare_results(program, scratch, minisign, shared_cases.all_cases(checks, minisign) if is_first else few_cases)
     lists = new_crate(scratch, "lists", depends_on(RENAMED, crate), "lists.rs")
     cargo.run(lists, "build", "--release")
-    check_lists(Program(checks, shutil.copy(os.path.join(cargo.target, "release", "user"), lists)), os.path.join(scratch, "listed"), minisign)
+    check_lists(
+        Program(checks, shutil.copy(os.path.join(cargo.target, "release", "user"), lists)),
+        os.path.join(scratch, "listed"),
+        minisign,
+    )
     check_readme(checks, cargo, scratch, crate, minisign)
     check_inside(checks, cargo, crate, scratch)
     if not is_first:
@@ -435,7 +504,10 @@ def run_all(checks, scratch):
     minisign = shared_cases.build_c_minisign(scratch)
     check_sources(checks)
     pairs = toolchains()
-    checks.check(not needs.may_install() or pairs[0][0] == f"{needs.DEBIAN_PROGRAMS}/cargo", f"Debian's cargo is not tested: {pairs}")
+    checks.check(
+        not needs.may_install() or pairs[0][0] == f"{needs.DEBIAN_PROGRAMS}/cargo",
+        f"Debian's cargo is not tested: {pairs}",
+    )
     for number, toolchain in enumerate(pairs):
         directory = os.path.join(scratch, str(number))
         os.mkdir(directory)

@@ -50,9 +50,9 @@ def run(command, directory=None, environment=None, data=b""):
 
 
 def pack_and_unpack(package, directory, environment=None, **make_variables):
-    """Packs a package with `make -C bindings`, without the Rattle kit in PATH, unpacks its archive, and returns the directory of its
-    files. For Rust there are archives of three crates, which are unpacked side by side, and the returned directory is that of
-    minisign-proved."""
+    """Packs a package with `make -C bindings`, without the Rattle kit in PATH, unpacks its archive, and returns the
+    directory of its files. For Rust there are archives of three crates, which are unpacked side by side, and the
+    returned directory is that of minisign-proved."""
     out, to = os.path.join(directory, "packed"), os.path.join(directory, "unpacked")
     variables = {"OUT": out, "PYTHON": sys.executable, **make_variables}
     assignments = [f"{name}={value}" for name, value in variables.items()]
@@ -131,10 +131,11 @@ def check_readme(checks, package):
 
 # A public key file, data and a signature file, which are verified together.
 Case = namedtuple("Case", "name key data signature")
-# The fields of a case that a package can read before it verifies: the key IDs of the key and of the signature, and true for a legacy one.
+# The fields of a case that a package can read before it verifies: the key IDs of the key and of the signature, and true
+# for a legacy one.
 Fields = namedtuple("Fields", "case key_id signature_key_id is_legacy")
-# The key, data and signature that the documentation of the Rust crate minisign publishes: the paths, the case, and the base64 line of the
-# key.
+# The key, data and signature that the documentation of the Rust crate minisign publishes: the paths, the case, and the
+# base64 line of the key.
 PUBLISHED_PATHS = [os.path.join(CORPUS, name) for name in ("published.pub", "test", "published.minisig")]
 PUBLISHED = Case("published", *map(read, PUBLISHED_PATHS))
 PUBLISHED_BASE64 = PUBLISHED.key.decode().split("\n")[1]
@@ -152,8 +153,8 @@ def corpus():
 
 
 def vectors():
-    """Returns pairs: a case with an Ed25519 signature on which implementations differ, and true if libsodium accepts it. The key and the
-    signature of these cases are not files, but 32 and 64 bytes."""
+    """Returns pairs: a case with an Ed25519 signature on which implementations differ, and true if libsodium accepts
+    it. The key and the signature of these cases are not files, but 32 and 64 bytes."""
     decode = bytes.fromhex
     return [(Case(vector["name"], decode(vector["A"]), decode(vector["msg"]), decode(vector["sig"])), vector["sodium"])
             for vector in ed25519_edge_cases.vectors()]
@@ -161,26 +162,31 @@ def vectors():
 
 @functools.lru_cache(maxsize=None)
 def vector_files():
-    """Returns `vectors` as legacy signature files, each with the name of its error in the header. All of them must be rejected, whatever
-    implementation of Ed25519 is used: where implementations differ on the data signature, the comment signature is invalid, too. In the
-    last three cases, an implementation that accepts points of small order would accept the signature for all data."""
+    """Returns `vectors` as legacy signature files, each with the name of its error in the header. All of them must be
+    rejected, whatever implementation of Ed25519 is used: where implementations differ on the data signature, the
+    comment signature is invalid, too. In the last three cases, an implementation that accepts points of small order
+    would accept the signature for all data."""
     rows = []
     for vector in ed25519_edge_cases.vectors():
         key, signature = ed25519_edge_cases.legacy_files(vector)
         case = Case(vector["name"], key, bytes.fromhex(vector["msg"]), signature)
         rows.append((case, ed25519_edge_cases.expected_error(vector)))
     key, signature = ed25519_edge_cases.files_accepted_for_all_data()
-    return rows + [(Case("a signature for every file", key, data, signature), "WEAK_ED25519") for data in (b"", b"data", bytes(100_000))]
+    return rows + [
+        (Case("a signature for every file", key, data, signature), "WEAK_ED25519")
+        for data in (b"", b"data", bytes(100_000))
+    ]
 
 
 def damaged_cases(count=DAMAGED_COUNT):
-    """Returns cases of the corpus in which the key, the signature or the data is changed at random. They are the same in each run."""
+    """Returns cases of the corpus in which the key, the signature or the data is changed at random. They are the same
+    in each run."""
     return as_cases(minisign_cases.random_cases(kept_cases(), count))
 
 
 def line_damaged_cases():
-    """Returns a random sample of cases in which the data, or a line, a character or the end of a file is changed. It is the same in each
-    run."""
+    """Returns a random sample of cases in which the data, or a line, a character or the end of a file is changed. It is
+    the same in each run."""
     undamaged = next(case for case in kept_cases() if case.data and case.sig.count(b"\n") == 4)
     return as_cases(random.Random(LINE_DAMAGED_COUNT).sample(minisign_cases.damaged(undamaged), LINE_DAMAGED_COUNT))
 
@@ -200,8 +206,8 @@ def rejected_cases():
 
 @functools.lru_cache(maxsize=None)
 def expected_fields():
-    """Returns `Fields`, decoded here with Python's base64. The cases are those of the corpus that Minisign accepts, without the one that
-    is not UTF-8; one with the public key of another signer; and some with short key IDs."""
+    """Returns `Fields`, decoded here with Python's base64. The cases are those of the corpus that Minisign accepts,
+    without the one that is not UTF-8; one with the public key of another signer; and some with short key IDs."""
     cases = [case for case, row in zip(corpus(), texts.corpus_entries())
              if row["status"] == 0 and row["signature"] != "no-utf8.minisig"]
     cases.append(cases[0]._replace(name="a signature of another key", key=read(CORPUS, "second.pub")))
@@ -220,7 +226,8 @@ SHORT_KEY_IDS = [0xABCDEF012345678, 0x620F1842B41F0A, 0x123456789, 0xB, 0]
 
 
 def with_key_id(case, number):
-    """Returns the case with another key ID in its key and its signature. The signature is still valid, because key IDs are not signed."""
+    """Returns the case with another key ID in its key and its signature. The signature is still valid, because key IDs
+    are not signed."""
     def changed(text):
         record = record_of(text)
         return text.replace(*map(base64.b64encode, (record, record[:2] + number.to_bytes(8, "little") + record[10:])))
@@ -239,8 +246,15 @@ ListCase = namedtuple("ListCase", "title key text signature list_name long_diges
 LIST_NAME, LIST_COMMENT = "SHA256SUMS", "version:2\tfile:SHA256SUMS"
 ACCENT = "\u00e9"
 # The contents of the listed files, by their names in the list.
-LISTED_FILES = {"app": b"version 2\n", "dir/b c": b"", "x) = y": b"parentheses", "star": b"binary", "twice": b"2", "long": b"l" * 200_000,
-          ACCENT: b"accent"}
+LISTED_FILES = {
+    "app": b"version 2\n",
+    "dir/b c": b"",
+    "x) = y": b"parentheses",
+    "star": b"binary",
+    "twice": b"2",
+    "long": b"l" * 200_000,
+    ACCENT: b"accent",
+}
 
 
 def hex_digest(name, data):
@@ -264,16 +278,22 @@ LIST_LINES = [
 ]
 # Lists whose second line is malformed.
 FIRST_ENTRY = LIST_LINES[2][0].encode()
-MALFORMED_LISTS = [FIRST_ENTRY + line.encode() for line in (
-    f"{hex_digest('sha256', b'')} b\n", f"{hex_digest('sha256', b'')}  /b\n", f"{hex_digest('sha256', b'')}  ../b\n",
-    f"MD5 (b) = {hex_digest('md5', b'')}",
-    f"{hex_digest('sha256', b'')}  b\tc\n", f"{hex_digest('sha256', b'')}  b\r\r\n", "b\n", " \n", f"{hex_digest('sha256', b'')[1:]}  b\n")]
+MALFORMED_LISTS = [
+    FIRST_ENTRY + line.encode()
+    for line in (
+        f"{hex_digest('sha256', b'')} b\n", f"{hex_digest('sha256', b'')}  /b\n",
+        f"{hex_digest('sha256', b'')}  ../b\n", f"MD5 (b) = {hex_digest('md5', b'')}",
+        f"{hex_digest('sha256', b'')}  b\tc\n", f"{hex_digest('sha256', b'')}  b\r\r\n", "b\n", " \n",
+        f"{hex_digest('sha256', b'')[1:]}  b\n",
+    )
+]
 
 
 @functools.lru_cache(maxsize=None)
 def list_rows(minisign):
-    """Returns pairs of a `ListCase` and the line that a program must print for it: `accepted`, the trusted comment in hexadecimal digits
-    and the line number of the file's entry; or `rejected`, the error and the number of the line at fault, or 0."""
+    """Returns pairs of a `ListCase` and the line that a program must print for it: `accepted`, the trusted comment in
+    hexadecimal digits and the line number of the file's entry; or `rejected`, the error and the number of the line at
+    fault, or 0."""
     text = "".join(line for line, _ in LIST_LINES).encode()
     with tempfile.TemporaryDirectory(prefix="lists-") as directory:
         for name in ("ours", "theirs"):
@@ -319,8 +339,8 @@ def list_rows(minisign):
 
 
 def listed_entries():
-    """Returns the line that a program must print for the entries of the list. For each entry, it has the line number, the hash function,
-    the digest, the name, and True if the name has escapes."""
+    """Returns the line that a program must print for the entries of the list. For each entry, it has the line number,
+    the hash function, the digest, the name, and True if the name has escapes."""
 
     def entry_text(number, line, hash_name, name, is_escaped):
         digest = re.search("[0-9a-fA-F]{64,}", line)[0].lower()
@@ -362,11 +382,16 @@ def large_cases(minisign):
 
 
 def all_cases(checks, minisign):
-    """Returns the cases of the corpus, damaged cases, and large data. Checks that `c/minisign` accepts some of them and rejects others."""
+    """Returns the cases of the corpus, damaged cases, and large data. Checks that `c/minisign` accepts some of them and
+    rejects others."""
     cases = corpus() + damaged_cases() + line_damaged_cases()
     count = sum(comment is not None for comment in accepted_comments(minisign, cases, True))
     checks.check(40 <= count <= 200, f"c/minisign accepts {count} of {len(cases)} cases, expected 40 to 200")
-    checks.same(accepted_comments(minisign, large_cases(minisign), False), [b"large", None], "the results of c/minisign for the large data")
+    checks.same(
+        accepted_comments(minisign, large_cases(minisign), False),
+        [b"large", None],
+        "the results of c/minisign for the large data",
+    )
     return cases + large_cases(minisign)
 
 
@@ -386,9 +411,9 @@ def rejected_line(name):
 class Program:
     """Runs a test program that uses a package, and checks its output.
 
-    The program gets arguments, and cases on its standard input. Each line has a key, data and a signature in hexadecimal digits, or `-`
-    in place of empty data. The program prints a line for each case: `accepted` and the trusted comment in hexadecimal digits, or `-` if
-    it is empty; or `rejected` and the error."""
+    The program gets arguments, and cases on its standard input. Each line has a key, data and a signature in
+    hexadecimal digits, or `-` in place of empty data. The program prints a line for each case: `accepted` and the
+    trusted comment in hexadecimal digits, or `-` if it is empty; or `rejected` and the error."""
 
     def __init__(self, checks, *command, name="", directory=None, **environment):
         self.checks, self.command, self.name = checks, command, name
@@ -400,35 +425,46 @@ class Program:
         return run([*self.command, *arguments], self.directory, self.environment, lines.encode())
 
     def check_lines(self, arguments, cases, patterns):
-        """Checks that the program prints one line for each case, which matches the regular expression for the case in `patterns`."""
+        """Checks that the program prints one line for each case, which matches the regular expression for the case in
+        `patterns`."""
         status, output, errors = self.run(*arguments, cases=cases)
         lines = output.decode(errors="replace").splitlines()
         is_complete = status == 0 and len(lines) == len(cases) == len(patterns) > 0
-        self.checks.check(is_complete,
-                          f"{self.name} {arguments}: status {status}, {len(lines)} lines for {len(patterns)} cases: {errors[-800:]}")
+        self.checks.check(
+            is_complete,
+            f"{self.name} {arguments}: status {status}, {len(lines)} lines for {len(patterns)} cases: {errors[-800:]}",
+        )
         for case, line, pattern in zip(cases, lines, patterns):
-            self.checks.check(re.fullmatch(pattern, line), f"{self.name} {arguments}, {case.name}: printed {line}, expected {pattern}")
+            self.checks.check(
+                re.fullmatch(pattern, line), f"{self.name} {arguments}, {case.name}: printed {line}, expected {pattern}"
+            )
 
     def check_pairs(self, minimum, *arguments, cases=()):
-        """Checks the results of tests in the program itself. It must print at least `minimum` lines, each with the expected value, a tab,
-        and the actual value, which must be equal."""
+        """Checks the results of tests in the program itself. It must print at least `minimum` lines, each with the
+        expected value, a tab, and the actual value, which must be equal."""
         status, output, errors = self.run(*arguments, cases=cases)
         lines = output.decode(errors="replace").splitlines()
-        self.checks.check(status == 0 and len(lines) >= minimum, f"{self.name} {arguments}: status {status}, {lines[-5:]}, {errors[-800:]}")
+        self.checks.check(
+            status == 0 and len(lines) >= minimum,
+            f"{self.name} {arguments}: status {status}, {lines[-5:]}, {errors[-800:]}",
+        )
         for line in lines:
             expected, _, actual = line.partition("\t")
             self.checks.check(expected == actual, f"{self.name} {arguments}: {actual}, expected {expected}")
 
     def check_verdicts(self, minisign, cases, *calls):
-        """Checks that the program accepts the cases that `c/minisign` accepts, with the same trusted comments, and rejects the others. Each
-        of `calls` is a pair: the arguments for the program, and true if they allow legacy signatures."""
+        """Checks that the program accepts the cases that `c/minisign` accepts, with the same trusted comments, and
+        rejects the others. Each of `calls` is a pair: the arguments for the program, and true if they allow legacy
+        signatures."""
         for arguments, allow_legacy in calls:
             comments = accepted_comments(minisign, cases, allow_legacy)
-            self.check_lines(arguments, cases, ["rejected .*" if comment is None else accepted_line(comment) for comment in comments])
+            self.check_lines(
+                arguments, cases, ["rejected .*" if comment is None else accepted_line(comment) for comment in comments]
+            )
 
     def check_errors(self, arguments, rows, expected_line=rejected_line):
-        """Checks that the program rejects each case with the error of its row. `expected_line` returns the expected line for the name of
-        an error."""
+        """Checks that the program rejects each case with the error of its row. `expected_line` returns the expected
+        line for the name of an error."""
         self.check_lines(arguments, [case for case, _ in rows], [expected_line(name) for _, name in rows])
 
     def check_comments(self, arguments, expected_line=rejected_line):
@@ -439,17 +475,18 @@ class Program:
                           else expected_line(name))
 
     def check_fields(self, arguments, expected_line):
-        """Checks the key IDs and legacy flags that the program reads before it verifies. `expected_line` returns the expected line for
-        `Fields`."""
+        """Checks the key IDs and legacy flags that the program reads before it verifies. `expected_line` returns the
+        expected line for `Fields`."""
         rows = expected_fields()
         self.checks.check(len(rows) > 20 and {fields.is_legacy for fields in rows} == {True, False},
                           f"there are {len(rows)} cases with fields, expected more than 20")
         self.check_lines(arguments, [fields.case for fields in rows], [expected_line(fields) for fields in rows])
 
     def check_lists(self, minisign, spell_boolean=str, spell_error=str):
-        """Checks how the program verifies files with signed lists. `verify_listed` verifies the file of each case with each function of the
-        package, also with the function that hashes outside the library. `entries` prints the entries of each list. `spell_boolean` and
-        `spell_error` return booleans and names of errors as the program prints them."""
+        """Checks how the program verifies files with signed lists. `verify_listed` verifies the file of each case with
+        each function of the package, also with the function that hashes outside the library. `entries` prints the
+        entries of each list. `spell_boolean` and `spell_error` return booleans and names of errors as the program
+        prints them."""
         rows = list_rows(minisign)
         self.checks.check(len(rows) >= 45, f"there are {len(rows)} cases of lists, expected at least 45")
         expected = [re.sub(r"(?<=rejected )\w+", lambda name: spell_error(name[0]), line) for _, line in rows]
@@ -458,8 +495,8 @@ class Program:
         self.check_lines(["entries"], [rows[0][0], rows[-1][0]], [re.escape(entries), ""])
 
     def check_bare_keys(self, *patterns):
-        """Checks how the program reads a public key from a base64 line. The inputs are a valid key, one that is too short, one that is not
-        base64, and two lines. `patterns` has a regular expression for the output of each."""
+        """Checks how the program reads a public key from a base64 line. The inputs are a valid key, one that is too
+        short, one that is not base64, and two lines. `patterns` has a regular expression for the output of each."""
         key = PUBLISHED_BASE64
         for text, pattern in zip((key, key[:-1], key[:-1] + "!", f"x\n{key}"), patterns):
             output = self.run("bare", text)[1].decode()
@@ -474,17 +511,20 @@ class Program:
         self.check_errors(arguments, rows, expected_line)
 
     def check_libsodium(self, arguments):
-        """Checks that the program, which uses the Ed25519 of libsodium, accepts exactly those of `vectors` that libsodium accepts."""
+        """Checks that the program, which uses the Ed25519 of libsodium, accepts exactly those of `vectors` that
+        libsodium accepts."""
         cases, verdicts = zip(*vectors())
         self.checks.check(len(cases) == ed25519_edge_cases.VECTOR_COUNT, f"there are {len(cases)} vectors")
         self.check_lines(arguments, cases, ["true" if is_accepted else "false" for is_accepted in verdicts])
 
     def check_growth(self, count, max_growth, cases=()):
-        """Checks that the memory of the program grows by at most `max_growth` from the first tenth of `count` calls to the last call. The
-        program reports its memory in pages or bytes, as it likes."""
+        """Checks that the memory of the program grows by at most `max_growth` from the first tenth of `count` calls to
+        the last call. The program reports its memory in pages or bytes, as it likes."""
         status, output, errors = self.run("growth", str(count), cases=cases)
-        self.checks.check(status == 0 and int(output) <= max_growth,
-                          f"{self.name}: memory grows by {output!r} in {count} calls, expected at most {max_growth}: {errors[-500:]}")
+        self.checks.check(
+            status == 0 and int(output) <= max_growth,
+            f"{self.name}: memory grows by {output!r} in {count} calls, expected at most {max_growth}: {errors[-500:]}",
+        )
 
     def check_threads(self, cases=()):
         """Checks that concurrent threads get the same results as a single thread."""
@@ -520,9 +560,10 @@ def sealed(text, limits):
 def check_signing(program, directory, minisign, spell_error=str, success="OK", takes_limits=True, decrypts=True):
     """Checks that a package's program and `c/minisign` can read each other's keys and signatures.
 
-    With the arguments `make DIRECTORY [PASSWORD]`, the program writes a key pair, and with `sign KEY DATA TO COMMENT [PASSWORD]` a
-    signature. It prints `success` or the error, as `spell_error` returns it. If `takes_limits` is false, the package encrypts only with
-    the default limits, so other limits are not tried. If `decrypts` is false, no encrypted key is tried, to save time."""
+    With the arguments `make DIRECTORY [PASSWORD]`, the program writes a key pair, and with `sign KEY DATA TO COMMENT
+    [PASSWORD]` a signature. It prints `success` or the error, as `spell_error` returns it. If `takes_limits` is false,
+    the package encrypts only with the default limits, so other limits are not tried. If `decrypts` is false, no
+    encrypted key is tried, to save time."""
     checks, names = program.checks, ["open", "sealed" if decrypts else "other", "by-c"]
     for name in names:
         os.makedirs(os.path.join(directory, name))
@@ -569,9 +610,9 @@ def check_signing(program, directory, minisign, spell_error=str, success="OK", t
 
 
 def check_weak_limits(checks, output_of, directory, secret, success):
-    """Checks that a program recognizes key files that are encrypted with weak limits: `strength KEY [PASSWORD]` must print `weak` or
-    `strong`. Also checks that it does not encrypt with weak limits: `encrypt OPERATIONS MEMORY` must print WEAK_LIMITS. If `success` is
-    None, the package takes no limits."""
+    """Checks that a program recognizes key files that are encrypted with weak limits: `strength KEY [PASSWORD]` must
+    print `weak` or `strong`. Also checks that it does not encrypt with weak limits: `encrypt OPERATIONS MEMORY` must
+    print WEAK_LIMITS. If `success` is None, the package takes no limits."""
     output = output_of("strength", write(directory, "unsealed", secret))
     checks.check(output == "strong", f"a key that is not encrypted is {output}")
     for limits, is_weak in KEY_LIMITS:
@@ -584,9 +625,9 @@ def check_weak_limits(checks, output_of, directory, secret, success):
 
 
 def check_key_ids(program, directory, minisign):
-    """Checks that a package's program and `c/minisign` print key IDs as Debian's minisign does, among them key IDs with leading zeros. With
-    the arguments `key_ids KEY`, the program prints the key IDs of a secret key and of its public key, and the public key file, whose
-    comment contains the key ID."""
+    """Checks that a package's program and `c/minisign` print key IDs as Debian's minisign does, among them key IDs with
+    leading zeros. With the arguments `key_ids KEY`, the program prints the key IDs of a secret key and of its public
+    key, and the public key file, whose comment contains the key ID."""
     os.makedirs(directory)
     run([minisign, "-G", "-W", "-s", "secret", "-p", "public"], directory)
     record = record_of(read(directory, "secret"))
@@ -609,8 +650,9 @@ KEY_FILE_CONTENT = "the text of a key\n" * 20
 
 
 def check_new_key_files(program, directory, success="OK"):
-    """Checks that a program with the arguments `write FILE TEXT` creates a key file that only its owner can read, does not replace a file,
-    syncs the file and its directory, and leaves no file after an error. It prints `success` or the error."""
+    """Checks that a program with the arguments `write FILE TEXT` creates a key file that only its owner can read, does
+    not replace a file, syncs the file and its directory, and leaves no file after an error. It prints `success` or the
+    error."""
     os.makedirs(directory)
     checks, path = program.checks, os.path.join(directory, "new.key")
 
@@ -649,7 +691,10 @@ def check_new_key_files(program, directory, success="OK"):
     synced = re.findall(r"fsync\(\d+<(.*?)>\) += 0", calls)
     checks.check(synced == [path, directory], f"{program.name}, a new key: synced {synced}, expected {[path, directory]}")
     created = re.findall(rf'"{path}", ([A-Z_|]+), (\d+)', calls)
-    checks.check([mode for flags, mode in created if "O_EXCL" in flags] == ["0600"], f"{program.name}, a new key is created with {created}")
+    checks.check(
+        [mode for flags, mode in created if "O_EXCL" in flags] == ["0600"],
+        f"{program.name}, a new key is created with {created}",
+    )
     # EINVAL for the directory is not an error, because some file systems cannot sync directories.
     for synced, error in ((path, "EIO"), (path, "EINVAL"), (directory, "EIO"), (directory, "EINVAL")):
         with contextlib.suppress(FileNotFoundError):
@@ -684,21 +729,24 @@ def is_detected(package, directory, run_checks, case, mutant=None, source_direct
     return False
 
 
-# The maximum number of runs of a case that searches memory for secrets. A single run may miss a secret, because malloc may overwrite it
-# before the search reaches it.
+# The maximum number of runs of a case that searches memory for secrets. A single run may miss a secret, because malloc
+# may overwrite it before the search reaches it.
 SEARCHES = 5
 
 
 def check_mutants(checks, package, source_directory, package_mutants, directory, run_checks, searching=()):
-    """Checks that `run_checks` fails for each mutant of a package, and passes for a copy without a mutant. The package is a copy of
-    `source_directory`, a directory of the repository. `run_checks` gets the checks, the changed copy, an empty directory and the case
-    that must fail. The cases in `searching` search memory, and are run up to SEARCHES times."""
+    """Checks that `run_checks` fails for each mutant of a package, and passes for a copy without a mutant. The package
+    is a copy of `source_directory`, a directory of the repository. `run_checks` gets the checks, the changed copy, an
+    empty directory and the case that must fail. The cases in `searching` search memory, and are run up to SEARCHES
+    times."""
     for case in sorted({mutant.case for mutant in package_mutants}):
         checks.check(not is_detected(package, directory, run_checks, case), f"{case}: fails for a copy without a mutant")
     for mutant in package_mutants:
         try:
             tries = SEARCHES if mutant.case in searching else 1
-            is_failing = any(is_detected(package, directory, run_checks, mutant.case, mutant, source_directory) for _ in range(tries))
+            is_failing = any(
+                is_detected(package, directory, run_checks, mutant.case, mutant, source_directory) for _ in range(tries)
+            )
             checks.check(is_failing, f"{mutant.case} does not detect the mutant {mutant.name}")
         except Failure as why:
             checks.check(False, str(why))
@@ -720,17 +768,25 @@ def error_texts():
 
 
 def c_values(directory, includes, rows):
-    """Returns the values of C expressions by name. `rows` has pairs of a name and an expression, and `includes` the headers to include."""
+    """Returns the values of C expressions by name. `rows` has pairs of a name and an expression, and `includes` the
+    headers to include."""
     lines = [f'printf("{name} %lld\\n", (long long) {expression});\n' for name, expression in rows]
     text = "".join(f"#include {header}\n" for header in ("<stddef.h>", "<stdint.h>", "<stdio.h>", *includes))
     path = write(directory, "numbers.c", f"{text}int main(void) {{\n{''.join(lines)}return 0; }}\n".encode())
     arguments = [f"-I{os.path.join(TOP, directory)}" for directory in ("include", "c")]
     run_or_fail([needs.c_compiler(), *arguments, "-o", f"{directory}/numbers", path])
-    return {name: int(number) for name, _, number in (line.rpartition(" ") for line in run_or_fail([f"{directory}/numbers"]).splitlines())}
+    return {
+        name: int(number)
+        for name, _, number in (line.rpartition(" ") for line in run_or_fail([f"{directory}/numbers"]).splitlines())
+    }
 
 
 def struct_layout(directory):
     """Returns the sizes of the structs of the headers by `name`, and the offsets of their fields by `name.field`, in bytes."""
     rows = [(name, f"sizeof({name})") for name in HEADERS.structs]
-    rows += [(f"{name}.{field.name}", f"offsetof({name}, {field.name})") for name, fields in HEADERS.structs.items() for field in fields]
+    rows += [
+        (f"{name}.{field.name}", f"offsetof({name}, {field.name})")
+        for name, fields in HEADERS.structs.items()
+        for field in fields
+    ]
     return c_values(directory, ['"minisign_install.h"', '"minisign_list.h"'], rows)

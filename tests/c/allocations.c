@@ -132,8 +132,10 @@ static void check_block(size_t len, size_t alignment, size_t new_len)
     check_block_of(hints == HINTS(len), "the number of madvise calls", len, alignment);
 #ifndef MINISIGN_MALLOC_ALONE
     for (unsigned at = 0; at < hints; at++) {
-        check_block_of(madvise_calls[at].hint == (at == 0 ? MADV_HUGEPAGE : MADV_POPULATE_WRITE) && madvise_calls[at].from == block.block
-                  && madvise_calls[at].len <= len && madvise_calls[at].len + 65536 > len, "the arguments of madvise", len, alignment);
+        check_block_of(madvise_calls[at].hint == (at == 0 ? MADV_HUGEPAGE : MADV_POPULATE_WRITE)
+                           && madvise_calls[at].from == block.block && madvise_calls[at].len <= len
+                           && madvise_calls[at].len + 65536 > len,
+                       "the arguments of madvise", len, alignment);
     }
 #endif
     paint(block.block, len);
@@ -182,10 +184,16 @@ static void check_parts(void)
     wait_for_pages(grant.block);
     check_block_of(grant.is_granted == 1 && hints == 8, "the madvise calls for several parts", len, 1);
     for (unsigned part = 0; part < hints; part += 2) {
-        check_block_of(madvise_calls[part].from == (char *) grant.block + at && madvise_calls[part + 1].from == madvise_calls[part].from
-                  && madvise_calls[part].len == madvise_calls[part + 1].len && madvise_calls[part + 1].hint == MADV_POPULATE_WRITE, "a part", len, 1);
-        check_block_of(madvise_mode != IS_SLOW || madvise_calls[part].hint == (part == 2 ? MADV_HUGEPAGE : MADV_NOHUGEPAGE), "a slow part", len, 1);
-        check_block_of(part > 2 || madvise_calls[part].hint == (part == 2 ? MADV_HUGEPAGE : MADV_NOHUGEPAGE), "the first parts", len, 1);
+        check_block_of(madvise_calls[part].from == (char *) grant.block + at
+                           && madvise_calls[part + 1].from == madvise_calls[part].from
+                           && madvise_calls[part].len == madvise_calls[part + 1].len
+                           && madvise_calls[part + 1].hint == MADV_POPULATE_WRITE,
+                       "a part", len, 1);
+        check_block_of(madvise_mode != IS_SLOW
+                           || madvise_calls[part].hint == (part == 2 ? MADV_HUGEPAGE : MADV_NOHUGEPAGE),
+                       "a slow part", len, 1);
+        check_block_of(part > 2 || madvise_calls[part].hint == (part == 2 ? MADV_HUGEPAGE : MADV_NOHUGEPAGE),
+                       "the first parts", len, 1);
         at += madvise_calls[part].len;
     }
     check_block_of(at <= len && at + 65536 > len, "the length of all parts", len, 1);

@@ -6,7 +6,7 @@
 - declarations (exports.py): the headers declare the exports of the sources, with the same struct layout in C and C++;
 - usage_errors.c: API misuse and NULL pointers;
 - weak_ed25519.c: keys and signatures that strict Ed25519 rejects;
-- asked_texts.c: key and signature files, and the error for each malformed file;
+- minisign_files.c: key and signature files, and the error for each malformed file;
 - records.c: records of keys and signatures, bare signatures, and the check of an encrypted key before the password prompt;
 - error_texts.c: the message and the kind of each error;
 - installations.c: the calls of an installation in the right and in the wrong order;
@@ -34,7 +34,7 @@ sys.path.append(os.path.join(HERE, "..", "shared"))
 
 import exports
 import needs
-import selected
+import case_selection
 import static_library
 import test_script
 from process import run, run_with_stderr
@@ -45,7 +45,7 @@ SANITIZED = ["-fsanitize=address,undefined", "-fno-sanitize-recover=all"]
 WRAPPED = ["-Wl,--wrap=malloc", "-Wl,--wrap=realloc", "-Wl,--wrap=free"]
 
 # The programs, and their linker flags. WRAPPED replaces allocation functions by those of the program.
-PROGRAMS = {"usage_errors": [], "weak_ed25519": [], "asked_texts": WRAPPED, "records": WRAPPED, "error_texts": [],
+PROGRAMS = {"usage_errors": [], "weak_ed25519": [], "minisign_files": WRAPPED, "records": WRAPPED, "error_texts": [],
             "installations": WRAPPED, "guard_pages": [], "random_calls": [],
             "allocations": [*WRAPPED, "-Wl,--wrap=madvise"], "threads": ["-pthread"], "signed_lists": ["-pthread"],
             "out_of_memory": [*WRAPPED, "-Wl,--wrap=madvise", "-Wl,--wrap=pthread_create"]}
@@ -86,13 +86,13 @@ def check_declarations(checks, scratch):
 
 def run_all(checks, scratch):
     compiler = needs.c_compiler()
-    if selected.is_selected("declarations"):
+    if case_selection.is_selected("declarations"):
         check_declarations(checks, scratch)
     for number, (what, (variables, flag_sets)) in enumerate(LIBRARIES.items()):
         if os.environ.get("UNPROVED") and any("dist" in variable for variable in variables):
             print(f"skipped with UNPROVED: {what}")
             continue
-        programs = {name: linking for name, linking in PROGRAMS.items() if selected.is_selected(what, name)}
+        programs = {name: linking for name, linking in PROGRAMS.items() if case_selection.is_selected(what, name)}
         if not programs:
             continue
         library = static_library.library(os.path.join(scratch, str(number)), *variables)

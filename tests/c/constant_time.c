@@ -197,7 +197,8 @@ static enum minisign_error write_signature(void)
     minisign_init(&state);
     require_ok(minisign_update(&state, TEXT("data")));
     require_ok(minisign_digest(&state, digest));
-    require_ok(minisign_comment_message(parts.signature, parts.trusted_comment, parts.trusted_comment_len, message, sizeof message));
+    require_ok(minisign_comment_message(parts.signature, parts.trusted_comment, parts.trusted_comment_len, message,
+                                        sizeof message));
     return minisign_signed_text(&public_key, &parts, out, sizeof out, &out_len);
 }
 

@@ -37,7 +37,7 @@ from collections import Counter, defaultdict, namedtuple
 HERE = os.path.dirname(os.path.realpath(__file__))
 sys.path.append(os.path.join(HERE, "..", "shared"))
 
-import cleared
+import cleared_secrets
 import needs
 import static_library
 import test_script
@@ -89,9 +89,19 @@ def secrets_text():
               "SEALED": text_of(closed), "SEALED_WRONG_FIRST": text_of(flip_bit(closed, 126)),
               "SEALED_WRONG_LAST": text_of(flip_bit(closed)),
               "PASSWORD": PASSWORD, "SECRET": record[62:126], "KEY_ID": KEY_ID}
-    lines = [f"static const unsigned char {name}[{len(data)}] = {{ {', '.join(map(str, data))} }};" for name, data in arrays.items()]
-    return "\n".join([*lines, f"#define FIRST_LINE {len(text_of(b'', COMMENT)) - 1}", f"#define OPERATIONS_LIMIT {LIMITS.operations}",
-                      f"#define MEMORY_LIMIT {LIMITS.memory}", ""])
+    lines = [
+        f"static const unsigned char {name}[{len(data)}] = {{ {', '.join(map(str, data))} }};"
+        for name, data in arrays.items()
+    ]
+    return "\n".join(
+        [
+            *lines,
+            f"#define FIRST_LINE {len(text_of(b'', COMMENT)) - 1}",
+            f"#define OPERATIONS_LIMIT {LIMITS.operations}",
+            f"#define MEMORY_LIMIT {LIMITS.memory}",
+            "",
+        ]
+    )
 
 
 @functools.lru_cache(maxsize=None)
@@ -101,14 +111,14 @@ def compiler():
                       "valgrind", "gcc", "libc6-dev")
 
 
-class Builder(cleared.Builder):
+class Builder(cleared_secrets.Builder):
     """Builds constant_time.c with the builds of the proved functions."""
 
     def __init__(self, scratch):
         super().__init__(scratch)
         write(scratch, "secret_texts.h", secrets_text().encode())
 
-    def built(self, copy, top=cleared.proved.ROOT):
+    def built(self, copy, top=cleared_secrets.proved.ROOT):
         """Builds constant_time.c with a build of the proved functions, from the sources in `top`. Returns the path
         of the program."""
         variables = [f"CC={needs.program('clang', 'clang')}" if variable == "CC=clang" else variable for variable in copy.variables]
@@ -203,7 +213,7 @@ def places_over_limit(places, is_c, listed):
 # ---- Checks ----
 
 
-def outcomes_over(builder, copy, pool, top=cleared.proved.ROOT, names=None):
+def outcomes_over(builder, copy, pool, top=cleared_secrets.proved.ROOT, names=None):
     """Makes all calls, or those with these names, with a build. Maps their names to the outcomes."""
     program = builder.built(copy, top=top)
     names = names or calls_of(program)
@@ -223,9 +233,15 @@ def check_calls(checks, copy, outcomes, listed):
                          f"{sorted(outcome.places)[:20]}")
     # For valgrind, a value that was looked up at a secret index is public. So these calls must have no places at all.
     for name in PUBLIC:
-        checks.check(outcomes[name].public and not outcomes[name].places, f"{copy.name}: {name} depends on the secret: {outcomes[name]}")
+        checks.check(
+            outcomes[name].public and not outcomes[name].places,
+            f"{copy.name}: {name} depends on the secret: {outcomes[name]}",
+        )
     kinds = {place.is_branch for place in outcomes[LEAK].places}
-    checks.check(kinds == {True, False}, f"{copy.name}: the branch and the address of `{LEAK}`: valgrind reports only {outcomes[LEAK].places}")
+    checks.check(
+        kinds == {True, False},
+        f"{copy.name}: the branch and the address of `{LEAK}`: valgrind reports only {outcomes[LEAK].places}",
+    )
 
 
 def check_checksum_is_compared_whole(checks, copy, outcomes):
@@ -277,7 +293,13 @@ def print_list(found):
 
 def check_list(checks, found, listed):
     """Checks that each function in the list has a place that depends on a secret."""
-    seen = {place.function for outcomes in found.values() for name, outcome in outcomes.items() if name != LEAK for place in outcome.places}
+    seen = {
+        place.function
+        for outcomes in found.values()
+        for name, outcome in outcomes.items()
+        if name != LEAK
+        for place in outcome.places
+    }
     checks.check(not {*listed} - seen, f"no place depends on a secret in {sorted({*listed} - seen)}, which the list names")
 
 

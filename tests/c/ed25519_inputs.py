@@ -9,7 +9,7 @@ verdicts with libsodium and with OpenSSL 3.0.
     encoded, and accept valid signatures.
   * OpenSSL, called from Debian's Python, must accept 64 zero bytes as a signature under a key of 32 zero bytes for some
     messages, as the documentation says. The library parses 56 letters A as this key.
-  * verify_over.c verifies the 293 vectors of tests/shared/ed25519_vectors.json with each implementation. OpenSSL by itself
+  * verify_legacy.c verifies the 293 vectors of tests/shared/ed25519_vectors.json with each implementation. OpenSSL by itself
     accepts some vectors that libsodium rejects. With the library, both must have the verdicts of libsodium.
 
 The script prints a line for each failure; the last line is `N passed, M failed`.
@@ -31,7 +31,7 @@ import ed25519_edge_cases
 import needs
 import static_library
 import test_script
-from copies import TOP
+from repository_copies import TOP
 from ed25519_edge_cases import FIELD_PRIME, GROUP_ORDER, SMALL_ORDER_Y
 from process import run
 from running import read
@@ -40,7 +40,11 @@ from running import read
 RULES = ("public key .*?R.* small order", "R that is not canonically encoded", "S .*?that is not below the group order",
          "OpenSSL 3\\.0, 64 zero bytes are a valid signature of one message in four under a public key of 32 zero bytes",
          "56 letters A", "minisign_ask rejects all three kinds, and so does crypto_sign_verify_detached of libsodium")
-DETAILS = ("small order \\(1, 2, 4 or 8\\)", "y coordinate is not below 2\\^255 - 19", "2\\^252 \\+ 27742317777372353535851937790883648493")
+DETAILS = (
+    "small order \\(1, 2, 4 or 8\\)",
+    "y coordinate is not below 2\\^255 - 19",
+    "2\\^252 \\+ 27742317777372353535851937790883648493",
+)
 STREAM_RULES = ("need not reject a public key or a point R .*?of small order", "R that is not canonically encoded",
              "S .*?that is not below the group order", "MINISIGN_WEAK_ED25519")
 TEXTS = {"include/minisign.h": RULES + DETAILS, "include/minisign_stream.h": STREAM_RULES, "c/man/minisign.3": RULES + DETAILS}
@@ -82,7 +86,11 @@ int main(int count, char **words)
 def plain(name):
     """Returns the text of a header or manual page without markup, with single spaces."""
     text = read(TOP, name).decode()
-    text = text.replace("\\-", "-").replace("\\(ha", "^").replace("\\(aq", "'") if name.endswith(".3") else re.sub(r"(?m)^ ?/?\*+/?", "", text)
+    text = (
+        text.replace("\\-", "-").replace("\\(ha", "^").replace("\\(aq", "'")
+        if name.endswith(".3")
+        else re.sub(r"(?m)^ ?/?\*+/?", "", text)
+    )
     return " ".join(text.split())
 
 
@@ -135,7 +143,13 @@ def check_libsodium(checks):
         larger = int.from_bytes(signature[32:], "little") + GROUP_ORDER
         checks.check(not sodium.accepts(signature[:32] + encode_point(larger), message, public),
                      f"libsodium accepts S + the order for {message}")
-    points = [encode_point(y + more, sign) for y in SMALL_ORDER_Y for more in (0, FIELD_PRIME) if y + more < 2**255 for sign in (0, 1)]
+    points = [
+        encode_point(y + more, sign)
+        for y in SMALL_ORDER_Y
+        for more in (0, FIELD_PRIME)
+        if y + more < 2**255
+        for sign in (0, 1)
+    ]
     for point in points:
         for second_point in (*points, public):
             found = [message for message in MESSAGES[:40] if sodium.accepts(second_point + bytes(32), message, point)
@@ -151,7 +165,10 @@ def check_openssl(checks):
     status, output = run([python, "-c", OPENSSL_SCRIPT])
     version, _, accepted = output.strip().partition("|")
     if checks.check(status == 0, f"OpenSSL: {output[-400:]}") and version.startswith("OpenSSL 3.0"):
-        checks.check(60 <= int(accepted) <= 140, f"{version} accepts {accepted} of {len(MESSAGES)} messages, expected about one in four")
+        checks.check(
+            60 <= int(accepted) <= 140,
+            f"{version} accepts {accepted} of {len(MESSAGES)} messages, expected about one in four",
+        )
 
 
 # A program that compiles and links only if OpenSSL with its header is installed.
@@ -165,12 +182,12 @@ def need_openssl(compiler):
 
 def check_vectors(checks, scratch, library):
     """Checks that the library has the verdicts of libsodium, both with OpenSSL and with libsodium."""
-    compiler, program, vectors = needs.compiler_with_libsodium(), f"{scratch}/verify_over", ed25519_edge_cases.vectors()
+    compiler, program, vectors = needs.compiler_with_libsodium(), f"{scratch}/verify_legacy", ed25519_edge_cases.vectors()
     need_openssl(compiler)
-    command = [compiler, "-O2", "-Wall", "-Wextra", "-Werror", "-I", f"{TOP}/include", f"{TOP}/tests/c/verify_over.c", library,
+    command = [compiler, "-O2", "-Wall", "-Wextra", "-Werror", "-I", f"{TOP}/include", f"{TOP}/tests/c/verify_legacy.c", library,
                "-lcrypto", "-lsodium", "-pthread", "-o", program]
     status, output = run(command)
-    if not checks.check((status, output) == (0, ""), f"verify_over.c: {output[-800:]}"):
+    if not checks.check((status, output) == (0, ""), f"verify_legacy.c: {output[-800:]}"):
         return
     numbers, lines = {error.name: str(error.number) for error in c_header.both().enums["error"]}, []
     for vector in vectors:
@@ -184,7 +201,10 @@ def check_vectors(checks, scratch, library):
             expected = numbers[ed25519_edge_cases.expected_error(vector)]
             checks.check(error == expected, f"{name}, {vector['name']}: error {error}, expected {expected}")
         differing = [vector for vector, (_, by_itself) in zip(vectors, rows) if (by_itself == "1") != vector["sodium"]]
-        checks.check(all(map(ed25519_edge_cases.is_weak, differing)), f"{name} differs from libsodium in {[vector['name'] for vector in differing]}")
+        checks.check(
+            all(map(ed25519_edge_cases.is_weak, differing)),
+            f"{name} differs from libsodium in {[vector['name'] for vector in differing]}",
+        )
         checks.check(bool(differing) == (name == "openssl"), f"{name} by itself differs from libsodium in {len(differing)} vectors")
         print(f"ed25519-inputs: by itself {name} accepts {len(differing)} vectors that libsodium rejects")
 

@@ -43,7 +43,9 @@ def fetch(kind, target, *packages):
     """Downloads Debian packages for a processor and unpacks them in the directory `target`. The package lists of
     the system are not changed."""
     if not needs.is_debian():
-        raise needs.Missing(f"{' and '.join(packages)} for {kind.debian} is missing: unpack it into {os.path.relpath(target, ROOT)}")
+        raise needs.Missing(
+            f"{' and '.join(packages)} for {kind.debian} is missing: unpack it into {os.path.relpath(target, ROOT)}"
+        )
     with tempfile.TemporaryDirectory(prefix="packages-") as scratch:
         for directory in ("lists/partial", "cache/archives/partial"):
             os.makedirs(f"{scratch}/{directory}")
@@ -54,7 +56,9 @@ def fetch(kind, target, *packages):
         _, update_output = run(["apt-get", "-q", *options, "update"], scratch)
         status, output = run(["apt-get", "-q", *options, "download", *packages], scratch)
         if status != 0:
-            raise needs.Missing(f"{' and '.join(packages)} for {kind.name} could not be downloaded: {update_output[-300:]}{output[-300:]}")
+            raise needs.Missing(
+                f"{' and '.join(packages)} for {kind.name} could not be downloaded: {update_output[-300:]}{output[-300:]}"
+            )
         for package in glob.glob(f"{scratch}/*.deb"):
             subprocess.run(["dpkg", "-x", package, f"{scratch}/unpacked"], check=True)
         # `rt ci` may run at the same time, and rejects symbolic links in the repository.
@@ -105,7 +109,11 @@ def musl_variables(scratch):
     """Returns the make variables for a build with musl."""
     run([musl_compiler(), "-c", "-o", f"{scratch}/glibc-functions.o", write(scratch, "glibc-functions.c", GLIBC_FUNCTIONS)])
     archive = run([needs.compiler_with_libsodium(), "-print-file-name=libsodium.a"])[1].strip()
-    return {"CC": musl_compiler(), "CPPFLAGS": f"-isystem {headers_of_sodium(scratch)}", "SODIUM": f"{archive} {scratch}/glibc-functions.o"}
+    return {
+        "CC": musl_compiler(),
+        "CPPFLAGS": f"-isystem {headers_of_sodium(scratch)}",
+        "SODIUM": f"{archive} {scratch}/glibc-functions.o",
+    }
 
 
 def musl_arguments(scratch):

@@ -61,18 +61,28 @@ NEVER_RETURNED = {
     "minisign_bare_verdict": [("COMMENT_SIGNATURE_REFUSED", "a bare signature has no comment signature"),
                               ("DIFFERENT_KEY_IDS LEGACY_NOT_ACCEPTED", BARE_ASKED_BEFORE)],
     "minisign_read_secret_key_record": [("PARAMETERS_TOO_HIGH INVALID_PARAMETERS", "it writes zeros in these cases")],
-    "minisign_read_secret_key": [("KEY_SEALED KEY_CORRUPTED KEY_NOT_SEALED UNSUPPORTED_KEY_DERIVATION PARAMETERS_TOO_HIGH INVALID_PARAMETERS "
-                                  "WORK_TOO_HIGH WRONG_PASSWORD", "it returns what opening would need, and opens nothing")],
+    "minisign_read_secret_key": [
+        (
+            "KEY_SEALED KEY_CORRUPTED KEY_NOT_SEALED UNSUPPORTED_KEY_DERIVATION PARAMETERS_TOO_HIGH INVALID_PARAMETERS "
+            "WORK_TOO_HIGH WRONG_PASSWORD",
+            "it returns what opening would need, and opens nothing",
+        )
+    ],
     "minisign_opening_memory": [("PARAMETERS_TOO_HIGH INVALID_PARAMETERS", "it writes zeros in these cases")],
     "minisign_install_answer": [("DIFFERENT_KEY_IDS LEGACY_NOT_ACCEPTED", "minisign_install_signature returns these")],
     "minisign_install_init": [("NOT_LISTED", "it is the result of looking up a name before a list was read")],
-    "minisign_install_list": [("NOT_UTF8 BAD_NAME MALFORMED_LINE NOT_LISTED LISTED_TWICE", "minisign_install_answer returns these")],
+    "minisign_install_list": [
+        ("NOT_UTF8 BAD_NAME MALFORMED_LINE NOT_LISTED LISTED_TWICE", "minisign_install_answer returns these")
+    ],
     "minisign_install_signature": [("OTHER_FILE NO_NUMBER NO_EXPIRY BAD_EXPIRY EXPIRED BAD_SIZE OLDER_UPDATE",
                                     "minisign_install_answer returns these")],
     "minisign_judge_comment": [("NO_EXPIRY", JUDGED_APART)],
     "minisign_list_ask": [("minisign_read_signature", READ_BEFORE)],
     "minisign_list_ask_any": [("minisign_read_signature", READ_BEFORE)],
-    "minisign_list_verdict": [("minisign_read_signature", READ_BEFORE), ("DIFFERENT_KEY_IDS LEGACY_NOT_ACCEPTED", LIST_ASKED_BEFORE)],
+    "minisign_list_verdict": [
+        ("minisign_read_signature", READ_BEFORE),
+        ("DIFFERENT_KEY_IDS LEGACY_NOT_ACCEPTED", LIST_ASKED_BEFORE),
+    ],
     "minisign_list_find": [("ENTRY_NOT_READ", "an entry that was found is marked as read")],
     "minisign_list_append": [("NOT_LISTED", "the name is appended in this case")],
 }
@@ -81,13 +91,19 @@ ONE_COMMENT = "two calls share the comment"
 PASSED_IN = "the comment names it as an argument of minisign_install_failed"
 NAMED_APART = {
     "minisign_read_public_key": [("BARE_PUBLIC_KEY_LENGTH BARE_PUBLIC_KEY_NOT_BASE64", ONE_COMMENT)],
-    "minisign_read_bare_public_key": [("MISSING_PUBLIC_KEY MISSING_PUBLIC_KEY_COMMENT PUBLIC_KEY_LENGTH PUBLIC_KEY_NOT_BASE64", ONE_COMMENT)],
+    "minisign_read_bare_public_key": [
+        ("MISSING_PUBLIC_KEY MISSING_PUBLIC_KEY_COMMENT PUBLIC_KEY_LENGTH PUBLIC_KEY_NOT_BASE64", ONE_COMMENT)
+    ],
     "minisign_open_sealed_key_in_place": [("OUT_OF_MEMORY", "the comment says that it is never returned")],
-    "minisign_test_sealed_key": [("NOT_UTF8 OUT_OF_MEMORY WRONG_PASSWORD", "the comment says that opening can still return them")],
+    "minisign_test_sealed_key": [
+        ("NOT_UTF8 OUT_OF_MEMORY WRONG_PASSWORD", "the comment says that opening can still return them")
+    ],
     "minisign_secret_key_text_with_any_limits": [("WEAK_SEALING", "the comment says that it is never returned")],
     "minisign_install_record": [("READING_FAILED", PASSED_IN)],
     "minisign_install_no_record": [("READING_FAILED", PASSED_IN)],
-    "minisign_install_line": [("MALFORMED_LINE LISTED_TWICE", "the comment names them as results of minisign_install_error")],
+    "minisign_install_line": [
+        ("MALFORMED_LINE LISTED_TWICE", "the comment names them as results of minisign_install_error")
+    ],
 }
 
 # The calls whose contract is an equation with the step function of the installer. For each, the events that it
@@ -146,7 +162,12 @@ def reached_errors(library, text, imports, definitions, seen):
         variant = next((each for place, each in origins if place[-1:] == ["TheVariants"] and place[-2] in ENUMS), None)
         if variant or name == WEAK[0]:
             errors.add(name_in_c(variant) if variant else WEAK[1])
-        elif isinstance(definition, sources.Definition) and library.is_own(definition.file) and definition not in seen and definition.kind == "word":
+        elif (
+            isinstance(definition, sources.Definition)
+            and library.is_own(definition.file)
+            and definition not in seen
+            and definition.kind == "word"
+        ):
             seen.add(definition)
             if not MAPS.search(definition.file):
                 inside = sources.read_module(definition.file)
@@ -222,7 +243,10 @@ def check_lists(checks, calls, errors):
 def check_texts(checks, errors):
     """Checks that error_texts.c has a message for each error."""
     texts = {*re.findall(r"\[MINISIGN_(\w+)\] = ", read(HERE, "error_texts.c").decode())}
-    checks.check(texts == errors | {"OK"}, f"error_texts.c and the headers have different errors: {sorted(texts ^ (errors | {'OK'}))}")
+    checks.check(
+        texts == errors | {"OK"},
+        f"error_texts.c and the headers have different errors: {sorted(texts ^ (errors | {'OK'}))}",
+    )
 
 
 def check_packages(checks, errors):
@@ -234,11 +258,19 @@ def check_packages(checks, errors):
         found = {in_c[each.replace("_", "").lower()] for each in re.findall(word, text) if each.replace("_", "").lower() in in_c}
         found = found.union(*(returned_errors(call) for words, call in PHRASES.items() if words in text)) - misuses
         expected = set().union(*map(returned_errors, calls)) - misuses
-        checks.check(found == expected, f"{place} wrongly names {sorted(found - expected)}, and does not name {sorted(expected - found)}")
+        checks.check(
+            found == expected,
+            f"{place} wrongly names {sorted(found - expected)}, and does not name {sorted(expected - found)}",
+        )
 
     tree = ast.parse(read(TOP, PYTHON))
     texts = {node.name: node for node in tree.body if isinstance(node, ast.ClassDef)}
-    texts |= {f"{name}.{part.name}": part for name, node in [*texts.items()] for part in node.body if isinstance(part, ast.FunctionDef)}
+    texts |= {
+        f"{name}.{part.name}": part
+        for name, node in [*texts.items()]
+        for part in node.body
+        if isinstance(part, ast.FunctionDef)
+    }
     for name, calls in IN_PYTHON.items():
         check_text(f"{PYTHON}: {name}", " ".join(ast.get_docstring(texts[name]).split()), r"\b[A-Z][a-z]\w+", calls)
     for name, calls in IN_JAVASCRIPT.items():
@@ -257,9 +289,14 @@ def declaration_of(call):
 def release_text(version, calls, errors):
     """Returns the content of last_release.txt: two lines for each call, with its declaration, and with its version
     and its errors."""
-    lines = [f"# The calls of {version}, each with the version after \"Since\" and its errors: made by tests/c/error_lists.py --released\n"]
+    lines = [
+        f"# The calls of {version}, each with the version after \"Since\" and its errors: made by"
+        " tests/c/error_lists.py --released\n"
+    ]
     for name, call in calls.items():
-        lines.append(f"{declaration_of(call)}\n    {' '.join([f'{since_of(call)[0]}:', *sorted(stated_errors(calls, name, errors))])}\n")
+        lines.append(
+            f"{declaration_of(call)}\n    {' '.join([f'{since_of(call)[0]}:', *sorted(stated_errors(calls, name, errors))])}\n"
+        )
     return "".join(lines)
 
 
@@ -272,13 +309,21 @@ def check_since(checks, calls, errors, version):
     """Checks the version after "Since" in the comment of each call."""
     _, *lines = read(HERE, "last_release.txt").decode().split("\n")
     rows = ((line, *more.split()) for line, more in zip(lines[::2], lines[1::2]))
-    released = {re.search(r"(minisign_\w+)\(", line)[1]: (since.rstrip(":"), line, {*its_errors}) for line, since, *its_errors in rows}
+    released = {
+        re.search(r"(minisign_\w+)\(", line)[1]: (since.rstrip(":"), line, {*its_errors})
+        for line, since, *its_errors in rows
+    }
     checks.check(len(released) > 20, "last_release.txt has no calls")
     for name, call in calls.items():
         since, in_release = since_of(call), released.get(name, ("missing",))
         is_unchanged = len(since) == 1 and in_release == (since[0], declaration_of(call), stated_errors(calls, name, errors))
-        checks.check(since == [version] or is_unchanged,
-                     f"{name}: the comment says since {since}, expected {version}, because the call differs from the last release: {in_release}")
+        checks.check(
+            since == [version] or is_unchanged,
+            (
+                f"{name}: the comment says since {since}, expected {version}, because the call differs from the last"
+                f" release: {in_release}"
+            ),
+        )
 
 
 def all_of_headers():

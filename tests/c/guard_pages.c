@@ -150,7 +150,8 @@ static void signs_with_cut_keys(void)
         int is_read = minisign_read_secret_key(copied(SECRET_KEY, len), len, unopened) == MINISIGN_OK;
         CHECK(is_read || len < sizeof SECRET_KEY - 2);
         CHECK(minisign_open_unsealed_key(unopened, key) == (is_read ? MINISIGN_OK : MINISIGN_KEY_NOT_READ));
-        CHECK(minisign_open_sealed_key(unopened, buffer(0), 0, 1, 1, key) == (is_read ? MINISIGN_KEY_NOT_SEALED : MINISIGN_KEY_NOT_READ));
+        CHECK(minisign_open_sealed_key(unopened, buffer(0), 0, 1, 1, key)
+              == (is_read ? MINISIGN_KEY_NOT_SEALED : MINISIGN_KEY_NOT_READ));
     }
     for (size_t len = 0; len < 200; len += IS_EMULATED ? 7 : 1) {
         used = 0;
@@ -258,8 +259,8 @@ static void opens_in_place(uint64_t p)
         CHECK(4 * *words_wanted <= BYTES && *bytes_wanted <= BYTES);
         size_t words_len = (size_t) *words_wanted - (i % 4 == 1), parts_len = (size_t) *bytes_wanted - (i % 4 == 2);
         uint8_t *words = buffer(4 * words_len), *parts = buffer(parts_len);
-        CHECK(minisign_open_sealed_key_in_place(unopened, copied(password, 2), 2, kept[i / 4], 1024 * p, (uint32_t *) (void *) words,
-                                                words_len, parts, parts_len, opened)
+        CHECK(minisign_open_sealed_key_in_place(unopened, copied(password, 2), 2, kept[i / 4], 1024 * p,
+                                                (uint32_t *) (void *) words, words_len, parts, parts_len, opened)
               == (i % 4 == 0 ? MINISIGN_OK : i % 4 == 3 ? MINISIGN_WRONG_PASSWORD : MINISIGN_NO_ROOM));
         CHECK(memcmp(opened, i % 4 == 0 ? &key : &before, sizeof key) == 0);
         CHECK(is_zeros(words, 4 * words_len) && is_zeros(parts, parts_len));
@@ -365,7 +366,8 @@ static void installs(void)
     for (size_t size = 0; size <= MINISIGN_RECORD_TEXT_BYTES; size++) {
         used = 0;
         minisign_installation *i = installing(MINISIGN_DUE_READ_RECORD);
-        CHECK(minisign_install_record(i, filled(size, '0'), size) == (0 < size && size <= 64 ? MINISIGN_OK : MINISIGN_DAMAGED_RECORD));
+        CHECK(minisign_install_record(i, filled(size, '0'), size)
+              == (0 < size && size <= 64 ? MINISIGN_OK : MINISIGN_DAMAGED_RECORD));
     }
     for (size_t room = 0; room <= MESSAGE_LEN; room++) {
         CHECK(pass_to_install(len, room) == (room < MESSAGE_LEN ? MINISIGN_NO_ROOM : MINISIGN_OK));

@@ -101,7 +101,10 @@ def functions_with_warnings(scratch, compiler, functions, include):
     lines = text.split("\n")
     numbers = {int(number) for number in re.findall(r"mistakes\.c:(\d+):\d+: warning:", output)}
     # Finds the function that contains each line with a warning.
-    return {next(found[1] for line in reversed(lines[:number]) if (found := re.match(r"void (\w+)\(void\)$", line))) for number in numbers}
+    return {
+        next(found[1] for line in reversed(lines[:number]) if (found := re.match(r"void (\w+)\(void\)$", line)))
+        for number in numbers
+    }
 
 
 def without_attributes(scratch):
@@ -142,8 +145,12 @@ def check_correct_calls(checks, scratch, calls):
                                   ("clang", "clang", "-std=c99", "-O2"), ("clang++", "clang", "-std=c++17", "-O2"),
                                   ("tcc", "tcc", "-std=c99"), ("musl-gcc", "musl-tools", "-std=c11", "-O2")):
         source = write(scratch, f"right.{'cpp' if '++' in name else 'c'}", text.encode())
-        command = [needs.program(name, package), *flags, *(STRICT if name != "tcc" else ("-Wall",)), "-Werror", "-I", INCLUDE, "-c", "-o",
-                   f"{scratch}/right.o", source]
+        command = [
+            needs.program(name, package),
+            *flags,
+            *(STRICT if name != "tcc" else ("-Wall",)),
+            "-Werror", "-I", INCLUDE, "-c", "-o", f"{scratch}/right.o", source,
+        ]
         checks.ended(f"correct calls by {name}", run(command))
     for name in HEADERS:
         command = [needs.program("gcc", "gcc"), "-U__GNUC__", "-E", "-P", f"{INCLUDE}/{name}"]
@@ -162,7 +169,11 @@ def not_zeroed(text):
     text = re.sub(r"(?ms)^(typedef )?(static )?(const )?struct \w* ?\{.*?^\}", "", text)
     for function in re.split(r"(?m)^\}", text):
         for kind, names, is_zero in ZEROED.findall(function):
-            yield from (f"{kind} {name}" for name in names.split(", ") if not is_zero and f"memset(&{name}, 0, sizeof {name})" not in function)
+            yield from (
+                f"{kind} {name}"
+                for name in names.split(", ")
+                if not is_zero and f"memset(&{name}, 0, sizeof {name})" not in function
+            )
 
 
 def check_examples(checks):
@@ -182,7 +193,10 @@ def check_roles(checks, calls, structs):
     for call in calls:
         for parameter in call.parameters:
             if (parameter.name, parameter.kind) in secrets:
-                checks.check("secret" in parameter.roles, f"{call.name}: {parameter.name} is not marked as a secret, as in other calls")
+                checks.check(
+                    "secret" in parameter.roles,
+                    f"{call.name}: {parameter.name} is not marked as a secret, as in other calls",
+                )
 
 
 def run_all(checks, scratch):

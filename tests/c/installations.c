@@ -360,7 +360,8 @@ static void rejects_bad_beginnings(void)
         CHECK(BEGIN(&i, .is_first = 1, .again = 1, .numbering = 1) == MINISIGN_OK && minisign_install_due(&i) == MINISIGN_DUE_LOCK);
         CHECK(BEGIN(&i, .new_key = 1, .roll_back = 1, .is_check = 1) == MINISIGN_OK
               && minisign_install_due(&i) == MINISIGN_DUE_READ_RECORD);
-        CHECK(BEGIN(&i, .is_list = 1) == MINISIGN_OK && BEGIN(&i, .is_list = 1, .long_digest = MINISIGN_HASH_SHA512) == MINISIGN_OK);
+        CHECK(BEGIN(&i, .is_list = 1) == MINISIGN_OK
+              && BEGIN(&i, .is_list = 1, .long_digest = MINISIGN_HASH_SHA512) == MINISIGN_OK);
         CHECK(BEGIN(&i, .is_list = 1, .long_digest = MINISIGN_HASH_BLAKE2B, .is_check = 1) == MINISIGN_OK
               && minisign_install_due(&i) == MINISIGN_DUE_READ_RECORD);
     }
@@ -397,9 +398,11 @@ static void reads_records(void)
     static const char *const numbers[] = { "0", "5", "5\n", "18446744073709551615",
                                            "0000000000000000000000000000000000000000000000000000000000000005",
                                            "000000000000000000000000000000000000000000000000000000000000005\n" };
-    static const char *const timestamps[] = { OWN_RECORD, "timestamp:0", "timestamp:5", "timestamp:5\n", "timestamp:18446744073709551615",
-                                              "timestamp:000000000000000000000000000000000000000000000000000005",
-                                              "timestamp:00000000000000000000000000000000000000000000000000005\n" };
+    static const char *const timestamps[] = {
+        OWN_RECORD, "timestamp:0", "timestamp:5", "timestamp:5\n", "timestamp:18446744073709551615",
+        "timestamp:000000000000000000000000000000000000000000000000000005",
+        "timestamp:00000000000000000000000000000000000000000000000000005\n",
+    };
     static const char *const versions[] = { "version:0", "version:5", "version:5\n", "version:18446744073709551615" };
     static const char *const none[] = { "", "\n", "5\n\n", "5\n5", " 5", "5 ", "five", "-5", "+5", "18446744073709551616",
                                         "timestamp:", "timestamp:\n", "timestamp:+5", "timestamp:-5", "timestamp: 5",
@@ -458,7 +461,8 @@ static void check_comment(const char *record_text, uint32_t is_first, const char
     check(error == rejected && minisign_install_error(&i) == rejected, "%s: error %u, expected %u", signature, (unsigned) error,
           (unsigned) rejected);
     CHECK((minisign_install_due(&i) == MINISIGN_DUE_REJECTED) == (rejected != MINISIGN_OK));
-    check(minisign_install_is_signed(&i) == is_signed && minisign_install_version(&i) == number, "%s: wrong version number", signature);
+    check(minisign_install_is_signed(&i) == is_signed && minisign_install_version(&i) == number,
+          "%s: wrong version number", signature);
 }
 
 static void judges_comments(void)
@@ -508,7 +512,8 @@ static const char *with_comment(const char *comment)
 
 /* Checks the error and the version number for a signed trusted comment, if version 2 is recorded. The comment is the
  * printf format `form` with one argument. */
-static void check_signed_comment(const char *form, const char *part, uint32_t is_first, enum minisign_error rejected, uint64_t number)
+static void check_signed_comment(const char *form, const char *part, uint32_t is_first, enum minisign_error rejected,
+                                 uint64_t number)
 {
     char comment[256];
 
@@ -598,7 +603,8 @@ static void check_pieces(const char *field, size_t one, size_t two, int rejected
     minisign_installation i = sized(field, MINISIGN_DUE_COPY_DATA);
 
     for (int call = 0; call < 3 && call <= rejected; call++) {
-        const enum minisign_error error = call == 2 ? minisign_install_done(&i) : minisign_install_copied(&i, call == 0 ? one : two);
+        const enum minisign_error error = call == 2 ? minisign_install_done(&i)
+                                                    : minisign_install_copied(&i, call == 0 ? one : two);
 
         CHECK(error == (call == rejected ? MINISIGN_OTHER_SIZE : MINISIGN_OK));
         CHECK(minisign_install_due(&i) == (call == rejected ? MINISIGN_DUE_REMOVE_FILES
@@ -688,8 +694,10 @@ static void asks_about_each_signature(void)
 
         i = before = at(checks[n]);
         CHECK_AT(checks[n], ask(&i) == MINISIGN_OK && memcmp(key_asked, key.key, sizeof key.key) == 0);
-        CHECK_AT(checks[n], is_comment ? memcmp(signature_asked, signature.comment_signature, 64) == 0 && is_zeros(digest_asked, 64)
-                                       : memcmp(signature_asked, signature.signature, 64) == 0 && equals_hex(digest_asked, HEX_OF_ABC));
+        CHECK_AT(checks[n],
+                 is_comment
+                     ? memcmp(signature_asked, signature.comment_signature, 64) == 0 && is_zeros(digest_asked, 64)
+                     : memcmp(signature_asked, signature.signature, 64) == 0 && equals_hex(digest_asked, HEX_OF_ABC));
         CHECK_AT(checks[n], minisign_install_answer(&i, (enum minisign_answer) 1) == MINISIGN_BAD_ANSWER && same(&i, &before));
         CHECK_AT(checks[n], minisign_install_answer(&i, (enum minisign_answer) 0) == MINISIGN_BAD_ANSWER && same(&i, &before));
     }
@@ -836,9 +844,11 @@ static void judges_lists(void)
                                         OWN_LIST SHA256_OF_ABC "  a\n" SHA256_OF_ABC "  a\n" };
     static const char *const without[] = { "", "\n", "# " OWN_LIST, SHA256_OF_ABC "  App\n", SHA256_OF_ABC "  bin/app\n",
                                            "\\" SHA256_OF_ABC "  app\\n\n" };
-    static const char *const malformed[] = { "text", " " OWN_LIST, SHA256_OF_ABC " app", SHA256_OF_ABC "  /app", SHA256_OF_ABC "  ../app",
-                                             SHA256_OF_ABC "  a\tb", SHA256_OF_ABC "0  app", "MD5 (app) = 900150983cd24fb0d6963f7d28e17f72",
-                                             "SHA256 (app) = " SHA512_OF_ABC };
+    static const char *const malformed[] = {
+        "text", " " OWN_LIST, SHA256_OF_ABC " app", SHA256_OF_ABC "  /app", SHA256_OF_ABC "  ../app",
+        SHA256_OF_ABC "  a\tb", SHA256_OF_ABC "0  app", "MD5 (app) = 900150983cd24fb0d6963f7d28e17f72",
+        "SHA256 (app) = " SHA512_OF_ABC,
+    };
     static const char *const bad_names[] = { "", "/app", "../app", "a/../b", "a//b", "app/", ".", "a\\b", "a\nb", "a\x7f" };
     char text[512];
 
@@ -961,7 +971,8 @@ static void forgets_installed_file(void)
         CHECK(BEGIN(&i, .is_list = 1, .again = 1) == MINISIGN_OK);
         go_to(&i, MINISIGN_DUE_READ_TARGET, OWN_NUMBER);
         CHECK(piece(&i, answer ? "abc" : "abcd") == MINISIGN_OK && piece(&i, "") == MINISIGN_OK);
-        CHECK(minisign_install_answer(&i, answer ? NO : YES) == MINISIGN_OK && minisign_install_due(&i) == MINISIGN_DUE_REMOVE_LEFTOVERS);
+        CHECK(minisign_install_answer(&i, answer ? NO : YES) == MINISIGN_OK
+              && minisign_install_due(&i) == MINISIGN_DUE_REMOVE_LEFTOVERS);
         go_to(&i, MINISIGN_DUE_INSTALLED, OWN_NUMBER);
         CHECK(minisign_install_error(&i) == MINISIGN_OK);
     }
@@ -1119,12 +1130,14 @@ static void takes_null_for_no_bytes(void)
     i = at(MINISIGN_DUE_READ_BACK);
     CHECK(minisign_install_piece(&i, NULL, 0) == MINISIGN_OK && minisign_install_due(&i) == MINISIGN_DUE_CHECK_DATA);
     i = at(MINISIGN_DUE_READ_SIGNATURE);
-    CHECK(minisign_install_signature(&i, bytes_of(SIGNATURE), sizeof SIGNATURE - 1, NULL, 0, NOW, NULL, 0, &message_len) == MINISIGN_NO_ROOM);
+    CHECK(minisign_install_signature(&i, bytes_of(SIGNATURE), sizeof SIGNATURE - 1, NULL, 0, NOW, NULL, 0, &message_len)
+          == MINISIGN_NO_ROOM);
     CHECK(minisign_install_signature(&i, NULL, 0, NULL, 0, NOW, NULL, 0, &message_len) == MINISIGN_MISSING_UNTRUSTED_COMMENT);
     i = at(MINISIGN_DUE_READ_LIST);
     CHECK(minisign_install_list(&i, NULL, 0, NULL, 0) == MINISIGN_OK && minisign_install_answer(&i, YES) == MINISIGN_BAD_NAME);
     i = at(MINISIGN_DUE_READ_LIST);
-    CHECK(minisign_install_list(&i, NULL, 0, bytes_of("app"), 3) == MINISIGN_OK && minisign_install_answer(&i, YES) == MINISIGN_NOT_LISTED);
+    CHECK(minisign_install_list(&i, NULL, 0, bytes_of("app"), 3) == MINISIGN_OK
+          && minisign_install_answer(&i, YES) == MINISIGN_NOT_LISTED);
     i = at(MINISIGN_DUE_WRITE_RECORD);
     CHECK(minisign_install_record_text(&i, NULL, 0) == 0);
     CHECK(minisign_judge_comment(NULL, 0, NULL, 0, MINISIGN_NUMBERING_TIMESTAMP, NOW, 0, &number) == MINISIGN_OTHER_FILE);

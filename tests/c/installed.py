@@ -39,13 +39,19 @@ README = os.path.join(HERE, "..", "..", "README.md")
 STRICT = ["-Wall", "-Wextra", "-Wpedantic", "-Werror"]
 
 # The installed files, except the shared library, whose name contains its version.
-INSTALLED_FILES = ["bin/minisign", "bin/minisign-install", "bin/minisign-check", "include/minisign.h", "include/minisign_install.h",
-         "include/minisign_installing.h", "include/minisign_list.h", "include/minisign_stream.h", "lib/libminisign.a",
-         "lib/libminisign-installing.a", "lib/libminisign.so", "lib/pkgconfig/minisign.pc", "lib/pkgconfig/minisign-installing.pc",
-         "share/man/man1/minisign.1", "share/man/man1/minisign-install.1", "share/man/man1/minisign-check.1", "share/man/man3/minisign.3",
-         "share/man/man3/minisign_install.3", "share/man/man3/minisign_installing.3", "share/man/man3/minisign_list.3"]
+INSTALLED_FILES = [
+    "bin/minisign", "bin/minisign-install", "bin/minisign-check", "include/minisign.h", "include/minisign_install.h",
+    "include/minisign_installing.h", "include/minisign_list.h", "include/minisign_stream.h", "lib/libminisign.a",
+    "lib/libminisign-installing.a", "lib/libminisign.so", "lib/pkgconfig/minisign.pc",
+    "lib/pkgconfig/minisign-installing.pc", "share/man/man1/minisign.1", "share/man/man1/minisign-install.1",
+    "share/man/man1/minisign-check.1", "share/man/man3/minisign.3", "share/man/man3/minisign_install.3",
+    "share/man/man3/minisign_installing.3", "share/man/man3/minisign_list.3",
+]
 # A C program that ignores the result of a call.
-DROPPING_RESULT = b"#include <minisign.h>\nint main(void) { minisign_state s; minisign_init(&s); minisign_update(&s, 0, 0); return 0; }\n"
+DROPPING_RESULT = (
+    b"#include <minisign.h>\nint main(void) { minisign_state s; minisign_init(&s); minisign_update(&s, 0, 0); return"
+    b" 0; }\n"
+)
 COMMENT = "version 2 \u00e9"
 
 
@@ -260,7 +266,10 @@ def check_mutants(checks, installed):
     for mutant in mutants.mutants_of("c", "stream_mutants"):
         copy = mutants.copy_sources(installed.scratch, "include")
         mutants.apply(mutant, copy)
-        program = installed.build(f"program {mutant.name}", [installed.c, "-std=c99", "-I", f"{copy}/include", f"{HERE}/stream.c", *installed.linking])
+        program = installed.build(
+            f"program {mutant.name}",
+            [installed.c, "-std=c99", "-I", f"{copy}/include", f"{HERE}/stream.c", *installed.linking],
+        )
         checks.check([*outcomes(installed, program)] != unchanged, f"no result changes with the mutant {mutant.name}")
 
 
@@ -290,19 +299,28 @@ def check_updater(checks, installed):
     """Runs the example of an updater, with the published key, and with a key that has signed an empty file. A file
     that cannot be read must not be treated as an empty file."""
     good, signature = (os.path.join(CORPUS, name) for name in ("test", "published.minisig"))
-    changed, long = write(installed.scratch, "other-test", flip_bit(read(good), 0)), write(installed.scratch, "long", bytes(1 << 24))
+    changed, long = write(installed.scratch, "other-test", flip_bit(read(good), 0)), write(
+        installed.scratch, "long", bytes(1 << 24)
+    )
     missing, empty, empty_signature = map(installed.path, ("nothing", "empty", "empty.sig"))
     source = f"{EXAMPLES}/check.c"
     source_with_key = re.sub(rb'KEY\[\] = "[^"]*"', b'KEY[] = "%s"' % read(installed.scratch, "key.pub").split()[-1], read(source))
-    check_published, check_empty = installed.build_c("check", source), installed.build_c("check-under", write(installed.scratch, "check-under.c", source_with_key))
+    check_published, check_empty = installed.build_c("check", source), installed.build_c(
+        "check-under", write(installed.scratch, "check-under.c", source_with_key)
+    )
     for what, check, arguments, status in (
-            ("good", check_published, (good, signature), 0), ("other data", check_published, (changed, signature), 1),
-            ("no signature", check_published, (good, good), 1), ("no data", check_published, (missing, signature), 2),
-            ("no signature file", check_published, (good, missing), 2), ("too long a signature file", check_published, (good, long), 2),
-            ("an empty file", check_empty, (empty, empty_signature), 0), ("other data than none", check_empty, (good, empty_signature), 1),
-            ("no data for an empty file", check_empty, (missing, empty_signature), 2),
-            ("a directory for an empty file", check_empty, (installed.scratch, empty_signature), 2),
-            ("a long file for an empty one", check_empty, (long, empty_signature), 1)):
+        ("good", check_published, (good, signature), 0),
+        ("other data", check_published, (changed, signature), 1),
+        ("no signature", check_published, (good, good), 1),
+        ("no data", check_published, (missing, signature), 2),
+        ("no signature file", check_published, (good, missing), 2),
+        ("too long a signature file", check_published, (good, long), 2),
+        ("an empty file", check_empty, (empty, empty_signature), 0),
+        ("other data than none", check_empty, (good, empty_signature), 1),
+        ("no data for an empty file", check_empty, (missing, empty_signature), 2),
+        ("a directory for an empty file", check_empty, (installed.scratch, empty_signature), 2),
+        ("a long file for an empty one", check_empty, (long, empty_signature), 1),
+    ):
         comment = {good: "timestamp:1556193335\tfile:test", empty: "t"}[arguments[0]] + "\n" if status == 0 else ""
         checks.same(run([*check, *arguments]), (status, comment), f"check, {what}")
     published_paths = (os.path.join(CORPUS, "published.pub"), good, signature)
@@ -318,10 +336,24 @@ int main() { minisign_installing_options options = {}; return minisign_install_f
 def check_installing(checks, installed):
     """Checks that the installing example, linked with each library, installs a newer update and rejects older and
     other data."""
-    flags = [flags_of(installed.root, installed.scratch, option, library="minisign-installing") for option in ("--cflags", "--libs")]
-    install = installed.build("install", [installed.c, "-std=c99", *STRICT, *flags[0], f"{EXAMPLES}/install.c", *flags[1], "-lsodium"])
-    in_cpp = installed.build("install-cpp", [installed.cpp, "-std=c++11", *STRICT, *flags[0], write(installed.scratch, "installing.cpp", INSTALLING_IN_CPP),
-                                        *flags[1]])
+    flags = [
+        flags_of(installed.root, installed.scratch, option, library="minisign-installing")
+        for option in ("--cflags", "--libs")
+    ]
+    install = installed.build(
+        "install", [installed.c, "-std=c99", *STRICT, *flags[0], f"{EXAMPLES}/install.c", *flags[1], "-lsodium"]
+    )
+    in_cpp = installed.build(
+        "install-cpp",
+        [
+            installed.cpp,
+            "-std=c++11",
+            *STRICT,
+            *flags[0],
+            write(installed.scratch, "installing.cpp", INSTALLING_IN_CPP),
+            *flags[1],
+        ],
+    )
     libraries = {"LD_LIBRARY_PATH": f"{installed.root}/lib"}
     checks.same(run(in_cpp, **libraries), (0, ""), "a C++ program that installs")
     os.mkdir(installed.path("there"))
@@ -330,7 +362,11 @@ def check_installing(checks, installed):
         write(installed.scratch, f"app-{number}", b"version %d" % number)
         installed.run_minisign("-S", "-s", "key.key", "-m", f"app-{number}", "-t", f"version:{number}\tfile:app")
     version_2 = [installed.path(name) for name in ("key.pub", "app-2", "app-2.minisig", "there/app")]
-    version_1, other_data = [name.replace("app-2", "app-1") for name in version_2], [version_2[0], installed.path("app-1"), *version_2[2:]]
+    version_1, other_data = [name.replace("app-2", "app-1") for name in version_2], [
+        version_2[0],
+        installed.path("app-1"),
+        *version_2[2:],
+    ]
     for what, arguments, expected_status, expected_errors in (
             ("a newer update", version_2, 0, ""), ("the same update", version_2, 10, ""),
             ("an older update", version_1, 4, f"error: {installed.path('app-1')}: the update is older than the recorded version\n"),
@@ -340,8 +376,14 @@ def check_installing(checks, installed):
         holds = status == expected_status and errors.startswith(expected_errors) and bool(errors) == bool(expected_errors)
         checks.check(holds, f"install, {what}: got {status}, {errors!r}, expected {expected_status}, {expected_errors!r}")
     os.remove(installed.path("there/app"))
-    checks.check(run([*install, *other_data], **libraries)[0] == 3 and not os.path.exists(installed.path("there/app")), "install, other data")
-    checks.check(run([*install, *version_2], **libraries)[0] == 0 and read(installed.scratch, "there/app") == b"version 2", "install, after other data")
+    checks.check(
+        run([*install, *other_data], **libraries)[0] == 3 and not os.path.exists(installed.path("there/app")),
+        "install, other data",
+    )
+    checks.check(
+        run([*install, *version_2], **libraries)[0] == 0 and read(installed.scratch, "there/app") == b"version 2",
+        "install, after other data",
+    )
 
 
 # A Python program that acts as an ssh-agent at a socket, and answers each request with the given bytes.
@@ -378,7 +420,13 @@ def check_agent(checks, installed):
     """Checks signing with a key in ssh-agent. If the agent returns a wrong signature, or does not have the key, no
     signature file may be written."""
     keygen, agent, add = (needs.program(name, "openssh-client") for name in ("ssh-keygen", "ssh-agent", "ssh-add"))
-    program = installed.build("agent_sign", [installed.c, "-std=c11", "-D_DEFAULT_SOURCE", *installed.flags, f"{EXAMPLES}/agent_sign.c", *installed.linking])
+    program = installed.build(
+        "agent_sign",
+        [
+            installed.c, "-std=c11", "-D_DEFAULT_SOURCE", *installed.flags, f"{EXAMPLES}/agent_sign.c",
+            *installed.linking,
+        ],
+    )
     for name in ("first", "second"):
         checks.ended(f"ssh-keygen, {name}", run([keygen, "-q", "-t", "ed25519", "-N", "", "-f", installed.path(name)]))
         write(installed.scratch, f"{name}.minisign.pub", public_key_of_ssh(read(installed.scratch, f"{name}.pub")))
@@ -394,19 +442,27 @@ def check_agent(checks, installed):
         checks.same(ran, (1, "", "agent_sign: Signature verification failed\n"), "an agent without the key")
     false = "00000053" "0e" "0000004f" "0000000b" + b"ssh-ed25519".hex() + "00000040" + "07" * 64
     for what, answer in (("a false signature", false), ("a short answer", "00000001" "05"), ("no answer", "")):
-        with running_agent([sys.executable, "-c", LYING_AGENT, scratch(f"false {what}"), answer], scratch(f"false {what}")) as environment:
+        with running_agent(
+            [sys.executable, "-c", LYING_AGENT, scratch(f"false {what}"), answer], scratch(f"false {what}")
+        ) as environment:
             output = run_with_stderr([*program, *commands], **environment)
             checks.same(output, (1, "", "agent_sign: Signature verification failed\n"), f"an agent, {what}")
-    for what, environment in (("no agent", {"SSH_AUTH_SOCK": scratch("nothing")}), ("too long a path", {"SSH_AUTH_SOCK": "a" * 200})):
+    for what, environment in (
+        ("no agent", {"SSH_AUTH_SOCK": scratch("nothing")}),
+        ("too long a path", {"SSH_AUTH_SOCK": "a" * 200}),
+    ):
         checks.check(run_with_stderr([*program, *commands], **environment)[0] == 1, what)
     checks.check(not os.path.exists(signature_path), "a signature file was left after an error")
 
 
 def check_programs(checks, installed):
-    """Checks that the installed programs are equal to the built ones, which command_line.py, real_installing.py and
+    """Checks that the installed programs are equal to the built ones, which command_line.py, installer_program.py and
     check_program.py test."""
     for name, flag in (("minisign", "-v"), ("minisign-install", "--version"), ("minisign-check", "--version")):
-        checks.check(read(installed.root, "bin", name) == read(installed.scratch, "out", name), f"the installed {name} is not the one that was built")
+        checks.check(
+            read(installed.root, "bin", name) == read(installed.scratch, "out", name),
+            f"the installed {name} is not the one that was built",
+        )
         checks.ended(f"{name}, installed", run([f"{installed.root}/bin/{name}", flag]), says=name)
 
 
@@ -416,8 +472,10 @@ def run_all(checks, scratch):
     root = f"{scratch}/dest/prefix"
     installed_files(checks, root)
     installed = Installed(checks, root, scratch)
-    for check in (check_dropped_results, check_verifiers, check_signers, check_mutants, check_readme, check_updater, check_installing,
-                  check_agent, check_programs):
+    for check in (
+        check_dropped_results, check_verifiers, check_signers, check_mutants, check_readme, check_updater,
+        check_installing, check_agent, check_programs,
+    ):
         check(checks, installed)
 
 

@@ -1,5 +1,5 @@
 /*
- * Writes and opens key files with the calls of minisign.h. made_keys.py runs this program.
+ * Writes and opens key files with the calls of minisign.h. key_compatibility.py runs this program.
  *
  *     keys secret KEY_ID SECRET SALT OPERATIONS MEMORY EVERY COMMENT [PASSWORD]
  *     keys public KEY_ID SECRET COMMENT

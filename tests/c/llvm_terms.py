@@ -249,7 +249,10 @@ class Execution:
         bits, name = int(match[1]), match[2]
         if name not in INTRINSICS:
             raise Unsupported(match[0])
-        arguments = [self.value(values, word, int(kind)) for kind, word in re.findall(r"i(\d+) (?:noundef )?(\S+?)(?:,|$)", match[3])]
+        arguments = [
+            self.value(values, word, int(kind))
+            for kind, word in re.findall(r"i(\d+) (?:noundef )?(\S+?)(?:,|$)", match[3])
+        ]
         if name in POISON_INPUTS:
             self.undefined.append(z3.And(reached, arguments[0] == POISON_INPUTS[name](bits), arguments[1] == 1))
         return INTRINSICS[name](*arguments)

@@ -73,9 +73,14 @@ def headers(checks, scratch):
     needs.need(lambda: os.path.exists(macos_headers.GO) or None, "Go's package for system calls", "golang-golang-x-sys-dev")
     needs.need(lambda: glob.glob(f"{macos_headers.CRATES}/libc-*") or None, "Rust's crate libc", "librust-libc-dev")
     directory = os.path.join(scratch, "macos")
-    compared, unchecked = macos_headers.write(directory, sources("minisign", "install", "check", "shared", "library", "library/portable"))
+    compared, unchecked = macos_headers.write(
+        directory, sources("minisign", "install", "check", "shared", "library", "library/portable")
+    )
     checks.check(compared >= MIN_CONSTANTS, f"only {compared} constants are compared between Rust's crate and Go's package")
-    checks.check(set(unchecked) <= FROM_MANUAL_PAGES | FROM_STANDARDS, f"macOS is not known to have {sorted({*unchecked} - FROM_MANUAL_PAGES - FROM_STANDARDS)}")
+    checks.check(
+        set(unchecked) <= FROM_MANUAL_PAGES | FROM_STANDARDS,
+        f"macOS is not known to have {sorted({*unchecked} - FROM_MANUAL_PAGES - FROM_STANDARDS)}",
+    )
     return directory, ["-nostdlibinc", "-isystem", directory, "-isystem", emulated.headers_of_sodium(scratch)]
 
 
@@ -114,13 +119,24 @@ def check_linking(checks, scratch, directory, header_flags):
     ar, nm = (needs.need(lambda: needs.which(name) or needs.which(f"{name}-14"), name, "llvm") for name in ("llvm-ar", "llvm-nm"))
     for target in TARGETS:
         out, root = os.path.join(scratch, target), os.path.join(scratch, f"{target}-installed")
-        arguments = [f"CC={needs.program('clang', 'clang')} --target={target} -Wno-unused-command-line-argument", f"AR={ar}", f"OUT={out}",
-                 f"CPPFLAGS={' '.join(header_flags)}", f"LDFLAGS=-fuse-ld=lld -nostdlib -L{directory} -lSystem", f"DESTDIR={root}"]
+        arguments = [
+            f"CC={needs.program('clang', 'clang')} --target={target} -Wno-unused-command-line-argument", f"AR={ar}",
+            f"OUT={out}", f"CPPFLAGS={' '.join(header_flags)}",
+            f"LDFLAGS=-fuse-ld=lld -nostdlib -L{directory} -lSystem", f"DESTDIR={root}",
+        ]
         checks.ended(f"make install for {target}", run([needs.program("make", "make"), "-s", "-C", C, *arguments, "install"]))
-        installed = {os.path.relpath(os.path.join(at, name), f"{root}/usr/local") for at, _, names in os.walk(root) for name in names}
+        installed = {
+            os.path.relpath(os.path.join(at, name), f"{root}/usr/local")
+            for at, _, names in os.walk(root)
+            for name in names
+        }
         libraries = {name for name in installed if name.startswith("lib/") and not name.startswith("lib/pkgconfig/")}
         version = re.search(r'#define MINISIGN_VERSION_TEXT "((\d+\.\d+)\.\d+)"', macos_headers.read_text(f"{INCLUDE}/minisign.h"))
-        expected = {"lib/libminisign.a", "lib/libminisign-installing.a", *(f"lib/libminisign{part}.dylib" for part in ("", f".{version[2]}", f".{version[1]}"))}
+        expected = {
+            "lib/libminisign.a",
+            "lib/libminisign-installing.a",
+            *(f"lib/libminisign{part}.dylib" for part in ("", f".{version[2]}", f".{version[1]}")),
+        }
         checks.check(libraries == expected, f"{target}: {sorted(libraries)} are installed, expected {sorted(expected)}")
         check_linked(checks, f"{root}/usr/local/lib/libminisign.{version[1]}.dylib", target, LIBRARY_KIND)
         for name in ("minisign", "minisign-install", "minisign-check"):
@@ -198,13 +214,21 @@ def check_pair(check, folding, public, secret, other):
 
     def rejects(status, output, arguments, files):
         result, left = folding.run(arguments, files, other)
-        check(result.status == status and output.encode() in result.stderr and left == files, f"{names}: {' '.join(arguments)} over {[*files]}: {result}, leaves {[*left]}")
+        check(
+            result.status == status and output.encode() in result.stderr and left == files,
+            f"{names}: {' '.join(arguments)} over {[*files]}: {result}, leaves {[*left]}",
+        )
 
     generating, recreating = ["-p", public, "-s", secret, "-G", "-W"], ["-p", public, "-s", secret, "-R"]
     # A new file gets the inode number of the name with which it was created. If that name is `other`, the two names
     # look like different files, so this error cannot be expected.
     for force in ([], ["-f"]) if other != public else ():
-        rejects(2, f"error: {secret}: on this file system, this is the same file as the other key file\n", [*generating, *force], {})
+        rejects(
+            2,
+            f"error: {secret}: on this file system, this is the same file as the other key file\n",
+            [*generating, *force],
+            {},
+        )
     existing = {folded_name(secret): texts["s"], "data": b"data"}
     for files in ({folded_name(secret): texts["p"]}, existing):
         rejects(1, f"{public} already exists", generating, files)
@@ -215,7 +239,10 @@ def check_pair(check, folding, public, secret, other):
     result, left = folding.run(["-C", "-W", "-s", public], existing, other)
     check(result.status == 0 and sorted(left) == sorted(existing), f"{names}: -C: {result}, leaves {[*left]}")
     result, left = folding.run(["-R", "-p", "k.pub", "-s", secret], left, other)
-    check(result.status == 0 and left["k.pub"].splitlines()[1] == texts["p"].splitlines()[1], f"{names}: the key after -C: {result}")
+    check(
+        result.status == 0 and left["k.pub"].splitlines()[1] == texts["p"].splitlines()[1],
+        f"{names}: the key after -C: {result}",
+    )
 
 
 def check_folded(check, folding):
@@ -228,14 +255,26 @@ def check_folded(check, folding):
     files = {"k.pub": texts["p"], "k.key": texts["p"][::-1]}
     for other in (None, "k.key"):
         result, left = folding.run(["-G", "-W", "-f", "-p", "k.pub", "-s", "k.key"], files, other)
-        check(result.status == 0 and sorted(left) == sorted(files) and left["k.key"] != files["k.key"], f"two names over other files: {result}")
+        check(
+            result.status == 0 and sorted(left) == sorted(files) and left["k.key"] != files["k.key"],
+            f"two names over other files: {result}",
+        )
     # Two files with the same content, written at different times.
-    result, left = folding.run(["-G", "-W", "-f", "-p", "k.pub", "-s", "k.key"], {"k.pub": texts["p"], "k.key": texts["p"]}, old=["k.pub"])
+    result, left = folding.run(
+        ["-G", "-W", "-f", "-p", "k.pub", "-s", "k.key"], {"k.pub": texts["p"], "k.key": texts["p"]}, old=["k.pub"]
+    )
     check(result.status == 0 and left["k.key"] != texts["p"], f"two names over copies of one file: {result}")
-    result, left = folding.run(["-R", "-f", "-p", "k.pub", "-s", "k.key"], {"k.key": texts["s"], "k.pub": texts["s"]}, old=["k.pub"])
-    check(result.status == 0 and left["k.pub"].splitlines()[1] == texts["p"].splitlines()[1], f"-R over a copy of the secret key: {result}")
+    result, left = folding.run(
+        ["-R", "-f", "-p", "k.pub", "-s", "k.key"], {"k.key": texts["s"], "k.pub": texts["s"]}, old=["k.pub"]
+    )
+    check(
+        result.status == 0 and left["k.pub"].splitlines()[1] == texts["p"].splitlines()[1],
+        f"-R over a copy of the secret key: {result}",
+    )
     # Another file that is as long as the secret key.
-    result, left = folding.run(["-R", "-f", "-p", "k.pub", "-s", "k.key"], {"k.key": texts["s"], "k.pub": texts["s"][::-1]}, "k.pub")
+    result, left = folding.run(
+        ["-R", "-f", "-p", "k.pub", "-s", "k.key"], {"k.key": texts["s"], "k.pub": texts["s"][::-1]}, "k.pub"
+    )
     check(result.status == 0 and left["k.pub"].splitlines()[1] == texts["p"].splitlines()[1], f"-R over another file: {result}")
 
 
@@ -244,7 +283,15 @@ def build_folding_library(checks, scratch):
     preload, literal = os.path.join(scratch, "folded_names.so"), lambda text: "".join(f"\\{byte:03o}" for byte in text.encode())
     pairs = [(character, unicodedata.normalize("NFD", character)) for character in map(chr, range(0x80, 0x3000))]
     write(scratch, "decompositions.h", "".join(f'{{"{literal(a)}", "{literal(b)}"}},\n' for a, b in pairs if a != b).encode())
-    checks.ended("folded_names.c", run([needs.compiler_with_libsodium(), "-shared", "-fPIC", "-I", scratch, "-o", preload, f"{HERE}/folded_names.c", "-ldl"]))
+    checks.ended(
+        "folded_names.c",
+        run(
+            [
+                needs.compiler_with_libsodium(),
+                "-shared", "-fPIC", "-I", scratch, "-o", preload, f"{HERE}/folded_names.c", "-ldl",
+            ]
+        ),
+    )
     return preload
 
 
@@ -293,11 +340,17 @@ def check_names_on_vfat(checks, scratch):
                 return
             result = run_program([program, "-G", "-W", *arguments, "-p", public, "-s", "k.key"], directory)
             if public == "k.pub":
-                checks.check(result.status == 0 and sorted(os.listdir(directory)) == ["k.key", "k.pub"], f"vfat: two names: {result}")
+                checks.check(
+                    result.status == 0 and sorted(os.listdir(directory)) == ["k.key", "k.pub"],
+                    f"vfat: two names: {result}",
+                )
                 continue
             output = b"k.key: on this file system, this is the same file as the other key file"
             checks.check(result.status == 2 and output in result.stderr, f"vfat: {' '.join(arguments)} k.KEY and k.key: {result}")
-            checks.check(not os.listdir(directory), f"vfat: {' '.join(arguments)} k.KEY and k.key: {os.listdir(directory)} are left")
+            checks.check(
+                not os.listdir(directory),
+                f"vfat: {' '.join(arguments)} k.KEY and k.key: {os.listdir(directory)} are left",
+            )
 
 
 def run_all(checks, scratch):

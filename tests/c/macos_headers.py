@@ -12,16 +12,45 @@ import re
 CRATES = "/usr/share/cargo/registry"
 GO = "/usr/share/gocode/src/golang.org/x/sys/unix/zerrors_darwin_amd64.go"
 FILES = ("unix/mod.rs", "unix/bsd/mod.rs", "unix/bsd/apple/mod.rs", "unix/bsd/apple/b64/mod.rs")
-HEADERS = ("dirent", "errno", "fcntl", "inttypes", "poll", "signal", "stdio", "stdlib", "string", "strings", "sys/acl", "sys/file",
-           "sys/random", "sys/resource", "sys/select", "sys/stat", "sys/statvfs", "sys/types", "termios", "time", "unistd", "pthread",
-           "ctype", "sys/time", "sys/mman", "sys/ioctl", "pwd", "grp")
+HEADERS = (
+    "dirent", "errno", "fcntl", "inttypes", "poll", "signal", "stdio", "stdlib", "string", "strings", "sys/acl",
+    "sys/file", "sys/random", "sys/resource", "sys/select", "sys/stat", "sys/statvfs", "sys/types", "termios", "time",
+    "unistd", "pthread", "ctype", "sys/time", "sys/mman", "sys/ioctl", "pwd", "grp",
+)
 # The C names of Rust types.
-C_NAMES = {"c_int": "int", "c_uint": "unsigned", "c_char": "char", "c_schar": "signed char", "c_uchar": "unsigned char",
-         "c_short": "short", "c_ushort": "unsigned short", "c_long": "long", "c_ulong": "unsigned long", "c_longlong": "long long",
-         "c_ulonglong": "unsigned long long", "c_void": "void", "i8": "signed char", "u8": "unsigned char", "i16": "short",
-         "u16": "unsigned short", "i32": "int", "u32": "unsigned", "i64": "long long", "u64": "unsigned long long", "usize": "size_t",
-         "isize": "long", "size_t": "size_t", "c_double": "double", "c_float": "float", "uintptr_t": "unsigned long",
-         "intptr_t": "long", "ssize_t": "ssize_t", "va_list": "va_list", "()": "void", "!": "_Noreturn void"}
+C_NAMES = {
+    "c_int": "int",
+    "c_uint": "unsigned",
+    "c_char": "char",
+    "c_schar": "signed char",
+    "c_uchar": "unsigned char",
+    "c_short": "short",
+    "c_ushort": "unsigned short",
+    "c_long": "long",
+    "c_ulong": "unsigned long",
+    "c_longlong": "long long",
+    "c_ulonglong": "unsigned long long",
+    "c_void": "void",
+    "i8": "signed char",
+    "u8": "unsigned char",
+    "i16": "short",
+    "u16": "unsigned short",
+    "i32": "int",
+    "u32": "unsigned",
+    "i64": "long long",
+    "u64": "unsigned long long",
+    "usize": "size_t",
+    "isize": "long",
+    "size_t": "size_t",
+    "c_double": "double",
+    "c_float": "float",
+    "uintptr_t": "unsigned long",
+    "intptr_t": "long",
+    "ssize_t": "ssize_t",
+    "va_list": "va_list",
+    "()": "void",
+    "!": "_Noreturn void",
+}
 # Declarations of ISO C and POSIX that this module cannot translate from `libc`.
 BY_HAND = """
 #include <stdarg.h>
@@ -76,8 +105,11 @@ UNCHECKED = {"putc": "int putc(int, FILE *);", "putchar": "int putchar(int);",
 
 
 # Functions that compilers call by themselves, and variables.
-COMPILER_SYMBOLS = ("memcpy", "memmove", "memset", "__bzero", "bzero", "__stack_chk_fail", "__stack_chk_guard", "__stdinp", "__stdoutp",
-                "__stderrp", "__error", "fputc", "fwrite", "puts", "optarg", "optind", "opterr", "optopt", "_DefaultRuneLocale")
+COMPILER_SYMBOLS = (
+    "memcpy", "memmove", "memset", "__bzero", "bzero", "__stack_chk_fail", "__stack_chk_guard", "__stdinp",
+    "__stdoutp", "__stderrp", "__error", "fputc", "fwrite", "puts", "optarg", "optind", "opterr", "optopt",
+    "_DefaultRuneLocale",
+)
 # A stub of the system library, with the symbols that a linker needs.
 STUB = """--- !tapi-tbd
 tbd-version: 4
@@ -103,7 +135,10 @@ class Crate:
         self.version = os.path.basename(os.path.dirname(place))
         self.types = dict(re.findall(r"pub type (\w+) =\s*([^;]+);", text))
         self.constants = {name: (kind, value) for name, kind, value in re.findall(r"pub const (\w+): ([\w:]+) =\s*([^;]+);", text)}
-        self.functions = {name: parameters_text for name, *parameters_text in re.findall(r"pub fn (\w+)\(([^)]*)\)(?:\s*->\s*([^;{]+))?\s*[;{]", text)}
+        self.functions = {
+            name: parameters_text
+            for name, *parameters_text in re.findall(r"pub fn (\w+)\(([^)]*)\)(?:\s*->\s*([^;{]+))?\s*[;{]", text)
+        }
         self.structs = dict(re.findall(r"pub struct (\w+) \{([^}]*)\}", text))
         self.structs["FILE"] = self.structs["DIR"] = ""
         self.go_constants = dict(re.findall(r"(?m)^\t(\w+) +=\s(?:syscall\.\w+\()?(0x[0-9a-f]+)\)?$", read_text(go)))
@@ -192,7 +227,10 @@ def write(place, sources, crates=CRATES, go=GO):
     crate, unchecked = Crate(crates, go), []
     code = "".join(re.sub(r'(?s)/\*.*?\*/|"(?:\\.|[^"\\])*"', "", read_text(source)) for source in sources)
     called, structs = {*re.findall(r"\b([a-z_]\w*)(?:\(|$)", code, re.M)}, {*re.findall(r"\bstruct (\w+)", code)}
-    own = {*re.findall(r"(?m)^ *# *define (\w+)", code), *re.findall(r"[{,]\s*([A-Z_]\w*)", "".join(re.findall(r"\benum \w* ?(\{[^}]*\})", code)))}
+    own = {
+        *re.findall(r"(?m)^ *# *define (\w+)", code),
+        *re.findall(r"[{,]\s*([A-Z_]\w*)", "".join(re.findall(r"\benum \w* ?(\{[^}]*\})", code))),
+    }
     for word in sorted({*re.findall(r"[A-Za-z_]\w*", code + BY_HAND)} - own):
         if word in crate.structs and word in {*structs, "fd_set", "pthread_mutex_t", "pthread_cond_t"}:
             crate.add_struct(word)

@@ -363,7 +363,8 @@ static const minisign_public_key *any_key_for(const minisign_signature *signatur
 {
     int i = any_copy();
 
-    for (int n = 0, is_any = one_in(4); n < COPIES && !is_any && memcmp(public_keys[i].key_id, signature->key_id, sizeof signature->key_id) != 0; n++) {
+    for (int n = 0, is_any = one_in(4);
+         n < COPIES && !is_any && memcmp(public_keys[i].key_id, signature->key_id, sizeof signature->key_id) != 0; n++) {
         i = (i + 1) % COPIES;
     }
     return &public_keys[i];
@@ -412,8 +413,9 @@ static void call_verdicts(void)
 }
 
 /* Makes all calls that verify a signature. Verifying succeeds if the key IDs are equal and the answers are yes. */
-static void verify(minisign_state *state, const minisign_public_key *key, const minisign_signature *signature, const struct text *file,
-                   int is_bare, uint32_t legacy, enum minisign_answer first, enum minisign_answer second)
+static void verify(minisign_state *state, const minisign_public_key *key, const minisign_signature *signature,
+                   const struct text *file, int is_bare, uint32_t legacy, enum minisign_answer first,
+                   enum minisign_answer second)
 {
     size_t len = random_below(400);
     minisign_questions asked;
@@ -494,7 +496,8 @@ static void call_encode_unopened_key(void)
     struct text comment = any_comment(), *file = &secret_key_files[any_copy()];
     size_t room = any_output_size(), len = 0;
 
-    if (CALL(minisign_encode_unopened_key, key, bytes_or_null(&comment), comment.len, output_or_null(room), room, &len) == MINISIGN_OK) {
+    if (CALL(minisign_encode_unopened_key, key, bytes_or_null(&comment), comment.len, output_or_null(room), room, &len)
+        == MINISIGN_OK) {
         set_text(&secret_key_records[any_copy()], key->bytes, sizeof key->bytes);
     }
     add_output(file, last_result, len);
@@ -530,8 +533,8 @@ static void call_open_sealed_key(void)
 
 /* Decrypts a key in place. The buffers have `more_words` words and `more_bytes` bytes more than minisign_opening_memory says;
  * these numbers may be negative. */
-static void open_in_place(const minisign_unopened_key *unopened, const struct text *password, uint64_t keep_every, uint64_t rows, int more_words,
-                          int more_bytes, minisign_secret_key *key)
+static void open_in_place(const minisign_unopened_key *unopened, const struct text *password, uint64_t keep_every,
+                          uint64_t rows, int more_words, int more_bytes, minisign_secret_key *key)
 {
     uint64_t required_words = 7, required_bytes = 7;
     size_t words_len, bytes_len;
@@ -704,7 +707,8 @@ static void call_with_each_flag(void)
 
     for (uint32_t i = 0; i < 48; i++) {
         struct text file = { .len = 0 };
-        enum minisign_answer first = i / 12 % 2 == 0 ? MINISIGN_ANSWER_YES : MINISIGN_ANSWER_NO, second = i < 24 ? MINISIGN_ANSWER_YES : MINISIGN_ANSWER_NO;
+        enum minisign_answer first = i / 12 % 2 == 0 ? MINISIGN_ANSWER_YES : MINISIGN_ANSWER_NO;
+        enum minisign_answer second = i < 24 ? MINISIGN_ANSWER_YES : MINISIGN_ANSWER_NO;
 
         public_keys[0] = key_of(KEY);
         append_string(&file, files[i % 2]);
@@ -739,7 +743,8 @@ static void call_with_each_point(void)
                 if (last_result == MINISIGN_OK) {
                     set_text(&signature_texts[0], output, len);
                     CALL(minisign_read_signature, output, len, &signatures[0]);
-                    verify(&states[0], key, &signatures[0], &signature_texts[0], place == 2, 1, MINISIGN_ANSWER_YES, MINISIGN_ANSWER_YES);
+                    verify(&states[0], key, &signatures[0], &signature_texts[0], place == 2, 1, MINISIGN_ANSWER_YES,
+                           MINISIGN_ANSWER_YES);
                 }
             }
         }
@@ -750,7 +755,10 @@ static void call_with_each_point(void)
  * memory and with other amounts. */
 static void call_with_each_limit(void)
 {
-    static const uint64_t limits[] = { 0, 32768, 65536, UINT64_C(1) << 20, UINT64_C(1) << 24, UINT64_C(1) << 30, (UINT64_C(1) << 30) + 1, UINT64_C(1) << 63 };
+    static const uint64_t limits[] = {
+        0, 32768, 65536, UINT64_C(1) << 20, UINT64_C(1) << 24, UINT64_C(1) << 30, (UINT64_C(1) << 30) + 1,
+        UINT64_C(1) << 63,
+    };
     static const int more[][2] = { { 0, 0 }, { 1, 9 }, { -1, 0 }, { 0, -1 } };
     minisign_sealing sealing = { .operations_limit = 32768, .memory_limit = 65536, .salt = { 1 } };
     minisign_new_key new_key;
@@ -761,7 +769,8 @@ static void call_with_each_limit(void)
 
     memset(&new_key, 0x11, sizeof new_key);
     minisign_take_secret_key(&new_key, &secret_key);
-    CALL(minisign_secret_key_text_with_any_limits, &secret_key, 1, password.bytes, password.len, &sealing, 1, NULL, 0, output, sizeof output, &len);
+    CALL(minisign_secret_key_text_with_any_limits, &secret_key, 1, password.bytes, password.len, &sealing, 1, NULL, 0,
+         output, sizeof output, &len);
     CALL(minisign_read_secret_key, output, len, key);
     add_unopened_key(key);
     set_text(&record, key->bytes, sizeof key->bytes);
@@ -775,7 +784,8 @@ static void call_with_each_limit(void)
     CALL(minisign_open_sealed_key, key, wrong.bytes, wrong.len, 3, MINISIGN_ANY_ROWS, &secret_keys[0]);
     add_secret_key(&secret_keys[0]);
     CALL(minisign_secret_key_text, &secret_key, 1, (const uint8_t *) "\xff", 1, &sealing, 1, NULL, 0, output, sizeof output, &len);
-    CALL(minisign_secret_key_text_with_any_limits, &secret_key, 1, (const uint8_t *) "\xff", 1, &sealing, 1, NULL, 0, output, sizeof output, &len);
+    CALL(minisign_secret_key_text_with_any_limits, &secret_key, 1, (const uint8_t *) "\xff", 1, &sealing, 1, NULL, 0,
+         output, sizeof output, &len);
     CALL(minisign_secret_key_text, &secret_key, 1, NULL, 0, &sealing, 1, NULL, 0, output, sizeof output, &len);
     CALL(minisign_secret_key_text_with_any_limits, &secret_key, 1, NULL, 0, &sealing, 1, NULL, 0, output, sizeof output, &len);
     for (size_t i = 0; i < LENGTH(limits) * LENGTH(limits); i++) {
@@ -795,7 +805,8 @@ static void call_with_each_limit(void)
         if (operations == impossible_limits[0] || memory >= impossible_limits[1]) {
             sealing.operations_limit = operations;
             sealing.memory_limit = memory;
-            CALL(minisign_secret_key_text, &secret_key, 1, password.bytes, password.len, &sealing, 1, NULL, 0, output, sizeof output, &len);
+            CALL(minisign_secret_key_text, &secret_key, 1, password.bytes, password.len, &sealing, 1, NULL, 0, output,
+                 sizeof output, &len);
             CALL(minisign_secret_key_text_with_any_limits, &secret_key, 1, password.bytes, password.len, &sealing, 1, NULL, 0,
                  output, sizeof output, &len);
         }
@@ -836,7 +847,10 @@ static void call_with_each_length(void)
 /* Writes each kind of file with each of these comments, most of which are rejected. */
 static void call_with_each_comment(void)
 {
-    static const char *const comments[] = { "", "x", "\n", "\r", "\xff", "\xed\xa0\x80", "\xc0\x80", "\xc3\xa9", "\x7f", "\x1b", "\xe2\x80\xa8", "\xc2\x85" };
+    static const char *const comments[] = {
+        "", "x", "\n", "\r", "\xff", "\xed\xa0\x80", "\xc0\x80", "\xc3\xa9", "\x7f", "\x1b", "\xe2\x80\xa8",
+        "\xc2\x85",
+    };
     minisign_sealing sealing = { .operations_limit = 32768, .memory_limit = 65536 };
     minisign_new_key new_key;
     minisign_secret_key secret_key;
@@ -925,13 +939,14 @@ static void begin(void)
 static void make_calls(void)
 {
     static void (*const all[])(void) = {
-        call_nothing, call_in_a_row, call_init, call_init, call_update, call_update, call_digest, call_clear, call_read_public_key, call_read_bare_public_key,
-        call_read_public_key_record, call_public_key_record, call_read_signature, call_read_signature, call_read_signature_record,
-        call_signature_record, call_ask, call_ask, call_ask, call_ask, call_ask_bare, call_verdicts, call_verdicts, call_verdicts,
-        call_read_secret_key, call_read_secret_key, call_read_secret_key_record, call_encode_unopened_key, call_test_sealed_key,
-        call_open_unsealed_key, call_open_sealed_key, call_open_sealed_key_in_place, call_take_secret_key, call_public_key_of,
-        call_public_key_of, call_secret_key_record, call_comment_message, call_signed_text, call_signed_text, call_secret_key_text,
-        call_public_key_text, call_encode_public_key, call_without_objects,
+        call_nothing, call_in_a_row, call_init, call_init, call_update, call_update, call_digest, call_clear,
+        call_read_public_key, call_read_bare_public_key, call_read_public_key_record, call_public_key_record,
+        call_read_signature, call_read_signature, call_read_signature_record, call_signature_record, call_ask,
+        call_ask, call_ask, call_ask, call_ask_bare, call_verdicts, call_verdicts, call_verdicts, call_read_secret_key,
+        call_read_secret_key, call_read_secret_key_record, call_encode_unopened_key, call_test_sealed_key,
+        call_open_unsealed_key, call_open_sealed_key, call_open_sealed_key_in_place, call_take_secret_key,
+        call_public_key_of, call_public_key_of, call_secret_key_record, call_comment_message, call_signed_text,
+        call_signed_text, call_secret_key_text, call_public_key_text, call_encode_public_key, call_without_objects,
     };
 
     all[random_below(LENGTH(all))]();

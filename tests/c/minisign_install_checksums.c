@@ -109,7 +109,9 @@ static void append_number(struct text *comment, const char *label, uint64_t usua
 /* Returns a trusted comment with fields in random order. Most of these comments are accepted. */
 static struct text any_fields(void)
 {
-    static const char *const others[] = { "hashed", "x", "expires", "Expires:9", "expire:9", "file:ap", "version:6", "timestamp:6", "size:11", "" };
+    static const char *const others[] = {
+        "hashed", "x", "expires", "Expires:9", "expire:9", "file:ap", "version:6", "timestamp:6", "size:11", "",
+    };
     struct text comment = { .len = 0 };
     int first = (int) random_below(5);
 
@@ -143,11 +145,13 @@ static struct text any_update(void)
     static const char *const good[] = { "version:7\ttimestamp:7\tfile:app", "version:8\tfile:app\tsize:12\ttimestamp:8",
                                         "file:app\tversion:7\ttimestamp:6\texpires:7", "file:app\tversion:9\ttimestamp:9\thashed",
                                         "timestamp:18446744073709551615\tversion:1234567890123\tfile:app" };
-    static const char *const bad[] = { "version:7\ttimestamp:7\tfile:app\tExpires:7", "version:7\ttimestamp:7\tfile:app\texpires: 7",
-                                       "version:7\ttimestamp:7\tfile:app\texpires:7\texpires:7", "version:7\ttimestamp:7\tfile:app\texpires:4",
-                                       "version:7\ttimestamp:7\tfile:app\tsize:", "version:7\ttimestamp:7\tfile:app\tsize:12\tsize:12",
-                                       "version:7\ttimestamp:7\tfile:app\tsize:18446744073709551616", "version:x\ttimestamp:-1\tfile:app",
-                                       "file:app", "version:7\ttimestamp:7\tfile:ap", "version:7\ttimestamp:7" };
+    static const char *const bad[] = {
+        "version:7\ttimestamp:7\tfile:app\tExpires:7", "version:7\ttimestamp:7\tfile:app\texpires: 7",
+        "version:7\ttimestamp:7\tfile:app\texpires:7\texpires:7", "version:7\ttimestamp:7\tfile:app\texpires:4",
+        "version:7\ttimestamp:7\tfile:app\tsize:", "version:7\ttimestamp:7\tfile:app\tsize:12\tsize:12",
+        "version:7\ttimestamp:7\tfile:app\tsize:18446744073709551616", "version:x\ttimestamp:-1\tfile:app",
+        "file:app", "version:7\ttimestamp:7\tfile:ap", "version:7\ttimestamp:7",
+    };
     struct text comment = any_comment();
     const char *usual = good[random_below(LENGTH(good))], *rare = bad[random_below(LENGTH(bad))];
 
@@ -191,12 +195,15 @@ static void choose_list(minisign_install_options *options)
 /* Returns a list. Most of these lists are accepted, and have the digest of empty data under the name `app`. */
 static struct text any_list(void)
 {
-    static const char *const lines[] = { SHA256_OF_NOTHING "  app\n", SHA256_OF_NOTHING " *./app\r\n", "SHA256 (app) = " SHA256_OF_NOTHING "\n",
-                                         SHA512_OF_NOTHING "  app\n", "SHA512 (app) = " SHA512_OF_NOTHING "\n",
-                                         BLAKE2B_OF_NOTHING "  app\n", "BLAKE2b (app) = " BLAKE2B_OF_NOTHING "\n",
-                                         "SHA512 (app) = " BLAKE2B_OF_NOTHING "\n" };
-    static const char *const others[] = { "# text\n", "\n", "text\n", SHA256_OF_NOTHING "  abc\n", SHA256_OF_NOTHING "  app\n",
-                                          SHA512_OF_NOTHING "  abc\n", "\\" SHA256_OF_NOTHING "  a\\nb\n", SHA256_OF_NOTHING " app\n" };
+    static const char *const lines[] = {
+        SHA256_OF_NOTHING "  app\n", SHA256_OF_NOTHING " *./app\r\n", "SHA256 (app) = " SHA256_OF_NOTHING "\n",
+        SHA512_OF_NOTHING "  app\n", "SHA512 (app) = " SHA512_OF_NOTHING "\n", BLAKE2B_OF_NOTHING "  app\n",
+        "BLAKE2b (app) = " BLAKE2B_OF_NOTHING "\n", "SHA512 (app) = " BLAKE2B_OF_NOTHING "\n",
+    };
+    static const char *const others[] = {
+        "# text\n", "\n", "text\n", SHA256_OF_NOTHING "  abc\n", SHA256_OF_NOTHING "  app\n",
+        SHA512_OF_NOTHING "  abc\n", "\\" SHA256_OF_NOTHING "  a\\nb\n", SHA256_OF_NOTHING " app\n",
+    };
     struct text list = { .len = 0 };
     const char *line = lines[random_below(LENGTH(lines))];
     int place = (int) random_below(4);
@@ -231,7 +238,8 @@ static void call_list(minisign_installation *installation)
 static void call_init(void)
 {
     int i = any_copy(), first = (int) random_below(3), second = one_in(2) ? 2 - first : any_copy();
-    const minisign_public_key *key = one_in(40) ? &keys[COPIES - 1] : &keys[first], *signer = one_in(8) ? &keys[any_copy()] : &keys[first];
+    const minisign_public_key *key = one_in(40) ? &keys[COPIES - 1] : &keys[first];
+    const minisign_public_key *signer = one_in(8) ? &keys[any_copy()] : &keys[first];
     minisign_install_options options;
 
     make_file(signer, &signature_files[i]);
@@ -261,7 +269,9 @@ static void call_record_text(const minisign_installation *installation)
 
 static void call_signature(minisign_installation *installation)
 {
-    struct text file = !is_whole_run && one_in(5) ? any_text(signature_files) : signature_files[installation - installations], name = any_name();
+    struct text file = !is_whole_run && one_in(5) ? any_text(signature_files)
+                                                  : signature_files[installation - installations];
+    struct text name = any_name();
     int64_t now = any_clock();
     size_t room = any_message_room(), len = 0x5a;
 
@@ -290,10 +300,12 @@ static void call_answer(minisign_installation *installation)
 /* Replaces a record by another one, because otherwise the versions in the records would only grow. */
 static void renew_record(void)
 {
-    static const char *const texts[] = { "version:7", "7\n", "timestamp:6\n", "version:6", "version:18446744073709551616", "timestamp:7\n", "version:1",
-                                         "timestamp:18446744073709551615", "0", "version:3\n", "7x", "7x\n", "version:7x", "version:x", "timestamp:x",
-                                         "x", "18446744073709551619", "99999999999999999999", "184467440737095516150",
-                                         "timestamp:184467440737095516150", "" };
+    static const char *const texts[] = {
+        "version:7", "7\n", "timestamp:6\n", "version:6", "version:18446744073709551616", "timestamp:7\n",
+        "version:1", "timestamp:18446744073709551615", "0", "version:3\n", "7x", "7x\n", "version:7x", "version:x",
+        "timestamp:x", "x", "18446744073709551619", "99999999999999999999", "184467440737095516150",
+        "timestamp:184467440737095516150", "",
+    };
     const char *text = texts[random_below(LENGTH(texts))];
     struct text *record = &records[any_copy()];
 
@@ -349,7 +361,8 @@ static void call_judge_comment(void)
     uint32_t numbering = any_flag(2);
     uint64_t now = any_time(), kept = one_in(2) ? 0 : edge_number(), number = 0x5a;
 
-    CALL(minisign_judge_comment, bytes_or_null(&comment), comment.len, bytes_or_null(&name), name.len, numbering, now, kept, &number);
+    CALL(minisign_judge_comment, bytes_or_null(&comment), comment.len, bytes_or_null(&name), name.len, numbering, now,
+         kept, &number);
     add_number(number);
 }
 

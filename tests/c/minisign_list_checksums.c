@@ -7,14 +7,19 @@
 /* The digests in lists: SHA-256, SHA-512 and BLAKE2b of empty data, of `abc`, and of 200 letters a. */
 static const char *const digests[][3] = {
     { "e3b0c44298fc1c149afbf4c8996fb92427ae41e4649b934ca495991b7852b855",
-      "cf83e1357eefb8bdf1542850d66d8007d620e4050b5715dc83f4a921d36ce9ce47d0d13c5d85f2b0ff8318d2877eec2f63b931bd47417a81a538327af927da3e",
-      "786a02f742015903c6c6fd852552d272912f4740e15847618a86e217f71f5419d25e1031afee585313896444934eb04b903a685b1448b755d56f701afe9be2ce" },
+      "cf83e1357eefb8bdf1542850d66d8007d620e4050b5715dc83f4a921d36ce9ce"
+      "47d0d13c5d85f2b0ff8318d2877eec2f63b931bd47417a81a538327af927da3e",
+      "786a02f742015903c6c6fd852552d272912f4740e15847618a86e217f71f5419"
+      "d25e1031afee585313896444934eb04b903a685b1448b755d56f701afe9be2ce" },
     { "ba7816bf8f01cfea414140de5dae2223b00361a396177a9cb410ff61f20015ad",
-      "ddaf35a193617abacc417349ae20413112e6fa4e89a97ea20a9eeee64b55d39a2192992a274fc1a836ba3c23a3feebbd454d4423643ce80e2a9ac94fa54ca49f",
+      "ddaf35a193617abacc417349ae20413112e6fa4e89a97ea20a9eeee64b55d39a"
+      "2192992a274fc1a836ba3c23a3feebbd454d4423643ce80e2a9ac94fa54ca49f",
       HEX_OF_ABC },
     { "c2a908d98f5df987ade41b5fce213067efbcc21ef2240212a41e54b5e7c28ae5",
-      "4b11459c33f52a22ee8236782714c150a3b2c60994e9acee17fe68947a3e6789f31e7668394592da7bef827cddca88c4e6f86e4df7ed1ae6cba71f3e98faee9f",
-      "932355851d75f09c18646a9da87c25e055bc57f113121ad1ec63d45e7a1d62ab9133f8b7d1d7de9e0afa784eb6a8a11d78683013d0a672611f17668d9577d209" },
+      "4b11459c33f52a22ee8236782714c150a3b2c60994e9acee17fe68947a3e6789"
+      "f31e7668394592da7bef827cddca88c4e6f86e4df7ed1ae6cba71f3e98faee9f",
+      "932355851d75f09c18646a9da87c25e055bc57f113121ad1ec63d45e7a1d62ab"
+      "9133f8b7d1d7de9e0afa784eb6a8a11d78683013d0a672611f17668d9577d209" },
 };
 /* The data with these digests. NULL stands for 200 letters a. */
 static const char *const contents[] = { "", "abc", NULL };
@@ -69,7 +74,10 @@ static void add_file(const minisign_list_file *file)
 static const char *any_name(void)
 {
     static const char *const good[] = { "a", "b", "./a", "d/e", "x) = y", " c", "*c", "\xc3\xa9", "a b", "..a", "f" };
-    static const char *const bad[] = { "", "/a", "d/../a", "././a", "a\\b", "d//e", "d/", ".", "..", "d/.", "d/..", "d/.x", "a\x7f", "\xff", "a\tb", "\xc0\x80", "a\nb", "\xc2\x85" };
+    static const char *const bad[] = {
+        "", "/a", "d/../a", "././a", "a\\b", "d//e", "d/", ".", "..", "d/.", "d/..", "d/.x", "a\x7f", "\xff", "a\tb",
+        "\xc0\x80", "a\nb", "\xc2\x85",
+    };
     const char *usual = good[random_below(LENGTH(good))], *rare = bad[random_below(LENGTH(bad))];
 
     return one_in(12) ? rare : usual;
@@ -107,7 +115,9 @@ static void append_digits(struct text *text, int hash)
 static void append_line(struct text *list, int is_good)
 {
     static const char *const without[] = { "", "# a comment", "#", "# \xc3\xa9" };
-    static const char *const bad[] = { "x", " ", "MD5 (a) = 00", "SHA256 (a) = 00", "SHA256 (a) =", "\t", "SHA384 (a) = ", "# a\tb", "\\", "\xff" };
+    static const char *const bad[] = {
+        "x", " ", "MD5 (a) = 00", "SHA256 (a) = 00", "SHA256 (a) =", "\t", "SHA384 (a) = ", "# a\tb", "\\", "\xff",
+    };
     int hash = (int) random_below(3), form = (int) random_below(8);
     const char *name = any_name(), *comment = without[random_below(LENGTH(without))], *rare = bad[random_below(LENGTH(bad))];
 
@@ -159,7 +169,9 @@ static struct text any_list(void)
 static void call_read_signature(void)
 {
     static const char *const published[] = { LEGACY_SIGNATURE, OTHER_SIGNATURE, SIGNATURE };
-    static const char *const comments[] = { "timestamp:1\tfile:SHA256SUMS\thashed", "file:SHA256SUMS", "file:SHA256SUM\tfile:SHA256SUMS", "file:" };
+    static const char *const comments[] = {
+        "timestamp:1\tfile:SHA256SUMS\thashed", "file:SHA256SUMS", "file:SHA256SUM\tfile:SHA256SUMS", "file:",
+    };
     int i = any_copy();
     const minisign_public_key *key = &keys[random_below(COPIES - 1)];
     const char *other = published[random_below(LENGTH(published))];
@@ -262,7 +274,8 @@ static void call_find(void)
     minisign_list_entry *entry = &found[any_copy()];
     uint64_t line = 0x5a;
 
-    CALL(minisign_list_find, &lists[i], bytes_or_null(&text), text.len, hash, *name == 0 ? NULL : bytes_of(name), strlen(name), entry, &line);
+    CALL(minisign_list_find, &lists[i], bytes_or_null(&text), text.len, hash, *name == 0 ? NULL : bytes_of(name),
+         strlen(name), entry, &line);
     add_number(line);
     add_entry(entry);
 }
@@ -301,7 +314,8 @@ static void call_begin(void)
 static void call_update(void)
 {
     minisign_list_file *file = &files[any_copy()];
-    size_t len = one_in(20) ? random_below(sizeof data) : one_in(9) ? 0 : random_below(300), at = random_below((uint32_t) (sizeof data - len));
+    size_t len = one_in(20) ? random_below(sizeof data) : one_in(9) ? 0 : random_below(300);
+    size_t at = random_below((uint32_t) (sizeof data - len));
 
     CALL(minisign_list_update, file, len == 0 ? NULL : data + at, len);
     add_file(file);
@@ -338,7 +352,8 @@ static void call_compare(void)
     const minisign_list_entry *entry = &found[any_copy()];
     uint8_t digest[64];
     enum minisign_hash other = any_hash(0), hash = one_in(8) ? other : (enum minisign_hash) entry->hash;
-    size_t len = hash == MINISIGN_HASH_SHA256 ? 32 : 64, other_len = random_below(sizeof digest + 1), at = random_below(sizeof digest);
+    size_t len = hash == MINISIGN_HASH_SHA256 ? 32 : 64, other_len = random_below(sizeof digest + 1),
+           at = random_below(sizeof digest);
 
     memcpy(digest, entry->digest, sizeof digest);
     if (one_in(3)) {
@@ -359,7 +374,8 @@ static void call_append(void)
     enum minisign_hash hash = any_hash(1);
     uint8_t digest[64];
     const char *name = any_name();
-    size_t usual = hash == MINISIGN_HASH_SHA256 ? 32 : 64, other = random_below(sizeof digest + 1), digest_len = one_in(16) ? other : usual;
+    size_t usual = hash == MINISIGN_HASH_SHA256 ? 32 : 64, other = random_below(sizeof digest + 1),
+           digest_len = one_in(16) ? other : usual;
     size_t near_needed = text.len + 60 + random_below(120), room = one_in(12) ? near_needed : one_in(20) ? random_below(200) : SIZE;
     size_t len = text.len;
 
@@ -384,7 +400,8 @@ static void make_calls(void)
 {
     static void (*const all[])(void) = {
         call_nothing, call_read_signature, call_ask, call_ask, call_verdict, call_find, call_find, call_find, call_entries,
-        call_begin, call_begin, call_update, call_update, call_finish, call_whole_file, call_whole_file, call_compare, call_append, call_append,
+        call_begin, call_begin, call_update, call_update, call_finish, call_whole_file, call_whole_file, call_compare,
+        call_append, call_append,
     };
 
     all[random_below(LENGTH(all))]();

@@ -1,6 +1,6 @@
 /*
  * Checks calls that get no memory. Opening a secret key in the caller's memory must not allocate memory, start a thread
- * or call madvise. (asked_texts.c checks this for verifying.) In the other calls, each allocation fails in turn, by itself
+ * or call madvise. (minisign_files.c checks this for verifying.) In the other calls, each allocation fails in turn, by itself
  * and together with all later ones. Then the call must return MINISIGN_OUT_OF_MEMORY, leave the key unchanged, and free
  * all memory. The same must happen if there is too little memory for scrypt with the default limits.
  *
@@ -142,7 +142,8 @@ static void open_without_memory(const minisign_secret_key *opened)
     CHECK(seal(opened, "pw", 1024 * LARGE_ROWS, 1, message, sizeof message, &text_len) == MINISIGN_OK);
     CHECK(minisign_read_secret_key(message, text_len, &unopened) == MINISIGN_OK);
     requests = allocated_blocks = threads = hints = 0;
-    CHECK(minisign_open_sealed_key(&unopened, bytes_of("pw"), 2, MINISIGN_KEEP_EVERY_ROW, MINISIGN_USUAL_ROWS, &key) == MINISIGN_OK);
+    CHECK(minisign_open_sealed_key(&unopened, bytes_of("pw"), 2, MINISIGN_KEEP_EVERY_ROW, MINISIGN_USUAL_ROWS, &key)
+          == MINISIGN_OK);
     CHECK(requests > 0 && allocated_blocks == 0);
     /* These calls are made only if the library uses c/library/allocation.c. */
 #if defined(__LP64__) && defined(MADV_HUGEPAGE) && defined(MADV_POPULATE_WRITE) && !defined(MINISIGN_NO_THREADS)

@@ -15,7 +15,7 @@ packages and licences.
     This is checked with apt-get, as for a Debian without packages.
   * debian/copyright and APKBUILD repeat what LICENSE says about the kit's code in dist/.
 
-(releases.py packs releases, and builds with Debian's flags, with clang and with musl; at_hand.py installs.) The
+(releases.py packs releases, and builds with Debian's flags, with clang and with musl; build_and_install.py installs.) The
 script prints a line for each failure; the last line is `N passed, M failed`.
 
 Needs make, binutils, gcc, libsodium with its header and archive, and gcc-aarch64-linux-gnu; missing packages are
@@ -41,9 +41,13 @@ PROGRAMS = ("minisign", "minisign-install", "minisign-check")
 # The packages that each document's readers need on Debian. The document must name packages that install them even
 # without recommended packages, which containers leave out. (For example, gcc only recommends libc6-dev.)
 BUILD_PACKAGES = {"gcc", "libc6-dev", "make", "binutils"}
-PREREQUISITES = {"README.md": {*BUILD_PACKAGES, "libsodium-dev"}, "c/release.md": {*BUILD_PACKAGES, "libsodium-dev"},
-                 "bindings/rust/README.md": {*BUILD_PACKAGES, "cargo", "libsodium-dev"}, "bindings/go/README.md": {*BUILD_PACKAGES, "golang-go"},
-                 "bindings/python/README.md": {*BUILD_PACKAGES, "python3-setuptools", "python3-wheel", "python3-pip", "libsodium23"}}
+PREREQUISITES = {
+    "README.md": {*BUILD_PACKAGES, "libsodium-dev"},
+    "c/release.md": {*BUILD_PACKAGES, "libsodium-dev"},
+    "bindings/rust/README.md": {*BUILD_PACKAGES, "cargo", "libsodium-dev"},
+    "bindings/go/README.md": {*BUILD_PACKAGES, "golang-go"},
+    "bindings/python/README.md": {*BUILD_PACKAGES, "python3-setuptools", "python3-wheel", "python3-pip", "libsodium23"},
+}
 NAMING_GNU_MAKE = ("README.md", "c/release.md", "c/Makefile", "bindings/rust/README.md", "bindings/go/README.md")
 DEBIAN_SCRIPT = "packaging/debian.sh"
 # The licence terms of the kit's crates in LICENSE and the sentence after them, and a copyright line in these terms.
@@ -52,18 +56,24 @@ COPYRIGHT_LINE = re.compile(r"Copyright \(c\) ([\d-]+ .*?)\.?$", re.M)
 CHECK = os.path.join(static_library.DIRECTORY, "check.sh")
 # Flags of a packager, and those that must be in each command that compiles or links.
 PACKAGER_FLAGS = {"CPPFLAGS": "-DNAMED=1", "CFLAGS": "-O1", "LDFLAGS": "-Wl,--hash-style=gnu"}
-COMPILE_FLAGS, LINK_FLAGS = {PACKAGER_FLAGS["CPPFLAGS"], PACKAGER_FLAGS["CFLAGS"]}, {PACKAGER_FLAGS["CFLAGS"], PACKAGER_FLAGS["LDFLAGS"]}
+COMPILE_FLAGS = {PACKAGER_FLAGS["CPPFLAGS"], PACKAGER_FLAGS["CFLAGS"]}
+LINK_FLAGS = {PACKAGER_FLAGS["CFLAGS"], PACKAGER_FLAGS["LDFLAGS"]}
 # Variables for static programs. `all` also builds the shared library, which must not be linked with -static.
 STATIC = ["SODIUM=static", "LDFLAGS=-static"]
 LTO = "-flto=auto -ffat-lto-objects"
-UBUNTU = {"CFLAGS": f"-g -O2 {LTO} -fstack-protector-strong -fstack-clash-protection -Wformat -Werror=format-security -fcf-protection",
-          "CPPFLAGS": "-Wdate-time -D_FORTIFY_SOURCE=3", "LDFLAGS": f"-Wl,-Bsymbolic-functions {LTO} -Wl,-z,relro -Wl,-z,now"}
+UBUNTU = {
+    "CFLAGS": f"-g -O2 {LTO} -fstack-protector-strong -fstack-clash-protection -Wformat -Werror=format-security -fcf-protection",
+    "CPPFLAGS": "-Wdate-time -D_FORTIFY_SOURCE=3",
+    "LDFLAGS": f"-Wl,-Bsymbolic-functions {LTO} -Wl,-z,relro -Wl,-z,now",
+}
 # The flags of redhat-rpm-config 293, without those for the plugin annobin, which only Fedora has.
-FEDORA = {"CFLAGS": f"-O2 {LTO} -fexceptions -g -grecord-gcc-switches -pipe -Wall -Werror=format-security "
-                    "-Wp,-U_FORTIFY_SOURCE,-D_FORTIFY_SOURCE=3 -Wp,-D_GLIBCXX_ASSERTIONS -specs={scratch}/cc1 -fstack-protector-strong -m64 "
-                    "-mtune=generic -fasynchronous-unwind-tables -fstack-clash-protection -fcf-protection -fno-omit-frame-pointer "
-                    "-mno-omit-leaf-frame-pointer",
-          "LDFLAGS": "-Wl,-z,relro -Wl,--as-needed -Wl,-z,now -specs={scratch}/ld -Wl,--build-id=sha1"}
+FEDORA = {
+    "CFLAGS": f"-O2 {LTO} -fexceptions -g -grecord-gcc-switches -pipe -Wall -Werror=format-security "
+    "-Wp,-U_FORTIFY_SOURCE,-D_FORTIFY_SOURCE=3 -Wp,-D_GLIBCXX_ASSERTIONS -specs={scratch}/cc1 -fstack-protector-strong -m64 "
+    "-mtune=generic -fasynchronous-unwind-tables -fstack-clash-protection -fcf-protection -fno-omit-frame-pointer "
+    "-mno-omit-leaf-frame-pointer",
+    "LDFLAGS": "-Wl,-z,relro -Wl,--as-needed -Wl,-z,now -specs={scratch}/ld -Wl,--build-id=sha1",
+}
 FEDORA_SPECS = {"cc1": b"*cc1_options:\n+ %{!r:%{!fpie:%{!fPIE:%{!fpic:%{!fPIC:%{!fno-pic:-fPIE}}}}}}\n",
          "ld": b"*self_spec:\n+ %{!static:%{!shared:%{!r:-pie}}}\n\n*link:\n+ -z now\n"}
 
@@ -91,7 +101,10 @@ def check_hardened(checks, out):
     """Checks that the programs and the shared library are hardened like Debian's minisign."""
     for name in (*PROGRAMS, "libminisign.so"):
         _, output = run(["readelf", "-lWd", os.path.join(out, name)])
-        checks.check("GNU_RELRO" in output and "BIND_NOW" in output and re.search(r"GNU_STACK .* RW ", output), f"{name} is not hardened like Debian's: {output}")
+        checks.check(
+            "GNU_RELRO" in output and "BIND_NOW" in output and re.search(r"GNU_STACK .* RW ", output),
+            f"{name} is not hardened like Debian's: {output}",
+        )
         checks.check("TEXTREL" not in output and "Elf file type is DYN" in output, f"{name} is not position-independent")
         _, output = run(["nm", "-D", os.path.join(out, name)])
         checks.check(name.startswith("lib") or ("__stack_chk_fail" in output and "_chk@" in output.replace("__stack_chk", "")),
@@ -104,15 +117,26 @@ def check_sodium(checks, scratch):
                                   ("named", ["SODIUM=-lsodium -Wl,-rpath,/named"], True), ("alone", STATIC, False)):
         if out != "out":
             # Only the programs must be built again.
-            shutil.copytree(f"{scratch}/out", f"{scratch}/{out}", symlinks=True, ignore=shutil.ignore_patterns(*PROGRAMS, "libminisign.so*"))
+            shutil.copytree(
+                f"{scratch}/out",
+                f"{scratch}/{out}",
+                symlinks=True,
+                ignore=shutil.ignore_patterns(*PROGRAMS, "libminisign.so*"),
+            )
         checks.ended(f"make {arguments}", make("-s", f"OUT={scratch}/{out}", *arguments))
         for name in PROGRAMS:
             _, output = run(["readelf", "-d", f"{scratch}/{out}/{name}"])
-            checks.check(("libsodium.so" in output) == is_shared and ("[/named]" in output) == (out == "named"), f"{out}/{name}: {output}")
+            checks.check(
+                ("libsodium.so" in output) == is_shared and ("[/named]" in output) == (out == "named"),
+                f"{out}/{name}: {output}",
+            )
             _, output = run(["readelf", "-lW", f"{scratch}/{out}/{name}"])
             checks.check(("program interpreter" in output) == (arguments != STATIC), f"{out}/{name}, make {arguments}: {output}")
         _, output = run(["readelf", "-hdW", f"{scratch}/{out}/libminisign.so"])
-        checks.check("DYN (Shared object file)" in output and "Library soname: [libminisign.so." in output, f"{out}/libminisign.so: {output}")
+        checks.check(
+            "DYN (Shared object file)" in output and "Library soname: [libminisign.so." in output,
+            f"{out}/libminisign.so: {output}",
+        )
         checks.ended(f"make test {arguments}", run(["sh", CHECK, f"{scratch}/{out}/minisign"]), says=" 0 failed\n")
 
 
@@ -152,9 +176,14 @@ def check_notes(checks, scratch, compiler):
     cross = needs.program("aarch64-linux-gnu-gcc", "gcc-aarch64-linux-gnu")
     for flag, notes, landing_instruction, compiler in (("-fcf-protection=full", ("IBT", "SHSTK"), "endbr64", compiler),
                                            ("-mbranch-protection=standard", ("BTI", "PAC"), "bti\tc", cross)):
-        object_file = f"{build(checks, scratch, flag, 'library', PORTABLE='1', CC=compiler, CFLAGS=f'-O0 {flag}', CPPFLAGS='')}/minisign.o"
+        object_file = (
+            f"{build(checks, scratch, flag, 'library', PORTABLE='1', CC=compiler, CFLAGS=f'-O0 {flag}', CPPFLAGS='')}/minisign.o"
+        )
         _, output = run(["readelf", "-nW", object_file])
-        checks.check(all(note in output for note in notes), f"{flag}: the object file does not have the notes {notes}: {output[-400:]}")
+        checks.check(
+            all(note in output for note in notes),
+            f"{flag}: the object file does not have the notes {notes}: {output[-400:]}",
+        )
         disassembler = run([compiler, "-print-prog-name=objdump"])[1].strip()
         _, code = run([disassembler, "-d", "--no-show-raw-insn", "--disassemble=minisign_clear_used", object_file])
         first = re.search(r"(?m)^ *[0-9a-f]+:\t.*", code)
@@ -181,7 +210,11 @@ def check_prerequisites(checks):
     checks.check(PREREQUISITES["README.md"] <= {*re.findall(r"[\w-]+", head)}, "the head of c/Makefile does not name all packages")
     control = read(TOP, "packaging/debian/control").decode()
     building = {*re.findall(r"([a-z][\w.+-]+)(?: \(.*?\))?(?:, |$)", re.search(r"(?m)^Build-Depends: (.*)$", control)[1])}
-    expected = {**PREREQUISITES, DEBIAN_SCRIPT: {*BUILD_PACKAGES, "build-essential", "dpkg-dev", *building} - {"debhelper-compat"} | {"debhelper"}}
+    expected = {
+        **PREREQUISITES,
+        DEBIAN_SCRIPT: {*BUILD_PACKAGES, "build-essential", "dpkg-dev", *building} - {"debhelper-compat"}
+        | {"debhelper"},
+    }
     if not needs.is_debian():
         return
     for name, packages in expected.items():

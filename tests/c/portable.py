@@ -36,7 +36,7 @@ import sys
 HERE = os.path.dirname(os.path.realpath(__file__))
 sys.path.append(os.path.join(HERE, "..", "shared"))
 
-import cleared
+import cleared_secrets
 import emulated
 import needs
 import static_library
@@ -105,7 +105,10 @@ def check_strict(checks, scratch):
     # Warnings of gcc's optimizer are not checked here: they are errors when make builds the library.
     for compiler in ("gcc", "clang"):
         for source in (*sorted(glob.glob(f"{PORTABLE}/*.c")), combined):
-            command = [needs.program(compiler, compiler), "-std=c99", *STRICT, "-fsyntax-only", *LIBRARY_INCLUDES, "-I", INCLUDE, source]
+            command = [
+                needs.program(compiler, compiler),
+                "-std=c99", *STRICT, "-fsyntax-only", *LIBRARY_INCLUDES, "-I", INCLUDE, source,
+            ]
             checks.ended(f"{os.path.basename(source)} by {compiler}", run(command))
 
 
@@ -113,10 +116,17 @@ def check_strict(checks, scratch):
 # processors, with qemu's names, that use this file. A processor that lacks a part of x86-64-v2 uses the C source. A
 # processor that has all of x86-64-v2 but lacks a part of x86-64-v3 uses the first archive.
 COPIES = {
-    "C_CALLS": ("calls.c", "core2duo qemu64 Nehalem,-sse4.2 Nehalem,-sse4.1 Nehalem,-ssse3 Nehalem,-popcnt Nehalem,-cx16 Nehalem,-lahf_lm"),
-    "V2": ("calls-x86-64-v2.a", "Nehalem SandyBridge Haswell,-avx2 Haswell,-bmi1 Haswell,-bmi2 Haswell,-f16c Haswell,-fma Haswell,-abm "
-                                "Haswell,-movbe Haswell,-xsave"),
-    "V3": ("calls-x86-64-v3.a", "Haswell max")}
+    "C_CALLS": (
+        "calls.c",
+        "core2duo qemu64 Nehalem,-sse4.2 Nehalem,-sse4.1 Nehalem,-ssse3 Nehalem,-popcnt Nehalem,-cx16 Nehalem,-lahf_lm",
+    ),
+    "V2": (
+        "calls-x86-64-v2.a",
+        "Nehalem SandyBridge Haswell,-avx2 Haswell,-bmi1 Haswell,-bmi2 Haswell,-f16c Haswell,-fma Haswell,-abm "
+        "Haswell,-movbe Haswell,-xsave",
+    ),
+    "V3": ("calls-x86-64-v3.a", "Haswell max"),
+}
 # The first word of BLAKE2b's initialization vector and a wrong value for it, as written in C and as stored in an
 # archive.
 WRONG_VALUES = {b"0x6a09e667f3bcc908": b"0x6a09e667f3bcc909", bytes.fromhex("08c9bcf367e6096a"): bytes.fromhex("09c9bcf367e6096a")}
@@ -171,7 +181,7 @@ MORE_KINDS = {kind.debian: kind for kind in (
 
 def check_processors(checks, scratch, checksums, kinds=KINDS):
     """Checks the library for other processors under qemu. On the processors that CI runs, also checks that no
-    secret is left in memory or registers. (cleared.py checks this for AArch64.)"""
+    secret is left in memory or registers. (cleared_secrets.py checks this for AArch64.)"""
     for kind in kinds:
         # gcc has no stack protector for hppa and alpha, which is one of the default flags.
         built = emulated.Emulated(checks, scratch, kind, *(["CFLAGS=-O2"] if kind.debian in ("hppa", "alpha") else []))
@@ -181,8 +191,10 @@ def check_processors(checks, scratch, checksums, kinds=KINDS):
             check_mutants(checks, built.scratch, checksums, [built.compiler, "-static"], mutants_of("c", "processor_mutants"),
                           kind.name, built.emulator)
         if kind in KINDS[1:]:
-            program = cleared.Builder(built.scratch).program(built.compiler, "-O2", library=built.library, linking=["-static"])
-            cleared.check_run(checks, kind.name, cleared.Run([*built.emulator, program]))
+            program = cleared_secrets.Builder(built.scratch).program(
+                built.compiler, "-O2", library=built.library, linking=["-static"]
+            )
+            cleared_secrets.check_run(checks, kind.name, cleared_secrets.Run([*built.emulator, program]))
 
 
 WINE = "/usr/lib/wine"
@@ -192,7 +204,9 @@ class Windows:
     """Runs Windows programs with wine, which stores its settings in a directory in `scratch`."""
 
     def __init__(self, scratch):
-        self.program = needs.need(lambda: needs.which("wine64") or next(iter(glob.glob(f"{WINE}/wine64")), None), "wine64", "wine64")
+        self.program = needs.need(
+            lambda: needs.which("wine64") or next(iter(glob.glob(f"{WINE}/wine64")), None), "wine64", "wine64"
+        )
         self.variables = {"WINEPREFIX": os.path.join(scratch, "wine"), "WINEDEBUG": "-all", "HOME": scratch}
 
     def end(self):
@@ -236,7 +250,11 @@ def check_systems(checks, scratch, _):
             write(f"{scratch}/{directory}", name, f"#include <stddef.h>\n{text}".encode())
     clang = [needs.program("clang", "clang"), "-std=c11", *STRICT, "-nostdlibinc", "-I", INCLUDE]
     emulated.musl_compiler()
-    include_directories = [f"{scratch}/no-linux", f"/usr/include/{os.uname().machine}-linux-musl", emulated.headers_of_sodium(scratch)]
+    include_directories = [
+        f"{scratch}/no-linux",
+        f"/usr/include/{os.uname().machine}-linux-musl",
+        emulated.headers_of_sodium(scratch),
+    ]
     sources = [path for name in ("minisign", "install", "check", "shared") for path in sorted(glob.glob(f"{C}/{name}/*.c"))]
     checks.check(len(sources) > 25, f"only these source files were found: {sources}")
     # dist/calls.c has no assembly, so checking its syntax is sufficient.
@@ -249,15 +267,21 @@ def check_systems(checks, scratch, _):
         # musl's headers replace those of the BSDs, which are not installed here. Both follow POSIX.
         if re.match("x86_64-.*bsd", target):
             system = [option for directory in include_directories for option in ("-isystem", directory)]
-            checks.ended(f"the programs for {target}", run([*clang, f"--target={target}", *system, "-I", C, "-fsyntax-only", *sources]))
+            checks.ended(
+                f"the programs for {target}",
+                run([*clang, f"--target={target}", *system, "-I", C, "-fsyntax-only", *sources]),
+            )
     output = checks.ended("make -n", run(["make", "-Bn", "-C", C, f"OUT={scratch}/none", "all"]))
     for name in ("minisign", "minisign-install", "minisign-check"):
-        checks.check(re.search(rf" -o {scratch}/none/{name} .* -lrt$", output, re.M), f"{name} is linked without -lrt: {output[-300:]}")
+        checks.check(
+            re.search(rf" -o {scratch}/none/{name} .* -lrt$", output, re.M),
+            f"{name} is linked without -lrt: {output[-300:]}",
+        )
 
 
 PARTS = {"compilers": check_compilers, "archives": check_archives, "processors": check_processors, "windows": check_windows,
          "systems": check_systems}
-# The words on the command line name parts or processors, so selected.py must not skip any of these functions.
+# The words on the command line name parts or processors, so case_selection.py must not skip any of these functions.
 ALWAYS = tuple(check.__name__ for check in PARTS.values())
 
 

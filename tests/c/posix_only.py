@@ -4,10 +4,10 @@
     tests/c/posix_only.py
 
 The script runs the test scripts of all three programs with these builds: tests/command_line/command_line.py,
-tests/installer/real_installing.py and tests/check/check_program.py. All cases must pass, except those that match a
+tests/installer/installer_program.py and tests/check/check_program.py. All cases must pass, except those that match a
 pattern in WEAKER, which says what protection is missing. (None of these cases is about keeping a secret key from
-other users.) Each pattern must match a failing case. The script prints a line for each failure; the last line is `N
-passed, M failed`.
+other users.) Each pattern must match a failing case. The script prints a line for each failure; the last line is
+`N passed, M failed`.
 
 Needs what these scripts need; missing packages are installed if that is permitted.
 """
@@ -39,7 +39,7 @@ WEAKER = {
         r"new key pair: no temporary file is left by a kill": NO_UNNAMED_FILES,
         r"writes into a directory without a name": OPENED_BY_NAME,
     },
-    "installer/real_installing.py": {
+    "installer/installer_program.py": {
         r"the permissions of a replaced file: a (list|requested mode removes) ": NO_ACCESS_LISTS,
         r"(stays consistent if|retries) f(get|remove)xattr ": NO_ACCESS_LISTS,
         r"first file (with --mode )?gets no inherited access list": NO_ACCESS_LISTS,
@@ -85,7 +85,7 @@ def run_all(checks, scratch):
     for program in programs:
         check_calls(checks, program)
     check_script(checks, "command_line/command_line.py", "--posix-only", programs[0])
-    check_script(checks, "installer/real_installing.py", programs[1])
+    check_script(checks, "installer/installer_program.py", programs[1])
     check_script(checks, "check/check_program.py", programs[2])
 
 

@@ -8,7 +8,7 @@ mutants in tests/command_line remove steps of `minisign` that protect files from
 in a copy of the sources (tests/shared/mutants.py). The script prints a line for each mutant that its case does not
 notice; the last line is `N passed, M failed`.
 
-Needs what `real_installing.py`, `check_program.py` and `command_line.py` need, and root for the mutants of `minisign`.
+Needs what `installer_program.py`, `check_program.py` and `command_line.py` need, and root for the mutants of `minisign`.
 """
 
 import concurrent.futures
@@ -31,11 +31,11 @@ import static_library
 import test_script
 from command_cases import keys_of
 from command_other_users import OtherUsers
-from command_places import Places
+from command_outputs import Places
 from command_running import ProgramPaths
 from installers import NAME, Signer
 from process import run
-from real_installing import cases_of
+from installer_program import cases_of
 from running import SECONDS, Failure, Skip, build_preload, expect, run_case_named
 from runs import InstallerRunner
 

@@ -71,7 +71,8 @@ static void reads_and_writes_public_key_records(void)
 
 static void encodes_public_keys(void)
 {
-    static const char comment[] = "minisign public key E7620F1842B4E81F", not_utf8[] = "\xff", broken[] = "a\nb", returned[] = "a\r";
+    static const char comment[] = "minisign public key E7620F1842B4E81F", not_utf8[] = "\xff", broken[] = "a\nb",
+                      returned[] = "a\r";
     const minisign_public_key key = key_of(KEY), unread = { 0 };
     uint8_t text[sizeof KEY];
     size_t text_len = 7;
@@ -85,8 +86,8 @@ static void encodes_public_keys(void)
 
     memset(text, 0xaa, sizeof text);
     for (size_t i = 0; i < LENGTH(cases); i++) {
-        const enum minisign_error error = minisign_encode_public_key(cases[i].key, bytes_of(cases[i].comment), strlen(cases[i].comment),
-                                                                     text, cases[i].room, &text_len);
+        const enum minisign_error error = minisign_encode_public_key(
+            cases[i].key, bytes_of(cases[i].comment), strlen(cases[i].comment), text, cases[i].room, &text_len);
 
         check(error == cases[i].error, "case %zu: error %u, expected %u", i, (unsigned) error, (unsigned) cases[i].error);
         CHECK(text_len == 7 && text[0] == 0xaa && memcmp(text, text + 1, sizeof text - 1) == 0);
@@ -119,7 +120,8 @@ static void reads_and_writes_signature_records(void)
     CHECK(minisign_read_signature_record(record, MINISIGN_SIGNATURE_RECORD_BYTES + 1, &bare) == MINISIGN_OK);
     CHECK(memcmp(bare.key_id, whole.key_id, 8) == 0 && memcmp(bare.signature, whole.signature, 64) == 0);
     CHECK(memcmp(bare.algorithm, "ED", 2) == 0 && bare.legacy == 0 && bare.whole == 0 && bare.reserved == 0);
-    CHECK(is_zeros(bare.comment_signature, 64) && is_zeros(bare.text_digest, 32) && bare.comment_offset == 0 && bare.comment_len == 0);
+    CHECK(is_zeros(bare.comment_signature, 64) && is_zeros(bare.text_digest, 32) && bare.comment_offset == 0
+          && bare.comment_len == 0);
     spoil_record();
     CHECK(minisign_signature_record(&bare, record) == MINISIGN_OK && equals_hex(record, SIGNATURE_RECORD));
     record[0] = 'e';
@@ -247,7 +249,8 @@ static void reads_and_writes_secret_key_records(void)
 }
 
 /* Writes the file of a key, and checks that an error changes nothing. */
-static enum minisign_error encode(const minisign_unopened_key *key, const char *comment, uint8_t *text, size_t room, size_t *text_len)
+static enum minisign_error encode(const minisign_unopened_key *key, const char *comment, uint8_t *text, size_t room,
+                                  size_t *text_len)
 {
     enum minisign_error error;
 

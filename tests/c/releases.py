@@ -38,8 +38,8 @@ import proved
 import static_library
 import test_script
 from c_library import LESS, check_programs, programs_named
-from commands import is_secret_key
-from copies import TOP, Tree, files_below, repository_files
+from document_commands import is_secret_key
+from repository_copies import TOP, Tree, files_below, repository_files
 from packaging import make
 from process import run
 from running import read, write
@@ -121,7 +121,10 @@ def check_contents(checks, top):
     for part in ("calls", "page"):
         output = run(["sh", f"{top}/tools/sources.sh", part])[1].strip()
         is_recorded = f"sources of the {part}: {output}\n" in read(top, "dist/PROVED").decode()
-        checks.check(is_recorded, f"the sources of the {part} of a release have the hash {output}, which is not the one in dist/PROVED")
+        checks.check(
+            is_recorded,
+            f"the sources of the {part} of a release have the hash {output}, which is not the one in dist/PROVED",
+        )
     paths = [os.path.join(top, name) for name in files_below(top)]
     ends = {path[at + 1:] for path in paths for at, letter in enumerate(path) if letter == "/"}
     for path in (path for path in paths if not path.endswith((".a", ".png", ".antt", ".edit")) and "/corpus/" not in path):
@@ -149,10 +152,16 @@ def check_licence(checks):
     """Checks that LICENSE names each crate of the kit whose functions are in the archives, or that the crates in
     the archives use."""
     crates = proved.crates()
-    terms = re.search(r"The files of the kit's crates say this about their licences:(.*?)\nWe know of no licence", read(TOP, "LICENSE").decode(), re.S)[1]
+    terms = re.search(
+        r"The files of the kit's crates say this about their licences:(.*?)\nWe know of no licence",
+        read(TOP, "LICENSE").decode(),
+        re.S,
+    )[1]
     named = {name for archive in glob.glob(f"{static_library.DIST}/*.a")
              for name in re.findall(r" (\w+)::", run([needs.program("nm", "binutils"), archive])[1])} - {*crates}
-    called = {name for crate in (*crates["minisign_c"].dependencies, "minisign_c") for name in crates[crate].kit_dependencies} - {"std"}
+    called = {
+        name for crate in (*crates["minisign_c"].dependencies, "minisign_c") for name in crates[crate].kit_dependencies
+    } - {"std"}
     checks.check(len(named | called) > 3, f"the archives hold only {named | called}")
     for name in sorted(named | called):
         checks.check(re.search(rf"\b{name}\b", terms), f"LICENSE does not state the terms of the kit's crate {name}")
@@ -173,12 +182,18 @@ class Signing:
 
     def release(self, *arguments):
         """Runs `make release` from the directory with the keys. Returns its exit status and its output."""
-        command = shlex.join(["make", "-s", "-C", static_library.DIRECTORY, "release", f"OUT={self.out}", *self.VARIABLES, *arguments])
+        command = shlex.join(
+            ["make", "-s", "-C", static_library.DIRECTORY, "release", f"OUT={self.out}", *self.VARIABLES, *arguments]
+        )
         return run(["sh", "-c", f"cd {shlex.quote(self.directory)} && {command}"], PATH=static_library.path_without_kit())
 
     def files(self):
         """Maps the names of the release's files in OUT to their contents."""
-        return {name: read(self.out, name) for name in os.listdir(self.out) if re.match("minisign-in-rattle|SHA256SUMS|packing", name)}
+        return {
+            name: read(self.out, name)
+            for name in os.listdir(self.out)
+            if re.match("minisign-in-rattle|SHA256SUMS|packing", name)
+        }
 
 
 def check_signed(checks, signing, minisign):
@@ -191,7 +206,11 @@ def check_signed(checks, signing, minisign):
         for name in (archive, f"{signing.out}/SHA256SUMS"):
             verifying = ["-V", "-p", f"{signing.directory}/a.pub", "-m", name]
             for verifier in (minisign, signing.program):
-                checks.ended(f"{name}, verified by {verifier}", run([verifier, *verifying]), says=f"\tfile:{os.path.basename(name)}\thashed\n")
+                checks.ended(
+                    f"{name}, verified by {verifier}",
+                    run([verifier, *verifying]),
+                    says=f"\tfile:{os.path.basename(name)}\thashed\n",
+                )
             comment = DEFAULT_COMMENT.format(re.escape(os.path.basename(name)))
             checks.check(re.search(comment, read(f"{name}.minisig").decode()), f"{name}.minisig has another trusted comment")
         checks.check(read(archive) == data and len(signing.files()) == 4,
@@ -211,8 +230,12 @@ def check_failed_signing(checks, signing):
             for name in signing.files():
                 os.remove(os.path.join(signing.out, name))
         before = signing.files()
-        for key, error in (("", "RELEASE_KEY has to name the secret key"), ("missing", f"{signing.directory}/missing, which is not a file"),
-                           (".", "which is not a file"), ("no key", "this is not a secret key")):
+        for key, error in (
+            ("", "RELEASE_KEY has to name the secret key"),
+            ("missing", f"{signing.directory}/missing, which is not a file"),
+            (".", "which is not a file"),
+            ("no key", "this is not a secret key"),
+        ):
             checks.ended(f"a release by the key '{key}'", signing.release(f"RELEASE_KEY={key}"), status=2, says=error)
             checks.check(signing.files() == before,
                          f"a release by the key '{key}' leaves {sorted(signing.files())}, expected {sorted(before)}")
@@ -248,9 +271,15 @@ def check_compiler(checks, scratch, top, name):
         for target in ("all", "check", f"install DESTDIR={directory}/dest PREFIX=/usr"):
             output = checks.ended(f"a release by {name}, {target}", tree.run(f"make -C c CC={name} OUT={directory}/out {target}"))
             checks.check("warning:" not in output, f"a release by {name}, {target}: {output[-800:]}")
-            checks.check(target != "check" or static_library.TESTS_PASSED.search(output), f"a release by {name}, {target}: {output[-300:]}")
+            checks.check(
+                target != "check" or static_library.TESTS_PASSED.search(output),
+                f"a release by {name}, {target}: {output[-300:]}",
+            )
     root, example = f"{directory}/dest/usr", f"{directory}/verify"
-    building = [compiler, "-I", f"{root}/include", "-o", example, f"{top}/c/examples/verify.c", f"{root}/lib/libminisign.a", "-lsodium"]
+    building = [
+        compiler, "-I", f"{root}/include", "-o", example, f"{top}/c/examples/verify.c", f"{root}/lib/libminisign.a",
+        "-lsodium",
+    ]
     checks.ended(f"the example with the files that {name} installed", run(building))
     check_verifying(checks, f"the example by {name}", example, "published.pub", "DATA", "published.minisig")
     check_verifying(checks, f"the program by {name}", f"{root}/bin/minisign", *VERIFY_PUBLISHED)
@@ -266,7 +295,7 @@ def check_same_as_repository(checks, scratch, root):
 
 
 def check_without_archives(checks, scratch, top):
-    """Builds a release with PORTABLE=1, after the prebuilt archives were removed. (at_hand.py checks that a changed
+    """Builds a release with PORTABLE=1, after the prebuilt archives were removed. (build_and_install.py checks that a changed
     dist/calls.c is rejected.)"""
     for archive in glob.glob(f"{top}/dist/*.a"):
         os.remove(archive)
@@ -310,11 +339,15 @@ def check_alpine(checks, scratch, top):
     variables["version"] = name.rpartition("-")[2]
     output = checks.ended("Alpine's build file", run(["sh", "-c", ALPINE_STEPS], directory, **variables), says=" passed, 0 failed")
     checks.check("warning:" not in output, f"Alpine's build file: {output[-800:]}")
-    checks.ended("Alpine's program is linked with musl", run(["readelf", "-l", f"{directory}/pkg/usr/bin/minisign-proved"]), says="ld-musl")
+    checks.ended(
+        "Alpine's program is linked with musl",
+        run(["readelf", "-l", f"{directory}/pkg/usr/bin/minisign-proved"]),
+        says="ld-musl",
+    )
     for file in ALPINE_FILES:
         checks.check(os.path.exists(f"{directory}/pkg/{file}"), f"Alpine's package has no {file}")
     compiler, library = emulated.musl_compiler(), f"{directory}/src/{name}/c/out/libminisign.a"
-    check_programs(checks, "musl", programs_named("asked_texts", "usage_errors"), compiler, library, "-static", *LESS)
+    check_programs(checks, "musl", programs_named("minisign_files", "usage_errors"), compiler, library, "-static", *LESS)
 
 
 def check_other_packages(checks, scratch, top):
@@ -327,7 +360,9 @@ def check_other_packages(checks, scratch, top):
     checks.check(archives[0] == archives[1], "two runs of packaging/others pack different bytes")
     os.mkdir(f"{scratch}/unpacked")
     run(["tar", "-xzf", archive_in(f"{scratch}/others"), "-C", f"{scratch}/unpacked"])
-    check_verifying(checks, "the program of packaging/others", f"{scratch}/unpacked/usr/of-minisign/bin/minisign", *VERIFY_PUBLISHED)
+    check_verifying(
+        checks, "the program of packaging/others", f"{scratch}/unpacked/usr/of-minisign/bin/minisign", *VERIFY_PUBLISHED
+    )
     checks.ended("packaging/others, clean", run([*arguments, "clean"]))
     checks.check(not os.path.exists(f"{scratch}/others"), "packaging/others, clean, leaves files")
 
@@ -350,7 +385,10 @@ def run_all(checks, scratch):
     check_failed_signing(checks, signing)
     check_installed(checks, signing, f"{root}/bin/minisign-install")
     checks.ended("a release of a release", tree.run(f"make -s -C c archive CC=gcc OUT={scratch}/again"))
-    checks.check(read(archive_in(f"{scratch}/again")) == read(archive_in(f"{scratch}/two")), "a release of a release differs from it")
+    checks.check(
+        read(archive_in(f"{scratch}/again")) == read(archive_in(f"{scratch}/two")),
+        "a release of a release differs from it",
+    )
     check_other_packages(checks, scratch, top)
     check_alpine(checks, scratch, top)
     check_debian(checks, scratch, archive_in(f"{scratch}/two"))

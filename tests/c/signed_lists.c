@@ -208,15 +208,19 @@ static void check_finding(void)
         if (error) {
             check(memcmp(&entry, &zeros, sizeof entry) == 0, "%s: an error changed the entry", rows[at].name);
             check(line == rows[at].line, "%s: line %llu at fault", rows[at].name, (unsigned long long) line);
-            check(minisign_list_begin(&entry, &(minisign_list_file) { 0 }) == MINISIGN_ENTRY_NOT_READ, "an entry of zeros is checked");
+            check(minisign_list_begin(&entry, &(minisign_list_file){ 0 }) == MINISIGN_ENTRY_NOT_READ,
+                  "an entry of zeros is checked");
             continue;
         }
         const char *bare = rows[at].name + (strncmp(rows[at].name, "./", 2) ? 0 : 2);
-        check(line == 0 && entry.line == rows[at].line && entry.hash == rows[at].hash && !entry.is_escaped, "%s: wrong entry", rows[at].name);
-        check(entry.name_len == strlen(bare) && memcmp(LIST + entry.name_offset, bare, strlen(bare)) == 0, "%s: wrong name", rows[at].name);
+        check(line == 0 && entry.line == rows[at].line && entry.hash == rows[at].hash && !entry.is_escaped,
+              "%s: wrong entry", rows[at].name);
+        check(entry.name_len == strlen(bare) && memcmp(LIST + entry.name_offset, bare, strlen(bare)) == 0,
+              "%s: wrong name", rows[at].name);
         for (size_t piece = 1; piece <= 4; piece++) {
             int is_other = rows[at].line == 9 && rows[at].hash == MINISIGN_HASH_BLAKE2B;
-            check(file_of(&entry, "abc", 3, piece) == (is_other ? MINISIGN_DIGEST_MISMATCH : MINISIGN_OK), "%s: abc", rows[at].name);
+            check(file_of(&entry, "abc", 3, piece) == (is_other ? MINISIGN_DIGEST_MISMATCH : MINISIGN_OK), "%s: abc",
+                  rows[at].name);
             check(file_of(&entry, "abd", 3, piece) == MINISIGN_DIGEST_MISMATCH, "%s: abd", rows[at].name);
         }
         check(file_of(&entry, "", 0, 1) == MINISIGN_DIGEST_MISMATCH, "%s: no data", rows[at].name);
@@ -245,7 +249,8 @@ static void check_other_texts(void)
     for (size_t at = 0; at < sizeof LIST - 1; at += 7) {
         memcpy(text, LIST, sizeof LIST);
         text[at] ^= 1;
-        check(find(&list, text, MINISIGN_HASH_SHA512, "a", &entry, &line) == MINISIGN_OTHER_LIST_TEXT && line == 0, "byte %zu was changed", at);
+        check(find(&list, text, MINISIGN_HASH_SHA512, "a", &entry, &line) == MINISIGN_OTHER_LIST_TEXT && line == 0,
+              "byte %zu was changed", at);
         check(minisign_list_entries(&list, bytes_of(text), strlen(text), MINISIGN_HASH_SHA512, NULL, 0, &count, &line)
                   == MINISIGN_OTHER_LIST_TEXT, "byte %zu was changed, entries", at);
     }
@@ -265,8 +270,11 @@ static void check_entries(void)
     check(MINISIGN_LIST_ENTRIES(strlen(LIST)) >= LENGTH(names), "MINISIGN_LIST_ENTRIES is too small");
     memset(entries, 0xaa, sizeof entries);
     kept = entries[0];
-    check(minisign_list_entries(&list, bytes_of(LIST), strlen(LIST), MINISIGN_HASH_SHA512, entries, LENGTH(names) - 1, &count, &line)
-              == MINISIGN_NO_ROOM && count == 77 && line == 0, "entries in a short buffer");
+    check(minisign_list_entries(&list, bytes_of(LIST), strlen(LIST), MINISIGN_HASH_SHA512, entries, LENGTH(names) - 1,
+                                &count, &line)
+                  == MINISIGN_NO_ROOM
+              && count == 77 && line == 0,
+          "entries in a short buffer");
     check(minisign_list_entries(&list, bytes_of(LIST), strlen(LIST), MINISIGN_HASH_NONE, entries, LENGTH(entries), &count, &line)
               == MINISIGN_MALFORMED_LINE && count == 77 && line == 9, "entries of a malformed list");
     check(memcmp(entries, &kept, sizeof kept) == 0, "an error changed the entries");
@@ -327,10 +335,13 @@ static void check_trusted_digests(void)
     check(minisign_list_compare_trusting_your_hash(&entry, MINISIGN_HASH_SHA256, digest, 64) == MINISIGN_BAD_HASH, "64 bytes");
     check(minisign_list_compare_trusting_your_hash(&entry, MINISIGN_HASH_SHA512, digest, 64) == MINISIGN_BAD_HASH, "another hash");
     check(minisign_list_compare_trusting_your_hash(&entry, MINISIGN_HASH_NONE, digest, 0) == MINISIGN_BAD_HASH, "no hash");
-    check(minisign_list_compare_trusting_your_hash(&zeros, MINISIGN_HASH_SHA256, digest, 32) == MINISIGN_ENTRY_NOT_READ, "an entry of zeros");
+    check(minisign_list_compare_trusting_your_hash(&zeros, MINISIGN_HASH_SHA256, digest, 32) == MINISIGN_ENTRY_NOT_READ,
+          "an entry of zeros");
     for (size_t at = 0; at < 32; at++) {
         digest[at] ^= 0x80;
-        check(minisign_list_compare_trusting_your_hash(&entry, MINISIGN_HASH_SHA256, digest, 32) == MINISIGN_DIGEST_MISMATCH, "byte %zu", at);
+        check(minisign_list_compare_trusting_your_hash(&entry, MINISIGN_HASH_SHA256, digest, 32)
+                  == MINISIGN_DIGEST_MISMATCH,
+              "byte %zu", at);
         digest[at] ^= 0x80;
     }
 }
@@ -343,7 +354,8 @@ static void check_writing(void)
     minisign_list list = verified(LIST);
     minisign_list_entry entry;
     uint64_t line;
-    static const char expected[] = "SHA256 (a) = " SHA256_OF_ABC "\nSHA512 (d/b c) = " SHA512_OF_ABC "\nBLAKE2b (x) = y) = " BLAKE2B_OF_ABC "\n";
+    static const char expected[] = "SHA256 (a) = " SHA256_OF_ABC "\nSHA512 (d/b c) = " SHA512_OF_ABC
+                                   "\nBLAKE2b (x) = y) = " BLAKE2B_OF_ABC "\n";
     static const char *const names[] = { "a", "./d/b c", "x) = y" };
     static const size_t sizes[] = { 32, 64, 64 };
 
@@ -355,27 +367,40 @@ static void check_writing(void)
         memcpy(digest, entry.digest, sizeof digest);
         size_t room = before;
         enum minisign_error error;
-        for (; (error = minisign_list_append(hash, digest, sizes[at], bytes_of(names[at]), name_len, text, room, &len)) == MINISIGN_NO_ROOM; room++) {
+        for (; (error = minisign_list_append(hash, digest, sizes[at], bytes_of(names[at]), name_len, text, room, &len))
+             == MINISIGN_NO_ROOM;
+             room++) {
             check(len == before, "%s: the length changed", names[at]);
         }
-        check(error == MINISIGN_OK && len == room && len - before <= MINISIGN_LIST_ENTRY_BYTES(name_len), "%s: error %d", names[at], error);
-        check(minisign_list_append(hash, digest, sizes[at], bytes_of(names[at]), name_len, text, sizeof text, &len) == MINISIGN_LISTED_TWICE,
+        check(error == MINISIGN_OK && len == room && len - before <= MINISIGN_LIST_ENTRY_BYTES(name_len),
+              "%s: error %d", names[at], error);
+        check(minisign_list_append(hash, digest, sizes[at], bytes_of(names[at]), name_len, text, sizeof text, &len)
+                  == MINISIGN_LISTED_TWICE,
               "%s was appended twice", names[at]);
-        check(minisign_list_append(hash, digest, sizes[at] - 1, bytes_of("q"), 1, text, sizeof text, &len) == MINISIGN_BAD_HASH, "a short digest");
+        check(minisign_list_append(hash, digest, sizes[at] - 1, bytes_of("q"), 1, text, sizeof text, &len)
+                  == MINISIGN_BAD_HASH,
+              "a short digest");
     }
     check(len == strlen(expected) && memcmp(text, expected, len) == 0, "another list was written: %.*s", (int) len, (char *) text);
-    check(minisign_list_append(MINISIGN_HASH_NONE, digest, 0, bytes_of("q"), 1, text, sizeof text, &len) == MINISIGN_BAD_HASH, "no hash function");
+    check(minisign_list_append(MINISIGN_HASH_NONE, digest, 0, bytes_of("q"), 1, text, sizeof text, &len)
+              == MINISIGN_BAD_HASH,
+          "no hash function");
     static const char *const bad[] = { "", "/a", "a/", "..", "b\\c", "b\nc", "b\rc", "\x7f", "a//b" };
     for (size_t at = 0; at < LENGTH(bad); at++) {
         check(minisign_list_append(MINISIGN_HASH_SHA512, digest, 64, bytes_of(bad[at]), strlen(bad[at]), text, sizeof text, &len)
                   == MINISIGN_BAD_NAME, "a bad name was written: %s", bad[at]);
     }
-    check(minisign_list_append(MINISIGN_HASH_SHA512, digest, 64, bytes_of("\xff"), 1, text, sizeof text, &len) == MINISIGN_NOT_UTF8, "a name that is not UTF-8");
+    check(minisign_list_append(MINISIGN_HASH_SHA512, digest, 64, bytes_of("\xff"), 1, text, sizeof text, &len)
+              == MINISIGN_NOT_UTF8,
+          "a name that is not UTF-8");
     len--;
-    check(minisign_list_append(MINISIGN_HASH_SHA512, digest, 64, bytes_of("q"), 1, text, sizeof text, &len) == MINISIGN_MALFORMED_LINE,
+    check(minisign_list_append(MINISIGN_HASH_SHA512, digest, 64, bytes_of("q"), 1, text, sizeof text, &len)
+              == MINISIGN_MALFORMED_LINE,
           "appended to a list without a line feed at its end");
     len = sizeof text + 1;
-    check(minisign_list_append(MINISIGN_HASH_SHA512, digest, 64, bytes_of("q"), 1, text, sizeof text, &len) == MINISIGN_NO_ROOM, "a length above the buffer");
+    check(minisign_list_append(MINISIGN_HASH_SHA512, digest, 64, bytes_of("q"), 1, text, sizeof text, &len)
+              == MINISIGN_NO_ROOM,
+          "a length above the buffer");
 }
 
 enum { THREADS = 8, ROUNDS = 50 };
@@ -393,8 +418,9 @@ static void *run_thread(void *unused)
         uint64_t line;
 
         good += find(&shared_list, LIST, MINISIGN_HASH_SHA512, round % 2 ? "a" : "d/b c", &entry, &line) == MINISIGN_OK
-                && minisign_list_begin(&entry, &file) == MINISIGN_OK && minisign_list_update(&file, bytes_of("abc"), 3) == MINISIGN_OK
-                && minisign_list_finish(&file) == MINISIGN_OK;
+            && minisign_list_begin(&entry, &file) == MINISIGN_OK
+            && minisign_list_update(&file, bytes_of("abc"), 3) == MINISIGN_OK
+            && minisign_list_finish(&file) == MINISIGN_OK;
     }
     return good == ROUNDS ? unused : NULL;
 }

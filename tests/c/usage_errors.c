@@ -75,7 +75,8 @@ static void rejects_another_text(void)
     CHECK(ask_and_fail(&signature, text, len + 1, 0, sizeof message) == MINISIGN_OTHER_SIGNATURE_TEXT);
     CHECK(ask_and_fail(&signature, longer, sizeof longer - 1, 0, sizeof message) == MINISIGN_OTHER_SIGNATURE_TEXT);
     CHECK(ask_and_fail(&signature, NULL, 0, 0, sizeof message) == MINISIGN_OTHER_SIGNATURE_TEXT);
-    CHECK(ask_and_fail(&signature, LEGACY_SIGNATURE, sizeof LEGACY_SIGNATURE - 1, 1, sizeof message) == MINISIGN_OTHER_SIGNATURE_TEXT);
+    CHECK(ask_and_fail(&signature, LEGACY_SIGNATURE, sizeof LEGACY_SIGNATURE - 1, 1, sizeof message)
+          == MINISIGN_OTHER_SIGNATURE_TEXT);
     /* This error is reported before those for the key ID, for a legacy signature, and for the buffer. */
     CHECK(ask_and_fail(&legacy, SIGNATURE, len, 0, 0) == MINISIGN_OTHER_SIGNATURE_TEXT);
     CHECK(ask_and_fail(&other_key, SIGNATURE, len, 0, 0) == MINISIGN_OTHER_SIGNATURE_TEXT);
@@ -140,7 +141,8 @@ static enum minisign_error open_in_place(const minisign_unopened_key *from, cons
 static uint8_t text[16384];
 static size_t text_len;
 
-static enum minisign_error make_text(const char *trusted, size_t trusted_len, const char *untrusted, size_t untrusted_len, size_t room)
+static enum minisign_error make_text(const char *trusted, size_t trusted_len, const char *untrusted,
+                                     size_t untrusted_len, size_t room)
 {
     return make_signed_text(&key, questions.signature, questions.comment_signature, bytes_of(trusted), trusted_len,
                             bytes_of(untrusted), untrusted_len, text, room, &text_len);
@@ -438,8 +440,8 @@ static void signs_with_null(void)
     CHECK(make_signed_text(&key, first, second, bytes_of(""), 0, bytes_of(""), 0, empty, sizeof empty, &empty_len)
           == MINISIGN_OK);
     CHECK(text_len == empty_len && text_len <= MINISIGN_TEXT_BYTES(0, 0) && memcmp(text, empty, text_len) == 0);
-    CHECK(minisign_secret_key_text_with_any_limits(&of_zeros, MINISIGN_ANY_PASSWORD, NULL, 0, &little, 16, NULL, 0, text, sizeof text,
-                                                   &text_len)
+    CHECK(minisign_secret_key_text_with_any_limits(&of_zeros, MINISIGN_ANY_PASSWORD, NULL, 0, &little, 16, NULL, 0,
+                                                   text, sizeof text, &text_len)
           == MINISIGN_OK);
     CHECK(minisign_read_secret_key(text, text_len, &unopened) == MINISIGN_OK);
     check_opening(NULL, 16, MINISIGN_USUAL_ROWS, 0, 0, MINISIGN_OK);
@@ -521,7 +523,8 @@ static void rejects_unread_public_keys(void)
         }
         CHECK(minisign_ask(&never, &bad, &nothing, NULL, 0, 0, &questions, NULL, 0) == MINISIGN_NOT_BEGUN);
         CHECK(minisign_ask(&fed, &bad, &nothing, NULL, 0, 0, &questions, NULL, 0) == MINISIGN_PUBLIC_KEY_NOT_READ);
-        CHECK(minisign_ask(&fed, &bad, &signature, bytes_of(SIGNATURE), sizeof SIGNATURE - 1, 0, &questions, message, sizeof message)
+        CHECK(minisign_ask(&fed, &bad, &signature, bytes_of(SIGNATURE), sizeof SIGNATURE - 1, 0, &questions, message,
+                           sizeof message)
               == MINISIGN_PUBLIC_KEY_NOT_READ);
         CHECK(minisign_signed_text(&bad, &signed_parts, text, sizeof text, &text_len) == MINISIGN_PUBLIC_KEY_NOT_READ);
         CHECK(minisign_install_init(&installation, &bad, &good, &options) == MINISIGN_PUBLIC_KEY_NOT_READ);

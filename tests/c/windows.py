@@ -43,7 +43,7 @@ sys.path.append(os.path.join(HERE, "..", "shared"))
 
 import mutants
 import needs
-import selected
+import case_selection
 import static_library
 import test_script
 from checks import Checks
@@ -77,9 +77,26 @@ COLON = "a file name cannot contain a colon on Windows"
 RESERVED = "Windows reserves this name for a device"
 DROPPED = "a file name cannot end with a dot or space on Windows"
 # File names that must be rejected, and the message.
-REJECTED_NAMES = {"ab:c": COLON, "data:x": COLON, "c:a:b": COLON, "CON": RESERVED, "con.txt": RESERVED, "Com1": RESERVED, "LPT\u00b9": RESERVED,
-            "PRN .x": RESERVED, "AUX": RESERVED, "sub\\NUL": RESERVED, "nul.txt": RESERVED, "CONOUT$": RESERVED, "sub/COM0/x": RESERVED,
-            "end.": DROPPED, "end ": DROPPED, "sub \\x": DROPPED, "...": DROPPED, "\\\\.\\COM1": RESERVED}
+REJECTED_NAMES = {
+    "ab:c": COLON,
+    "data:x": COLON,
+    "c:a:b": COLON,
+    "CON": RESERVED,
+    "con.txt": RESERVED,
+    "Com1": RESERVED,
+    "LPT\u00b9": RESERVED,
+    "PRN .x": RESERVED,
+    "AUX": RESERVED,
+    "sub\\NUL": RESERVED,
+    "nul.txt": RESERVED,
+    "CONOUT$": RESERVED,
+    "sub/COM0/x": RESERVED,
+    "end.": DROPPED,
+    "end ": DROPPED,
+    "sub \\x": DROPPED,
+    "...": DROPPED,
+    "\\\\.\\COM1": RESERVED,
+}
 # The number of runs that are killed, at times that are spread over the duration of a run.
 KILLS = 14
 FOUR_GIB = 4 << 30
@@ -95,8 +112,16 @@ class Wine:
     """Runs Windows programs with wine, which stores its settings in a directory in `scratch`."""
 
     def __init__(self, scratch):
-        self.program = needs.need(lambda: needs.which("wine64") or next(iter(glob.glob(f"{WINE}/wine64")), None), "wine64", "wine64")
-        self.variables = {**os.environ, "WINEPREFIX": os.path.join(scratch, "wine"), "WINEDEBUG": "-all", "HOME": scratch, "LC_ALL": "C.UTF-8"}
+        self.program = needs.need(
+            lambda: needs.which("wine64") or next(iter(glob.glob(f"{WINE}/wine64")), None), "wine64", "wine64"
+        )
+        self.variables = {
+            **os.environ,
+            "WINEPREFIX": os.path.join(scratch, "wine"),
+            "WINEDEBUG": "-all",
+            "HOME": scratch,
+            "LC_ALL": "C.UTF-8",
+        }
         self.variables.pop("MINISIGN_CONFIG_DIR", None)
         static_library.run_or_fail([self.program, "cmd", "/c", "exit"], scratch, **self.variables)
 
@@ -111,9 +136,16 @@ class Console:
 
     def __init__(self, command, directory, environment):
         self.raw, (self.user_end, program_end) = b"", pty.openpty()
-        self.process = subprocess.Popen(command, cwd=directory, env={**environment, "TERM": "xterm"}, stdin=program_end, stdout=program_end,
-                                        stderr=program_end, start_new_session=True,
-                                        preexec_fn=lambda: fcntl.ioctl(0, termios.TIOCSCTTY, 0))
+        self.process = subprocess.Popen(
+            command,
+            cwd=directory,
+            env={**environment, "TERM": "xterm"},
+            stdin=program_end,
+            stdout=program_end,
+            stderr=program_end,
+            start_new_session=True,
+            preexec_fn=lambda: fcntl.ioctl(0, termios.TIOCSCTTY, 0),
+        )
         os.close(program_end)
 
     @property
@@ -235,8 +267,12 @@ class Cases:
         for program in (self.theirs, self.ours):
             self.ended(self.run_on_linux(program, "-S", "-s", "a.key", "-m", "data", "-x", "other.minisig"), f"{program} -S")
             self.verified(f"a signature of {program}", "a.pub", "data", "-x", "other.minisig")
-        for flags, output, said in ((["-q"], b"", b""), (["-Q"], "a comment \u00e9\n".encode(), b""), (["-o", "-q"], self.get("data"), b""),
-                                    (["-o"], self.get("data"), GOOD + "Trusted comment: a comment \u00e9\n".encode())):
+        for flags, output, said in (
+            (["-q"], b"", b""),
+            (["-Q"], "a comment \u00e9\n".encode(), b""),
+            (["-o", "-q"], self.get("data"), b""),
+            (["-o"], self.get("data"), GOOD + "Trusted comment: a comment \u00e9\n".encode()),
+        ):
             ran = self.run_exe("-V", "-p", "a.pub", "-m", "data", *flags)
             self.checks.same((ran.status, ran.stdout, ran.stderr), (0, output, said), f"-V {flags}")
         key = self.get("a.pub").split(b"\n")[1].decode()
@@ -255,7 +291,10 @@ class Cases:
             self.put(f"crlf-{name}", self.get(name).replace(b"\n", b"\r\n"))
         self.ended(self.run_exe("-V", "-p", "crlf-a.pub", "-m", "data", "-x", "crlf-data.minisig"), "files with CR LF")
         self.ended(self.run_exe("-S", "-s", "crlf-a.key", "-m", "data", "-x", "new.minisig"), "a secret key with CR LF")
-        self.ended(self.run_exe("-S", "-s", "closed.key", "-m", "data", "-x", "new.minisig", typed=PASSWORD + b"\r\n"), "a password with CR LF")
+        self.ended(
+            self.run_exe("-S", "-s", "closed.key", "-m", "data", "-x", "new.minisig", typed=PASSWORD + b"\r\n"),
+            "a password with CR LF",
+        )
 
     def makes_and_changes_keys(self):
         self.ended(self.run_exe("-G", "-W", "-p", "w.pub", "-s", "w.key"), "-G -W")
@@ -267,7 +306,10 @@ class Cases:
         before = self.get("w.pub"), self.get("w.key")
         self.ended(self.run_exe("-G", "-W", "-p", "w.pub", "-s", "new.key"), "-G over a public key", 1, "w.pub already exists")
         self.ended(self.run_exe("-G", "-W", "-p", "new.pub", "-s", "w.key"), "-G over a secret key", 1, "w.key already exists")
-        self.checks.check((self.get("w.pub"), self.get("w.key")) == before and not self.existing("new.key", "new.pub"), "-G without -f changes files")
+        self.checks.check(
+            (self.get("w.pub"), self.get("w.key")) == before and not self.existing("new.key", "new.pub"),
+            "-G without -f changes files",
+        )
         self.ended(self.run_exe("-G", "-W", "-f", "-p", "w.pub", "-s", "w.key"), "-G -f")
         self.checks.check(self.get("w.pub") != before[0] and self.get("w.key") != before[1], "-G -f leaves the old pair")
         self.checks.check(not self.leftovers(), f"temporary files are left: {self.leftovers()}")
@@ -304,7 +346,10 @@ class Cases:
         mode = stat.S_IMODE(os.stat(f"{self.scratch}/{HOME}/.minisign").st_mode)
         self.checks.check(mode & 0o007 == 0, f"others can use the directory of the secret key: mode {mode:o}")
         os.makedirs(f"{self.scratch}/config")
-        self.ended(self.run_exe("-G", "-W", "-p", "c.pub", variables={"MINISIGN_CONFIG_DIR": self.path("config")}), "-G with MINISIGN_CONFIG_DIR")
+        self.ended(
+            self.run_exe("-G", "-W", "-p", "c.pub", variables={"MINISIGN_CONFIG_DIR": self.path("config")}),
+            "-G with MINISIGN_CONFIG_DIR",
+        )
         self.checks.check(self.existing("config/minisign.key"), "MINISIGN_CONFIG_DIR is ignored")
 
     # ---- Names ----
@@ -314,10 +359,22 @@ class Cases:
         os.makedirs(deep)
         long_path, relative = os.path.join(deep, "file"), os.path.relpath(os.path.join(deep, "file"), self.scratch)
         # Maps the names that the program opens to the paths on Linux, or to None for the same name with slashes.
-        names = {"\u00fcn\u00ef \u043a\u0438\u0440 \u65e5\u672c \U0001f512": None, "with space": None, "d" * 200: None, "back\\slash": None,
-                 "COM10": None, "console": None, "a.b .c": None, self.path("drive"): "drive", "./dot": "dot", "sub/../up": "up",
-                 "Z:" + long_path.replace("/", "\\"): long_path, relative: relative, relative.replace("/", "\\"): relative,
-                 "\\\\?\\" + self.path("verbatim"): "verbatim"}
+        names = {
+            "\u00fcn\u00ef \u043a\u0438\u0440 \u65e5\u672c \U0001f512": None,
+            "with space": None,
+            "d" * 200: None,
+            "back\\slash": None,
+            "COM10": None,
+            "console": None,
+            "a.b .c": None,
+            self.path("drive"): "drive",
+            "./dot": "dot",
+            "sub/../up": "up",
+            "Z:" + long_path.replace("/", "\\"): long_path,
+            relative: relative,
+            relative.replace("/", "\\"): relative,
+            "\\\\?\\" + self.path("verbatim"): "verbatim",
+        }
         os.mkdir(f"{self.scratch}/sub")
         os.mkdir(f"{self.scratch}/back")
         for name, real in names.items():
@@ -359,8 +416,11 @@ class Cases:
 
     def rejects_arguments_that_are_not_unicode(self):
         ran = run_program([self.wine.program, self.helper, "lone", self.exe], self.scratch, None, SECONDS, env=self.wine.variables)
-        self.checks.same((ran.status, ran.stderr), (2, b"error: an argument is not valid Unicode\nhint: if it is a file name, rename the file\n"),
-                         "an argument that is not Unicode")
+        self.checks.same(
+            (ran.status, ran.stderr),
+            (2, b"error: an argument is not valid Unicode\nhint: if it is a file name, rename the file\n"),
+            "an argument that is not Unicode",
+        )
 
     def knows_two_names_of_one_file(self):
         """Names that differ only in case, and different paths to one directory, must be recognized as the same file."""
@@ -369,8 +429,11 @@ class Cases:
         for public, secret in (("k.KEY", "k.key"), ("a.pub", "A.PUB"), ("dir\\k", "link\\k"), ("dir\\k", "DIR\\..\\dir\\K")):
             before = self.get("a.pub"), sorted(os.listdir(self.scratch))
             self.ended(self.run_exe("-G", "-W", "-f", "-p", public, "-s", secret), f"-p {public} -s {secret}", 2, "error: ")
-            self.checks.check((self.get("a.pub"), sorted(os.listdir(self.scratch))) == before and not os.listdir(f"{self.scratch}/dir"),
-                              f"-p {public} -s {secret} changes files: {sorted(os.listdir(self.scratch))}")
+            self.checks.check(
+                (self.get("a.pub"), sorted(os.listdir(self.scratch))) == before
+                and not os.listdir(f"{self.scratch}/dir"),
+                f"-p {public} -s {secret} changes files: {sorted(os.listdir(self.scratch))}",
+            )
         before = self.get("a.key")
         for name in ("a.key", "A.Key", ".\\a.key"):
             self.ended(self.run_exe("-S", "-s", "a.key", "-m", "data", "-x", name), f"-x {name}", 2, "this is the secret key")
@@ -412,8 +475,14 @@ class Cases:
 
     def kill_after(self, seconds, *words):
         """Starts minisign.exe, and kills it after this time."""
-        with subprocess.Popen([self.wine.program, self.exe, *words], cwd=self.scratch, env=self.wine.variables, stdin=subprocess.DEVNULL,
-                              stdout=subprocess.DEVNULL, stderr=subprocess.DEVNULL) as process:
+        with subprocess.Popen(
+            [self.wine.program, self.exe, *words],
+            cwd=self.scratch,
+            env=self.wine.variables,
+            stdin=subprocess.DEVNULL,
+            stdout=subprocess.DEVNULL,
+            stderr=subprocess.DEVNULL,
+        ) as process:
             time.sleep(seconds)
             process.send_signal(signal.SIGKILL)
         time.sleep(0.1)
@@ -437,20 +506,32 @@ class Cases:
         os.mkdir(f"{self.scratch}/dir")
         before = self.get("a.pub")
         self.ended(self.run_exe("-G", "-W", "-f", "-p", "a.pub", "-s", "dir"), "-s of a directory", 2, "dir: Is a directory")
-        self.ended(self.run_exe("-G", "-W", "-p", "n.pub", "-s", "none\\dir\\n.key"), "-s without a directory", 2, "No such file or directory")
+        self.ended(
+            self.run_exe("-G", "-W", "-p", "n.pub", "-s", "none\\dir\\n.key"),
+            "-s without a directory",
+            2,
+            "No such file or directory",
+        )
         with self.holding("a.key", 60000):
             for public in ("a.pub", "n.pub"):
                 ran = self.run_exe("-G", "-W", "-f", "-p", public, "-s", "a.key")
                 self.ended(ran, f"a pair of {public} and a secret key in use", 2, "a.key: another program has this file open")
         self.checks.same(self.get("a.pub"), before, "the public key of a failed pair")
-        self.checks.check(not self.existing("n.pub", "n.key") and not self.leftovers(), f"a failed pair leaves {os.listdir(self.scratch)}")
+        self.checks.check(
+            not self.existing("n.pub", "n.key") and not self.leftovers(),
+            f"a failed pair leaves {os.listdir(self.scratch)}",
+        )
 
     @contextlib.contextmanager
     def holding(self, name, milliseconds, how="hold"):
         """Keeps a file open in another program while the body runs, as a virus scanner might. With how="lock", the file
         cannot be opened for writing either."""
-        with subprocess.Popen([self.wine.program, self.helper, how, name, str(milliseconds)], cwd=self.scratch, env=self.wine.variables,
-                              stdout=subprocess.PIPE) as process:
+        with subprocess.Popen(
+            [self.wine.program, self.helper, how, name, str(milliseconds)],
+            cwd=self.scratch,
+            env=self.wine.variables,
+            stdout=subprocess.PIPE,
+        ) as process:
             self.checks.check(process.stdout.readline().startswith(b"held"), f"{name} was not opened")
             try:
                 yield
@@ -473,8 +554,16 @@ class Cases:
             self.ended(self.run_theirs("-V", "-p", "a.pub", "-m", "data"), f"the signature after waiting ({how})")
             before = self.get("data.minisig")
             with self.holding("data.minisig", 60000, how):
-                self.ended(self.run_exe("-S", "-s", "a.key", "-m", "data"), f"a file that is open ({how})", 2, "another program has this file open")
-            self.checks.check(self.get("data.minisig") == before and not self.leftovers(), f"a failed replacement changes files ({how})")
+                self.ended(
+                    self.run_exe("-S", "-s", "a.key", "-m", "data"),
+                    f"a file that is open ({how})",
+                    2,
+                    "another program has this file open",
+                )
+            self.checks.check(
+                self.get("data.minisig") == before and not self.leftovers(),
+                f"a failed replacement changes files ({how})",
+            )
 
     def removes_leftovers(self):
         """A temporary file of a killed run is removed unless a program has it open. A file whose name is not that of a
@@ -492,7 +581,12 @@ class Cases:
         self.ended(self.run_exe("-S", "-s", "a.key", "-m", "data"), "-S")
         before = self.get("data.minisig")
         os.chmod(f"{self.scratch}/data.minisig", 0o444)
-        self.ended(self.run_exe("-S", "-s", "a.key", "-m", "data"), "-S over a read-only file", 2, "data.minisig: Permission denied")
+        self.ended(
+            self.run_exe("-S", "-s", "a.key", "-m", "data"),
+            "-S over a read-only file",
+            2,
+            "data.minisig: Permission denied",
+        )
         self.checks.check(self.get("data.minisig") == before and not self.leftovers(), "a read-only file was replaced")
 
     # ---- Consoles and streams ----
@@ -544,7 +638,12 @@ class Cases:
         """A password that is missing or too long is an error."""
         ran = self.run_exe("-S", "-s", "closed.key", "-m", "data")
         self.ended(ran, "no password", 2, "get_password()")
-        self.ended(self.run_exe("-S", "-s", "closed.key", "-m", "data", typed=b"x" * 1024 + b"\n"), "a long password", 2, "the password is too long")
+        self.ended(
+            self.run_exe("-S", "-s", "closed.key", "-m", "data", typed=b"x" * 1024 + b"\n"),
+            "a long password",
+            2,
+            "the password is too long",
+        )
 
     def reads_more_than_4_gib(self):
         path = f"{self.scratch}/big"
@@ -589,11 +688,24 @@ class Cases:
         check("all files", lines, 0, "file:SUMS", ["--nothing-else"], output=all_good)
         check("one file", lines, 0, names=[cyrillic], output=f"{cyrillic}: OK\n")
         check("a copy", lines, 0, "", ["-o"], ["f3"], output=files["f3"].decode())
-        check("a file of another digest", [*lines[1:], line("f0", b"x")], 4, output=all_good.replace("f0: OK\n", "") + "f0: FAILED\n")
+        check(
+            "a file of another digest",
+            [*lines[1:], line("f0", b"x")],
+            4,
+            output=all_good.replace("f0: OK\n", "") + "f0: FAILED\n",
+        )
         check("an unlisted file", lines[:-1], 7, "empty: this file is not in the list", ["--nothing-else"])
         check("a missing file", [*lines, line("none", b"")], 6, "none: No such file or directory")
-        for name, why in (("C:/windows/system.ini", COLON), ("Z:/etc/passwd", COLON), ("f0:stream", COLON), ("NUL", "not a regular file"),
-                          ("aux.txt", RESERVED), ("f0.", DROPPED), ("f0 ", DROPPED), ("sub", "not a regular file")):
+        for name, why in (
+            ("C:/windows/system.ini", COLON),
+            ("Z:/etc/passwd", COLON),
+            ("f0:stream", COLON),
+            ("NUL", "not a regular file"),
+            ("aux.txt", RESERVED),
+            ("f0.", DROPPED),
+            ("f0 ", DROPPED),
+            ("sub", "not a regular file"),
+        ):
             check(f"the name {name!r}", [line(name, b"")], 1, why)
         check("a backslash", [line("sub\\deep\\x", b"below")], 6, "names with a backslash or with escapes are not supported")
         check("a parent directory", [line("../data", b"")], 3, "malformed")
@@ -605,7 +717,9 @@ class Cases:
         """The version resource and `minisign -v` must show the version in the header."""
         header = read(C, "..", "include", "minisign.h").decode()
         version = ".".join(re.search(rf"define MINISIGN_VERSION_{part} (\d+)", header)[1] for part in ("MAJOR", "MINOR", "PATCH"))
-        ran = run_program([self.wine.program, self.helper, "version", self.exe], self.scratch, None, SECONDS, env=self.wine.variables)
+        ran = run_program(
+            [self.wine.program, self.helper, "version", self.exe], self.scratch, None, SECONDS, env=self.wine.variables
+        )
         self.checks.same(ran.stdout.decode(), f"{version} {version} minisign.exe", "the version resource")
         self.checks.same(self.run_exe("-v").stdout.decode(), f"minisign 0.11\nMinisign in Rattle {version}\n", "-v")
 
@@ -674,7 +788,9 @@ class Parts:
         else:
             expect(source == "windows/minisign.rc", f"{source} is no part of minisign.exe")
             resource = objects.pop(source)
-            static_library.run_or_fail(["make", "-s", "-C", f"{copy}/c", *settings(), f"OUT={copy}/c/out", f"{copy}/c/out/minisign.res"])
+            static_library.run_or_fail(
+                ["make", "-s", "-C", f"{copy}/c", *settings(), f"OUT={copy}/c/out", f"{copy}/c/out/minisign.res"]
+            )
             shutil.move(f"{copy}/c/out/minisign.res", resource)
         # (clearing.c has flags of its own, so the makefile's list has its object file.)
         clearing = f"{self.built}/clearing.o"
@@ -699,7 +815,7 @@ def failure_of(programs, scratch, parts, mutant):
 
 def check_mutants(checks, pool, programs, scratch):
     """Checks that each mutant is noticed by the case that it names."""
-    tried = [mutant for mutant in mutants.mutants_of("c", "windows_mutants") if selected.is_selected(mutant.name, "mutants")]
+    tried = [mutant for mutant in mutants.mutants_of("c", "windows_mutants") if case_selection.is_selected(mutant.name, "mutants")]
     if tried:
         parts = Parts(scratch)
         for failure in pool.map(lambda mutant: failure_of(programs, scratch, parts, mutant), tried):
@@ -723,8 +839,14 @@ def settings():
 
 def build(scratch):
     """Builds minisign.exe, windows_helper.c and our program for Linux. Returns their paths."""
-    for name, package in (("x86_64-w64-mingw32-gcc", "gcc-mingw-w64-x86-64"), ("dpkg-source", "dpkg-dev"), ("autoreconf", "autoconf"),
-                          ("automake", "automake"), ("libtoolize", "libtool"), ("zip", "zip")):
+    for name, package in (
+        ("x86_64-w64-mingw32-gcc", "gcc-mingw-w64-x86-64"),
+        ("dpkg-source", "dpkg-dev"),
+        ("autoreconf", "autoconf"),
+        ("automake", "automake"),
+        ("libtoolize", "libtool"),
+        ("zip", "zip"),
+    ):
         needs.program(name, package)
     needs.compiler_with_libsodium()
     static_library.run_make(*settings(), f"OUT={scratch}/windows", "-j4", "all")
@@ -777,7 +899,11 @@ def check_release(checks, programs, scratch):
         return
     name = os.path.basename(archives[0])
     checks.check(re.fullmatch(r"minisign-[0-9.]+-windows-x86_64\.zip", name), f"the zip file has the name {name}")
-    checks.ended("the signature of the zip file", run([minisign, "-V", "-p", key, "-m", archives[0]]), says=f"\tfile:{name}\thashed\n")
+    checks.ended(
+        "the signature of the zip file",
+        run([minisign, "-V", "-p", key, "-m", archives[0]]),
+        says=f"\tfile:{name}\thashed\n",
+    )
     checks.ended("SHA256SUMS", run(["sha256sum", "-c", "SHA256SUMS"], out), says=f"{name}: OK")
     with zipfile.ZipFile(archives[0]) as archive:
         top, entries = name.removesuffix(".zip"), archive.infolist()
@@ -789,8 +915,14 @@ def check_release(checks, programs, scratch):
         checks.same({entry.date_time for entry in entries}, {expected}, "the times in the zip file")
         checks.check(not any(entry.extra for entry in entries), "the zip file has fields that depend on the system")
         checks.check(archive.read(f"{top}/minisign.exe") == read(programs[1]), "another build of minisign.exe differs")
-        checks.check(archive.read(f"{top}/minisign.dll") == read(scratch, "windows/minisign.dll"), "another build of minisign.dll differs")
-        checks.check(b"Permission to use, copy, modify" in archive.read(f"{top}/licences/libsodium.txt"), "libsodium's licence is missing")
+        checks.check(
+            archive.read(f"{top}/minisign.dll") == read(scratch, "windows/minisign.dll"),
+            "another build of minisign.dll differs",
+        )
+        checks.check(
+            b"Permission to use, copy, modify" in archive.read(f"{top}/licences/libsodium.txt"),
+            "libsodium's licence is missing",
+        )
     first = read(archives[0])
     static_library.run_or_fail(["make", "-s", "-C", C, f"OUT={out}", *settings()[1:], "windows-archive"], TZ="Pacific/Auckland")
     checks.check(read(out, f"windows/{name}") == first, "two zip files of the same commit differ")
@@ -798,11 +930,19 @@ def check_release(checks, programs, scratch):
 
 def check_one_layer(checks):
     """Checks that only shared/system.h and the sources in windows/ have code that depends on Windows."""
-    others = [path for path in glob.glob(f"{C}/**/*.[ch]", recursive=True) if os.path.relpath(path, C).split(os.sep)[0] not in ("windows", "out")]
+    others = [
+        path
+        for path in glob.glob(f"{C}/**/*.[ch]", recursive=True)
+        if os.path.relpath(path, C).split(os.sep)[0] not in ("windows", "out")
+    ]
     checks.check(len(others) > 60, f"c/ has only these sources: {others}")
     for path in sorted(others):
         code = re.sub(r"/\*.*?\*/", "", read(path).decode(), flags=re.S)
-        checks.same(bool(re.search(r"_WIN(32|64)|__MINGW|__CYGWIN__|\bwindows\b", code)), path.endswith("shared/system.h"), f"{path} depends on Windows")
+        checks.same(
+            bool(re.search(r"_WIN(32|64)|__MINGW|__CYGWIN__|\bwindows\b", code)),
+            path.endswith("shared/system.h"),
+            f"{path} depends on Windows",
+        )
 
 
 def run_all(checks, scratch):
@@ -811,13 +951,13 @@ def run_all(checks, scratch):
     programs = (wine, *built, needs.minisign())
     try:
         with concurrent.futures.ThreadPoolExecutor(os.cpu_count() or 1) as pool:
-            selected_names = [name for name in CASES if selected.is_selected(name)]
+            selected_names = [name for name in CASES if case_selection.is_selected(name)]
             results = pool.map(lambda name: run_case(programs, scratch, name), selected_names)
             check_mutants(checks, pool, programs, scratch)
             for name, result in zip(selected_names, results):
                 add_results(checks, name, result)
             for check in (check_program, check_install, check_release):
-                if selected.is_selected(check.__name__):
+                if case_selection.is_selected(check.__name__):
                     check(checks, programs, scratch)
             check_one_layer(checks)
     finally:

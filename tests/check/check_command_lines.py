@@ -16,7 +16,11 @@ AGAIN = "download the list and its signature again"
 
 def misuse(name, arguments, argument, why):
     """Returns a case: its name, the arguments, and the error output. `argument` is the one that the error names, or None."""
-    return f"rejects {name}", arguments, errors((argument, why) if argument else (why,)) + USAGE + errors("use --help to list the options")
+    return (
+        f"rejects {name}",
+        arguments,
+        errors((argument, why) if argument else (why,)) + USAGE + errors("use --help to list the options"),
+    )
 
 
 MISUSES = (
@@ -24,9 +28,20 @@ MISUSES = (
     misuse("a command line without a key", [LIST], None, "the public key is missing, expected -p PUBKEY or -P KEY"),
     misuse("a command line without a list", [*KEY], None, "missing argument, expected LIST"),
     misuse("both -p and -P", [*KEY, "-P", "key", LIST], "-P", "this option cannot be combined with -p"),
-    *(misuse(f"{option} twice", [*KEY, option, *value, LIST, "a", option, *value], option, ONCE)
-      for option, *value in (("-p", "k"), ("-x", "s"), ("--in", "."), ("--listed",), ("--nothing-else",), ("--any-list",), ("--blake2b",),
-                             ("-o",)) if option != "-p"),
+    *(
+        misuse(f"{option} twice", [*KEY, option, *value, LIST, "a", option, *value], option, ONCE)
+        for option, *value in (
+            ("-p", "k"),
+            ("-x", "s"),
+            ("--in", "."),
+            ("--listed",),
+            ("--nothing-else",),
+            ("--any-list",),
+            ("--blake2b",),
+            ("-o",),
+        )
+        if option != "-p"
+    ),
     misuse("-p twice", [*KEY, LIST, *KEY], "-p", ONCE),
     misuse("an attached -p twice", [f"-p{PUBLIC_FILE}", LIST, *KEY], "-p", ONCE),
     *(misuse(f"{option} without a value", [LIST, option], option, NEEDS_VALUE) for option in ("-p", "-P", "-x", "--in")),
@@ -168,22 +183,69 @@ FILES = (
     ("a missing directory", None, [*KEY, "--in", "none", LIST],
      UNUSABLE, shown_comment(comment_of()) + errors(("none", NO_SUCH_FILE))),
     ("a changed list", with_byte(LIST, 0), PLAIN, REJECTED, errors((LIST, "Signature verification failed"), AGAIN)),
-    ("a list with a line added", replaced(LIST, entries(a=A, b=B)), PLAIN, REJECTED, errors((LIST, "Signature verification failed"), AGAIN)),
-    ("a changed trusted comment", changed_signature(2), PLAIN, REJECTED, errors((SIG, "Comment signature verification failed"), AGAIN)),
+    (
+        "a list with a line added",
+        replaced(LIST, entries(a=A, b=B)),
+        PLAIN,
+        REJECTED,
+        errors((LIST, "Signature verification failed"), AGAIN),
+    ),
+    (
+        "a changed trusted comment",
+        changed_signature(2),
+        PLAIN,
+        REJECTED,
+        errors((SIG, "Comment signature verification failed"), AGAIN),
+    ),
     ("a list of another signer", resigned(secret=OTHER_SECRET_FILE), PLAIN, REJECTED,
      errors((SIG, OTHER_KEY), "use -p or -P to give the public key of the signer")),
-    ("a legacy signature", resigned(flags=("-l",)), PLAIN, REJECTED, errors((SIG, LEGACY), "have the list signed again, without -l")),
+    (
+        "a legacy signature",
+        resigned(flags=("-l",)),
+        PLAIN,
+        REJECTED,
+        errors((SIG, LEGACY), "have the list signed again, without -l"),
+    ),
     ("a comment without file:", resigned(comment="timestamp:1"), PLAIN, REJECTED, errors((SIG, OTHER_LIST), ANY_LIST)),
-    ("a comment with another list", resigned(comment=comment_of("SHA256SUMS2")), PLAIN, REJECTED, errors((SIG, OTHER_LIST), ANY_LIST)),
-    ("a comment with a part of the name", resigned(comment=comment_of("SHA256SUM")), PLAIN, REJECTED, errors((SIG, OTHER_LIST), ANY_LIST)),
-    ("a comment with the name in another field", resigned(comment=f"name:{LIST}"), PLAIN, REJECTED, errors((SIG, OTHER_LIST), ANY_LIST)),
+    (
+        "a comment with another list",
+        resigned(comment=comment_of("SHA256SUMS2")),
+        PLAIN,
+        REJECTED,
+        errors((SIG, OTHER_LIST), ANY_LIST),
+    ),
+    (
+        "a comment with a part of the name",
+        resigned(comment=comment_of("SHA256SUM")),
+        PLAIN,
+        REJECTED,
+        errors((SIG, OTHER_LIST), ANY_LIST),
+    ),
+    (
+        "a comment with the name in another field",
+        resigned(comment=f"name:{LIST}"),
+        PLAIN,
+        REJECTED,
+        errors((SIG, OTHER_LIST), ANY_LIST),
+    ),
     ("a changed list with --any-list", with_byte(LIST, 0), [*PLAIN, "--any-list"], REJECTED,
      errors((LIST, "Signature verification failed"), AGAIN)),
-    ("an unnamed list signed with another key with --any-list", resigned(secret=OTHER_SECRET_FILE, comment="x"), [*PLAIN, "--any-list"], REJECTED,
-     errors((SIG, OTHER_KEY), "use -p or -P to give the public key of the signer")),
+    (
+        "an unnamed list signed with another key with --any-list",
+        resigned(secret=OTHER_SECRET_FILE, comment="x"),
+        [*PLAIN, "--any-list"],
+        REJECTED,
+        errors((SIG, OTHER_KEY), "use -p or -P to give the public key of the signer"),
+    ),
     ("a key file as the signature", None, [*KEY, "-x", PUBLIC_FILE, LIST], REJECTED,
      errors((PUBLIC_FILE, "this is a public key, not a signature"), SIGNATURE_HINT)),
-    ("a signature as the key file", None, ["-p", SIG, LIST], REJECTED, errors((SIG, "this is a signature, not a public key"), KEY_HINT)),
+    (
+        "a signature as the key file",
+        None,
+        ["-p", SIG, LIST],
+        REJECTED,
+        errors((SIG, "this is a signature, not a public key"), KEY_HINT),
+    ),
     ("a short key", None, ["-P", "RWQ", LIST], REJECTED,
      errors(("-P", "a public key has 56 characters, but this has 3"), "copy the second line of the public key file")),
     ("a signature of more than 1 MiB", replaced(SIG, bytes(1 << 20) + b"x"), PLAIN, REJECTED,
@@ -201,7 +263,8 @@ FILES = (
 
 
 def accepts_any_list(checking):
-    """Checks that --any-list accepts a list which the trusted comment does not name, with a warning, and a list which it names, without."""
+    """Checks that --any-list accepts a list which the trusted comment does not name, with a warning, and a list which
+    it names, without."""
     warning = f"warning: {LIST}: the trusted comment does not name this list\n".encode()
     for comment, said in (("timestamp:1", warning), (comment_of(), b"")):
         directory = checking.signed(entries(a=A), {"a": A}, comment=comment)

@@ -1,7 +1,8 @@
 """Test cases that run `minisign-check` on lists of other programs and on random lists. The results are compared with a model of the
 rules, with `sha256sum -c --strict` and with `signify -C`.
 
-`long_hash` is the hash function of digests with 128 digits on lines that name none: "sha512", or "blake2b" with the option --blake2b.
+`long_hash` is the hash function of digests with 128 digits on lines that name none: "sha512", or "blake2b" with the
+option --blake2b.
 """
 
 import concurrent.futures
@@ -34,8 +35,8 @@ def shown(results):
 
 
 def accepts_list_of(checking, tool, long_hash):
-    """A list that the tool writes is accepted with the files that it was written for, all at once and one at a time, and with no other
-    content of any file."""
+    """A list that the tool writes is accepted with the files that it was written for, all at once and one at a time,
+    and with no other content of any file."""
     files = {name: name.encode() * 3 for name in NAMES}
     directory = checking.fresh({**files, PUBLIC_FILE: checking.public_text})
     checking.put(directory, {LIST: list_by(tool, [f"./{name}" for name in NAMES], directory)})
@@ -85,7 +86,9 @@ def random_files(rng, text):
         parsed = fault_of(line, "sha512")
         if isinstance(parsed, tuple) and rng.random() < 0.9:
             name, kind = parsed[1], rng.random()
-            is_usable = len(name) < 200 and not any(name.startswith(other + b"/") or other.startswith(name + b"/") for other in files)
+            is_usable = len(name) < 200 and not any(
+                name.startswith(other + b"/") or other.startswith(name + b"/") for other in files
+            )
             if is_usable and name not in files:
                 files[name] = None if kind < 0.03 else Link(b"/nowhere") if kind < 0.06 else rng.choice(CONTENTS)
     if rng.random() < 0.1 and b"z" not in files:
@@ -107,8 +110,8 @@ def result_of_file(directory, name, function, digest):
 
 
 def entries_of(text, long_hash):
-    """Returns the entries of a list, each as its line, hash function, name and digest. Returns None if the list is rejected or has no
-    entry."""
+    """Returns the entries of a list, each as its line, hash function, name and digest. Returns None if the list is
+    rejected or has no entry."""
     try:
         text.decode()
     except UnicodeDecodeError:
@@ -150,17 +153,19 @@ def result_of_names(directory, text, long_hash, names):
     if found is None:
         return REJECTED, b""
     for name in names:
-        # The response begins with a word, which the line number of an entry may follow. DATA does not matter: `ok` and `mismatch` both
-        # mean that exactly one entry has this name.
+        # The response begins with a word, which the line number of an entry may follow. DATA does not matter: `ok` and
+        # `mismatch` both mean that exactly one entry has this name.
         answer = expected(long_hash, text, name, DATA)[0].split()
         line_count = len(re.split(rb"\r?\n", text))
         if answer[0] in ("ok", "mismatch"):
-            _, function, listed, digest = next(each for each in found if each[2] == without_dot(name) and not each[0].startswith(b"\\"))
+            _, function, listed, digest = next(
+                each for each in found if each[2] == without_dot(name) and not each[0].startswith(b"\\")
+            )
             results.append((int(answer[1]), name, result_of_file(directory, listed, function, digest)))
         else:
             results.append((int(answer[1]) if answer[0] == "twice" else line_count + 1, name, UNLISTED_NAME))
-    # The results are printed in the order of the lines. Names without an entry come last; a name that is listed twice has the place of
-    # its second line.
+    # The results are printed in the order of the lines. Names without an entry come last; a name that is listed twice
+    # has the place of its second line.
     results.sort(key=lambda result: result[0])
     return combined_status([result for _, _, result in results]), shown((name, result) for _, name, result in results)
 
@@ -183,15 +188,28 @@ def compare_random(checking, scratch, seed):
         checking.put(files, random_files(rng, text))
         checking.sign(directory)
         flags = [*KEY, "--in", "files", *(["--blake2b"] if long_hash == "blake2b" else [])]
-        names = rng.sample([b"a", b"./a", b"a b", b"d/a", b"-", b"*a", b"nope", b"../a", b"a\ta", b"\xc3\xa9", b"././a"], rng.randrange(1, 4))
-        runs = [([*flags, LIST], result_of_all(files, text, long_hash, False)), ([*flags, "--listed", LIST], result_of_all(files, text, long_hash, True)),
-                ([*flags, "--", LIST, *names], result_of_names(files, text, long_hash, names))]
+        names = rng.sample(
+            [b"a", b"./a", b"a b", b"d/a", b"-", b"*a", b"nope", b"../a", b"a\ta", b"\xc3\xa9", b"././a"],
+            rng.randrange(1, 4),
+        )
+        runs = [
+            ([*flags, LIST], result_of_all(files, text, long_hash, False)),
+            ([*flags, "--listed", LIST], result_of_all(files, text, long_hash, True)),
+            ([*flags, "--", LIST, *names], result_of_names(files, text, long_hash, names)),
+        ]
         for arguments, (status, output) in runs:
             ran = checking.run(directory, arguments)
             expect((ran.status, ran.stdout) == (status, escaped(output)), f"seed {seed}, {text!r}, {arguments[3:]}: {ran}",
                    f"expected status {status} and {output!r}")
-        theirs = subprocess.run(["sha256sum", "--strict", "-c", f"../{LIST}"], cwd=files, stdin=subprocess.DEVNULL, stdout=subprocess.PIPE,
-                                stderr=subprocess.STDOUT, env={**os.environ, **UTF8}, timeout=SECONDS)
+        theirs = subprocess.run(
+            ["sha256sum", "--strict", "-c", f"../{LIST}"],
+            cwd=files,
+            stdin=subprocess.DEVNULL,
+            stdout=subprocess.PIPE,
+            stderr=subprocess.STDOUT,
+            env={**os.environ, **UTF8},
+            timeout=SECONDS,
+        )
     return runs[0][1][0], theirs.returncode == 0, reason_of(text, long_hash, runs[0][1][0], theirs.stdout)
 
 
@@ -215,14 +233,20 @@ def agrees_on_random_lists(checking, first, count):
     with tempfile.TemporaryDirectory(dir=checking.runs) as scratch, concurrent.futures.ThreadPoolExecutor(os.cpu_count()) as pool:
         found = Counter(pool.map(lambda seed: compare_random(checking, scratch, seed), range(first, first + count)))
     for (ours, theirs, reason), times in found.items():
-        expect((ours == OK) == theirs or reason, f"{times} lists: our status is {ours}, and sha256sum {'accepts' if theirs else 'rejects'} them")
+        expect(
+            (ours == OK) == theirs or reason,
+            f"{times} lists: our status is {ours}, and sha256sum {'accepts' if theirs else 'rejects'} them",
+        )
     expect(found[OK, True, ""] > count // 50, f"too few lists are accepted by both: {found}")
-    expect({status for status, *_ in found} == {OK, UNUSABLE, REJECTED, DIFFERS, UNLISTED_NAME, MISSING}, f"not every status occurs: {found}")
+    expect(
+        {status for status, *_ in found} == {OK, UNUSABLE, REJECTED, DIFFERS, UNLISTED_NAME, MISSING},
+        f"not every status occurs: {found}",
+    )
 
 
 def compare_signify(checking, signify, keys, scratch, seed):
-    """Compares the result for a random list in BSD form with that of `signify -C`. Returns our status, and whether signify accepts the
-    list. Fails if they differ for an unknown reason."""
+    """Compares the result for a random list in BSD form with that of `signify -C`. Returns our status, and whether
+    signify accepts the list. Fails if they differ for an unknown reason."""
     rng, lines = random.Random(seed), []
     for _ in range(rng.choice([1, 1, 2, 2, 3])):
         name, digits = rng.choice([b"a", b"a", b"a", b"b", b"a b"]), rng.choice([H, H, H, OTHER, H.upper(), H[:-1]])
@@ -233,10 +257,18 @@ def compare_signify(checking, signify, keys, scratch, seed):
         checking.sign(directory)
         ours = checking.run(directory, [*KEY, LIST, "a"]).status
         subprocess.run([signify, "-S", "-e", "-s", f"{keys}/k.sec", "-m", LIST, "-x", "L.sig"], cwd=directory, check=True)
-        theirs = subprocess.run([signify, "-C", "-q", "-p", f"{keys}/k.pub", "-x", "L.sig", "a"], cwd=directory, stdout=subprocess.DEVNULL,
-                                stderr=subprocess.DEVNULL, timeout=SECONDS).returncode == 0
-    # signify rejects untagged lines, comments and upper-case digits. It accepts a name that is listed twice, and uses the lines before one
-    # that it cannot parse.
+        theirs = (
+            subprocess.run(
+                [signify, "-C", "-q", "-p", f"{keys}/k.pub", "-x", "L.sig", "a"],
+                cwd=directory,
+                stdout=subprocess.DEVNULL,
+                stderr=subprocess.DEVNULL,
+                timeout=SECONDS,
+            ).returncode
+            == 0
+        )
+    # signify rejects untagged lines, comments and upper-case digits. It accepts a name that is listed twice, and uses
+    # the lines before one that it cannot parse.
     if ours == OK and not theirs:
         is_known = any(not re.fullmatch(rb"SHA256 \(.*\) = [0-9a-f]{64}", line) for line in lines)
     else:
@@ -251,7 +283,10 @@ def agrees_with_signify(checking):
     with tempfile.TemporaryDirectory(dir=checking.runs) as scratch, concurrent.futures.ThreadPoolExecutor(os.cpu_count()) as pool:
         subprocess.run([signify, "-G", "-n", "-p", "k.pub", "-s", "k.sec"], cwd=scratch, check=True, stdout=subprocess.DEVNULL)
         found = Counter(pool.map(lambda seed: compare_signify(checking, signify, scratch, scratch, seed), range(SIGNIFY_LISTS)))
-    expect(found[OK, True] > SIGNIFY_LISTS // 20 and found[DIFFERS, False] and found[UNLISTED_NAME, True], f"too few of a kind: {found}")
+    expect(
+        found[OK, True] > SIGNIFY_LISTS // 20 and found[DIFFERS, False] and found[UNLISTED_NAME, True],
+        f"too few of a kind: {found}",
+    )
 
 
 def differs_as_documented(checking):
@@ -274,8 +309,16 @@ def differs_as_documented(checking):
                                 stderr=subprocess.DEVNULL).returncode == 0
         expect(theirs == by_coreutils, f"{name}: sha256sum {'accepts' if theirs else 'rejects'} it")
         if by_signify is not None:
-            theirs = subprocess.run([signify, "-C", "-q", "-p", "../k.pub", "-x", "../L.sig", *names], cwd=where, stdin=subprocess.DEVNULL,
-                                    stdout=subprocess.DEVNULL, stderr=subprocess.DEVNULL).returncode == 0
+            theirs = (
+                subprocess.run(
+                    [signify, "-C", "-q", "-p", "../k.pub", "-x", "../L.sig", *names],
+                    cwd=where,
+                    stdin=subprocess.DEVNULL,
+                    stdout=subprocess.DEVNULL,
+                    stderr=subprocess.DEVNULL,
+                ).returncode
+                == 0
+            )
             expect(theirs == by_signify, f"{name}: signify {'accepts' if theirs else 'rejects'} it")
         ran = checking.run(directory, ["--in", "d", *KEY, LIST, *names])
         expect(ran.status == ours, f"{name}: {ran}")

@@ -101,7 +101,11 @@ def reports_memory_limit(checking):
     directory, bound = checking.signed(BOTH, FILES), (200 << 20,) * 2
     with open(f"{directory}/large", "wb") as file:
         file.truncate(1 << 30)
-    ran = checking.run(directory, [*KEY, "-x", f"{LIST}.minisig", "large"], preexec_fn=lambda: resource.setrlimit(resource.RLIMIT_AS, bound))
+    ran = checking.run(
+        directory,
+        [*KEY, "-x", f"{LIST}.minisig", "large"],
+        preexec_fn=lambda: resource.setrlimit(resource.RLIMIT_AS, bound),
+    )
     expect((ran.status, ran.stdout, ran.stderr) == (UNUSABLE, b"", errors(("large", "out of memory"))), ran)
 
 
@@ -131,7 +135,12 @@ def works_with_closed_streams(checking):
     for closed in (0, 1, 2):
         ran = checking.run(directory, ALL, preexec_fn=lambda closed=closed: os.close(closed))
         status, output = (UNUSABLE, b"") if closed == 1 else (OK, b"a: OK\nb: OK\n")
-        expect((ran.status, ran.stdout) == (status, output), f"without stream {closed}", ran, f"expected status {status} and {output}")
+        expect(
+            (ran.status, ran.stdout) == (status, output),
+            f"without stream {closed}",
+            ran,
+            f"expected status {status} and {output}",
+        )
 
 
 # ---- Other users ----
@@ -170,8 +179,8 @@ def reports_unreadable_directory(checking):
 
 
 def opens_no_pipe_of_others(checking):
-    """In a directory that others can write to, a user puts a named pipe in place of a file. Nobody writes to it. The program does not
-    wait, and does not open it."""
+    """In a directory that others can write to, a user puts a named pipe in place of a file. Nobody writes to it. The
+    program does not wait, and does not open it."""
     require_root("make files of other users")
     directory = checking.signed(BOTH, {"b": B, "a": PIPE})
     os.chmod(directory, 0o1777)
@@ -194,8 +203,8 @@ def follows_links_of_others(checking):
 
 
 def notices_pipe_between_calls(checking):
-    """Another user replaces a file by a named pipe that nobody writes to, after the program has inspected the file. The program neither
-    waits for the pipe nor reads from it."""
+    """Another user replaces a file by a named pipe that nobody writes to, after the program has inspected the file. The
+    program neither waits for the pipe nor reads from it."""
     directory = checking.signed(entries(a=A), {"a": A})
 
     def swap():
@@ -220,8 +229,8 @@ def block(number):
 
 
 def copies_what_was_verified(checking, at, written, length=LARGE):
-    """After the file was verified, `written` is written at an offset, or the file is cut there. -o prints the beginning of the verified
-    data, and the run fails."""
+    """After the file was verified, `written` is written at an offset, or the file is cut there. -o prints the beginning
+    of the verified data, and the run fails."""
     data = b"".join(map(block, range(length // 1000 + 1)))[:length]
     directory = checking.signed(entries(a=data), {"a": data})
 
@@ -274,8 +283,8 @@ def takes_little_memory(checking):
 
 
 def shows_progress(checking):
-    """At a terminal the run shows how much was checked, and erases this line before it prints a result. The file is so large that the run
-    takes some seconds."""
+    """At a terminal the run shows how much was checked, and erases this line before it prints a result. The file is so
+    large that the run takes some seconds."""
     directory = checking.signed(entries(a=A), {})
     with open(f"{directory}/a", "wb") as file:
         file.truncate(3 << 30)
@@ -284,9 +293,17 @@ def shows_progress(checking):
     with open(f"{directory}/a", "wb") as file:
         file.truncate(0)
     status = terminal.finish()
-    expect(found and status == DIFFERS and terminal.shown.count(b"\r\x1b[K") >= 1,
-           f"it exited with status {status} and showed {terminal.shown!r}, expected status {DIFFERS}, the progress, and an erased line")
-    expect(terminal.shown.split(b"\x1b[K")[-1].startswith(b"a: FAILED\r\n"), f"it showed {terminal.shown!r}, expected `a: FAILED` at the end")
+    expect(
+        found and status == DIFFERS and terminal.shown.count(b"\r\x1b[K") >= 1,
+        (
+            f"it exited with status {status} and showed {terminal.shown!r}, expected status {DIFFERS}, the progress,"
+            " and an erased line"
+        ),
+    )
+    expect(
+        terminal.shown.split(b"\x1b[K")[-1].startswith(b"a: FAILED\r\n"),
+        f"it showed {terminal.shown!r}, expected `a: FAILED` at the end",
+    )
 
 
 def shows_no_control_sequence(checking):
@@ -295,8 +312,13 @@ def shows_no_control_sequence(checking):
     terminal = AtTerminal([NAME, *ALL], checking.program, directory, {})
     status = terminal.finish()
     line = b"a\\u{202e}: OK\r\n"
-    expect(status == OK and b"\x1b" not in terminal.shown and line in terminal.shown,
-           f"it exited with status {status} and showed {terminal.shown!r}, expected status {OK}, the line {line!r}, and no escape character")
+    expect(
+        status == OK and b"\x1b" not in terminal.shown and line in terminal.shown,
+        (
+            f"it exited with status {status} and showed {terminal.shown!r}, expected status {OK}, the line {line!r},"
+            " and no escape character"
+        ),
+    )
 
 
 def shows_results_as_they_come(checking):
@@ -314,7 +336,10 @@ def shows_results_as_they_come(checking):
     expect(found and status == DIFFERS and seconds < 60,
            f"it exited with status {status} and showed {terminal.shown!r}, the first result after {seconds:.0f} s; "
            f"expected status {DIFFERS}, and `a: OK` in less than 60 s")
-    expect(b"checked" not in terminal.shown.split(b"a: OK")[0], f"it showed {terminal.shown!r}, expected no progress before `a: OK`")
+    expect(
+        b"checked" not in terminal.shown.split(b"a: OK")[0],
+        f"it showed {terminal.shown!r}, expected no progress before `a: OK`",
+    )
 
 
 def runs_at_once(checking):
@@ -349,8 +374,14 @@ def fault_cases(checking):
     yield "opens no named pipe of another user", opens_no_pipe_of_others, checking
     yield "follows a link of another user", follows_links_of_others, checking
     yield "does not wait for a pipe that replaces a file", notices_pipe_between_calls, checking
-    for name, at, written in (("changed", 1_000_000, b"changed"), ("changed at its end", LARGE - 1, b"\xff"), ("longer", LARGE, b"\0"),
-                              ("cut", 1_000_000, b""), ("cut by one byte", LARGE - 1, b""), ("emptied", 0, b"")):
+    for name, at, written in (
+        ("changed", 1_000_000, b"changed"),
+        ("changed at its end", LARGE - 1, b"\xff"),
+        ("longer", LARGE, b"\0"),
+        ("cut", 1_000_000, b""),
+        ("cut by one byte", LARGE - 1, b""),
+        ("emptied", 0, b""),
+    ):
         yield f"-o notices a file that is {name} before it is copied", copies_what_was_verified, checking, at, written
     for length in (131071, 131072, 131073, LARGE):
         yield f"-o copies {length} bytes", copies_large_files, checking, length

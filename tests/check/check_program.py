@@ -26,7 +26,7 @@ HERE = os.path.dirname(os.path.realpath(__file__))
 sys.path += [os.path.join(HERE, "..", name) for name in ("shared", "lists")]
 
 import needs
-import selected
+import case_selection
 import static_library
 import test_script
 from check_command_lines import command_line_cases
@@ -46,8 +46,8 @@ def cases_of(checking):
 def run_all(scratch):
     """Runs all cases. Returns the failures and the number of cases."""
     os.chmod(scratch, 0o711)
-    program = selected.file_argument() or os.path.join(scratch, "out", NAME)
-    if not selected.file_argument():
+    program = case_selection.file_argument() or os.path.join(scratch, "out", NAME)
+    if not case_selection.file_argument():
         needs.compiler_with_libsodium()
         static_library.run_make(f"OUT={scratch}/out", program)
     checking = Checking(program, tempfile.mkdtemp(dir=scratch))

@@ -17,7 +17,7 @@ import subprocess
 import tempfile
 from collections import namedtuple
 
-from command_breaking import is_public, is_secret, is_signature
+from command_failures import is_public, is_secret, is_signature
 from command_running import (ENCRYPTED_KEY, PARENT_MODE, PASSWORD, PLAIN_KEY, PUBLIC_KEY, Programs, case, expect_end,
                              expect_prompt, put_files)
 from faults import mounted_in_memory
@@ -45,7 +45,11 @@ OWNED_BY_THIRD = Parent(" in a third user's sticky directory", THIRD_USER, 0o177
 GROUP_WRITABLE = Parent(" in a group-writable sticky directory", ROOT, 0o1775)
 NOT_STICKY = Parent(" in a directory without sticky bit", ROOT, 0o777)
 # Directories that are not sticky, or not writable for others. Files of other users are not rejected there.
-UNGUARDED = (NOT_STICKY, Parent(" in a private sticky directory", ROOT, 0o1755), Parent(" in that user's own directory", OTHER_USER, 0o755))
+UNGUARDED = (
+    NOT_STICKY,
+    Parent(" in a private sticky directory", ROOT, 0o1755),
+    Parent(" in that user's own directory", OTHER_USER, 0o755),
+)
 
 # The errors after the name of the file, with the hint.
 OTHER_DIRECTORY = "\nhint: use a directory that only you can write to"
@@ -86,8 +90,8 @@ OUTPUT = "OUTPUT"
 
 
 class Command(namedtuple("Command", "name arguments check is_secret older", defaults=(None, False, OLDER_DATA))):
-    """A run that writes a file; a function that checks the file; true if it is secret; and the content of an existing file, which may be a
-    key that the run changes."""
+    """A run that writes a file; a function that checks the file; true if it is secret; and the content of an existing
+    file, which may be a key that the run changes."""
 
     def writing_to(self, path):
         """Returns the arguments with this path in place of OUTPUT."""
@@ -98,7 +102,8 @@ class Existing(namedtuple("Existing", "kind owner parent", defaults=(LIKE_TMP,))
     """A file or pipe that exists before the run: its kind, its owner, and its directory."""
 
     def make(self, path, data):
-        """Creates the file or pipe, readable and writable for all users. If the owner of the pipe reads it, returns the descriptor."""
+        """Creates the file or pipe, readable and writable for all users. If the owner of the pipe reads it, returns the
+        descriptor."""
         if self.kind == FILE:
             with open(path, "xb") as file:
                 file.write(data)
@@ -128,15 +133,18 @@ class OtherUsers(Programs):
         if os.geteuid() != ROOT:
             print("skipped: files of other users, which only root can make")
             return [], 0
-        settings = {name: int(read("/proc/sys/fs", name)) for name in ("protected_fifos", "protected_regular", "protected_symlinks")}
+        settings = {
+            name: int(read("/proc/sys/fs", name))
+            for name in ("protected_fifos", "protected_regular", "protected_symlinks")
+        }
         print(f"files of other users are tried with {settings}")
         passes = list(cases_that_minisign_passes(self))
         failures, count = super().run_all()
         return passes + failures, len(ROWS) + count
 
     def make_directories(self, user=ROOT, parent=LIKE_TMP):
-        """Makes a directory with the subdirectories `own`, which belongs to the user, and `shared`. Returns its path, and the path of the
-        file in `shared` that a command writes."""
+        """Makes a directory with the subdirectories `own`, which belongs to the user, and `shared`. Returns its path,
+        and the path of the file in `shared` that a command writes."""
         path = self.new_directory({"own/data": b"some data\n", "own/k.key": self.keys[PLAIN_KEY],
                                    "own/k.pub": self.keys[PUBLIC_KEY], "own/closed.key": self.keys[ENCRYPTED_KEY], "shared": None})
         os.chmod(path, PARENT_MODE)
@@ -157,9 +165,9 @@ class OtherUsers(Programs):
     # ---- Files and pipes ----
 
     def write_over(self, user, command, existing, end):
-        """A user runs a command while its output file exists as a file or pipe. If `end` is a string, the command must be rejected with
-        this error: it asks for no password, no data reaches the pipe, and the file is unchanged. Otherwise it must write into the pipe,
-        or replace the file, which then belongs to the user `end`."""
+        """A user runs a command while its output file exists as a file or pipe. If `end` is a string, the command must
+        be rejected with this error: it asks for no password, no data reaches the pipe, and the file is unchanged.
+        Otherwise it must write into the pipe, or replace the file, which then belongs to the user `end`."""
         directory, path = self.make_directories(user, existing.parent)
         reader, before = existing.make(path, command.older), snapshot(directory)
         ran, received = self.run_as(user, directory, command.writing_to("shared/output")), read_pending(reader)
@@ -176,8 +184,8 @@ class OtherUsers(Programs):
     # ---- Files that appear while a password is typed ----
 
     def keeps_new_file(self, arguments, typed, existing, status, error_output):
-        """Without -f, the program does not write to a file that appears while the password is typed, or if there is no password, while the
-        key is generated."""
+        """Without -f, the program does not write to a file that appears while the password is typed, or if there is no
+        password, while the key is generated."""
         (directory, path), made = self.make_directories(), []
 
         def make():
@@ -197,8 +205,8 @@ class OtherUsers(Programs):
     @case("keeps a file that another user swaps in for a key changed by {0}", ("-CW", PASSWORD + b"\n"),
           ("-C", PASSWORD + b"\n", b"p\n", b"p\n"))
     def keeps_swapped_file(self, flags, *typed):
-        """In a directory without sticky bit, another user replaces root's key while its password is typed. The key must not be given to
-        that user, so it is not written to any file. A call of write would kill the program here."""
+        """In a directory without sticky bit, another user replaces root's key while its password is typed. The key must
+        not be given to that user, so it is not written to any file. A call of write would kill the program here."""
         directory, path = self.make_directories(parent=NOT_STICKY)
         put_files(directory, {"shared/output": self.keys[ENCRYPTED_KEY]})
         os.chmod(path, 0o600)
@@ -211,8 +219,9 @@ class OtherUsers(Programs):
 
     @case("writes no key into another user's {1} that replaces root's {0}", (PIPE, PIPE), (FILE, UNREAD_PIPE))
     def writes_no_key_into_swapped_file(self, own, swapped):
-        """Root writes a new secret key in a directory without sticky bit. Before each call in turn that opens a file, another user's pipe
-        replaces root's file or pipe. The program does not wait for the pipe, and writes no key into it."""
+        """Root writes a new secret key in a directory without sticky bit. Before each call in turn that opens a file,
+        another user's pipe replaces root's file or pipe. The program does not wait for the pipe, and writes no key into
+        it."""
         for number in range(1, 60):
             directory, path = self.make_directories(parent=NOT_STICKY)
             readers = [Existing(own, ROOT).make(path, OLDER_DATA)]
@@ -239,8 +248,8 @@ class OtherUsers(Programs):
     # ---- Links ----
 
     def write_through_link(self, user, command, whose, what, parent, why):
-        """A user runs a command that writes through a link of LINKS, which belongs to the user `whose`. If `why` is not empty, it must be
-        rejected with this error, and no file created or changed. Otherwise it must write the file."""
+        """A user runs a command that writes through a link of LINKS, which belongs to the user `whose`. If `why` is not
+        empty, it must be rejected with this error, and no file created or changed. Otherwise it must write the file."""
         directory, _ = self.make_directories(user, parent)
         put_files(directory, {"own/sub": None, "own/kept": b"precious", "shared/older": b"older"})
         for path in ("own/sub", "own/kept"):
@@ -261,16 +270,16 @@ class OtherUsers(Programs):
     # ---- Standard streams, and unnamed files and directories ----
 
     def secret_into(self, stream, directory, name="/dev/stdout"):
-        """Root writes a secret key to the open file `stream`, which is its standard output or another descriptor. `name` is the path of
-        the key."""
+        """Root writes a secret key to the open file `stream`, which is its standard output or another descriptor.
+        `name` is the path of the key."""
         options = {"stdout": stream} if name == "/dev/stdout" else {"pass_fds": [stream]}
         return self.run_as(ROOT, directory, ("-GWf", "-p", "own/a.pub", "-s", name), **options)
 
     @case("writes a secret key to another user's {0} only as standard output: {1}", ("pipe", "as standard output"),
           ("pipe", "by its descriptor"), ("terminal", "as standard output"), ("terminal", "by its name"), ("terminal", "by a link"))
     def secret_into_stream_of_other(self, what, way):
-        """Root's secret key is written to another user's pipe or terminal only if that is the standard output. The link is in a directory
-        without sticky bit."""
+        """Root's secret key is written to another user's pipe or terminal only if that is the standard output. The link
+        is in a directory without sticky bit."""
         directory, _ = self.make_directories(parent=NOT_STICKY)
         reader, side = pty.openpty() if what == "terminal" else os.pipe()
         os.fchown(side, OTHER_USER, OTHER_USER)
@@ -310,8 +319,8 @@ class OtherUsers(Programs):
 
     @case("writes into a directory without a name")
     def writes_into_unnamed_directory(self):
-        """The directory is open, and the path leads through its link in /proc. The text of that link is not a path of the directory,
-        because it is unmounted."""
+        """The directory is open, and the path leads through its link in /proc. The text of that link is not a path of
+        the directory, because it is unmounted."""
         directory, _ = self.make_directories()
         with mounted_in_memory(os.path.join(directory, "shared"), "mode=755", lazily=True):
             opened = os.open(os.path.join(directory, "shared"), os.O_RDONLY)
@@ -333,8 +342,16 @@ class OtherUsers(Programs):
 
     # ---- Keys whose password is removed ----
 
-    @case("makes a key private when it removes its password: owner {0}, mode {1:o} {2}", (ROOT, 0o644, ""), (ROOT, 0o660, ""),
-          (THIRD_USER, 0o640, ""), (THIRD_USER, 0o604, ""), (THIRD_USER, 0o400, ""), (ROOT, 0o440, ""), (ROOT, 0o600, f"u:{OTHER_USER}:r"))
+    @case(
+        "makes a key private when it removes its password: owner {0}, mode {1:o} {2}",
+        (ROOT, 0o644, ""),
+        (ROOT, 0o660, ""),
+        (THIRD_USER, 0o640, ""),
+        (THIRD_USER, 0o604, ""),
+        (THIRD_USER, 0o400, ""),
+        (ROOT, 0o440, ""),
+        (ROOT, 0o600, f"u:{OTHER_USER}:r"),
+    )
     def makes_key_private(self, owner, mode, entries):
         """Only the owner can access the changed key, whatever the mode and the access control list of the old one were."""
         directory, _ = self.make_directories()
@@ -357,8 +374,8 @@ class OtherUsers(Programs):
             yield from cases()
 
     def files_and_pipes(self):
-        """Yields cases in which users run commands while the output file exists, for each combination of the lists in a row. `end` is that of
-        `write_over`."""
+        """Yields cases in which users run commands while the output file exists, for each combination of the lists in a
+        row. `end` is that of `write_over`."""
         secret, public, signature, again, changed = every = self.commands
         # Without `changed`, which reads the file first.
         writing = (secret, public, signature, again)
@@ -389,8 +406,8 @@ class OtherUsers(Programs):
                    self.write_over, ROOT, Command(name, arguments), Existing(FILE, OTHER_USER), IN_SHARED_DIRECTORY)
 
     def appearing_files(self):
-        """Yields cases in which a file or pipe appears while a password is typed or a key is generated. There are few cases with a new
-        encrypted key, which takes seconds."""
+        """Yields cases in which a file or pipe appears while a password is typed or a key is generated. There are few
+        cases with a new encrypted key, which takes seconds."""
         pair = ("-p", "own/a.pub", "-s", "shared/output")
         for name, kinds, arguments, *typed in (
             ("new secret key", (FILE, PIPE), ("-GW", *pair)),
@@ -404,7 +421,8 @@ class OtherUsers(Programs):
                            self.keeps_new_file, arguments, typed, Existing(what, owner), *ends)
 
     def links_of_users(self):
-        """Yields cases in which users run a command that writes through a link of the user `whose`. `why` is the error, or empty."""
+        """Yields cases in which users run a command that writes through a link of the user `whose`. `why` is the error,
+        or empty."""
         for command, whose, parent, users, why in (
             (self.signature, OTHER_USER, LIKE_TMP, (ROOT, RUNNING_USER), THROUGH_LINK),
             (self.signature, ROOT, LIKE_TMP, [ROOT], ""),
@@ -415,8 +433,13 @@ class OtherUsers(Programs):
             (self.signature, OTHER_USER, GROUP_WRITABLE, [ROOT], ""),
         ):
             for what, user in itertools.product(LINKS, users):
-                yield (f"{'rejects' if why else 'writes'} {command.name} by {USER_NAMES[user]} through {POSSESSIVES[whose]} link {what}{parent.name}",
-                       self.write_through_link, user, command, whose, what, parent, why)
+                yield (
+                    (
+                        f"{'rejects' if why else 'writes'} {command.name} by {USER_NAMES[user]} through"
+                        f" {POSSESSIVES[whose]} link {what}{parent.name}"
+                    ),
+                    self.write_through_link, user, command, whose, what, parent, why,
+                )
 
 
 def read_pending(reader):
@@ -439,8 +462,8 @@ def snapshot(directory):
 
 
 def expect_answered(terminal, typed, status, error_output):
-    """Types a line at each password prompt; the first prompt is already shown. Expects that the program then exits with this status and
-    this error."""
+    """Types a line at each password prompt; the first prompt is already shown. Expects that the program then exits with
+    this status and this error."""
     for number, line in enumerate(typed):
         if number > 0:
             expect_prompt(terminal)
@@ -450,10 +473,15 @@ def expect_answered(terminal, typed, status, error_output):
 
 
 def expect_rejected(ran, received, name, why, directory=None, before=None):
-    """Expects that a run was rejected with this error, wrote nothing to the pipe, and asked for no password. Its output may have the
-    line that announces the change of a key. The directory must be as `before`, if it is given."""
+    """Expects that a run was rejected with this error, wrote nothing to the pipe, and asked for no password. Its output
+    may have the line that announces the change of a key. The directory must be as `before`, if it is given."""
     error_output = f"{'' if why == NOT_PERMITTED else 'error: '}{name}: {why}\n"
-    expect((ran.status, ran.stderr, received) == (2, error_output.encode(), b""), ran, received, f"expected status 2 and {error_output!r}")
+    expect(
+        (ran.status, ran.stderr, received) == (2, error_output.encode(), b""),
+        ran,
+        received,
+        f"expected status 2 and {error_output!r}",
+    )
     expect(ran.stdout in (b"", f"Key encryption for [{name}] is going to be removed.\n".encode()), ran)
     expect(directory is None or snapshot(directory) == before, "a file was created or changed")
 

@@ -17,8 +17,9 @@ from running import IN_MEMORY, Link, expect, files_in, run_cases, wait_until, wr
 from texts import record_of
 
 HOME = "home"
-# The names of key files. PLAIN_KEY is an unencrypted secret key that Minisign generates from the fixed random bytes, and PUBLIC_KEY its
-# public key. ENCRYPTED_KEY is PLAIN_KEY encrypted with PASSWORD. OTHER_PUBLIC_KEY belongs to another secret key.
+# The names of key files. PLAIN_KEY is an unencrypted secret key that Minisign generates from the fixed random bytes,
+# and PUBLIC_KEY its public key. ENCRYPTED_KEY is PLAIN_KEY encrypted with PASSWORD. OTHER_PUBLIC_KEY belongs to another
+# secret key.
 PLAIN_KEY = "first.key"
 PUBLIC_KEY = "first.pub"
 ENCRYPTED_KEY = "closed.key"
@@ -26,8 +27,8 @@ OTHER_PUBLIC_KEY = "other.pub"
 PASSWORD = b"correct horse"
 # The names and contents of data files.
 DATA = {"data": b"some data\n", "more": b"more data\n", "empty": b""}
-# The mode of the directories above the test directories, which other users must be able to pass through. A program built with -DPOSIX_ONLY
-# must also be able to read them.
+# The mode of the directories above the test directories, which other users must be able to pass through. A program
+# built with -DPOSIX_ONLY must also be able to read them.
 PARENT_MODE = 0o755 if "--posix-only" in sys.argv else 0o711
 # The output at a terminal while a key is derived (a dot each second), and while a large file is read. It depends on time, so it is
 # removed before outputs are compared.
@@ -80,8 +81,8 @@ def run_steps(program, preload, files, steps):
 
 
 def case(name, *rows):
-    """Marks a method as a test case with this name. With `rows`, there is a case for each row of arguments. The name is a format string
-    for the arguments."""
+    """Marks a method as a test case with this name. With `rows`, there is a case for each row of arguments. The name is
+    a format string for the arguments."""
 
     def mark(method):
         argument_lists = [row if isinstance(row, tuple) else (row,) for row in rows or [()]]
@@ -171,7 +172,8 @@ def expect_prompt(terminal):
 
 
 def expect_end(terminal, status, shown, typed=b""):
-    """Types `typed`. Checks that the run then exits with this status, and that its output matches the regular expression `shown`."""
+    """Types `typed`. Checks that the run then exits with this status, and that its output matches the regular
+    expression `shown`."""
     actual = terminal.finish(typed)
     expect(actual == status and re.search(shown, terminal.shown),
            f"status {actual} and the output {terminal.shown!r}, expected status {status} and {shown!r}")

@@ -18,7 +18,7 @@ import needles
 import needs
 import static_library
 from at_terminal import SECONDS, AtTerminal
-from command_breaking import is_signature
+from command_failures import is_signature
 from command_running import (DATA, ENCRYPTED_KEY, HOME, PASSWORD, PLAIN_KEY, PUBLIC_KEY, Programs, case, expect_end,
                              expect_prompt, sealed)
 from process import run_measured, run_program
@@ -34,8 +34,9 @@ LARGE_SIZE = 2000003
 NEW_PAIR = ("-G", "-p", "a.pub", "-s", "a.key")
 SIGN_WITH_PASSWORD = ("-Sm", "data", "-s", ENCRYPTED_KEY)
 
-# A program that acts as a shell: it starts another program in the foreground or in the background of its terminal. If that program is
-# stopped, the shell prints the signal, and if the terminal shows typed text. Then it continues the program in the foreground.
+# A program that acts as a shell: it starts another program in the foreground or in the background of its terminal. If
+# that program is stopped, the shell prints the signal, and if the terminal shows typed text. Then it continues the
+# program in the foreground.
 JOB_CONTROL_SHELL = """
 import os, signal, sys, termios, time
 how, program, *arguments = sys.argv[1:]
@@ -88,12 +89,15 @@ class Safety(Programs):
                 terminal.process.send_signal(number)
             terminal.process.wait(SECONDS)
             is_echoing, status = terminal.is_echoing(), terminal.end()
-            expect(status == -number and is_echoing,
-                   f"it exited with status {status}, expected {-number}; the terminal shows typed text: {is_echoing}, expected True")
+            expect(
+                status == -number and is_echoing,
+                f"it exited with status {status}, expected {-number}; the terminal shows typed text: {is_echoing}, expected True",
+            )
 
     @case("asks again after it was stopped")
     def asks_again_after_stop(self):
-        """While the program is stopped, the terminal shows typed text. When the program continues, it asks for the password again."""
+        """While the program is stopped, the terminal shows typed text. When the program continues, it asks for the
+        password again."""
         directory = self.directory()
         terminal = self.run_by_shell("foreground", directory)
         expect_prompt(terminal)
@@ -105,7 +109,8 @@ class Safety(Programs):
 
     @case("asks only in the foreground")
     def asks_in_foreground(self):
-        """In the background, the program is stopped before it asks, and the terminal shows typed text. In the foreground, it asks."""
+        """In the background, the program is stopped before it asks, and the terminal shows typed text. In the
+        foreground, it asks."""
         terminal = self.run_by_shell("background", self.directory())
         expect(terminal.expect(rb"stopped by SIGTTOU and it shows"), f"it showed {terminal.shown!r}, expected a stop by SIGTTOU")
         expect_prompt(terminal)
@@ -113,7 +118,8 @@ class Safety(Programs):
 
     @case("an inherited timer ends the program, at a terminal: {0}", False, True)
     def inherits_timer(self, at_terminal):
-        """A timer that was set before the program started ends it during key derivation. The program writes dots only to a terminal."""
+        """A timer that was set before the program started ends it during key derivation. The program writes dots only
+        to a terminal."""
         directory = self.directory(**{"costly.key": self.costly()})
         arguments, set_timer = ("-Sm", "data", "-s", "costly.key", "-k", "64"), lambda: signal.setitimer(signal.ITIMER_REAL, 0.4)
         if at_terminal:
@@ -137,8 +143,8 @@ class Safety(Programs):
 
     @case("clears secrets after {0.name}", signal.SIGINT, signal.SIGTERM, signal.SIGHUP)
     def clears_secrets(self, number):
-        """The program gets a signal at the second password prompt for a new key pair. At that time, the typed password and the new secret
-        key are in memory. They are cleared before the program ends."""
+        """The program gets a signal at the second password prompt for a new key pair. At that time, the typed password
+        and the new secret key are in memory. They are cleared before the program ends."""
         # With the same fixed random bytes, the program generates the same key as PLAIN_KEY.
         secrets = {"password": b"a long password", "seed": record_of(self.keys[PLAIN_KEY])[62:94]}
         finder, directory = needles.build_memory_search(self.work_directory, secrets), self.directory()
@@ -200,8 +206,8 @@ class Safety(Programs):
     @case("progress at a terminal is {0}", ("shown",), ("not shown with -q", "-q"),
           ("not shown with -Q", "-Q"))
     def shows_progress(self, _, *flags):
-        """During key derivation, the program shows a dot each second. While it reads a slow file, it shows the name of the file, with
-        control characters escaped, and how much it has read, and removes this line at the end."""
+        """During key derivation, the program shows a dot each second. While it reads a slow file, it shows the name of
+        the file, with control characters escaped, and how much it has read, and removes this line at the end."""
         directory, name = self.signed(**{"costly.key": self.costly()}), "s\x1blow"
         terminal = self.start_at_prompt(directory, "-Sm", "data", "-s", "costly.key", "-k", "2", *flags)
         dots = b"" if flags else rb"\.+"
@@ -233,8 +239,11 @@ class Safety(Programs):
     def escapes_comments_at_terminal(self):
         comment = "tab\there \x1b[31mred\x07 \x7f \u0085 \u009b2J \u202egnp\u202c \u2066x\u2069 \u00e9\u20ac\U0001f511"
         # A terminal may replace a tab by spaces.
-        shown = (rb"tab[\t ]+here " + re.escape(br"\u{1b}[31mred\u{7} \u{7f} \u{85} \u{9b}2J \u{202e}gnp\u{202c} \u{2066}x\u{2069} ")
-                  + "\u00e9\u20ac\U0001f511\r\n$".encode())
+        shown = (
+            rb"tab[\t ]+here "
+            + re.escape(br"\u{1b}[31mred\u{7} \u{7f} \u{85} \u{9b}2J \u{202e}gnp\u{202c} \u{2066}x\u{2069} ")
+            + "\u00e9\u20ac\U0001f511\r\n$".encode()
+        )
         directory = self.signed("-t", comment)
         piped = self.ours(directory, "-Vm", "data", "-p", PUBLIC_KEY)
         expect(piped.stdout.endswith(f"Trusted comment: {comment}\n".encode()), f"into a pipe: {piped}")
@@ -250,9 +259,9 @@ class Safety(Programs):
             expect((ran.status, ran.stdout) == expected, run.__name__, data, ran, f"expected {expected}")
 
     def copy_changed_data(self, program, directory, name, change):
-        """Runs -Vo on the file `name`, which the function `change` changes after it was verified and before it is copied. Between the two,
-        the program writes to standard error. That is a full pipe, so the program waits until the pipe is read. Returns the exit status,
-        the output and the error output."""
+        """Runs -Vo on the file `name`, which the function `change` changes after it was verified and before it is
+        copied. Between the two, the program writes to standard error. That is a full pipe, so the program waits until
+        the pipe is read. Returns the exit status, the output and the error output."""
         reader, writer = full_pipe()
         process = subprocess.Popen([program, "-Vom", name, "-p", PUBLIC_KEY], cwd=directory, stdin=subprocess.DEVNULL,
                                    stdout=subprocess.PIPE, stderr=writer)
@@ -269,8 +278,8 @@ class Safety(Programs):
           ("changed in its order", 256 * BLOCK_SIZE, block(257) + block(256)), ("longer", LARGE_SIZE, b"\0"), ("cut", 1000000, b""),
           ("cut at a zero", LARGE_SIZE - 1, b""), ("emptied", 0, b""))
     def notices_changed_data(self, _, at, written):
-        """After the data was verified, the bytes `written` are written at the offset `at`; if they are empty, the data is truncated there.
-        The run fails, and its output is the beginning of the verified data."""
+        """After the data was verified, the bytes `written` are written at the offset `at`; if they are empty, the data
+        is truncated there. The run fails, and its output is the beginning of the verified data."""
 
         def change(path):
             with open(path, "r+b") as file:
@@ -283,9 +292,15 @@ class Safety(Programs):
         directory = self.directory(large=before)
         self.ours(directory, "-Sm", "large", "-s", PLAIN_KEY)
         status, output, error_output = self.copy_changed_data(self.program, directory, "large", change)
-        expect(status == 1 and before.startswith(output) and len(output) < len(before)
-               and error_output.endswith(b"\nerror: large: the file changed between verification and output\nhint: do not use the output\n"),
-               f"it exited with status {status}, copied {len(output)} bytes, and said {error_output[-100:]}")
+        expect(
+            status == 1
+            and before.startswith(output)
+            and len(output) < len(before)
+            and error_output.endswith(
+                b"\nerror: large: the file changed between verification and output\nhint: do not use the output\n"
+            ),
+            f"it exited with status {status}, copied {len(output)} bytes, and said {error_output[-100:]}",
+        )
 
     @case("-o of {0} exits with status {1} for data that is replaced before it is copied {3}", ("ours", 1, b"", ""),
           ("theirs", 0, DATA["more"], ""), ("ours", 0, DATA["data"], "-l"))
@@ -303,8 +318,13 @@ class Safety(Programs):
         program, key = os.path.join(self.work_directory, "tags"), os.urandom(BLOCK_SIZE + 512)
         sources = [os.path.join(HERE, "tags.c"), os.path.join(static_library.DIRECTORY, "shared", "piece_tags.c")]
         for flags in ([], ["-U__SIZEOF_INT128__"]):
-            subprocess.run([needs.compiler_with_libsodium(), "-O2", *flags, f"-I{static_library.DIRECTORY}", "-o", program, *sources],
-                           check=True)
+            subprocess.run(
+                [
+                    needs.compiler_with_libsodium(),
+                    "-O2", *flags, f"-I{static_library.DIRECTORY}", "-o", program, *sources,
+                ],
+                check=True,
+            )
             for length in (0, 1, 8, 15, 16, 17, 4095, 4096, 4097, 70000, 131071, 131072):
                 piece = os.urandom(length)
                 ran = run_program([program], self.work_directory, key + piece)

@@ -32,7 +32,7 @@ sys.path += [os.path.join(HERE, "..", name) for name in ("shared", "verdicts")]
 
 import needs
 import test_script
-from command_breaking import TEMPORARY, is_secret
+from command_failures import TEMPORARY, is_secret
 from command_cases import keys_of
 from command_line import build_program, reset_signals
 from command_running import (DATA, ENCRYPTED_KEY, HOME, OTHER_PUBLIC_KEY, PASSWORD, PLAIN_KEY, PUBLIC_KEY, ProgramPaths,
@@ -59,8 +59,15 @@ STREAMS = ["/dev/stdout", "/proc/self/fd/1", "/dev/full", "/dev/stderr"]
 SECRETS = [PLAIN_KEY, ENCRYPTED_KEY, "link.key", "cut.key", "turned.key"]
 PUBLICS = [PUBLIC_KEY, OTHER_PUBLIC_KEY, "cut.pub", "link.pub"]
 SIGNATURES = ["data.minisig", "legacy.minisig", "more.minisig", "cut.minisig"]
-COMMENTS = ["a comment", "", " ", "a\nb", "a\rb", b"\xff", "\u00e9\u20ac", "t" * 1003, "t" * 1004, "t" * 8173, "t" * 8174, "tab\there",
-            "end "]
+COMMENTS = [
+    "a comment", "", " ", "a\nb", "a\rb", b"\xff", "\u00e9\u20ac",
+    "t" * 1003,
+    "t" * 1004,
+    "t" * 8173,
+    "t" * 8174,
+    "tab\there",
+    "end ",
+]
 TYPED_LINES = [PASSWORD + b"\n", b"wrong\n", b"\n", b"", b"\0\n", b"\xff\n", b"x" * 1023 + b"\n", b"x" * 3000 + b"\n", PASSWORD]
 LINKS = {"link": Link("data"), "dangling": Link("made"), "link.key": Link(PLAIN_KEY), "link.pub": Link(PUBLIC_KEY)}
 # How a command uses a file: reads it, signs it (so it writes NAME.minisig), or writes it.
@@ -90,13 +97,25 @@ def initial_files(programs):
     signing = (("-Sm", "data", "more", "-s", PLAIN_KEY), ("-Slm", "data", "-s", PLAIN_KEY, "-x", "legacy.minisig"))
     signed = run_steps(programs.theirs, "", {**keys, **DATA}, map(Step, signing)).files
     made = {name: signed[name][1] for name in SIGNATURES[:3]}
-    files = {**keys, **DATA, **made, "directory/kept": b"kept", "cut.minisig": made["data.minisig"][:150], "cut.pub": keys[PUBLIC_KEY][:60],
-             "cut.key": keys[PLAIN_KEY][:100], "turned.key": text_of(flip_bit(record_of(keys[PLAIN_KEY]))),
-             "text": b"a text\nof\nfour\nlines\n",
-             "page": b"<!DOCTYPE html>\n<html>\n", "archive": bytes.fromhex("1f8b0800") + bytes(40),
-             "wide": keys[PUBLIC_KEY].decode().encode("utf-16"), "end ": b"end", "odd\x1b\u202ename": b"odd",
-             os.fsdecode(b"caf\xe9"): b"latin",
-             "home/.minisign/minisign.key": keys[PLAIN_KEY], "minisign.pub": keys[PUBLIC_KEY]}
+    files = {
+        **keys,
+        **DATA,
+        **made,
+        "directory/kept": b"kept",
+        "cut.minisig": made["data.minisig"][:150],
+        "cut.pub": keys[PUBLIC_KEY][:60],
+        "cut.key": keys[PLAIN_KEY][:100],
+        "turned.key": text_of(flip_bit(record_of(keys[PLAIN_KEY]))),
+        "text": b"a text\nof\nfour\nlines\n",
+        "page": b"<!DOCTYPE html>\n<html>\n",
+        "archive": bytes.fromhex("1f8b0800") + bytes(40),
+        "wide": keys[PUBLIC_KEY].decode().encode("utf-16"),
+        "end ": b"end",
+        "odd\x1b\u202ename": b"odd",
+        os.fsdecode(b"caf\xe9"): b"latin",
+        "home/.minisign/minisign.key": keys[PLAIN_KEY],
+        "minisign.pub": keys[PUBLIC_KEY],
+    }
     return InitialState(files, keys[PUBLIC_KEY].split()[-1].decode(), [keys[PLAIN_KEY], keys[ENCRYPTED_KEY]])
 
 
@@ -113,7 +132,9 @@ class Line:
             self.add_encryption()
         self.add_flags()
         if source.random() < 0.03:
-            self.arguments.insert(source.randint(0, len(self.arguments)), source.choice(["-G", "-S", "-V", "-Z", "-v", "-h", "--", "-"]))
+            self.arguments.insert(
+                source.randint(0, len(self.arguments)), source.choice(["-G", "-S", "-V", "-Z", "-v", "-h", "--", "-"])
+            )
 
     def name_of(self, usual):
         """Returns one of the usual names, with a probability of 20 percent any name."""
@@ -200,7 +221,11 @@ def check_line(programs, initial, line):
             theirs = run_program([programs.theirs, "-Vm", data, "-P", initial.public_key], directory, seconds=MAX_SECONDS_PER_LINE)
             expect(theirs.status == 0, "Minisign does not verify what was signed", theirs)
         # The results are compared only if Minisign has all of the flags.
-        if line.command == "V" and line.arguments.count("-V") == 1 and not line.has("-k", "-K", "-G", "-S", "-Z", "-v", "-h", "--", "-"):
+        if (
+            line.command == "V"
+            and line.arguments.count("-V") == 1
+            and not line.has("-k", "-K", "-G", "-S", "-Z", "-v", "-h", "--", "-")
+        ):
             theirs = line.run(programs.theirs, directory)
             is_same_verdict = (theirs.status == 0) == (ran.status == 0)
             expect(theirs.status == ran.status or is_same_verdict and line.may_have_several_errors(directory),

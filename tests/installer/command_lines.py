@@ -20,8 +20,8 @@ MISSING_FILE = "No such file or directory (os error 2)"
 
 
 def run_reports(directory, arguments, status, error_output, output=b""):
-    """A run with these arguments exits with this status. Its error output contains `error_output`, and is empty if `error_output` is. Its
-    standard output begins with `output`. The run creates no file except the lock."""
+    """A run with these arguments exits with this status. Its error output contains `error_output`, and is empty if
+    `error_output` is. Its standard output begins with `output`. The run creates no file except the lock."""
     directory.put("bytes", b"\xff\n")
     before = os.listdir(directory.path)
     ran = directory.run(arguments)
@@ -36,7 +36,11 @@ def run_reports(directory, arguments, status, error_output, output=b""):
 def misuse(name, arguments, argument, why):
     """Returns a row for `run_reports`: an invalid command line. The program prints the error `why`, about `argument` unless that is
     None, then the usage and a hint."""
-    error_output = (error_text(argument, why) if argument else f"{why}\n".encode()) + USAGE + b"hint: use --help to list the options\n"
+    error_output = (
+        (error_text(argument, why) if argument else f"{why}\n".encode())
+        + USAGE
+        + b"hint: use --help to list the options\n"
+    )
     return f"rejects {name}", arguments, MISUSED, error_output
 
 
@@ -91,15 +95,38 @@ REPORTS = (
     misuse("--check --key with three paths", [*OTHER_KEY, *CHECK_ARGUMENTS], TARGET, UNEXPECTED + "SIG TARGET"),
     misuse("--check --key with one path", ["--check", *OTHER_KEY, TARGET], None, MISSING + "SIG TARGET"),
     misuse("--key without a value", [*PATHS, "--key"], "--key", NEEDS_VALUE),
-    *((f"rejects {what} as the target", [*PATHS[:3], path], MISUSED,
-       error_text(path, "this path does not end with a file name", "give the path of the file to install, not of its directory"))
-      for what, path in (("a path that ends with a slash", f"{TARGET}/"), ("the current directory", "."), ("the parent directory", ".."))),
-    ("shows control characters of a name as escapes", ["none\x1b[31m", *PATHS[1:]], FAILED, error_text("none\\u{1b}[31m", MISSING_FILE)),
+    *(
+        (
+            f"rejects {what} as the target",
+            [*PATHS[:3], path],
+            MISUSED,
+            error_text(
+                path,
+                "this path does not end with a file name",
+                "give the path of the file to install, not of its directory",
+            ),
+        )
+        for what, path in (
+            ("a path that ends with a slash", f"{TARGET}/"),
+            ("the current directory", "."),
+            ("the parent directory", ".."),
+        )
+    ),
+    (
+        "shows control characters of a name as escapes",
+        ["none\x1b[31m", *PATHS[1:]],
+        FAILED,
+        error_text("none\\u{1b}[31m", MISSING_FILE),
+    ),
     *((f"reports a missing {what}", [*PATHS[:at], "none", *PATHS[at + 1:]], FAILED, error_text("none", MISSING_FILE))
       for at, what in enumerate(("key file", "data file", "signature file"))),
     ("reports a missing directory", [*PATHS[:3], f"none/{TARGET}"], FAILED, MISSING_DIRECTORY_ERROR),
-    ("finds no record of a target in the root directory", ["--name", TARGET, "--check", PK, "new.sig", "/no-such-target"], UNRECORDED,
-     error_text("//.no-such-target.number", "no version is recorded yet", "use --first for the first installation")),
+    (
+        "finds no record of a target in the root directory",
+        ["--name", TARGET, "--check", PK, "new.sig", "/no-such-target"],
+        UNRECORDED,
+        error_text("//.no-such-target.number", "no version is recorded yet", "use --first for the first installation"),
+    ),
     ("rejects a directory as the key", [".", *PATHS[1:]], FAILED, error_text(".", "Is a directory (os error 21)")),
     ("rejects a signature file as the key", ["new.sig", *PATHS[1:]], REJECTED, b"error: new.sig: "),
     ("rejects a key file as the signature", [PK, "new", PK, TARGET], REJECTED, b"error: key.pub: "),

@@ -34,8 +34,9 @@ TARGET_IN_USE = error_text(TARGET, "another installation of this file is running
     ("a run with a slow pipe finds the update installed", "same", NEW_DATA, 6, ALREADY_INSTALLED),
 )
 def stalled_pipe(directory, name, data, number, status):
-    """A run that waits for data from a pipe blocks no other run, and leaves no file if it is killed. Meanwhile, another run installs
-    a later update, or the same one. The first run notices this when it has all data, and keeps what is installed."""
+    """A run that waits for data from a pipe blocks no other run, and leaves no file if it is killed. Meanwhile, another
+    run installs a later update, or the same one. The first run notices this when it has all data, and keeps what is
+    installed."""
     directory.offer(name, data, number)
     directory.replace("new", os.mkfifo)
     process = directory.start(directory.arguments("new"))
@@ -82,8 +83,8 @@ def stalled_device(directory):
     ("reads nothing from a pipe if the update is rejected", 0, dict(number=4)),
 )
 def reads_no_more(directory, count, options=(), status=None, **offered):
-    """A pipe is read only if the trusted comment was accepted. The byte after the limit shows that the data is too long. `status` is
-    the expected exit status, if it is neither that for too much data nor that for an older update."""
+    """A pipe is read only if the trusted comment was accepted. The byte after the limit shows that the data is too
+    long. `status` is the expected exit status, if it is neither that for too much data nor that for an older update."""
     directory.offer(**offered)
     data = NEW_DATA + LATER_DATA
     reader, writer = os.pipe()
@@ -102,8 +103,8 @@ def reads_no_more(directory, count, options=(), status=None, **offered):
 # == Files that other processes change ==
 
 def run_while_swapping(directory, swap, check):
-    """Runs the installer 40 times while `swap` is called repeatedly, and calls `check` with the result of each run. The system calls
-    of the installer are slowed down, so that the swaps happen between them."""
+    """Runs the installer 40 times while `swap` is called repeatedly, and calls `check` with the result of each run. The
+    system calls of the installer are slowed down, so that the swaps happen between them."""
     with repeating(swap, 0.0005):
         for _ in range(40):
             check(directory.install(environment=directory.preload_environment(SLOW="2000")))
@@ -210,7 +211,9 @@ def replaced_target(directory, is_installed):
         if is_installed:
             fresh.expect_install("new", 0)
         fresh.put("same", fresh.content())
-        ran = fresh.run_stopped_before(number, lambda at: os.replace(at.path_of("same"), at.path_of(TARGET)), CALLS="fstat fstatat openat")
+        ran = fresh.run_stopped_before(
+            number, lambda at: os.replace(at.path_of("same"), at.path_of(TARGET)), CALLS="fstat fstatat openat"
+        )
         fresh.expect_result(ran, ALREADY_INSTALLED if is_installed else 0, b"")
         return ran.reached
 
@@ -254,7 +257,9 @@ def locks_replaced_lock_file(directory):
 
 # == Several runs ==
 
-@concurrent_cases.table("four concurrent runs install in order", ("four slow concurrent runs install in order", 8, dict(SLOW="20000")))
+@concurrent_cases.table(
+    "four concurrent runs install in order", ("four slow concurrent runs install in order", 8, dict(SLOW="20000"))
+)
 def concurrent_runs(directory, rounds=25, **slow):
     """Four runs at the same time: two with newer updates, one with data that was not signed, and one with an older update. Before
     each call, slow runs wait for up to 20 milliseconds. Meanwhile, a reader checks that the target always holds a complete update,
@@ -311,14 +316,22 @@ def reports_held_lock(directory, installed, record, status):
     ("waits for the lock", "new"),
     ("waits for the lock with data from a pipe", "/dev/stdin"),
     ("waits for the lock with data of the signed size", "/dev/stdin", NEW_DATA, 0, dict(more=SIZE_FIELD)),
-    ("rejects data of another size after it has waited for the lock", "/dev/stdin", NEW_DATA + b"x", REJECTED, dict(more=SIZE_FIELD)),
+    (
+        "rejects data of another size after it has waited for the lock",
+        "/dev/stdin",
+        NEW_DATA + b"x",
+        REJECTED,
+        dict(more=SIZE_FIELD),
+    ),
     ("waits for the lock with two keys of the same key ID", "/dev/stdin", NEW_DATA, 0, ["twin", "own"]),
 )
 def waits_for_lock(directory, source, data=NEW_DATA, status=0, keys=(), **offered):
     """With --wait, a run waits until the lock is released. Data from a pipe is read before."""
     directory.offer(data=data, **offered)
     with directory.locked():
-        process = directory.start(["--wait", "20", *key_arguments(directory, keys), source, "new.sig", TARGET], stdin=subprocess.PIPE)
+        process = directory.start(
+            ["--wait", "20", *key_arguments(directory, keys), source, "new.sig", TARGET], stdin=subprocess.PIPE
+        )
         process.stdin.write(b"" if source == "new" else data)
         process.stdin.close()
         process.stdin = None

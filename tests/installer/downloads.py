@@ -14,7 +14,7 @@ import threading
 import time
 
 import needs
-from checking import UPDATER_DIRECTORY, offer_app, prepare_documented
+from check_option import UPDATER_DIRECTORY, offer_app, prepare_documented
 from installers import LATER_DATA, NEW_DATA, OLDER_VERSION, OLD_DATA, REJECTED
 from process import RunResult
 from running import Failure, expect, read
@@ -140,8 +140,8 @@ def serving(directory, responses):
 
 
 def run_script(directory, environment, url, *command):
-    """Runs the script as the systemd service does, but with this address, and with this command to restart the program. If the script
-    does not end in time, it is killed, and the case fails."""
+    """Runs the script as the systemd service does, but with this address, and with this command to restart the program.
+    If the script does not end in time, it is killed, and the case fails."""
     service = re.search(r"^ExecStart=(.*)$", read(UPDATER_DIRECTORY, "app-update.service").decode(), re.M)[1].split()
     expect(service[:3] == ["/bin/sh", "update", "https://example.org/releases"], f"the service runs {service}")
     command = [*service[:2], url, *command]
@@ -156,8 +156,8 @@ def run_script(directory, environment, url, *command):
 
 
 def prepare(directory):
-    """Makes the files of docs/INSTALLING.md, with the script and version 1 of the program, and version 2 for the server. Returns the
-    environment of the script."""
+    """Makes the files of docs/INSTALLING.md, with the script and version 1 of the program, and version 2 for the
+    server. Returns the environment of the script."""
     needs.program("curl", "curl")
     environment = {**prepare_documented(directory, "url"), "HOME": directory.path}
     directory.put("update", read(UPDATER_DIRECTORY, "update"))
@@ -177,8 +177,8 @@ def expect_script(directory, ran, status, installed):
 
 @download_cases.table("the updater script installs newer versions")
 def installs_newer_versions(directory):
-    """The script exits with status 0 if it installs a newer version or there is none, and with the status of minisign-install if the
-    update is rejected."""
+    """The script exits with status 0 if it installs a newer version or there is none, and with the status of
+    minisign-install if the update is rejected."""
     environment = prepare(directory)
     with serving(directory, {}) as server:
         for data, number, signed, status, installed in (
@@ -202,8 +202,8 @@ def waits_for_another_installation(directory):
 
 @download_cases.table("the updater script restarts the program once")
 def restarts_program(directory):
-    """The script runs the restart command once for each new version. If it was killed before that, or the command failed, the next run
-    of the script, which finds the update installed, runs the command again."""
+    """The script runs the restart command once for each new version. If it was killed before that, or the command
+    failed, the next run of the script, which finds the update installed, runs the command again."""
     environment = prepare(directory)
     command = ["sh", "-c", "echo restarted >> log; [ ! -e broken ]"]
 
@@ -240,8 +240,8 @@ def makes_program_executable(directory):
     directory.expect_mode(0o755, "there/app")
 
 
-# Servers that misbehave: a description, the responses by path, more fields of the trusted comment, the exit status of the script, and
-# the minimum and maximum of the bytes that the server sends until the script stops, or None.
+# Servers that misbehave: a description, the responses by path, more fields of the trusted comment, the exit status of
+# the script, and the minimum and maximum of the bytes that the server sends until the script stops, or None.
 BAD_SERVERS = (
     ("endless data of a signed size", {DATA: Handler.send_without_end}, f"\tsize:{len(NEW_DATA)}", REJECTED,
      (len(NEW_DATA), len(NEW_DATA))),

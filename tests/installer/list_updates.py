@@ -1,6 +1,6 @@
-"""Checks --list: an update is installed only if a signed list contains it under the name of the target. Each case of LIST_TABLE
-runs --check, an installation from a file, and one from a pipe. Other cases are about lists that real programs wrote, the size of the
-data, and runs that are cut off.
+"""Checks --list: an update is installed only if a signed list contains it under the name of the target. Each case of
+LIST_TABLE runs --check, an installation from a file, and one from a pipe. Other cases are about lists that real
+programs wrote, the size of the data, and runs that are cut off.
 """
 
 import hashlib
@@ -9,14 +9,16 @@ import subprocess
 from dataclasses import dataclass
 
 from concurrent_changes import reads_no_more
-from cut_off import break_each_call
+from interrupted_runs import break_each_call
 from installers import (ALREADY_INSTALLED, CHECK_ARGUMENTS, EXPIRED, EXPIRED_FIELD, FAILED, FIRST, LATER_DATA, MISUSED, NEW_DATA,
                         OLDER_VERSION, OLD_DATA, PK, RECORD, REJECTED, SAME_VERSION, TARGET, UNRECORDED, error_text)
 from running import expect
 from runs import Cases, pipe_without_data
-from updates import (BAD_SIZE_FIELD_ERROR, BY_VERSION, COMMENT_ERROR, EXPIRED_ERROR, FILE_NAME_ERROR, HOLDS_TIMESTAMP_ERROR,
-                     LEGACY_ERROR, NO_EXPIRY_ERROR, NO_RECORD_ERROR, OLDER_ERROR, OTHER_DATA_ERROR, OUTCOMES, ROLL_BACK, TOO_LARGE_TEXTS,
-                     UNEXPIRED_FIELD, Update, check_and_install, recorded)
+from updates import (
+    BAD_SIZE_FIELD_ERROR, BY_VERSION, COMMENT_ERROR, EXPIRED_ERROR, FILE_NAME_ERROR, HOLDS_TIMESTAMP_ERROR,
+    LEGACY_ERROR, NO_EXPIRY_ERROR, NO_RECORD_ERROR, OLDER_ERROR, OTHER_DATA_ERROR, OUTCOMES, ROLL_BACK,
+    TOO_LARGE_TEXTS, UNEXPIRED_FIELD, Update, check_and_install, recorded,
+)
 
 list_cases = Cases()
 
@@ -66,7 +68,8 @@ def other_name(text, name=TARGET):
 
 
 UNSIGNED_ERROR = error_text(LIST, "Signature verification failed", DOWNLOAD_LIST_AGAIN)
-NOT_LISTED, IMPOSSIBLE_NAME = "the list does not contain this name", "a list can only contain relative paths without .. or special characters"
+NOT_LISTED = "the list does not contain this name"
+IMPOSSIBLE_NAME = "a list can only contain relative paths without .. or special characters"
 
 
 def malformed(number):
@@ -127,7 +130,11 @@ GOOD_LISTS = (
     ("of BLAKE2b, with --blake2b", f"{blake2b(NEW_DATA)}  {TARGET}\n".encode(), BLAKE2B),
     ("of SHA-256, with --blake2b", NEW_LIST, BLAKE2B),
     ("of SHA-512 in the format of BSD, with --blake2b", f"SHA512 ({TARGET}) = {sha512(NEW_DATA)}\n".encode(), BLAKE2B),
-    ("of three functions", f"{sha512(OLD_DATA)}  a\n{sha256(NEW_DATA)}  {TARGET}\nBLAKE2b (b) = {blake2b(OLD_DATA)}\n".encode(), ()),
+    (
+        "of three functions",
+        f"{sha512(OLD_DATA)}  a\n{sha256(NEW_DATA)}  {TARGET}\nBLAKE2b (b) = {blake2b(OLD_DATA)}\n".encode(),
+        (),
+    ),
     ("with a name that has escapes", line(NEW_DATA) + b"\\" + line(OLD_DATA, "back\\\\slash"), ()),
 )
 # Lists in which a digest differs from that of NEW_DATA: a description, the list, and the options.
@@ -138,13 +145,24 @@ OTHER_DIGESTS = (
     ("of BLAKE2b, without --blake2b", f"{blake2b(NEW_DATA)}  {TARGET}\n".encode(), ()),
     ("with the SHA-512 digest as that of BLAKE2b", f"BLAKE2b ({TARGET}) = {sha512(NEW_DATA)}\n".encode(), ()),
     ("with the first half of the SHA-512 digest", f"SHA256 ({TARGET}) = {sha512(NEW_DATA)[:64]}\n".encode(), ()),
-    ("with a changed last digit", line(NEW_DATA).replace(sha256(NEW_DATA)[-1:].encode() + b" ", b"%x " % (int(sha256(NEW_DATA)[-1:], 16) ^ 1)), ()),
+    (
+        "with a changed last digit",
+        line(NEW_DATA).replace(sha256(NEW_DATA)[-1:].encode() + b" ", b"%x " % (int(sha256(NEW_DATA)[-1:], 16) ^ 1)),
+        (),
+    ),
     ("with a changed first digit", b"%x" % (int(sha256(NEW_DATA)[:1], 16) ^ 8) + line(NEW_DATA)[1:], ()),
 )
 # Malformed lines.
-MALFORMED = (("text", b"files:\n"), ("MD5", f"MD5 ({TARGET}) = {'0' * 32}\n".encode()), ("one space", line(NEW_DATA).replace(b"  ", b" ")),
-             ("an absolute path", line(OLD_DATA, "/app")), ("a parent directory", line(OLD_DATA, f"../{TARGET}")),
-             ("a tab in the name", line(OLD_DATA, "a\tb")), ("a digit less", line(OLD_DATA, "app")[1:]), ("a zero byte", b"\0\n"))
+MALFORMED = (
+    ("text", b"files:\n"),
+    ("MD5", f"MD5 ({TARGET}) = {'0' * 32}\n".encode()),
+    ("one space", line(NEW_DATA).replace(b"  ", b" ")),
+    ("an absolute path", line(OLD_DATA, "/app")),
+    ("a parent directory", line(OLD_DATA, f"../{TARGET}")),
+    ("a tab in the name", line(OLD_DATA, "a\tb")),
+    ("a digit less", line(OLD_DATA, "app")[1:]),
+    ("a zero byte", b"\0\n"),
+)
 
 # Rows as those of UPDATE_TABLE, with the fields of `ListUpdate`.
 LIST_TABLE = (
@@ -153,7 +171,11 @@ LIST_TABLE = (
     *((f"file of a list {what}", 0, dict(listed=listed, options=options)) for what, listed, options in GOOD_LISTS),
     ("file of a list in another directory", 0, dict(list_path=f"./{LIST}")),
     ("file of a list that has another name", 0, dict(list_path="sums.txt", list_file="sums.txt", names="sums.txt")),
-    ("file of a list under a path, with --name", 0, dict(options=("--name", "bin/app"), listed=line(OLD_DATA) + line(NEW_DATA, "bin/app"))),
+    (
+        "file of a list under a path, with --name",
+        0,
+        dict(options=("--name", "bin/app"), listed=line(OLD_DATA) + line(NEW_DATA, "bin/app")),
+    ),
     ("file of a list under a path, with --name that begins with ./", 0,
      dict(options=("--name", "./bin/app"), listed=line(NEW_DATA, "bin/app"))),
     ("empty file of a list", 0, dict(data=b"", listed=line(b""))),
@@ -162,9 +184,15 @@ LIST_TABLE = (
     ("file of a list that expires later", 0, dict(options=("--must-expire",), more=UNEXPIRED_FIELD)),
     *((f"file of a list whose size is signed as {size}", 0, dict(more=f"\tsize:{size}"))
       for size in (len(NEW_LIST), len(NEW_DATA) - 1, len(NEW_DATA) + 1, 0)),
-    *((f"file of a list, with keys {' and '.join(keys)}", 0, dict(keys=keys)) for keys in (["own"], ["other", "own"], ["twin", "own"])),
+    *(
+        (f"file of a list, with keys {' and '.join(keys)}", 0, dict(keys=keys))
+        for keys in (["own"], ["other", "own"], ["twin", "own"])
+    ),
     # The data.
-    *((f"list {what}", REJECTED, DIGEST_ERROR, dict(listed=listed, options=options, check_status=0)) for what, listed, options in OTHER_DIGESTS),
+    *(
+        (f"list {what}", REJECTED, DIGEST_ERROR, dict(listed=listed, options=options, check_status=0))
+        for what, listed, options in OTHER_DIGESTS
+    ),
     *((f"file of a list with {what}", REJECTED, DIGEST_ERROR, dict(data=data, check_status=0))
       for what, data in (("a changed byte", NEW_DATA[:-1] + b"x"), ("a byte less", NEW_DATA[:-1]), ("a byte more", NEW_DATA + b"x"),
                          ("no data", b""))),
@@ -194,7 +222,12 @@ LIST_TABLE = (
     ("list with two malformed lines", REJECTED, malformed(2), dict(listed=b"\nfirst\n" + NEW_LIST + b"second\n")),
     ("malformed list without the name", REJECTED, malformed(2), dict(listed=line(NEW_DATA, "other") + b"text\n")),
     ("malformed list with the name twice", REJECTED, malformed(3), dict(listed=2 * line(NEW_DATA) + b"text\n")),
-    ("list that is not UTF-8", REJECTED, error_text(LIST, "this is not UTF-8 text"), dict(listed=NEW_LIST + b"# \xff\n")),
+    (
+        "list that is not UTF-8",
+        REJECTED,
+        error_text(LIST, "this is not UTF-8 text"),
+        dict(listed=NEW_LIST + b"# \xff\n"),
+    ),
     # The signature.
     ("list that is not signed", REJECTED, UNSIGNED_ERROR, dict(signed=EXTENDED_LIST)),
     ("malformed list that is not signed", REJECTED, UNSIGNED_ERROR, dict(listed=b"text\n" + NEW_LIST, signed=NEW_LIST)),
@@ -206,7 +239,12 @@ LIST_TABLE = (
     ("list that is signed under another name", REJECTED, LIST_NAME_ERROR, dict(names="SHA512SUMS")),
     ("list that is signed under a path", REJECTED, LIST_NAME_ERROR, dict(names=f"./{LIST}", list_path=f"./{LIST}")),
     ("renamed list", REJECTED, LIST_NAME_ERROR, dict(list_path="renamed", list_file="renamed")),
-    ("list that is signed under another name, with --name", REJECTED, LIST_NAME_ERROR, dict(names=TARGET, options=("--name", LIST))),
+    (
+        "list that is signed under another name, with --name",
+        REJECTED,
+        LIST_NAME_ERROR,
+        dict(names=TARGET, options=("--name", LIST)),
+    ),
     ("legacy signature of a list", REJECTED, LEGACY_ERROR, dict(legacy=True)),
     ("changed timestamp in the trusted comment of a list", REJECTED,
      error_text("new.sig", "Comment signature verification failed", DOWNLOAD_LIST_AGAIN),
@@ -230,17 +268,32 @@ LIST_TABLE = (
     ("same list", ALREADY_INSTALLED, LIST_IS_INSTALLED),
     ("same list, signed again", ALREADY_INSTALLED, dict(LIST_IS_INSTALLED, more=UNEXPIRED_FIELD)),
     ("same list, and a record without a digest", ALREADY_INSTALLED, dict(number=5, installed=NEW_DATA)),
-    ("another list of the recorded version, with the installed file", ALREADY_INSTALLED, dict(LIST_IS_INSTALLED, listed=EXTENDED_LIST)),
+    (
+        "another list of the recorded version, with the installed file",
+        ALREADY_INSTALLED,
+        dict(LIST_IS_INSTALLED, listed=EXTENDED_LIST),
+    ),
     ("list of the recorded version, with a file that was signed by itself", ALREADY_INSTALLED,
      dict(installed=NEW_DATA, record=recorded(NEW_DATA, 6))),
-    *((f"same list over {what}", 0, dict(record=recorded(NEW_LIST, 6), installed=installed))
-      for what, installed in (("an older file", OLD_DATA), ("a changed file", NEW_DATA[:-1] + b"x"), ("an empty file", b""), ("no file", None))),
+    *(
+        (f"same list over {what}", 0, dict(record=recorded(NEW_LIST, 6), installed=installed))
+        for what, installed in (
+            ("an older file", OLD_DATA),
+            ("a changed file", NEW_DATA[:-1] + b"x"),
+            ("an empty file", b""),
+            ("no file", None),
+        )
+    ),
     ("same list, signed again, over a changed file", 0, dict(record=recorded(NEW_LIST, 6), more=UNEXPIRED_FIELD)),
     *((f"list of the recorded version over {what}", SAME_VERSION, OTHER_DATA_ERROR, dict(record=record))
       for what, record in (("another list", recorded(LATER_LIST, 6)), ("an extended list", recorded(EXTENDED_LIST, 6)),
                            ("the data", recorded(NEW_DATA, 6)), ("a number only", b"6"))),
     ("list of the recorded version, over no file", 0, dict(record=recorded(LATER_LIST, 6), installed=None)),
-    ("older list, with --roll-back", 0, dict(options=ROLL_BACK, record=recorded(LATER_LIST, 7), installed=LATER_DATA, new_record=recorded(NEW_LIST, 7))),
+    (
+        "older list, with --roll-back",
+        0,
+        dict(options=ROLL_BACK, record=recorded(LATER_LIST, 7), installed=LATER_DATA, new_record=recorded(NEW_LIST, 7)),
+    ),
     ("older list that is installed already, with --roll-back", ALREADY_INSTALLED,
      dict(options=ROLL_BACK, record=recorded(NEW_LIST, 7), installed=NEW_DATA)),
     ("older list that is not signed, with --roll-back", REJECTED, UNSIGNED_ERROR,
@@ -393,7 +446,13 @@ def limits_listed_data(directory, limit, status):
 )
 def reads_no_more_with_list(directory, listed, count, **offered):
     directory.put(LIST, listed)
-    reads_no_more(directory, count, ("--list", LIST, "--max-size", "1000"), REJECTED, **{"signed": listed, "names": LIST, **offered})
+    reads_no_more(
+        directory,
+        count,
+        ("--list", LIST, "--max-size", "1000"),
+        REJECTED,
+        **{"signed": listed, "names": LIST, **offered},
+    )
 
 
 @list_cases.table("--list rejects endless data by --max-size")

@@ -263,7 +263,8 @@ OPENS(openat, (int directory, const char *path, int flags, ...), directory, path
     }
 
 FAILS(int, -1, fstat, fd, NULL, (int fd, struct stat *status), (fd, status))
-FAILS(int, -1, fstatat, -1, path, (int directory, const char *path, struct stat *status, int flags), (directory, path, status, flags))
+FAILS(int, -1, fstatat, -1, path, (int directory, const char *path, struct stat *status, int flags),
+      (directory, path, status, flags))
 FAILS(int, -1, stat, -1, path, (const char *path, struct stat *status), (path, status))
 FAILS(int, -1, statx, -1, path, (int directory, const char *path, int flags, unsigned mask, struct statx *status),
       (directory, path, flags, mask, status))
@@ -276,7 +277,8 @@ FAILS(off_t, -1, lseek, fd, NULL, (int fd, off_t at, int from), (fd, at, from))
 FAILS(ssize_t, -1, getrandom, -1, NULL, (void *bytes, size_t size, unsigned flags), (bytes, size, flags))
 FAILS(ssize_t, -1, getxattr, -1, path, (const char *path, const char *name, void *bytes, size_t size), (path, name, bytes, size))
 FAILS(ssize_t, -1, fgetxattr, fd, NULL, (int fd, const char *name, void *bytes, size_t size), (fd, name, bytes, size))
-FAILS(int, -1, fsetxattr, fd, NULL, (int fd, const char *name, const void *bytes, size_t size, int flags), (fd, name, bytes, size, flags))
+FAILS(int, -1, fsetxattr, fd, NULL, (int fd, const char *name, const void *bytes, size_t size, int flags),
+      (fd, name, bytes, size, flags))
 FAILS(int, -1, fremovexattr, fd, NULL, (int fd, const char *name), (fd, name))
 FAILS(struct dirent *, NULL, readdir, -1, NULL, (DIR *entries), (entries))
 

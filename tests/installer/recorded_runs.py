@@ -15,8 +15,9 @@ WORD selects the cases and mutants whose name contains it. recording.py records 
   * another process breaks the rules, because it replaces the record while a run holds the lock. The rules do not bind this run any
     more, and `trace_reader` has to name the item of the other process.
 
-recording.py itself compares the options, the file name, the time and the exit status of a run with the expected ones. The mutants in
-recorded_mutants break the code that performs operations. For each mutant, a run of its case must have an offence.
+recording.py itself compares the options, the file name, the time and the exit status of a run with the expected ones.
+The mutants in recorded_mutants break the code that performs operations. For each mutant, a run of its case must have an
+offence.
 
 Needs the program `trace_reader`, as `rt ci` or `rt run` built it, Python 3.9 or later, Debian's Python with setuptools and wheel,
 make, a C compiler, libsodium with its header, minisign and git. Prints a line for each case that failed; the last line is
@@ -50,7 +51,7 @@ import mutants
 import needs
 import proved
 import recording
-import selected
+import case_selection
 import static_library
 import test_script
 import updates
@@ -64,8 +65,8 @@ from traces import PROGRAM, digest
 
 OPTION_LETTERS = {"--first": "F", "--again": "A", "--check": "C", "--must-expire": "X", "--new-key": "K", "--roll-back": "B"}
 STANDARD_INPUT = "/dev/stdin"
-# In place of an expected exit status: another process breaks the rules in at least one run of the case. In such a run, `trace_reader` must
-# report the item of the other process.
+# In place of an expected exit status: another process breaks the rules in at least one run of the case. In such a run,
+# `trace_reader` must report the item of the other process.
 BREAKS_THE_RULES = "another process breaks the rules"
 # The cases by name. A case is a function that gets a `RecordedDirectory` and yields pairs: an expected exit status, None or
 # BREAKS_THE_RULES; and a list of recorded runs.
@@ -73,8 +74,8 @@ cases, package_cases = {}, {}
 
 
 def case(name, of_package=True):
-    """Decorates a function as a case for `minisign-install`, and if `of_package` is true, also for the Python package, which calls the
-    same C code."""
+    """Decorates a function as a case for `minisign-install`, and if `of_package` is true, also for the Python package,
+    which calls the same C code."""
 
     def add(function):
         cases[name] = function
@@ -98,8 +99,8 @@ class RecordedDirectory(Directory):
 
     def make_offer(self, name="new", data=NEW_DATA, number=6, signed=None, legacy=False, names=TARGET, label="timestamp", more="",
                    forge=bytes):
-        """Offers an update, as `Directory.offer` does. `forge` changes the signature file. Returns the signature file, the data, and
-        the signatures that Ed25519 accepts, as tuples of message, key and signature."""
+        """Offers an update, as `Directory.offer` does. `forge` changes the signature file. Returns the signature file,
+        the data, and the signatures that Ed25519 accepts, as tuples of message, key and signature."""
         comment = f"{label}:{number}\tfile:{names}{more}".encode()
         signed = data if signed is None else signed
         text = self.signer.sign(signed, comment.decode(), legacy)
@@ -122,14 +123,20 @@ class RecordedDirectory(Directory):
         for line in text.split(b"\n")[2:3]:
             limits += [int(field[5:]) for field in line.split(b"\t") if field[:5] == b"size:" and field[5:].isdigit()]
         records = [updates.key_records(self)[key][2:] for key in keys or ["own"]]
-        arguments = [*options, *updates.key_arguments(self, keys), *([] if "--check" in options else [source]), f"{name}.sig", TARGET]
+        arguments = [
+            *options,
+            *updates.key_arguments(self, keys),
+            *([] if "--check" in options else [source]),
+            f"{name}.sig",
+            TARGET,
+        ]
         return Command(arguments, letters, records, text, data, accepted, values.get("--name", TARGET).encode(),
                        int(values["--mode"], 8) if "--mode" in values else None, source == STANDARD_INPUT,
                        min(limits) + 1 if limits else None)
 
     def record(self, *commands, choose=lambda waiting: waiting[0], events=()):
-        """Records runs of these commands at the same time. `choose` chooses the run to continue (`run_to_end`). `events` has the `Events`
-        of the first runs."""
+        """Records runs of these commands at the same time. `choose` chooses the run to continue (`run_to_end`).
+        `events` has the `Events` of the first runs."""
         events = [*events, *[None] * len(commands)]
         runs = [RecordedRun(self.path, command, each) for command, each in zip(commands, events)]
         for run in runs:
@@ -188,7 +195,9 @@ SITUATIONS = {
     "the same update": updates.NEW_IS_INSTALLED,
     "the same update from a pipe": dict(updates.NEW_IS_INSTALLED, source=STANDARD_INPUT),
     "a changed file": dict(record=updates.recorded(NEW_DATA, 6)),
-    "other data with --again": dict(options=("--again",), data=LATER_DATA, installed=NEW_DATA, record=updates.recorded(NEW_DATA, 6)),
+    "other data with --again": dict(
+        options=("--again",), data=LATER_DATA, installed=NEW_DATA, record=updates.recorded(NEW_DATA, 6)
+    ),
     "a roll-back": dict(options=("--roll-back",), record=updates.recorded(OLD_DATA, 7)),
     "other data than was signed": dict(signed=LATER_DATA),
     "two keys of one key ID": dict(keys=("twin", "own")),
@@ -219,7 +228,8 @@ def prepare_command(directory, installed=OLD_DATA, record=b"5", options=(), keys
 
 
 def runs_with_each_call_broken(directory, situation, events):
-    """Yields the results of runs in which each call in turn has the fault of `events`. After a kill, the same command runs again."""
+    """Yields the results of runs in which each call in turn has the fault of `events`. After a kill, the same command
+    runs again."""
     at, is_reached = 0, True
     while is_reached:
         at += 1
@@ -295,10 +305,19 @@ def offers(directory):
 @case("runs at once, in many orders")
 def runs_at_once(directory, orders=6):
     commands = offers(directory)
-    groups = (("newer", "newest"), ("newer", "newer"), ("newer", "from a pipe"), ("newest from a pipe", "newer"), ("older", "newer"),
-              ("bad", "newer"),
-              ("rolled back", "newer"), ("again", "newer"), ("checked", "newest"), ("checked", "newer", "bad"),
-              ("newer", "newest", "rolled back"))
+    groups = (
+        ("newer", "newest"),
+        ("newer", "newer"),
+        ("newer", "from a pipe"),
+        ("newest from a pipe", "newer"),
+        ("older", "newer"),
+        ("bad", "newer"),
+        ("rolled back", "newer"),
+        ("again", "newer"),
+        ("checked", "newest"),
+        ("checked", "newer", "bad"),
+        ("newer", "newest", "rolled back"),
+    )
     for number, group in enumerate(groups):
         for order in range(orders):
             prepare_command(directory, data=b"")
@@ -348,8 +367,8 @@ def remove(directory, name):
         os.remove(directory.path_of(name))
 
 
-# Changes by another process: a name, a function, and the situations. A lawful process changes the record only while it holds the lock, so
-# only a check, which does not take the lock, can find that the record was changed.
+# Changes by another process: a name, a function, and the situations. A lawful process changes the record only while it
+# holds the lock, so only a check, which does not take the lock, can find that the record was changed.
 CHANGES = (
     ("another file is put at the target", lambda directory: put_at_target(directory, b"other"),
      ("a newer update", "the same update", "a check")),
@@ -367,7 +386,9 @@ def runs_with_each_change(directory, situation, change):
     at, is_reached = 0, True
     while is_reached:
         at += 1
-        runs = directory.record(prepare_command(directory, **situation), events=[Events(changed_at=at, change=partial(change, directory))])
+        runs = directory.record(
+            prepare_command(directory, **situation), events=[Events(changed_at=at, change=partial(change, directory))]
+        )
         yield None, runs
         is_reached = runs[0].count >= at
 
@@ -418,8 +439,12 @@ class Sources:
     def __init__(self, scratch):
         self.scratch, self.library = scratch, static_library.library(os.path.join(scratch, "out"))
         paths = [*glob.glob(f"{proved.ROOT}/c/install/*.c"), *glob.glob(f"{proved.ROOT}/c/shared/*.c"), f"{HERE}/recorded_calls.c"]
-        self.objects = {os.path.relpath(path, proved.ROOT): compile_object(path, scratch, os.path.basename(path).replace(".c", ".o"))
-                        for path in paths}
+        self.objects = {
+            os.path.relpath(path, proved.ROOT): compile_object(
+                path, scratch, os.path.basename(path).replace(".c", ".o")
+            )
+            for path in paths
+        }
 
     def program(self, name="recorded", changed=None):
         """Links the program. `changed` has object files that replace others, by source file."""
@@ -433,7 +458,9 @@ class Sources:
         """Builds the program with a mutant."""
         copy = mutants.copy_sources(self.scratch, "c")
         mutants.apply(mutant, copy)
-        return self.program(f"recorded-{mutant.name}", {mutant.file: compile_object(os.path.join(copy, mutant.file), copy, "mutant.o")})
+        return self.program(
+            f"recorded-{mutant.name}", {mutant.file: compile_object(os.path.join(copy, mutant.file), copy, "mutant.o")}
+        )
 
 
 def program_starter(program):
@@ -533,7 +560,7 @@ def offences(run, what, decided):
 
 def check_cases(checks, start, signer, what, names):
     for name, function in names.items():
-        if selected.is_selected(name):
+        if case_selection.is_selected(name):
             try:
                 runs = recorded_case(start, signer, function)
                 failures = [*failures_of_case(name, runs)]
@@ -558,7 +585,7 @@ def run_all(checks, scratch):
     check_cases(checks, program_starter(sources.program()), signer, "minisign-install", cases)
     check_cases(checks, load_package(scratch), signer, "the Python package", package_cases)
     for mutant in mutants.mutants_of("installer", "recorded_mutants"):
-        if selected.is_selected(mutant.name):
+        if case_selection.is_selected(mutant.name):
             why = check_mutant(sources, signer, mutant)
             checks.check(not why, why)
 

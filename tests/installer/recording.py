@@ -27,11 +27,14 @@ import proved
 from installers import ALREADY_INSTALLED, LOCK, RECORD, TARGET, TEMPORARY_PREFIX
 from running import SECONDS, Failure, read
 
-# The functions of minisign_install.h, without the prefix of their names, and the functions of the C library that recorded_calls.c wraps.
+# The functions of minisign_install.h, without the prefix of their names, and the functions of the C library that
+# recorded_calls.c wraps.
 MACHINE_CALLS = ("init", "done", "copied", "failed", "record", "no_record", "piece", "no_target", "answer", "signature")
-SYSTEM_CALLS = ("open", "openat", "fstat", "fstatat", "stat", "statx", "fchmod", "fchown", "renameat", "unlinkat", "lseek", "getrandom",
-                "getxattr", "fgetxattr", "fsetxattr", "fremovexattr", "readdir", "fsync", "flock", "read", "write", "pread", "close",
-                "clock_gettime", "nanosleep")
+SYSTEM_CALLS = (
+    "open", "openat", "fstat", "fstatat", "stat", "statx", "fchmod", "fchown", "renameat", "unlinkat", "lseek",
+    "getrandom", "getxattr", "fgetxattr", "fsetxattr", "fremovexattr", "readdir", "fsync", "flock", "read", "write",
+    "pread", "close", "clock_gettime", "nanosleep",
+)
 # System calls that may change files. The files are inspected after them and before each call of a machine. If several runs are
 # recorded at once, the files are inspected before each call.
 CHANGING_CALLS = ("open", "openat", "fchmod", "renameat", "unlinkat", "write")
@@ -40,11 +43,16 @@ WRAP_OPTIONS = [f"-Wl,--wrap={name}" for name in (*(f"minisign_install_{call}" f
 # The names of operations, by number.
 HEADER = read(proved.ROOT, "include", "minisign_install.h").decode()
 OPERATIONS = {int(number): name for name, number in re.findall(r"MINISIGN_DUE_(\w+) = (\d+)", HEADER)}
-# The final operations of a machine, and the exit statuses of minisign-install that are correct for them. WOULD_INSTALL is the result of a
-# check. --check may still fail then, because the target cannot be replaced. Without --check, a run first checks data from a pipe, and
-# ends with WOULD_INSTALL only if it cannot receive the data.
+# The final operations of a machine, and the exit statuses of minisign-install that are correct for them. WOULD_INSTALL
+# is the result of a check. --check may still fail then, because the target cannot be replaced. Without --check, a run
+# first checks data from a pipe, and ends with WOULD_INSTALL only if it cannot receive the data.
 FAILURES = range(1, ALREADY_INSTALLED)
-FINAL_STATUSES = {"INSTALLED": (0,), "WOULD_INSTALL": (0, *FAILURES), "ALREADY_INSTALLED": (ALREADY_INSTALLED,), "REJECTED": FAILURES}
+FINAL_STATUSES = {
+    "INSTALLED": (0,),
+    "WOULD_INSTALL": (0, *FAILURES),
+    "ALREADY_INSTALLED": (ALREADY_INSTALLED,),
+    "REJECTED": FAILURES,
+}
 CONSTANTS = dict(re.findall(r"MINISIGN_(\w+) = (0x[0-9a-f]+|\d+)", read(proved.ROOT, "include", "minisign.h").decode()))
 TARGET_IN_USE = int(CONSTANTS["TARGET_IN_USE"])
 ANSWERS = {int(CONSTANTS["ANSWER_YES"], 16): "accepted", int(CONSTANTS["ANSWER_NO"], 16): "refused"}
@@ -140,15 +148,15 @@ class Command:
 class Events:
     """What happens during a run."""
 
-    # The call of number `at` has this fault: an errno, SHORT or KILL. For KILL all calls are counted, otherwise only system calls, and
-    # if `calls` is not empty, only those of these names.
+    # The call of number `at` has this fault: an errno, SHORT or KILL. For KILL all calls are counted, otherwise only
+    # system calls, and if `calls` is not empty, only those of these names.
     at: int = 0
     fault: object = 0
     calls: tuple = ()
     # True if the call is executed before it fails.
     is_executed: bool = False
-    # The times that the clock shows one after another; the last one is repeated. A number below -1 is a negative errno with which the
-    # clock fails.
+    # The times that the clock shows one after another; the last one is repeated. A number below -1 is a negative errno
+    # with which the clock fails.
     clock: list = field(default_factory=lambda: [1000])
     # Before the call of this number (all calls are counted), the function `change` is called, which acts as another process.
     changed_at: int = 0
@@ -201,7 +209,8 @@ class RecordedRun:
         self.lock_failed = self.is_held_by_others = False
         # The time that the clock last showed, or -1 if it failed.
         self.clock_time = None
-        # True if the pending call may change files, if several runs are recorded at once, and if the next report has to be a failure.
+        # True if the pending call may change files, if several runs are recorded at once, and if the next report has to
+        # be a failure.
         self.may_change = self.has_concurrent_runs = self.has_to_fail = False
 
     # == The process ==
@@ -313,8 +322,8 @@ class RecordedRun:
         command, is_first = self.command, not self.traces
         letters, data = command.letters, command.data
         given = [letter for letter, flag in zip(OPTION_LETTERS, flags) if flag] + ["T"] * (numbering == 0)
-        # The first machine for data from a pipe makes a check. Only if the data cannot be opened, the run does not know that it is a
-        # pipe and makes no check. Then the first report must be a failure.
+        # The first machine for data from a pipe makes a check. Only if the data cannot be opened, the run does not know
+        # that it is a pipe and makes no check. Then the first report must be a failure.
         self.has_to_fail = command.is_pipe and is_first and "C" not in given
         if command.is_pipe and is_first and not self.has_to_fail:
             letters += "" if "C" in letters else "C"
@@ -461,8 +470,8 @@ class RecordedRun:
             self.add_effect("data_grown" if is_grown else "data_overwritten", octets=grown + octets[len(before.data):])
 
     def effect_of(self, report):
-        """Returns the effect of the operation that is due: its name, inode and bytes. For a failed operation, effects on its temporary
-        file are left out."""
+        """Returns the effect of the operation that is due: its name, inode and bytes. For a failed operation, effects
+        on its temporary file are left out."""
         effects = self.effects
         if report == "failed":
             effects = [effect for effect in effects if not effect[0] in IGNORED_EFFECTS.get(self.due, ())]
@@ -495,7 +504,11 @@ class RecordedRun:
         elif self.due == "SET_PERMISSIONS" and self.data_file in files.temporary:
             if files.temporary[self.data_file].mode in self.allowed_modes:
                 yield "data_permitted", "-"
-        elif self.due == "REMOVE_FILES" and not self.own_temporary_files() and not any(effect[0] == "files_removed" for effect in self.effects):
+        elif (
+            self.due == "REMOVE_FILES"
+            and not self.own_temporary_files()
+            and not any(effect[0] == "files_removed" for effect in self.effects)
+        ):
             yield "files_removed", "-"
 
     # == What other processes did ==
@@ -538,7 +551,7 @@ def start_program(program, path, **streams):
 
 
 def run_to_end(runs, choose):
-    """Continues started runs, one call at a time, until all have finished. `choose` gets the runs that wait and returns the next one
-    to continue."""
+    """Continues started runs, one call at a time, until all have finished. `choose` gets the runs that wait and returns
+    the next one to continue."""
     while waiting := [run for run in runs if run.pending is not None]:
         choose(waiting).continue_run()

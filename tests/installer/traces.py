@@ -46,8 +46,8 @@ TARGET, RECORD = 1, 2
 NEW_FILE, NEW_RECORD = 7, 8
 # The letters for options of a run.
 FIRST, CHECK, ROLL_BACK, NEW_KEY = "F", "C", "B", "K"
-# The positions of words in an item for a call: what the installer reported, with its bytes, and what the call did to the files, with
-# the bytes that it wrote.
+# The positions of words in an item for a call: what the installer reported, with its bytes, and what the call did to
+# the files, with the bytes that it wrote.
 REPORT, REPORTED_BYTES, EFFECT, WRITTEN_BYTES = 1, 2, 4, 6
 
 
@@ -70,17 +70,26 @@ def signature_file(comment):
 
 
 class Run:
-    """A trace: the words `head` describe the run, and each item has the words of a call or of a change by another process. The methods
-    append items and return the run."""
+    """A trace: the words `head` describe the run, and each item has the words of a call or of a change by another
+    process. The methods append items and return the run."""
 
     def __init__(self, options="-", version=3, update=NEW_DATA, record=record_text(2, OLD_DATA), target=OLD_DATA):
         comment = b"version:%d\tfile:app" % version
         self.version, self.update, self.record, self.signature = version, update, record, signature_file(comment)
         files = [[str(number), hex_word(data)] if data is not None else ["-", "-"]
                  for number, data in ((TARGET, target), (RECORD, record))]
-        self.head = [options, hex_word(KEY_ID + KEY), hex_word(OTHER_KEY_ID + OTHER_KEY), hex_word(b"app"), hex_word(self.signature),
-                     hex_word(update),
-                     "100", hex_word(record), *files[0], *files[1]]
+        self.head = [
+            options,
+            hex_word(KEY_ID + KEY),
+            hex_word(OTHER_KEY_ID + OTHER_KEY),
+            hex_word(b"app"),
+            hex_word(self.signature),
+            hex_word(update),
+            "100",
+            hex_word(record),
+            *files[0],
+            *files[1],
+        ]
         for message, signature in ((DATA_SIGNATURE + comment, COMMENT_SIGNATURE), (digest(update), DATA_SIGNATURE)):
             self.head += ["signed", hex_word(message), hex_word(KEY), hex_word(signature)]
         self.items = []

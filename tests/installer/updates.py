@@ -237,7 +237,11 @@ UPDATE_TABLE = (
     ("greatest version, over a record of a number only", 0, dict(options=BY_VERSION, label="version", number=2 ** 64 - 1)),
     ("--first", 0, dict(options=FIRST, record=None)),
     ("--first, and no installed file", 0, dict(options=FIRST, record=None, installed=None)),
-    ("--first with a version, and no installed file", 0, dict(options=(*FIRST, *BY_VERSION), record=None, installed=None, label="version")),
+    (
+        "--first with a version, and no installed file",
+        0,
+        dict(options=(*FIRST, *BY_VERSION), record=None, installed=None, label="version"),
+    ),
     ("--first with a version, over a timestamp", 0,
      dict(options=(*FIRST, *BY_VERSION), record=recorded(OLD_DATA, 1700000000), label="version", number=2)),
     ("--first with a timestamp, over a version", 0,
@@ -259,7 +263,12 @@ UPDATE_TABLE = (
     ("same update, over a record of a number only", ALREADY_INSTALLED, dict(number=5, installed=NEW_DATA)),
     ("other data under the recorded version", SAME_VERSION, OTHER_DATA_ERROR, dict(record=b"timestamp:6")),
     ("other data under a recorded number", SAME_VERSION, OTHER_DATA_ERROR, dict(record=b"6")),
-    ("other data under the recorded version, with --first", SAME_VERSION, OTHER_DATA_ERROR, dict(record=b"timestamp:6\n", options=FIRST)),
+    (
+        "other data under the recorded version, with --first",
+        SAME_VERSION,
+        OTHER_DATA_ERROR,
+        dict(record=b"timestamp:6\n", options=FIRST),
+    ),
     ("another update of the recorded version", SAME_VERSION, OTHER_DATA_ERROR, dict(record=recorded(NEW_DATA, 6), data=LATER_DATA)),
     ("another update of the installed version", SAME_VERSION, OTHER_DATA_ERROR, dict(NEW_IS_INSTALLED, data=LATER_DATA)),
     ("recorded number, and another file", SAME_VERSION, OTHER_DATA_ERROR, dict(number=5)),
@@ -283,7 +292,10 @@ UPDATE_TABLE = (
     ("update that is signed for another file", REJECTED, FILE_NAME_ERROR, dict(names="other")),
     ("same update, signed for another file", REJECTED, FILE_NAME_ERROR, dict(NEW_IS_INSTALLED, names="other")),
     ("no timestamp", REJECTED, NO_TIMESTAMP_ERROR, dict(label="version")),
-    *((f"timestamp {number!r}", REJECTED, NO_TIMESTAMP_ERROR, dict(number=number)) for number in (2 ** 64, "six", "+6", "-6", " 6")),
+    *(
+        (f"timestamp {number!r}", REJECTED, NO_TIMESTAMP_ERROR, dict(number=number))
+        for number in (2**64, "six", "+6", "-6", " 6")
+    ),
     ("no version", REJECTED, NO_VERSION_ERROR, dict(options=BY_VERSION, record=b"version:5")),
     ("version with a plus sign", REJECTED, NO_VERSION_ERROR, dict(options=BY_VERSION, label="version", number="+6")),
     ("legacy signature", REJECTED, LEGACY_ERROR, dict(legacy=True)),
@@ -292,8 +304,12 @@ UPDATE_TABLE = (
      dict(number=4, forge=lambda text: text.replace(b"timestamp:4", b"timestamp:9"))),
     ("changed file name in the trusted comment", REJECTED, COMMENT_ERROR,
      dict(names="other", forge=lambda text: text.replace(b"file:other", f"file:{TARGET}".encode()))),
-    ("signature file of two lines", REJECTED, error_text("new.sig", "this signature is truncated: it has only 2 of 4 lines", COPY_AGAIN),
-     dict(forge=lambda text: b"".join(text.splitlines(True)[:2]))),
+    (
+        "signature file of two lines",
+        REJECTED,
+        error_text("new.sig", "this signature is truncated: it has only 2 of 4 lines", COPY_AGAIN),
+        dict(forge=lambda text: b"".join(text.splitlines(True)[:2])),
+    ),
     ("truncated signature file, and a damaged record", UNRECORDED, DAMAGED_RECORD_ERROR,
      dict(record=b"five", forge=lambda text: text[:40])),
     # Expiry, and the clock.
@@ -338,8 +354,16 @@ UPDATE_TABLE = (
     ("keys twin and twin", REJECTED, COMMENT_ERROR, dict(keys=["twin", "twin"])),
     *((f"older update with keys {' and '.join(keys)}", OLDER_VERSION, OLDER_ERROR, dict(keys=keys, number=4))
       for keys in (["own", "twin"], ["twin", "own"])),
-    ("keys other", REJECTED, error_text("new.sig", "the signature was made with a different key: the key IDs differ", "use the public key of the signer"),
-     dict(keys=["other"])),
+    (
+        "keys other",
+        REJECTED,
+        error_text(
+            "new.sig",
+            "the signature was made with a different key: the key IDs differ",
+            "use the public key of the signer",
+        ),
+        dict(keys=["other"]),
+    ),
     # The record holds the greatest version number. Only an update under another key than the recorded one, with --first or
     # --new-key, is installed over it.
     *(row for what, keys, record, *ended in (
@@ -382,10 +406,14 @@ UPDATE_TABLE = (
      error_text(RECORD_PATH, "this file is too long for a version record", "remove it and use --first to install anyway"),
      dict(record=b"5".rjust(259, b"0"))),
     ("record of too many digits", UNRECORDED, DAMAGED_RECORD_ERROR, dict(record=b"5".rjust(258, b"0"))),
-    *((f"record {record}", UNRECORDED, DAMAGED_RECORD_ERROR, dict(record=record))
-      for record in (b"", b"\n", b"six", b"5\n5\n", b"+5", b"timestamp:", b"timestamp:+5", b"timestamp: 5", b"Timestamp:5", b"time:5",
-                     b"5timestamp:", b"timestamp:version:5", b"timestamp:5\tversion:5", b"timestamp:18446744073709551616", b"version:",
-                     b"version:x")),
+    *(
+        (f"record {record}", UNRECORDED, DAMAGED_RECORD_ERROR, dict(record=record))
+        for record in (
+            b"", b"\n", b"six", b"5\n5\n", b"+5", b"timestamp:", b"timestamp:+5", b"timestamp: 5", b"Timestamp:5",
+            b"time:5", b"5timestamp:", b"timestamp:version:5", b"timestamp:5\tversion:5",
+            b"timestamp:18446744073709551616", b"version:", b"version:x",
+        )
+    ),
     # Records without a digest, or with a damaged one. Their version number is compared, but not the data.
     *((f"timestamp {number}, over {'the same' if installed == NEW_DATA else 'another'} file and a record of 5 ({what})", *ended,
        dict(number=number, installed=installed, record=record))
@@ -504,8 +532,8 @@ def removes_leftovers(directory):
 LINK_ERROR = "this is a symbolic link, which is not followed"
 LINK_HINT = "use the path that it points to"
 MOVE_HINT = "remove it or move it away"
-# Objects in place of a regular file: a function that makes the object at a path, the error, and the hint for a target. For a record or
-# a lock, the hint is MOVE_HINT.
+# Objects in place of a regular file: a function that makes the object at a path, the error, and the hint for a target.
+# For a record or a lock, the hint is MOVE_HINT.
 NOT_REGULAR = {
     "pipe": (os.mkfifo, "this is not a regular file", MOVE_HINT),
     "link": (lambda path: os.symlink("behind", path), LINK_ERROR, LINK_HINT),
@@ -515,7 +543,11 @@ NOT_REGULAR = {
 
 
 @update_cases.table(
-    *((f"rejects a {kind} as the {what}", kind, name, b"4") for kind in NOT_REGULAR for what, name in (("record", RECORD), ("lock", LOCK))),
+    *(
+        (f"rejects a {kind} as the {what}", kind, name, b"4")
+        for kind in NOT_REGULAR
+        for what, name in (("record", RECORD), ("lock", LOCK))
+    ),
     *((f"rejects a {kind} as the target", kind, TARGET, OLD_DATA) for kind in NOT_REGULAR),
     ("rejects a link to the update as the target", "link", TARGET, NEW_DATA, True),
     ("rejects a pipe as the target of the recorded version", "pipe", TARGET, NEW_DATA, True),

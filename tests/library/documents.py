@@ -37,7 +37,7 @@ GENERATED = "docs/TRUSTED.md"
 CALLS = re.compile(r"crates/([^/]+)/CALLING\.md")
 # The documents with commands and examples, and the script that runs their blocks of each language. A block without
 # a language shows output or lines of a file, and is not run.
-COMMANDS, PACKAGES = "tests/c/commands.py", "tests/bindings/install_commands.py"
+COMMANDS, PACKAGES = "tests/c/document_commands.py", "tests/bindings/install_commands.py"
 RUN_BY = {
     "README.md": {"sh": COMMANDS, "c": "tests/c/installed.py"},
     "docs/GUIDE.md": {"sh": "tests/tool/guide_commands.py", "rust": "tests/library/new_repository.py"},
@@ -53,7 +53,7 @@ RUN_BY = {
     "bindings/rust-minisign/README.md": {"toml": "tests/bindings/drop_in.py", "rust": "tests/bindings/drop_in.py"},
 }
 # The first lines of the code blocks that are indented instead of fenced: the usage, the output of a command, and
-# the files of examples/updater, which tests/installer/checking.py compares with the document.
+# the files of examples/updater, which tests/installer/check_option.py compares with the document.
 INDENTED = {"docs/LISTS.md": ["minisign-check -p PUBKEY [OPTION ..] LIST [FILE ..]"],
             "docs/INSTALLING.md": ["minisign-install [OPTION ..] PK DATA SIG TARGET", "2",
                                     "[Unit]", "[Service]", "[Unit]", "[Timer]", "[Install]", "#!/bin/sh"]}
@@ -72,8 +72,10 @@ TEXT = re.compile(r'"((?:[^"\\]|\\.)*)"')
 
 
 # Files whose code defines names, and files whose comments are checked.
-CODE = (".rt", ".rt.txt", ".antt", ".antt.txt", ".c", ".h", ".js", ".mjs", ".ts", ".go", ".rs", ".py", ".sh", ".html", ".toml", ".json",
-        "Makefile", ".ci/run")
+CODE = (
+    ".rt", ".rt.txt", ".antt", ".antt.txt", ".c", ".h", ".js", ".mjs", ".ts", ".go", ".rs", ".py", ".sh", ".html",
+    ".toml", ".json", "Makefile", ".ci/run",
+)
 COMMENTED = (*CODE, ".css", ".txt", ".1", ".3", ".edit")
 # The syntax of comments, by the ending of the file, where it differs from Rattle's. In Python, a string in triple
 # quotes is a comment if it is a statement.
@@ -85,7 +87,9 @@ OTHER_COMMENTS = {
 }
 # Words that have the form of a name, because they have an underscore or a capital letter inside.
 NAMES_IN_COMMENTS = re.compile(r"(?<![\w`./:-])(?:[A-Za-z]\w+_\w+|[A-Za-z][a-z0-9]+[A-Z]\w*)(?![\w`])")
-PATHS_IN_COMMENTS = re.compile(r"(?<![\w`./-])(?:\.ci|bench|bindings|c|compare|crates|docs|examples|include|page|tests|tools)/[\w/-]+\.[a-z]+\b")
+PATHS_IN_COMMENTS = re.compile(
+    r"(?<![\w`./-])(?:\.ci|bench|bindings|c|compare|crates|docs|examples|include|page|tests|tools)/[\w/-]+\.[a-z]+\b"
+)
 # A path in a directory that only some machines or users have.
 MACHINE_PATH = re.compile(r"(?<![\w.])/(?:opt|work|root|home|Users)/\S*")
 # Words that have the form of a name but come from outside the repository.

@@ -82,7 +82,10 @@ def check_documents(directory):
     for line in library_lines.values():
         expect(line in read("crates.txt").splitlines(), f"crates.txt has no line {line!r}")
     crate = proved.Crate(caller_line, {name: proved.crates()[name] for name in library_lines})
-    expect({*crate.dependencies} == {*library_lines}, f"{CALLER} depends on {crate.dependencies}, but the lines have {[*library_lines]}")
+    expect(
+        {*crate.dependencies} == {*library_lines},
+        f"{CALLER} depends on {crate.dependencies}, but the lines have {[*library_lines]}",
+    )
     write_caller(directory)
     prove(directory, crate, f"{MODULE}::check_update")
 
@@ -100,7 +103,11 @@ def check_pages(directory, libraries):
     callers = {f"of_{library}": caller_of(library) for library in libraries}
     text, modules = "".join(callers.values()), "".join(f"pub mod {name};\n" for name in callers)
     kit_crates = {name for crate in proved.crates().values() for name in crate.kit_dependencies} - {"std"}
-    named = [crate for crate in (*proved.crates(), *sorted(kit_crates)) if crate in libraries or re.search(rf"\b{crate}(?:::|\.)", text)]
+    named = [
+        crate
+        for crate in (*proved.crates(), *sorted(kit_crates))
+        if crate in libraries or re.search(rf"\b{crate}(?:::|\.)", text)
+    ]
     os.makedirs(f"{directory}/src")
     for name, source in {"lib": f"{TACTIC}\n{modules}", **callers}.items():
         write(directory, f"src/{name}.rt", f"//! Callers.\n\n{source}".encode())

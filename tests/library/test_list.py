@@ -149,7 +149,10 @@ def check_packages(checks):
     lines, expected = re.findall(r"(?m)^apt(?:-get)? install .*$", read("README.md")), [f"apt install $(cat {PACKAGES})"]
     checks.check(lines == expected, f"README.md installs packages with {lines}, expected {expected}")
     packages = read(PACKAGES).split()
-    checks.check(read(PACKAGES) == "".join(f"{name}\n" for name in sorted({*packages})), f"{PACKAGES} must have one name per line, sorted")
+    checks.check(
+        read(PACKAGES) == "".join(f"{name}\n" for name in sorted({*packages})),
+        f"{PACKAGES} must have one name per line, sorted",
+    )
     needed = {package for script in glob.glob("tests/*/*.py") for package in packages_asked_for(script)}
     checks.check(len(needed) > 20, f"the scripts need {len(needed)} packages, expected more than 20")
     # libc6-dev need not be listed, because the package gcc depends on it.

@@ -26,7 +26,7 @@ sys.path[:0] = [os.path.join(TESTS, name) for name in ("rows", "tool", "shared",
 
 import named_errors
 import needs
-import real_runs
+import tool_program
 import rows
 import test_script
 from process import run
@@ -48,7 +48,10 @@ INVALID_VECTORS = (
     "no edit\n    edit minisign/nothing_is_rejected",
     "no kind | 1\n    sentence 1",
     "another value | out=254\n    row hashing: number stored: 255",
-    "in a comment | The status lines after success\n    test signatures::published::copies_published_legacy_signature_without_seeking",
+    (
+        "in a comment | The status lines after success\n    test"
+        " signatures::published::copies_published_legacy_signature_without_seeking"
+    ),
     "in a comment of a fact | RFC 7693, appendix A\n    fact minisign_hash: digest_of_abc",
     "no test | ToyScheme::with_table\n    test signatures::published::verified",
     "in another test | sixteen == bytes\n    test hash::blake2b_sizes_are_those_of_the_rfc",
@@ -62,8 +65,14 @@ INVALID_VECTORS = (
 VECTORS = "minisign_vectors"
 USED = (VECTORS, "minisign_fixtures", "minisign_examples")
 # The script that runs the tests of each kind. `rt ci` runs the kinds that are missing here: `test` and `run`.
-RUN_BY = {"row": "tests/rows/rows.py", "error": "tests/rows/rows.py", "case": "tests/tool/real_runs.py",
-          "edit": "tests/proofs/wrong_bodies.py", "fact": "tests/proofs/wrong_facts.py", "memory": "tests/library/refused_memory.py"}
+RUN_BY = {
+    "row": "tests/rows/rows.py",
+    "error": "tests/rows/rows.py",
+    "case": "tests/tool/tool_program.py",
+    "edit": "tests/proofs/wrong_bodies.py",
+    "fact": "tests/proofs/wrong_facts.py",
+    "memory": "tests/library/failing_allocations.py",
+}
 # A value of at least this length may occur within a word of a test's text. A shorter value must be a separate word.
 MIN_SUBSTRING = 12
 
@@ -145,7 +154,7 @@ def text_of_error(name):
 def text_of_case(name):
     """Returns the text of the case `COMMAND: NAME` of tests/tool, with the files that the run must leave."""
     command, _, case_name = name.partition(": ")
-    cases = [case for case in real_runs.CASES.get(command, ()) if case.name == case_name]
+    cases = [case for case in tool_program.CASES.get(command, ()) if case.name == case_name]
     return " ".join(f"{case!r} {vars(case.check_directory) if case.check_directory else ''}" for case in cases) or None
 
 
@@ -219,7 +228,10 @@ def modules_of(crate):
         text = without_comments(read(file))
         modules[path] = items_of(text)
         directory = os.path.dirname(file) if path == "" else file[:-3]
-        waiting += [(f"{path}::{name}".strip(":"), f"{directory}/{name}.rt") for name in re.findall(r"(?m)^(?:pub )?mod (\w+);", text)]
+        waiting += [
+            (f"{path}::{name}".strip(":"), f"{directory}/{name}.rt")
+            for name in re.findall(r"(?m)^(?:pub )?mod (\w+);", text)
+        ]
     return modules
 
 
@@ -278,7 +290,7 @@ def text_of_edit(name):
 
 
 def text_of_memory(path):
-    """Returns the text of a test in Rattle that `refused_memory.py` runs with failing allocations. The name of such
+    """Returns the text of a test in Rattle that `failing_allocations.py` runs with failing allocations. The name of such
     a test contains the NAME_PART of that script."""
     tree = ast.parse(read(RUN_BY["memory"]))
     name_part = next((ast.literal_eval(node.value) for node in tree.body

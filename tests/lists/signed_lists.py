@@ -279,7 +279,10 @@ def compare_with_sha256sum(checks, rng, count):
                 checks.check(reason, f"only we accept {name!r} in {text!r}; sha256sum: {said!r}")
             elif accepts and ours != "ok":
                 why = expected("-", text, name, DATA)[1]
-                checks.check(why in TAKEN_BY_COREUTILS.get(ours, ()), f"sha256sum accepts {text!r}, our response is {answer}: {why}")
+                checks.check(
+                    why in TAKEN_BY_COREUTILS.get(ours, ()),
+                    f"sha256sum accepts {text!r}, our response is {answer}: {why}",
+                )
                 differences[ours, why] += 1
             expected_answer = expected("-", text, name, DATA)[0]
             checks.check(answer == expected_answer, f"{name!r} in {text!r}: got {answer}, expected {expected_answer}")
@@ -333,8 +336,14 @@ def main():
         for name, package in (("openssl", "openssl"), ("shasum", "perl"), ("signify-openbsd", "signify-openbsd")):
             program(name, package)
         check_tools(checks)
-        print("our response, and whether sha256sum accepts:", dict(compare_with_sha256sum(checks, random.Random(given.seed), given.lists)))
-        print("our response, and whether signify accepts:", dict(compare_with_signify(checks, random.Random(given.seed), given.lists // 10)))
+        print(
+            "our response, and whether sha256sum accepts:",
+            dict(compare_with_sha256sum(checks, random.Random(given.seed), given.lists)),
+        )
+        print(
+            "our response, and whether signify accepts:",
+            dict(compare_with_signify(checks, random.Random(given.seed), given.lists // 10)),
+        )
     except Missing as missing:
         checks.check(False, missing)
     return checks.end()

@@ -60,8 +60,8 @@ class Chromium(Person):
         return self.send_command("Protocol", cmd=name, params=arguments)
 
     def evaluate(self, expression, **how):
-        """Evaluates an expression in the page, and returns the protocol's description of the result. (The driver's own command takes twice
-        as long.)"""
+        """Evaluates an expression in the page, and returns the protocol's description of the result. (The driver's own
+        command takes twice as long.)"""
         answer = self.command("Runtime.evaluate", expression=expression, awaitPromise=True, **how)
         if "exceptionDetails" in answer:
             raise RuntimeError(f"{expression[-200:]}: {answer['exceptionDetails']}")
@@ -127,12 +127,17 @@ class Chromium(Person):
         """Returns the texts with low contrast and the missing borders, in light and dark colours and in forced colours."""
         wrong = []
         for *asked, wants_white in (
-                ("prefers-color-scheme", "light", True), ("prefers-color-scheme", "dark", False), ("forced-colors", "active", None)):
+            ("prefers-color-scheme", "light", True),
+            ("prefers-color-scheme", "dark", False),
+            ("forced-colors", "active", None),
+        ):
             self.set_media(*asked)
             texts, borders, is_asked, is_white = self.see("contrasts"), *self.see("ground", *asked)
             wrong += [f"{asked}: {text!r} has contrast {contrast:.1f}" for contrast, text in texts if contrast < MIN_CONTRAST]
             wrong += [f"{asked}: a border is {width} wide" for width in borders if width == "0px"]
             if not texts or not is_asked or wants_white not in (None, is_white):
-                wrong.append(f"{asked}: emulated: {is_asked}, white background: {is_white}, expected {wants_white}, {len(texts)} texts")
+                wrong.append(
+                    f"{asked}: emulated: {is_asked}, white background: {is_white}, expected {wants_white}, {len(texts)} texts"
+                )
         self.set_media()
         return wrong

@@ -16,7 +16,10 @@ Error = namedtuple("Error", "number words text")
 def kept_cases():
     """Returns the cases of the corpus, with the contents of their files."""
     parts = ("key", "signature", "data")
-    return [Case("{signature} of {data} with {key}".format(**row), *(read(CORPUS, row[part]) for part in parts)) for row in corpus_entries()]
+    return [
+        Case("{signature} of {data} with {key}".format(**row), *(read(CORPUS, row[part]) for part in parts))
+        for row in corpus_entries()
+    ]
 
 
 def key_errors(pk):
@@ -27,7 +30,11 @@ def key_errors(pk):
         Error(16, "public key is empty", b""),
         Error(17, "public key file has no second line", comment + b"\n"),
         Error(18, "second line of the public key file is not 56 characters long", join_lines([comment, line[:-4]])),
-        Error(19, "second line of the public key file contains a character that is not allowed in a key", join_lines([comment, b"-" + line[1:]])),
+        Error(
+            19,
+            "second line of the public key file contains a character that is not allowed in a key",
+            join_lines([comment, b"-" + line[1:]]),
+        ),
         Error(20, "public key is too short", join_lines([comment, base64.b64encode(bytes(40))])),
     ]
 
@@ -43,7 +50,8 @@ def typed_key_errors(pk):
 
 
 def signature_errors(sig, other_sig):
-    """Returns a case for each error of a signature file, except the one for large legacy files. `other_sig` was made with another key."""
+    """Returns a case for each error of a signature file, except the one for large legacy files. `other_sig` was made
+    with another key."""
     (first, second, third, fourth), record = lines(sig), record_of(sig)
     return [
         Error(8, "signature is not UTF-8 text", join_lines([first + b"\xff", second, third, fourth])),
@@ -52,7 +60,11 @@ def signature_errors(sig, other_sig):
         Error(22, "signature has no second line", join_lines([first])),
         Error(23, "signature has no third line", join_lines([first, second])),
         Error(24, "signature has no fourth line", join_lines([first, second, third])),
-        Error(25, "first line of the signature does not begin with \u201cuntrusted comment:\u201d", with_line(sig, 0, b"comment: x")),
+        Error(
+            25,
+            "first line of the signature does not begin with \u201cuntrusted comment:\u201d",
+            with_line(sig, 0, b"comment: x"),
+        ),
         Error(26, "second or fourth line of the signature contains a character that is not allowed there",
               with_line(sig, 1, b"-" + second[1:])),
         Error(27, "third line of the signature does not begin with \u201ctrusted comment:\u201d", with_line(sig, 2, b"comment: x")),

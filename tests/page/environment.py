@@ -8,7 +8,7 @@ import re
 from help_texts import STATES, served
 from project_page import ZIP, Release
 from releases import LINK, build_page
-from views import NARROW
+from visible_verdicts import NARROW
 
 
 def check_network(person):
@@ -36,12 +36,25 @@ def check_missing_features(person):
     """If the browser lacks a feature, the page names this feature and accepts no files. (help_texts.py has features that a server
     forbids.)"""
     for script, named, not_named in (
-            ("WebAssembly.validate = () => false;", "WebAssembly", "Ed25519"),
-            ("delete globalThis.WebAssembly;", "WebAssembly", "Ed25519"),
-            ("crypto.subtle.importKey = async () => { throw new DOMException('no', 'NotSupportedError'); };", "Ed25519", "WebAssembly"),
-            ("crypto.subtle.verify = async () => true;", "Ed25519", "WebAssembly"),
-            ("WebAssembly.validate = () => false; crypto.subtle.verify = async () => false;", "WebAssembly, and Ed25519", "cannot run"),
-            ("WebAssembly.instantiate = async () => { throw new RangeError('memory'); };", "cannot run the library of this page", "lacks")):
+        ("WebAssembly.validate = () => false;", "WebAssembly", "Ed25519"),
+        ("delete globalThis.WebAssembly;", "WebAssembly", "Ed25519"),
+        (
+            "crypto.subtle.importKey = async () => { throw new DOMException('no', 'NotSupportedError'); };",
+            "Ed25519",
+            "WebAssembly",
+        ),
+        ("crypto.subtle.verify = async () => true;", "Ed25519", "WebAssembly"),
+        (
+            "WebAssembly.validate = () => false; crypto.subtle.verify = async () => false;",
+            "WebAssembly, and Ed25519",
+            "cannot run",
+        ),
+        (
+            "WebAssembly.instantiate = async () => { throw new RangeError('memory'); };",
+            "cannot run the library of this page",
+            "lacks",
+        ),
+    ):
         number = person.command("Page.addScriptToEvaluateOnNewDocument", source=script)["identifier"]
         person.open()
         person.says("unusable", f"after {script}", named, lacks=[not_named])
@@ -55,8 +68,12 @@ def check_narrow_screen(person):
     colours."""
     person.open()
     person.choose_key(person.put(f"{'k' * 60}.pub", person.first.text))
-    person.choose(*person.signed(f"Update-1.0-{'long' * 20}.tar.gz", b"data", trusted=f"timestamp:1\tfile:{'y' * 80}"),
-                  *person.signed("foreign", b"data", key="second"), person.put("alone", b"x"), person.put("other.pub", person.first.text))
+    person.choose(
+        *person.signed(f"Update-1.0-{'long' * 20}.tar.gz", b"data", trusted=f"timestamp:1\tfile:{'y' * 80}"),
+        *person.signed("foreign", b"data", key="second"),
+        person.put("alone", b"x"),
+        person.put("other.pub", person.first.text),
+    )
     person.same(len(person.settled("a narrow screen")), 3, "a narrow screen: the number of rows")
     for font_size in ("", "200%"):
         person.run("document.documentElement.style.fontSize = arguments[0]", font_size)
@@ -71,8 +88,8 @@ def check_narrow_screen(person):
 
 
 def check_keyboard_and_screen_reader(person):
-    """The page can be used by keyboard and with a screen reader. It has both sentences about what it does not show. (views.py checks the
-    order in which Tab moves the focus.)"""
+    """The page can be used by keyboard and with a screen reader. It has both sentences about what it does not show.
+    (visible_verdicts.py checks the order in which Tab moves the focus.)"""
     person.open()
     for name, words in (("limit-key", "that the key is the right one"), ("limit-page", "that the page itself is genuine")):
         text = person.text_of(name)
@@ -88,13 +105,22 @@ def check_keyboard_and_screen_reader(person):
     person.choose(*person.signed("data", b"data", trusted="t"), *person.pair("bad", b"bad", person.sign(b"data", trusted="t")))
     person.settled("the keyboard")
     nodes = person.nodes()
-    expected = {("textbox", "Paste the content of the public key file, or only its line of 56 characters", None), ("button", "Clear the list", None),
-              ("main", "", None), ("heading", "3. The result", 2), ("heading", "Verified data", 3), ("heading", "NOT verified bad", 3)}
+    expected = {
+        ("textbox", "Paste the content of the public key file, or only its line of 56 characters", None),
+        ("button", "Clear the list", None),
+        ("main", "", None),
+        ("heading", "3. The result", 2),
+        ("heading", "Verified data", 3),
+        ("heading", "NOT verified bad", 3),
+    }
     announced = {(role, name, properties.get("level")) for role, name, properties in nodes}
     person.same(expected - announced, set(), "the nodes that screen readers do not find")
     focusable = [(role, name.strip()) for role, name, properties in nodes if properties.get("focusable")]
     for part in ("minisign.pub", ".minisig"):
-        person.check(any(part in name for _, name in focusable), f"no focusable element for screen readers names {part}: {focusable}")
+        person.check(
+            any(part in name for _, name in focusable),
+            f"no focusable element for screen readers names {part}: {focusable}",
+        )
     person.same({role for role, name in focusable if not name} - {"RootWebArea", "StaticText", "InlineTextBox"}, set(),
                 "the focusable elements without a name")
     live = {properties.get("live") for role, _, properties in nodes if role in ("log", "status")}
@@ -104,11 +130,16 @@ def check_keyboard_and_screen_reader(person):
     person.check(re.fullmatch(form, log), f"the log for screen readers is {log!r}, expected {form!r}")
     person.run("document.getElementById('clear').focus()")
     person.press(person.ENTER)
-    person.same((person.rows(), person.focus()), ([], "files"), "the rows after the list was cleared by keyboard, and the element with the focus")
+    person.same(
+        (person.rows(), person.focus()),
+        ([], "files"),
+        "the rows after the list was cleared by keyboard, and the element with the focus",
+    )
 
 
 def check_release_for_screen_readers(person):
-    """Screen readers find the files of a release with their states and links, and the name of each field in the form that saves a page."""
+    """Screen readers find the files of a release with their states and links, and the name of each field in the form
+    that saves a page."""
     release = Release(person)
     person.open(build_page(release, "--name", "Example", "--version", "1.2.3", "--link", f"{ZIP}={LINK}"))
     release.drop(ZIP, None, "screen readers", verdict="good")
@@ -119,9 +150,15 @@ def check_release_for_screen_readers(person):
     person.open()
     person.run("document.getElementById('project').open = true")
     nodes = person.nodes()
-    fields = [name for role, name, properties in nodes if properties.get("focusable") and role in ("textbox", "button", "DisclosureTriangle")]
-    for expected in ("Save as a page for this project", "Title of the page", "Name of the program", "Version of the release", "Signatures of a release",
-                   "Links to the files", "Save the page"):
+    fields = [
+        name
+        for role, name, properties in nodes
+        if properties.get("focusable") and role in ("textbox", "button", "DisclosureTriangle")
+    ]
+    for expected in (
+        "Save as a page for this project", "Title of the page", "Name of the program", "Version of the release",
+        "Signatures of a release", "Links to the files", "Save the page",
+    ):
         person.check(any(expected in name for name in fields), f"the form: screen readers do not find {expected!r} among {fields}")
     person.click("project-save")
     person.wait(lambda: person.text_of("project-message") != "")
@@ -139,4 +176,8 @@ def check_dropped_directories(person):
                     ("This page cannot verify a folder. Open the folder, select the files in it, and drop those here.", []),
                     f"a directory that is dropped on {place}")
     person.drop("downloads", path)
-    person.same((person.text_of("files-message"), len(person.rows())), ("", 1), "the message and the number of rows after a file was dropped")
+    person.same(
+        (person.text_of("files-message"), len(person.rows())),
+        ("", 1),
+        "the message and the number of rows after a file was dropped",
+    )

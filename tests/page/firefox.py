@@ -19,11 +19,20 @@ class Firefox(Person):
     def __init__(self, program, directory):
         profile = os.path.join(directory, "firefox")
         os.makedirs(profile, exist_ok=True)
-        shutil.copyfile(os.path.join(os.path.dirname(os.path.realpath(__file__)), "firefox_user.js"), os.path.join(profile, "user.js"))
+        shutil.copyfile(
+            os.path.join(os.path.dirname(os.path.realpath(__file__)), "firefox_user.js"),
+            os.path.join(profile, "user.js"),
+        )
         self.port_file = os.path.join(profile, "MarionetteActivePort")
-        super().__init__([program, "--headless", "--marionette", "--remote-allow-system-access", "--no-remote", "--profile", profile,
-                          f"--width={WIDTH}", f"--height={HEIGHT}", "about:blank"],
-                         HOME=profile, MOZ_HEADLESS_WIDTH=WIDTH, MOZ_HEADLESS_HEIGHT=HEIGHT)
+        super().__init__(
+            [
+                program, "--headless", "--marionette", "--remote-allow-system-access", "--no-remote", "--profile",
+                profile, f"--width={WIDTH}", f"--height={HEIGHT}", "about:blank",
+            ],
+            HOME=profile,
+            MOZ_HEADLESS_WIDTH=WIDTH,
+            MOZ_HEADLESS_HEIGHT=HEIGHT,
+        )
 
     def begin_session(self):
         # Firefox writes the port on which it listens into this file.

@@ -1,5 +1,5 @@
-// Settings that keep Firefox from network requests of its own, and from showing anything but the page. `page.test` is NON_LOCAL_NAME of
-// person.py. The frame rate is low because nobody watches.
+// Settings that keep Firefox from network requests of its own, and from showing anything but the page. `page.test` is
+// NON_LOCAL_NAME of person.py. The frame rate is low because nobody watches.
 user_pref("layout.frame_rate", 8);
 user_pref("marionette.port", 0);
 user_pref("browser.shell.checkDefaultBrowser", false);

@@ -21,8 +21,8 @@ STATES = ("unusable", "controls")
 
 @contextlib.contextmanager
 def served(page, **headers):
-    """Runs a server for the page with these headers. Yields its address, its address under a name that browsers do not treat as local,
-    and the list of requested paths."""
+    """Runs a server for the page with these headers. Yields its address, its address under a name that browsers do not
+    treat as local, and the list of requested paths."""
     asked = []
 
     class Handler(http.server.BaseHTTPRequestHandler):
@@ -58,7 +58,8 @@ def check_wrong_files(person):
                                ("alone.pub", bare, "only the key", f" {line} (alone.pub)")):
         person.choose_key(person.put(name, data))
         person.says("key-message", f"{words[0]}, as the key's file", name, *words)
-    # Wrong files that are dropped as downloads are reported with the files. (For a file with only the line of a key, no key is shown.)
+    # Wrong files that are dropped as downloads are reported with the files. (For a file with only the line of a key, no
+    # key is shown.)
     person.open()
     for part, name, data, words in (
             *(("key-message", name, bare, f"Paste it into the field: ({name})") for name in ("alone.pub", "alone.txt")),
@@ -72,41 +73,56 @@ def check_wrong_files(person):
 
 
 def check_wrong_key_texts(person):
-    """A text in the key's field that is not a key gets a message that says what it is, with the key that it contains if that helps."""
+    """A text in the key's field that is not a key gets a message that says what it is, with the key that it contains if
+    that helps."""
     line, pk = person.first.line, person.first.text.decode()
     secret, sig = person.minisign.read("first.key").decode(), person.sign(b"data", trusted="t").decode()
     link, pgp = "made the link chose the key", "a PGP key or signature, which this page cannot verify"
     person.open()
     for what, typed, words, is_key_shown in (
-            ("a secret key", secret, "secret key", False),
-            ("the second line of a secret key", secret.split("\n")[1], "secret key", False),
-            ("a signature", sig, "is a signature, not a key", False),
-            ("the first 56 letters of a signature's line", sig.split("\n")[1][:56], "part of a signature, not a key", False),
-            ("a key file with these 56 letters", f"untrusted comment: x\n{sig.split(chr(10))[1][:56]}\n", "part of a signature, not a key",
-             False),
-            ("another part of a signature's line", sig.split("\n")[1][:40], "part of a signature, not a key", False),
-            ("a key of another algorithm", f"RWA{line[3:]}", "not a Minisign public key", False),
-            ("the line of a signature", sig.split("\n")[1], "is a signature, not a key", False),
-            ("a command line", f"minisign -Vm f -P {line}", "is a command line", True),
-            ("the end of a command line", f"-P {line}", "is a command line", True),
-            ("a command line of Windows", "C:\\minisign.exe -V -p minisign.pub -m f", "is a command line", False),
-            ("words around a key", f"Our key is {line}.", "around the key", True),
-            ("a key in quotes", f'"{line}"', "around the key", True),
-            ("a key in typographic quotes", f"\u201c{line}\u201d", "quotes or invisible characters around the key", True),
-            ("an invisible character after a key", f"{line}\u200b", "quotes or invisible characters around the key", True),
-            ("a key file, and an invisible character", pk.rstrip() + "\u2060\n", "invisible characters", True),
-            ("a key with a line break", f"{line[:31]}\n{line[31:]}", "broken over several lines", True),
-            ("a key file with another line break", f"{pk[:-9]}\n{pk[-9:]}", "broken over several lines", True),
-            ("the page's link", f"{person.address}#{line}", link, False),
-            ("a link with a signature", f"{person.address}#sig=dW50&key={line}", link, False),
-            ("another link", f"https://example.org/minisign.html#later=x&key={line}", link, False),
-            ("a key of PGP", PGP_KEY, pgp, False),
-            ("a signature of PGP", PGP_SIGNATURE, pgp, False)):
+        ("a secret key", secret, "secret key", False),
+        ("the second line of a secret key", secret.split("\n")[1], "secret key", False),
+        ("a signature", sig, "is a signature, not a key", False),
+        (
+            "the first 56 letters of a signature's line",
+            sig.split("\n")[1][:56],
+            "part of a signature, not a key",
+            False,
+        ),
+        (
+            "a key file with these 56 letters",
+            f"untrusted comment: x\n{sig.split(chr(10))[1][:56]}\n",
+            "part of a signature, not a key",
+            False,
+        ),
+        ("another part of a signature's line", sig.split("\n")[1][:40], "part of a signature, not a key", False),
+        ("a key of another algorithm", f"RWA{line[3:]}", "not a Minisign public key", False),
+        ("the line of a signature", sig.split("\n")[1], "is a signature, not a key", False),
+        ("a command line", f"minisign -Vm f -P {line}", "is a command line", True),
+        ("the end of a command line", f"-P {line}", "is a command line", True),
+        ("a command line of Windows", "C:\\minisign.exe -V -p minisign.pub -m f", "is a command line", False),
+        ("words around a key", f"Our key is {line}.", "around the key", True),
+        ("a key in quotes", f'"{line}"', "around the key", True),
+        ("a key in typographic quotes", f"\u201c{line}\u201d", "quotes or invisible characters around the key", True),
+        ("an invisible character after a key", f"{line}\u200b", "quotes or invisible characters around the key", True),
+        ("a key file, and an invisible character", pk.rstrip() + "\u2060\n", "invisible characters", True),
+        ("a key with a line break", f"{line[:31]}\n{line[31:]}", "broken over several lines", True),
+        ("a key file with another line break", f"{pk[:-9]}\n{pk[-9:]}", "broken over several lines", True),
+        ("the page's link", f"{person.address}#{line}", link, False),
+        ("a link with a signature", f"{person.address}#sig=dW50&key={line}", link, False),
+        ("another link", f"https://example.org/minisign.html#later=x&key={line}", link, False),
+        ("a key of PGP", PGP_KEY, pgp, False),
+        ("a signature of PGP", PGP_SIGNATURE, pgp, False),
+    ):
         what = f"{what} in the key's field"
         person.type_key(typed)
         shown = {"ends": f" {line}"} if is_key_shown else {"lacks": [line]}
         person.says("key-message", what, words, begins="No public key: ", **shown)
-        person.same((person.is_shown("key-full"), person.see("numberOfKey") is None), (False, False), f"{what}: a key is shown, no number")
+        person.same(
+            (person.is_shown("key-full"), person.see("numberOfKey") is None),
+            (False, False),
+            f"{what}: a key is shown, no number",
+        )
 
 
 def check_dragged_texts(person):
@@ -126,9 +142,14 @@ def check_pasted_signatures(person):
     """A signature can be pasted before or after its file, and again. Another text gets a message."""
     path, (sig, other) = person.put("update.zip", b"data"), (person.sign(data, trusted="t").decode() for data in (b"data", b"x"))
     person.open()
-    for what, texts, expected in (("unchanged", [sig], 0), ("with spaces", [sig.replace("\n", "\n    ")], 0),
-                                ("with empty lines", ["\n" + sig.replace("\n", "\n\n\u00a0 ")], 0), ("without its end", [sig.rstrip()], 0),
-                                ("of other data", [other], 31), ("again", [other, sig], 0)):
+    for what, texts, expected in (
+        ("unchanged", [sig], 0),
+        ("with spaces", [sig.replace("\n", "\n    ")], 0),
+        ("with empty lines", ["\n" + sig.replace("\n", "\n\n\u00a0 ")], 0),
+        ("without its end", [sig.rstrip()], 0),
+        ("of other data", [other], 31),
+        ("again", [other, sig], 0),
+    ):
         for is_file_first in (True, False):
             person.begin(person.first.line, *[path] * is_file_first, anew=False)
             for text in texts:
@@ -140,7 +161,11 @@ def check_pasted_signatures(person):
     for name in ("one", "two"):
         person.choose(person.put(name, name.encode()))
         person.type_text("signature-text", person.sign(name.encode(), trusted="t").decode())
-    person.expect_each("number", {"update.zip": None, "one": None, "two": 0}, "files with signatures that are pasted one after the other")
+    person.expect_each(
+        "number",
+        {"update.zip": None, "one": None, "two": 0},
+        "files with signatures that are pasted one after the other",
+    )
     for text, words in ((person.first.line, "is a public key, not a signature"), ("signature", "is not a signature"),
                         (person.minisign.read("first.key").decode(), "is a secret key"), (PGP_SIGNATURE, "PGP")):
         person.begin(anew=False)
@@ -164,9 +189,24 @@ def check_page_that_cannot_start(person):
         person.says("unusable", what, "has not started", "Allow JavaScript")
         person.same([*map(person.is_shown, STATES)], [True, False], f"{what}: if {STATES} are shown")
     for policy, at, is_secure, has, lacks in (
-            ("script-src 'unsafe-inline'", 0, True,
-             ["The server of this page forbids WebAssembly", "Save the page and open it from disk."], ["https"]),
-            ("", 1, False, ["lacks Ed25519 for pages that were opened over http", "Save the page and open it from disk, or open it over https."], [])):
+        (
+            "script-src 'unsafe-inline'",
+            0,
+            True,
+            ["The server of this page forbids WebAssembly", "Save the page and open it from disk."],
+            ["https"],
+        ),
+        (
+            "",
+            1,
+            False,
+            [
+                "lacks Ed25519 for pages that were opened over http",
+                "Save the page and open it from disk, or open it over https.",
+            ],
+            [],
+        ),
+    ):
         what = f"the policy {policy!r}, served over https or locally: {is_secure}"
         with served(person.page, Content_Security_Policy=policy) as addresses:
             person.open(addresses[at])

@@ -1,5 +1,5 @@
-// Functions that the tests run in the page, to act on it, to read what it shows, to break it, and to call its script. `Person.see` and
-// `Person.act` of person.py call them.
+// Functions that the tests run in the page, to act on it, to read what it shows, to break it, and to call its script.
+// `Person.see` and `Person.act` of person.py call them.
 
 const all = (parts, of = document) => Array.from(of.querySelectorAll(parts));
 const allRows = () => all("#verdicts > li");
@@ -23,12 +23,17 @@ function band() {
   return band?.checkVisibility() ? [band.dataset.verdict, ...Array.from(band.children, line => line.innerText)] : null;
 }
 
-// Returns five things: the rows; the band; true if this is a project's page, which has no field for a key; the notice about the key, with
-// true if it is a warning; and the message that names the key and its source.
+// Returns five things: the rows; the band; true if this is a project's page, which has no field for a key; the notice
+// about the key, with true if it is a warning; and the message that names the key and its source.
 function state() {
   const whose = document.getElementById("key-notice");
-  return [rows(), band(), !document.getElementById("key-text").checkVisibility(),
-    [whose.innerText, whose.checkVisibility() && whose.classList.contains("caution")], document.getElementById("key-message").innerText];
+  return [
+    rows(),
+    band(),
+    !document.getElementById("key-text").checkVisibility(),
+    [whose.innerText, whose.checkVisibility() && whose.classList.contains("caution")],
+    document.getElementById("key-message").innerText
+  ];
 }
 
 // Returns the error number of what was given as a key, 0 for a valid key, or null if nothing was given.
@@ -82,7 +87,8 @@ function work() {
   const rows = allRows();
   const waiting = rows.filter(row => row.dataset.verdict === "queued").length;
   const reading = rows.find(row => row.dataset.verdict === "reading");
-  return isTaken() && waiting === 0 && !reading || [document.documentElement.dataset.pending, rows.length, waiting, reading?.innerText];
+  return isTaken() && waiting === 0 && !reading ||
+    [document.documentElement.dataset.pending, rows.length, waiting, reading?.innerText];
 }
 
 // Calls a function until it returns true, or for a second, and returns the last result.
@@ -115,8 +121,8 @@ function isFocusBehind() {
   return boxOf(place).top < boxOf(document.getElementById("band")).bottom;
 }
 
-// Scrolls the page to a share of its length. Returns the band's position, and true if it has the full width, if it is at most a quarter
-// of the window high, and if nothing covers it.
+// Scrolls the page to a share of its length. Returns the band's position, and true if it has the full width, if it is
+// at most a quarter of the window high, and if nothing covers it.
 function bandAt(share) {
   scrollTo(0, share * document.documentElement.scrollHeight);
   const band = document.getElementById("band"), {left, top, width, height} = boxOf(band);
@@ -172,7 +178,10 @@ function fits() {
 // Returns the elements whose content is cut off, or overflows, on the right.
 function cutOffParts() {
   return all("main, main *, footer, footer *")
-    .filter(part => part.checkVisibility() && !part.closest(".unseen") && part.clientWidth > 0 && part.scrollWidth > part.clientWidth + 1)
+    .filter(
+      part => part.checkVisibility() && !part.closest(".unseen") && part.clientWidth > 0
+        && part.scrollWidth > part.clientWidth + 1
+    )
     .map(part => `${part.tagName} ${part.className}: ${part.innerText.slice(0, 40)}`);
 }
 
@@ -199,11 +208,15 @@ function titles() {
 // inside of names and comments.
 function markup() {
   const classes = all(".comment *, .name *").map(part => part.className);
-  return [document.title, all("#verdicts :is(img, script, a, iframe, style, b)").length, classes.filter(name => name !== "unseeable")];
+  return [
+    document.title,
+    all("#verdicts :is(img, script, a, iframe, style, b)").length,
+    classes.filter(name => name !== "unseeable")
+  ];
 }
 
-// Returns the contrast of each visible text to its background (WCAG 2), and the text. On paper the background is white, because browsers
-// do not print backgrounds.
+// Returns the contrast of each visible text to its background (WCAG 2), and the text. On paper the background is white,
+// because browsers do not print backgrounds.
 function contrasts(isPrinted = false) {
   const channel = value => value <= 0.04045 ? value / 12.92 : ((value + 0.055) / 1.055) ** 2.4;
   const light = color => {
@@ -223,11 +236,14 @@ function contrasts(isPrinted = false) {
   });
 }
 
-// Returns the widths of the borders of rows and warnings, true if the media feature has this value, and true if the page's background is
-// white.
+// Returns the widths of the borders of rows and warnings, true if the media feature has this value, and true if the
+// page's background is white.
 function ground(feature, value) {
-  return [all("#verdicts > li, .caution").map(part => getComputedStyle(part).borderLeftWidth), matchMedia(`(${feature}: ${value})`).matches,
-    getComputedStyle(document.body).backgroundColor === "rgb(255, 255, 255)"];
+  return [
+    all("#verdicts > li, .caution").map(part => getComputedStyle(part).borderLeftWidth),
+    matchMedia(`(${feature}: ${value})`).matches,
+    getComputedStyle(document.body).backgroundColor === "rgb(255, 255, 255)"
+  ];
 }
 
 // Scrolls an element into view, and returns the middle of its visible part.
@@ -238,7 +254,8 @@ function middleOf(name) {
   return [left + width / 2, top + Math.min(height, innerHeight) / 2];
 }
 
-// Returns the heading of the files of the release, and for each of them its name, its state, the words of that, and its link, if any.
+// Returns the heading of the files of the release, and for each of them its name, its state, the words of that, and its
+// link, if any.
 function releaseList() {
   return [document.getElementById("release-head").innerText, all("#release-files > li").map(row => [
     row.querySelector(".name").innerText, row.dataset.verdict, row.querySelector(".state").innerText,
@@ -401,8 +418,8 @@ async function fetchFrom(address) {
   return succeeded;
 }
 
-// Calls page_ask with any number as `allow_legacy`; the page itself passes 0 or 1. Returns the error number, and true if the state is
-// unchanged.
+// Calls page_ask with any number as `allow_legacy`; the page itself passes 0 or 1. Returns the error number, and true
+// if the state is unchanged.
 function askWithFlag(key, signature, flag, isBegun) {
   const state = isBegun ? library.begin() : new Uint8Array(STATE_BYTES), before = state.slice();
   const read = library.readKey(Uint8Array.from(key), false).key, {text, value} = library.readSignature(Uint8Array.from(signature));

@@ -15,8 +15,8 @@ def with_key_id_of(own, foreign):
 
 
 def attack(person, good):
-    """Writes an attacker's file, signature and key. The signature and the key have the key ID of the project's key. Returns the paths, and
-    the key."""
+    """Writes an attacker's file, signature and key. The signature and the key have the key ID of the project's key.
+    Returns the paths, and the key."""
     foreign = with_key_id_of(person.first.text, person.second.text)
     harmful = with_key_id_of(good, person.sign(b"harmful", key="second", trusted="t"))
     data, sig = person.pair("update.zip", b"harmful", harmful)
@@ -24,8 +24,8 @@ def attack(person, good):
 
 
 def check_given_key_is_kept(person):
-    """A key that the user gave is not replaced by a key that comes with the files. A different key with the same key ID is not taken for
-    it."""
+    """A key that the user gave is not replaced by a key that comes with the files. A different key with the same key ID
+    is not taken for it."""
     own, good, my_key = person.first, person.sign(b"update", trusted="t"), person.put("my.pub", person.first.text)
     theirs, _ = attack(person, good)
     person.open()
@@ -37,14 +37,19 @@ def check_given_key_is_kept(person):
         person.drop("downloads", *theirs)
         person.only(f"{what}, and another among the files", number=31, cautions=[])
         person.uses(own, what)
-        person.says("files-message", what, begins="minisign.pub came with the files and was ignored: this page uses the key above, ")
+        person.says(
+            "files-message",
+            what,
+            begins="minisign.pub came with the files and was ignored: this page uses the key above, ",
+        )
         person.choose(*person.pair("update.zip", b"update", good))
         person.only(what, number=0, verdict="good", cautions=[], has=[words])
         person.same(person.text_of("files-message"), "", f"{what}: the message about new files")
 
 
 def check_key_with_files(person):
-    """If the user gave no key and one key comes with the files, the page uses it, and each verdict begins with a warning about that."""
+    """If the user gave no key and one key comes with the files, the page uses it, and each verdict begins with a
+    warning about that."""
     good, my_key = person.sign(b"update", trusted="t"), person.put("my.pub", person.first.text)
     theirs, foreign = attack(person, good)
     person.open()
@@ -78,8 +83,8 @@ def check_key_with_files(person):
 
 
 def check_key_field(person):
-    """The page does not change the text in the field for the key, even if it is not a key. As long as the field has a text, the page ignores
-    keys that come with the files, and says so."""
+    """The page does not change the text in the field for the key, even if it is not a key. As long as the field has a
+    text, the page ignores keys that come with the files, and says so."""
     own, paths = person.first, person.signed("update.zip", b"update", trusted="t")
     keys = [person.put(name, own.text) for name in ("minisign.pub", "other.pub")]
     person.open()
@@ -92,7 +97,10 @@ def check_key_field(person):
             person.only(what, verdict="waiting", number=None)
             seen = person.text_of("key-text", "value"), person.text_of("key-message"), person.is_shown("key-full")
             person.same(seen, (text, said, False), f"{what}: the field")
-            ignored = "{} came with the files and was ignored: the text in the field above is not a key. Correct that text, or clear the field."
+            ignored = (
+                "{} came with the files and was ignored: the text in the field above is not a key. Correct that text,"
+                " or clear the field."
+            )
             person.says("files-message", what, *(ignored.format(name) for name in ("minisign.pub", "other.pub")[:len(given)]))
     # White space is treated like an empty field, because the user cannot see it.
     person.type_key(" \n")
@@ -105,21 +113,36 @@ def check_key_field(person):
 
 
 def check_keys_in_links(person):
-    """The page takes only the 56 characters of a key from a link, and no other text. If the link changes later, the page starts again.
-    (project_page.py has links with a signature.)"""
+    """The page takes only the 56 characters of a key from a link, and no other text. If the link changes later, the
+    page starts again. (project_page.py has links with a signature.)"""
     first, second = person.first.line, person.second.line
     escaped = first.replace("+", "%2B").replace("/", "%2F")
     for part in (escaped, f"key={first}", f"key={escaped}", f"key={first}&later=more", f"later=more&key={first}"):
         person.open(f"{person.address}#{part}")
         person.says("key-message", f"#{part}", ends="which came with the link to this page.")
         person.uses(person.first, f"#{part}")
-    for part in (f"Verified%20by%20the%20project:%20{first}", f"untrusted%20comment:%20Verified%0A{first}",
-                 f"key=Verified%0A{first}", f"{first}%20", f"{first}x", first[:-1], f"key={first}&key={second}",
-                 f"{first}&{second}", f"other={first}", "key=", "%", person.sign(b"x").decode().split("\n")[1][:56].replace("+", "%2B")):
+    for part in (
+        f"Verified%20by%20the%20project:%20{first}",
+        f"untrusted%20comment:%20Verified%0A{first}",
+        f"key=Verified%0A{first}",
+        f"{first}%20",
+        f"{first}x",
+        first[:-1],
+        f"key={first}&key={second}",
+        f"{first}&{second}",
+        f"other={first}",
+        "key=",
+        "%",
+        person.sign(b"x").decode().split("\n")[1][:56].replace("+", "%2B"),
+    ):
         person.open(f"{person.address}#{part}")
         person.says("key-message", f"#{part}",
                     begins="No public key: the link to this page has no key of 56 characters after #.")
-        seen = person.is_shown("key-full"), person.text_of("key-text", "value"), "Verified" in person.run("return document.body.innerText")
+        seen = (
+            person.is_shown("key-full"),
+            person.text_of("key-text", "value"),
+            "Verified" in person.run("return document.body.innerText"),
+        )
         person.same(seen, (False, "", False), f"#{part}: a key, and words of the link, are shown")
     what = "an address that changes"
     person.begin(first, *person.signed("update.zip", b"update"))
@@ -132,24 +155,45 @@ def check_keys_in_links(person):
     person.uses(person.second, what)
 
 
-# File names, and trusted comments with the signed names. In DIFFERENT the names are different. In SIMILAR the signed name has directories, or
-# the file name has the suffix of a second download, a number of at most two digits; these differences are allowed. In SAME the names are
-# the same, or the comment has no name.
-DIFFERENT = {"b.zip": "timestamp:1700000000\tfile:a.zip", "c.zip": "file:\u202ec.zip", "l (1).zip": "file:m.zip", "n.zip": "file:n.zip.exe",
-             "o1.zip": "file:o (1).zip", "p.zip": "file:p.zip/q", "App (2025).zip": "file:App (2024).zip", "q (2024).zip": "file:q.zip",
-             "r (100).zip": "file:r.zip", "s (1) (2).zip": "file:s.zip", "t(1)(2).tar.gz": "file:t.tar.gz", "u.zip": "file:u (1).zip",
-             "v (1).zip": "file:v (2).zip", "J.ZIP": "file:j.zip", "w-1.zip": "file:w.zip", "x.zip": "file:x.zip\tfile:y.zip",
-             "y (a).zip": "file:y.zip"}
-SIMILAR = {"f (1).zip": "file:f.zip", "g(2).tar.gz": "file:g.tar.gz", "h.zip": "file:./h.zip", "i.zip": "file:dist/i.zip",
-                 "k (99).zip": "file:C:\\out\\k.zip", "z (1) (2).zip": "file:z (1).zip", "App (2024) (1).zip": "file:App (2024).zip",
-                 "no end (3)": "file:no end"}
+# File names, and trusted comments with the signed names. In DIFFERENT the names are different. In SIMILAR the signed
+# name has directories, or the file name has the suffix of a second download, a number of at most two digits; these
+# differences are allowed. In SAME the names are the same, or the comment has no name.
+DIFFERENT = {
+    "b.zip": "timestamp:1700000000\tfile:a.zip",
+    "c.zip": "file:\u202ec.zip",
+    "l (1).zip": "file:m.zip",
+    "n.zip": "file:n.zip.exe",
+    "o1.zip": "file:o (1).zip",
+    "p.zip": "file:p.zip/q",
+    "App (2025).zip": "file:App (2024).zip",
+    "q (2024).zip": "file:q.zip",
+    "r (100).zip": "file:r.zip",
+    "s (1) (2).zip": "file:s.zip",
+    "t(1)(2).tar.gz": "file:t.tar.gz",
+    "u.zip": "file:u (1).zip",
+    "v (1).zip": "file:v (2).zip",
+    "J.ZIP": "file:j.zip",
+    "w-1.zip": "file:w.zip",
+    "x.zip": "file:x.zip\tfile:y.zip",
+    "y (a).zip": "file:y.zip",
+}
+SIMILAR = {
+    "f (1).zip": "file:f.zip",
+    "g(2).tar.gz": "file:g.tar.gz",
+    "h.zip": "file:./h.zip",
+    "i.zip": "file:dist/i.zip",
+    "k (99).zip": "file:C:\\out\\k.zip",
+    "z (1) (2).zip": "file:z (1).zip",
+    "App (2024) (1).zip": "file:App (2024).zip",
+    "no end (3)": "file:no end",
+}
 SAME = {"a.zip": "timestamp:1700000000\tfile:a.zip\thashed", "caf\u00e9": "file:cafe\u0301", "d.zip": "timestamp:17000000000000",
         "e.zip": "no file:x and timestamp:1", "App (2023).zip": "file:App (2023).zip"}
 
 
 def check_signed_names(person):
-    """A file whose name differs from the signed name is not reported as verified, but the page shows the signer and the comment. A signed
-    comment with white space at its beginning or end is rejected."""
+    """A file whose name differs from the signed name is not reported as verified, but the page shows the signer and the
+    comment. A signed comment with white space at its beginning or end is rejected."""
     data = b"update"
     person.begin(person.first.line)
     for name, comment in {**DIFFERENT, **SIMILAR, **SAME}.items():

@@ -13,13 +13,20 @@ def check_several_bad_files(person):
     person.resize(360, 640)
     person.begin(person.first.line, *good[:10], *bad, *good[10:])
     rows = person.settled("several bad files")
-    person.same([row.name for row in rows], ["x", "y", *(f"good{number}" for number in range(8))], "several bad files: the order of the rows")
+    person.same(
+        [row.name for row in rows],
+        ["x", "y", *(f"good{number}" for number in range(8))],
+        "several bad files: the order of the rows",
+    )
     person.check(person.see("isInView", "x"), "several bad files: the first one is out of view")
     person.same(person.see("band")[1:], ["\u2717 NOT verified (2 of 10 files): x, y",
                                          "Do not use these files. Get them, their signatures and the key again from the project."],
                 "several bad files: the band")
     # The comment of a file has the focus while the file becomes bad and moves. Then its row has the focus.
-    person.run("[...document.querySelectorAll('#verdicts li')].find(row => row.innerText.includes('good3')).querySelector('.comment').focus()")
+    person.run(
+        "[...document.querySelectorAll('#verdicts li')].find(row =>"
+        " row.innerText.includes('good3')).querySelector('.comment').focus()"
+    )
     person.drop("downloads", *person.pair("good3", b"bad", person.sign(b"other", trusted="t")))
     rows = person.settled("a file that becomes bad")
     person.same([row.name for row in rows][:3], ["good3", "x", "y"], "a file that becomes bad: the order of the rows")
@@ -27,8 +34,11 @@ def check_several_bad_files(person):
                 "a file that becomes bad: the row that has the focus")
     person.drop("downloads", *person.signed("x", b"now good", trusted="t"))
     rows = person.settled("a file that becomes good")
-    person.same([row.name for row in rows], ["good3", "y", *(f"good{number}" for number in (0, 1, 2, 4)), "x", *(f"good{n}" for n in (5, 6, 7))],
-                "a file that becomes good: the order of the rows")
+    person.same(
+        [row.name for row in rows],
+        ["good3", "y", *(f"good{number}" for number in (0, 1, 2, 4)), "x", *(f"good{n}" for n in (5, 6, 7))],
+        "a file that becomes good: the order of the rows",
+    )
     person.resize()
 
 
@@ -37,9 +47,17 @@ def check_missing_parts(person):
     key, (path, sig) = person.first.line, person.signed("a", b"a", trusted="t")
     person.open()
     for typed, paths, step in (
-            ("", [path], "the signature and the public key"), ("", [sig], "the file and the public key"), (key, [path], "the signature"),
-            (key, [sig], "the file"), ("", [path, sig], "the public key"),
-            ("", [path, person.put("b.minisig", person.sign(b"b")), person.put("c", b"c")], "the file, the signature and the public key")):
+        ("", [path], "the signature and the public key"),
+        ("", [sig], "the file and the public key"),
+        (key, [path], "the signature"),
+        (key, [sig], "the file"),
+        ("", [path, sig], "the public key"),
+        (
+            "",
+            [path, person.put("b.minisig", person.sign(b"b")), person.put("c", b"c")],
+            "the file, the signature and the public key",
+        ),
+    ):
         person.begin(typed, *paths, anew=False)
         person.settled(step)
         person.same(person.see("band")[2], f"Add what is missing: {step}.", f"{len(paths)} files, the key {typed!r}: the next step")
@@ -57,8 +75,13 @@ def check_said_once(person):
         person.settled(what)
         shown = person.run("return document.body.innerText")
         person.same(shown.count(sentence), 1, f"{what}: how often the page says whose key it is")
-        person.same(person.run("return document.getElementById('key-notice').role ?? document.getElementById('key-notice').getAttribute('role')"),
-                    "status", f"{what}: the role of the sentence")
+        person.same(
+            person.run(
+                "return document.getElementById('key-notice').role ?? document.getElementById('key-notice').getAttribute('role')"
+            ),
+            "status",
+            f"{what}: the role of the sentence",
+        )
         person.check(person.see("isBefore", "key-notice", "verdicts"), f"{what}: the sentence is below the list")
     person.type_key("")
     person.settled("no key")
@@ -66,7 +89,8 @@ def check_said_once(person):
 
 
 def check_what_this_page_cannot_verify(person):
-    """For a file that this page cannot verify, it shows the command that does. Names that a shell could misinterpret are left out."""
+    """For a file that this page cannot verify, it shows the command that does. Names that a shell could misinterpret
+    are left out."""
     path, sig = person.sparse("large", 64 * 1048576 + 1, "-l")
     name = "a;b $(x).zip"
     person.begin(person.first.line, path, sig)

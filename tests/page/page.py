@@ -3,14 +3,15 @@
 
     tests/page/page.py [PAGE] [WORD ..]
 
-PAGE is a web page that `page/build.py` built, by default the page in `dist/`. `tools/dist.py --check` checks that `page/build.py`
-builds the same page, and wide_module.py compares its module with the proved one. The modules of this directory contain the tests.
-WORD selects the steps whose name contains it. To test changed sources of the page, pass a PAGE that `page/build.py` has built from
-them, without the Rattle kit. Each patch of the directory `mutants` breaks one thing in the sources, and a step has to detect it. The
-script prints a line for each failure; the last line is `N passed, M failed`.
+PAGE is a web page that `page/build.py` built, by default the page in `dist/`. `tools/dist.py --check` checks that
+`page/build.py` builds the same page, and module_32_bit.py compares its module with the proved one. The modules of this
+directory contain the tests. WORD selects the steps whose name contains it. To test changed sources of the page, pass a
+PAGE that `page/build.py` has built from them, without the Rattle kit. Each patch of the directory `mutants` breaks one
+thing in the sources, and a step has to detect it. The script prints a line for each failure; the last line is `N
+passed, M failed`.
 
-Needs Python 3.9 or later, chromium, chromium-driver, firefox-esr, binaryen, clang, a C compiler, make, libsodium with its header and
-minisign 0.11. It installs missing packages if it has permission.
+Needs Python 3.9 or later, chromium, chromium-driver, firefox-esr, binaryen, clang, a C compiler, make, libsodium with
+its header and minisign 0.11. It installs missing packages if it has permission.
 """
 
 import importlib
@@ -27,7 +28,7 @@ import build
 import needs
 import page_mutants
 import page_sources
-import selected
+import case_selection
 import static_library
 import test_script
 import verdicts
@@ -36,8 +37,11 @@ from firefox import Firefox
 from minisign_cases import Minisign
 
 # The modules with tests, in the order in which they run. Those of IN_CHROMIUM need Chromium's DevTools protocol.
-IN_BOTH = ("verdicts", "keys", "views", "random_actions", "replaced_inputs", "project_page", "releases", "saved_page", "signed_lists", "next_steps", "help_texts", "hostile", "robustness")
-IN_CHROMIUM = ("environment", "flags")
+IN_BOTH = (
+    "verdicts", "keys", "visible_verdicts", "random_actions", "replaced_inputs", "project_page", "releases", "saved_page",
+    "signed_lists", "next_steps", "help_texts", "hostile_names", "robustness",
+)
+IN_CHROMIUM = ("environment", "legacy_flag")
 
 
 def steps_in(person):
@@ -49,9 +53,9 @@ def steps_in(person):
 
 
 def run_step(person, step, begin):
-    """Runs a step in a full-size window, and returns the person for the next step. If the process that shows the page has died, the step
-    runs once more in a new browser, because a machine without memory kills this process first. (If the page itself causes the end, it
-    does so again.)"""
+    """Runs a step in a full-size window, and returns the person for the next step. If the process that shows the page
+    has died, the step runs once more in a new browser, because a machine without memory kills this process first. (If
+    the page itself causes the end, it does so again.)"""
     try:
         person.resize()
         step(person)
@@ -72,7 +76,7 @@ def run_in(begin):
     person = begin()
     try:
         for what, step in steps_in(person):
-            if not selected.is_selected(f"{person.name}, {what}"):
+            if not case_selection.is_selected(f"{person.name}, {what}"):
                 continue
             begun = time.monotonic()
             try:
@@ -82,14 +86,14 @@ def run_in(begin):
                 person.check(False, f"{person.name}, {what}: ended early: {why!r:.300}")
             print(f"page: {person.name}, {what}, {time.monotonic() - begun:.1f} s", flush=True)
         if person.is_chromium:
-            page_mutants.check_mutants(person, lambda name: selected.is_selected(f"{person.name}, {name}"))
+            page_mutants.check_mutants(person, lambda name: case_selection.is_selected(f"{person.name}, {name}"))
     finally:
         person.quit()
 
 
 def run_all(checks, scratch):
-    page = selected.file_argument() or os.path.join(static_library.DIST, "minisign.html")
-    if selected.is_selected("sources"):
+    page = case_selection.file_argument() or os.path.join(static_library.DIST, "minisign.html")
+    if case_selection.is_selected("sources"):
         page_sources.check_contracts(checks)
         page_sources.check_file(checks, page)
         page_sources.check_digests(checks, page)

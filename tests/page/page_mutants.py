@@ -1,5 +1,5 @@
-"""Checks that the tests detect each mutant of the page: a patch in tests/page/mutants that breaks one thing in the sources of the page. The
-patch names the module and the step that must fail.
+"""Checks that the tests detect each mutant of the page: a patch in tests/page/mutants that breaks one thing in the
+sources of the page. The patch names the module and the step that must fail.
 """
 
 import importlib

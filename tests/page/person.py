@@ -27,8 +27,8 @@ HEADINGS = {"bad": "\u2717 NOT verified", "unchecked": "? Signed, by a key that 
           "good": "\u2713 Verified"}
 # The verdicts of a file with a valid signature.
 SIGNED = ("good", "unchecked", "unlisted", "renamed")
-# The next step that the page recommends for each verdict, on the general page, and on a project's page: for one file, and for several.
-# For files that wait for input, it names what is missing.
+# The next step that the page recommends for each verdict, on the general page, and on a project's page: for one file,
+# and for several. For files that wait for input, it names what is missing.
 WAIT_STEPS = ("Wait until this page has read the file.", "Wait until this page has read the files.")
 NEXT_STEPS = {"bad": ("Do not use this file. Get it, its signature and the key again from the project.",
                 "Do not use these files. Get them, their signatures and the key again from the project."),
@@ -43,9 +43,17 @@ NEXT_STEPS = {"bad": ("Do not use this file. Get it, its signature and the key a
                     "To verify the files, press \u201cVerify it again\u201d below each of them."),
         "reading": WAIT_STEPS, "queued": WAIT_STEPS,
         "good": ("You can use the file if the key is the project's own.", "You can use the files if the key is the project's own.")}
-PROJECT_NEXT_STEPS = {**NEXT_STEPS, "bad": ("Do not use this file. Download it again from the project.",
-                            "Do not use these files. Download them again from the project."),
-            "good": ("You can use the file if this page is the project's own.", "You can use the files if this page is the project's own.")}
+PROJECT_NEXT_STEPS = {
+    **NEXT_STEPS,
+    "bad": (
+        "Do not use this file. Download it again from the project.",
+        "Do not use these files. Download them again from the project.",
+    ),
+    "good": (
+        "You can use the file if this page is the project's own.",
+        "You can use the files if this page is the project's own.",
+    ),
+}
 # The words of a row for each missing part, in the order in which the next step names them.
 MISSING = {"The file itself is missing.": "the file", "Its signature is missing.": "the signature",
            "The public key is missing.": "the public key"}
@@ -55,10 +63,16 @@ UNKNOWN_OWNER = "This page cannot know who owns the key. Compare all of its 56 c
 PASTE_KEY = "Before you use a file, get the key from where the project publishes it, and paste it into the field for the key."
 WITH_FILES = "The key came with the files, so whoever made the files may have made the key."
 BY_LINK = "The key came with the link to this page, so whoever made the link chose the key."
-KEY_SENTENCES = {"which you pasted or typed": (UNKNOWN_OWNER, ""), "which you chose as the file": (UNKNOWN_OWNER, ""),
-          "which came with the files": (f"{WITH_FILES} {PASTE_KEY}", WITH_FILES), "which came with the link": (f"{BY_LINK} {PASTE_KEY}", BY_LINK),
-          "which is built into this page": (
-              "The key is built into this page, so trust the result only as much as the place where you got this page.", "")}
+KEY_SENTENCES = {
+    "which you pasted or typed": (UNKNOWN_OWNER, ""),
+    "which you chose as the file": (UNKNOWN_OWNER, ""),
+    "which came with the files": (f"{WITH_FILES} {PASTE_KEY}", WITH_FILES),
+    "which came with the link": (f"{BY_LINK} {PASTE_KEY}", BY_LINK),
+    "which is built into this page": (
+        "The key is built into this page, so trust the result only as much as the place where you got this page.",
+        "",
+    ),
+}
 # The smallest contrast of a text to its background that is easy to read (WCAG 2, level AA).
 MIN_CONTRAST = 4.5
 # The number of files that the band at the top names, the length of a name there, and how much of that is the end of a longer name.
@@ -92,8 +106,8 @@ def next_step(verdict, rows, is_own=False):
 
 
 def key_sentences(rows, said):
-    """Returns the sentence about the key that the page must show above the list, and true if it is a warning. `said` is the message about
-    the key, which names its source."""
+    """Returns the sentence about the key that the page must show above the list, and true if it is a warning. `said` is
+    the message about the key, which names its source."""
     source = next((each for each in KEY_SENTENCES if each in said), None)
     fits, fails = KEY_SENTENCES.get(source, ("", ""))
     words = fits if any(row.number == 0 for row in rows) else fails if any(row.verdict == "bad" for row in rows) else ""
@@ -101,8 +115,8 @@ def key_sentences(rows, said):
 
 
 def is_consistent(row):
-    """Returns true if a row is consistent: it begins with its verdict, only a good verdict says "Verified" and has no warnings, only the
-    verdict and the warnings are bold, and what is said once above the list is not in the row."""
+    """Returns true if a row is consistent: it begins with its verdict, only a good verdict says "Verified" and has no
+    warnings, only the verdict and the warnings are bold, and what is said once above the list is not in the row."""
     lines = [line for line in row.text.split("\n") if line]
     sentences = [sentence for both in KEY_SENTENCES.values() for sentence in both if sentence]
     return (row.head == lines[0] == HEADINGS[row.verdict] and row.bold == [row.head, *row.cautions]
@@ -175,7 +189,9 @@ class Person:
         """Sets the page, the directory for files, the checks, and the programs that make signatures; returns the person."""
         self.page, self.address, self.scratch, self.minisign, self.programs = page, f"file://{page}", scratch, minisign, programs
         self.check, self.same = checks.check, checks.same
-        self.first, self.second = (Key(text, text.decode().split("\n")[1]) for text in map(minisign.read, ("first.pub", "second.pub")))
+        self.first, self.second = (
+            Key(text, text.decode().split("\n")[1]) for text in map(minisign.read, ("first.pub", "second.pub"))
+        )
         return self
 
     # ---- Files for the page ----
@@ -235,7 +251,8 @@ class Person:
     def open(self, address=None):
         """Loads the page, and waits until it can be used or says that it cannot."""
         address = address or self.address
-        # Changing only the part after # does not load the page again, and drivers do not wait for the page if that part is the same.
+        # Changing only the part after # does not load the page again, and drivers do not wait for the page if that part
+        # is the same.
         search = f"?{next(self.opened)}" if "#" in address else ""
         self.go(address.replace("#", f"{search}#"))
         self.wait(lambda: self.see("isReady", search))
@@ -268,8 +285,8 @@ class Person:
         self.wait(lambda: self.run(f"{IN_PAGE}return until({what});"), pause=0)
 
     def begin(self, key="", *paths, address=None, anew=True):
-        """Loads the page, or with `anew=False` clears the open one, which takes a tenth of the time. Then pastes the text as the key and
-        chooses the files together, if they are given."""
+        """Loads the page, or with `anew=False` clears the open one, which takes a tenth of the time. Then pastes the
+        text as the key and chooses the files together, if they are given."""
         if anew:
             self.open(address)
         else:
@@ -348,7 +365,8 @@ class Person:
         self.same(self.text_of("key-full"), f"In full: {key.line}", f"{what}: the key in use")
 
     def settled(self, what):
-        """Waits until nothing is being verified, checks that each row and the band at the top are consistent, and returns the rows."""
+        """Waits until nothing is being verified, checks that each row and the band at the top are consistent, and
+        returns the rows."""
         self.wait_seen("work")
         seen, band, is_own, whose, said = self.see("state")
         rows = [SimpleNamespace(**row) for row in seen]
@@ -391,7 +409,11 @@ class Person:
     def processes(self):
         """Returns the process IDs in the session of the browser or driver, except its own."""
         own, numbers = str(self.process.pid), [number for number in os.listdir("/proc") if number.isdigit()]
-        return [number for number in numbers if number != own and proc_file(number, "stat").rpartition(")")[2].split()[3:4] == [own]]
+        return [
+            number
+            for number in numbers
+            if number != own and proc_file(number, "stat").rpartition(")")[2].split()[3:4] == [own]
+        ]
 
     def page_processes(self):
         """Returns the IDs of the processes that may show the page."""

@@ -16,14 +16,16 @@ from minisign_cases import pattern
 from process import run_with_stderr
 from running import read
 from texts import lines, record_of, with_line, with_record
-from views import WINDOWS
+from visible_verdicts import WINDOWS
 
 TITLE = "Verify a download of <b>Example & \"others\"</b>"
 # The elements that ask for more than the download, and words about keys, which a project's page must not show.
 KEY_ELEMENTS = ("signature-text", "key-text", "key-remove", "limit-key")
 KEY_WORDS = ("publishes", "website", "documentation", "minisign.pub", ".minisig", "paste", "1.", "2.", "3.")
-UNLISTED = ("The file is not in the release for which this page was built. Its signature came with the file or with the link. The file "
-            "may be from an older release, or something else that the owner of the key has signed.")
+UNLISTED = (
+    "The file is not in the release for which this page was built. Its signature came with the file or with the link. The file "
+    "may be from an older release, or something else that the owner of the key has signed."
+)
 NOT_OF_RELEASE = "The file is not part of this release either."
 OTHER_KEY = "The link to this page contains another key or other text, which this page ignores. It accepts only its built-in key."
 ZIP, TAR = "app-1.0.zip", "app-1.0.tar.gz"
@@ -58,8 +60,8 @@ class Release:
         return f"file://{self.out}"
 
     def drop(self, name, data, what, at=None, **expected):
-        """Drops a file on the page, after opening the page if an address is given. The default data is that of the release. Checks the
-        file's row and that its verdict is in view, and returns the row."""
+        """Drops a file on the page, after opening the page if an address is given. The default data is that of the
+        release. Checks the file's row and that its verdict is in view, and returns the row."""
         if at:
             self.person.open(at)
         self.person.drop("downloads", self.person.put(name, self.files[name] if data is None else data))
@@ -99,15 +101,23 @@ def check_asks_for_download_only(person, release):
 
 
 def check_signature_by_name(person, release):
-    """The page tries the built-in signature for the file's name, or all of them if no name fits. A file with another name than the signed
-    one is not reported as verified."""
+    """The page tries the built-in signature for the file's name, or all of them if no name fits. A file with another
+    name than the signed one is not reported as verified."""
     zipped, tarred = release.files[ZIP], release.files[TAR]
     person.open(release.own)
     for name, data, verdict, number, signed_name in (
-            (TAR, tarred, "good", 0, ""), ("app-1.0 (1).zip", zipped, "good", 0, ZIP), ("APP-1.0.ZIP", zipped, "renamed", 0, ZIP),
-            ("new.pub", None, "good", 0, ""), (ZIP, tarred, "bad", 31, ""), ("APP-1.0.ZIP", tarred, "bad", 31, ""),
-            ("app-1.0 (100).zip", zipped, "renamed", 0, ZIP), ("app-1.0 (100).zip", tarred, "bad", 31, ""),
-            ("download", tarred, "renamed", 0, TAR), ("app-0.9.zip", zipped, "renamed", 0, ZIP), ("download", b"x", "bad", None, "")):
+        (TAR, tarred, "good", 0, ""),
+        ("app-1.0 (1).zip", zipped, "good", 0, ZIP),
+        ("APP-1.0.ZIP", zipped, "renamed", 0, ZIP),
+        ("new.pub", None, "good", 0, ""),
+        (ZIP, tarred, "bad", 31, ""),
+        ("APP-1.0.ZIP", tarred, "bad", 31, ""),
+        ("app-1.0 (100).zip", zipped, "renamed", 0, ZIP),
+        ("app-1.0 (100).zip", tarred, "bad", 31, ""),
+        ("download", tarred, "renamed", 0, TAR),
+        ("app-0.9.zip", zipped, "renamed", 0, ZIP),
+        ("download", b"x", "bad", None, ""),
+    ):
         what = f"{name}, number {number}"
         person.click("clear")
         row = release.drop(name, data, what, verdict=verdict, number=number,
@@ -118,9 +128,14 @@ def check_signature_by_name(person, release):
     # A signature without a name in its comment is for the file after which the signature file is named.
     plain = release.build_own(*(person.put(f"App ({year}).zip.minisig", person.sign(year.encode(), trusted="t"))
                                 for year in ("2024", "2025")))
-    for name, data, verdict in (("App (2024).zip", b"2024", "good"), ("App (2025).zip", b"2025", "good"),
-                                ("App (2025) (1).zip", b"2025", "good"),
-                                ("App (2025).zip", b"2024", "renamed"), ("download", b"2024", "renamed"), ("App (2025).zip", b"x", "bad")):
+    for name, data, verdict in (
+        ("App (2024).zip", b"2024", "good"),
+        ("App (2025).zip", b"2025", "good"),
+        ("App (2025) (1).zip", b"2025", "good"),
+        ("App (2025).zip", b"2024", "renamed"),
+        ("download", b"2024", "renamed"),
+        ("App (2025).zip", b"x", "bad"),
+    ):
         release.drop(name, data, f"a release without names in comments: {name} with {data}", plain, verdict=verdict)
     # An error that prevents any verdict is reported instead of "no signature fits".
     person.open(release.own)
@@ -141,25 +156,80 @@ def check_signature_by_name(person, release):
 
 
 def check_given_signatures(person, release):
-    """Built-in signatures are used before one that is dropped or in the link. A file for which only a signature of the second kind is valid
-    is reported as signed by this key, but not part of this release. A key that comes with the files is ignored."""
+    """Built-in signatures are used before one that is dropped or in the link. A file for which only a signature of the
+    second kind is valid is reported as signed by this key, but not part of this release. A key that comes with the
+    files is ignored."""
     old, other_key = release.sign(ZIP, b"older"), release.sign(ZIP, b"older", "second")
     older = {"verdict": "unlisted", "number": 0, "cautions": [UNLISTED]}
     signature = with_record(old, 1, b"XX" + record_of(old)[2:])
     for what, name, data, given, expected in (
-            ("the file of the release with an older signature", ZIP, release.files[ZIP], old, {"verdict": "good", "number": 0}),
-            ("the file of the release with a foreign signature", ZIP, release.files[ZIP], other_key, {"verdict": "good", "number": 0}),
-            ("the file of the release with a malformed signature", ZIP, release.files[ZIP], b"x", {"verdict": "good", "number": 0}),
-            ("an older file with its signature", ZIP, b"older", old, older),
-            ("an older file with its signed name", "app-0.9.zip", b"older", release.sign("app-0.9.zip", b"older"), older),
-            ("an older file under another name", "app-0.8.zip", b"older", release.sign("app-0.9.zip", b"older"),
-             {**older, "cautions": [UNLISTED, f"{NAMED}app-0.9.zip. {OTHER_FILE}"]}),
-            ("an older file with a legacy signature", ZIP, b"older", person.sign(b"older", trusted=f"file:{ZIP}", legacy=True), older),
-            ("another file, and the older signature", ZIP, b"x", old, {"number": 31, "has": ["not the one that was signed"]}),
-            ("an older file, and a foreign signature", ZIP, b"older", other_key, {"number": 29, "has": ["made with another key"]}),
-            ("an older file, and a signature of an unknown kind", ZIP, b"older", signature, {"number": 28, "has": ["does not support"]}),
-            ("an older file, and another comment", ZIP, b"older", with_line(old, 2, b"trusted comment: x"), {"number": 32}),
-            ("a file with an unknown name, and a foreign signature", "x.zip", b"x", other_key, {"number": 29, "has": ["another key"]})):
+        (
+            "the file of the release with an older signature",
+            ZIP,
+            release.files[ZIP],
+            old,
+            {"verdict": "good", "number": 0},
+        ),
+        (
+            "the file of the release with a foreign signature",
+            ZIP,
+            release.files[ZIP],
+            other_key,
+            {"verdict": "good", "number": 0},
+        ),
+        (
+            "the file of the release with a malformed signature",
+            ZIP,
+            release.files[ZIP],
+            b"x",
+            {"verdict": "good", "number": 0},
+        ),
+        ("an older file with its signature", ZIP, b"older", old, older),
+        ("an older file with its signed name", "app-0.9.zip", b"older", release.sign("app-0.9.zip", b"older"), older),
+        (
+            "an older file under another name",
+            "app-0.8.zip",
+            b"older",
+            release.sign("app-0.9.zip", b"older"),
+            {**older, "cautions": [UNLISTED, f"{NAMED}app-0.9.zip. {OTHER_FILE}"]},
+        ),
+        (
+            "an older file with a legacy signature",
+            ZIP,
+            b"older",
+            person.sign(b"older", trusted=f"file:{ZIP}", legacy=True),
+            older,
+        ),
+        (
+            "another file, and the older signature",
+            ZIP,
+            b"x",
+            old,
+            {"number": 31, "has": ["not the one that was signed"]},
+        ),
+        (
+            "an older file, and a foreign signature",
+            ZIP,
+            b"older",
+            other_key,
+            {"number": 29, "has": ["made with another key"]},
+        ),
+        (
+            "an older file, and a signature of an unknown kind",
+            ZIP,
+            b"older",
+            signature,
+            {"number": 28, "has": ["does not support"]},
+        ),
+        ("an older file, and another comment", ZIP, b"older", with_line(old, 2, b"trusted comment: x"), {"number": 32}),
+        (
+            "a file with an unknown name, and a foreign signature",
+            "x.zip",
+            b"x",
+            other_key,
+            {"number": 29, "has": ["another key"]},
+        ),
+    ):
         for is_together in (True, False):
             person.open(release.own)
             paths = person.pair(name, data, given)
@@ -169,7 +239,8 @@ def check_given_signatures(person, release):
             is_expected = row.verdict == "bad" and row.number != 32
             person.same(NOT_OF_RELEASE in row.text, is_expected,
                         f"{what}, together: {is_together}: the row says that it is not of the release")
-    # A file that the page cannot verify gets a bad verdict on the page of a release, unless the project made this kind of signature.
+    # A file that the page cannot verify gets a bad verdict on the page of a release, unless the project made this kind
+    # of signature.
     large, large_sig = person.sparse("large", 64 * 1048576 + 1, "-l")
     person.open(release.own)
     person.drop("downloads", large, large_sig)
@@ -197,7 +268,11 @@ def check_links(person, release):
         what = f"#{link:.20}"
         person.resize(*WINDOWS[at % len(WINDOWS)])
         person.open(f"{person.address}#{link}")
-        person.same([person.is_shown(part) for part in KEY_ELEMENTS], [False, True, True, True], f"{what}: the elements {KEY_ELEMENTS} are shown")
+        person.same(
+            [person.is_shown(part) for part in KEY_ELEMENTS],
+            [False, True, True, True],
+            f"{what}: the elements {KEY_ELEMENTS} are shown",
+        )
         person.check(person.see("isPlaceSeen"), f"{what}: the place for the download is out of view")
         person.says("key-message", what, ends="which came with the link to this page.")
         person.uses(person.first, what)
@@ -227,8 +302,8 @@ def check_links(person, release):
 
 
 def check_links_to_project_page(person, release):
-    """On a project's page, a file that only the signature of a link fits is not part of the release. The page says if it ignores the key
-    of a link."""
+    """On a project's page, a file that only the signature of a link fits is not part of the release. The page says if
+    it ignores the key of a link."""
     name, key, other = "app-2.0.zip", release.line, person.second.line
     text, by_other = (base64.b64encode(release.sign(name, b"later", by)).decode() for by in ("first", "second"))
     for part, number, is_ignored in (
@@ -251,14 +326,19 @@ def check_links_to_project_page(person, release):
 
 
 def check_page_without_signatures(person, release):
-    """A page with a built-in key and no signatures explains what a signature is, does not mention keys, and accepts no other key."""
+    """A page with a built-in key and no signatures explains what a signature is, does not mention keys, and accepts no
+    other key."""
     what, address = "a page with only a key", release.build_own()
     again = build.page(*build.taken_from(person.page), release.line, TITLE)
     person.check(read(release.out).decode() == again, f"{what}: building it again gives other bytes")
     for link in ("", f"#{person.second.line}"):
         person.open(address + link)
         seen = person.see("titles"), *map(person.is_shown, KEY_ELEMENTS)
-        person.same(seen, ([TITLE, TITLE], True, False, False, False), f"{what}: the titles, and if the elements {KEY_ELEMENTS} are shown")
+        person.same(
+            seen,
+            ([TITLE, TITLE], True, False, False, False),
+            f"{what}: the titles, and if the elements {KEY_ELEMENTS} are shown",
+        )
         person.uses(person.first, what)
         person.says("introduction", what, begins="A signature shows", lacks=["publishes"])
         person.drop("key", person.put(ZIP, release.files[ZIP]))
@@ -300,17 +380,36 @@ def check_build_errors(person, release):
     with_key = lambda *words: [*page, "--key", line, "--signature", *words]
     unknown_kind = with_record(sig, 1, b"XX" + record_of(sig)[2:])
     for words, why in (
-            (["--prove"], "the Rattle kit"), (["--from", os.path.join(build.HERE, "page.js")], "was not built by page/build.py"),
-            *(([*page, f"--key={key}"], "one line of 56 characters") for key in (
-                "RWQ", "x", line[:-1], f"{line}A", f"-{line[1:]}", base64.b64encode(b"ED" + bytes(40)).decode())),
-            (["--from", f"{path}.absent.html"], "cannot be read"), ([*page, "--signature", path], "needs --key"),
-            ([*page, "--key", person.second.line, "--signature", path], "was made with another key"),
-            (with_key(path, put(sig, f"{ZIP}.minisig")), "two signatures are named"),
-            (with_key(path, "later.html"), "is not named FILE.minisig"), (with_key(put(sig, ".minisig")), "is not named FILE.minisig"),
-            (with_key(f"{path}.absent.minisig"), "cannot be read"), (with_key(put(b"\xff" + sig)), "cannot be read"),
-            *((with_key(put(text)), "is not a signature file") for text in (
-                b"", b"untrusted comment: x\n", with_line(sig, 0, b"comment"), with_line(sig, 1, b"RWQ"), with_line(sig, 2, b"comment"),
-                b"\n".join(lines(sig)[:3]), with_line(sig, 3, b"RWQ="), with_line(sig, 3, b"-"), person.first.text, unknown_kind))):
+        (["--prove"], "the Rattle kit"),
+        (["--from", os.path.join(build.HERE, "page.js")], "was not built by page/build.py"),
+        *(
+            ([*page, f"--key={key}"], "one line of 56 characters")
+            for key in ("RWQ", "x", line[:-1], f"{line}A", f"-{line[1:]}", base64.b64encode(b"ED" + bytes(40)).decode())
+        ),
+        (["--from", f"{path}.absent.html"], "cannot be read"),
+        ([*page, "--signature", path], "needs --key"),
+        ([*page, "--key", person.second.line, "--signature", path], "was made with another key"),
+        (with_key(path, put(sig, f"{ZIP}.minisig")), "two signatures are named"),
+        (with_key(path, "later.html"), "is not named FILE.minisig"),
+        (with_key(put(sig, ".minisig")), "is not named FILE.minisig"),
+        (with_key(f"{path}.absent.minisig"), "cannot be read"),
+        (with_key(put(b"\xff" + sig)), "cannot be read"),
+        *(
+            (with_key(put(text)), "is not a signature file")
+            for text in (
+                b"",
+                b"untrusted comment: x\n",
+                with_line(sig, 0, b"comment"),
+                with_line(sig, 1, b"RWQ"),
+                with_line(sig, 2, b"comment"),
+                b"\n".join(lines(sig)[:3]),
+                with_line(sig, 3, b"RWQ="),
+                with_line(sig, 3, b"-"),
+                person.first.text,
+                unknown_kind,
+            )
+        ),
+    ):
         # PATH is empty, so that the kit is not found.
         status, said = release.build(*words, PATH="")
         is_reported = status == 1 and why in said and said.count("\n") == 1

@@ -12,15 +12,15 @@ SIGNED = tuple(itertools.product(KEYS, DATA))
 
 
 class Model:
-    """The expected state of the page: the key, true in `is_given` if the user gave it, and the data and signature of each row by name,
-    in the order of the rows."""
+    """The expected state of the page: the key, true in `is_given` if the user gave it, and the data and signature of
+    each row by name, in the order of the rows."""
 
     def __init__(self):
         self.key, self.is_given, self.downloads = None, False, {}
 
     def take_files(self, files):
-        """Adds the files of one drop, as (name, kind, content). The kind is "data", "signature" or "key"; the content of a signature is
-        its signer and data."""
+        """Adds the files of one drop, as (name, kind, content). The kind is "data", "signature" or "key"; the content
+        of a signature is its signer and data."""
         names = {kind: [name for name, each, _ in files if each == kind] for kind in ("data", "signature")}
         is_pair = all(len(of) == 1 for of in names.values())
         for name, kind, what in files:
@@ -28,7 +28,10 @@ class Model:
                 self.downloads.setdefault(names["data"][0] if is_pair else name, {})[kind] = what
             elif self.key is None:
                 self.key, self.is_given = what, False
-        files, signatures = ([name for name, parts in self.downloads.items() if lacking not in parts] for lacking in ("signature", "data"))
+        files, signatures = (
+            [name for name, parts in self.downloads.items() if lacking not in parts]
+            for lacking in ("signature", "data")
+        )
         if len(files) == len(signatures) == 1:
             self.downloads[files[0]] |= self.downloads.pop(signatures[0])
 

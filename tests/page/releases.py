@@ -1,22 +1,29 @@
-"""Checks that the page of a release shows the name, the version and the files of the release, and marks each file as it is verified.
-Links and names of a hostile project or signer change nothing else on the page.
+"""Checks that the page of a release shows the name, the version and the files of the release, and marks each file as it
+is verified. Links and names of a hostile project or signer change nothing else on the page.
 """
 
 import build
 from minisign_cases import pattern
 from person import MIN_CONTRAST
 from project_page import TAR, ZIP, Release
-from views import NARROW
+from visible_verdicts import NARROW
 
 NAME, VERSION, HEADING = "Example", "1.2.3", "Files of Example 1.2.3"
 LINK = "https://example.org/app-1.0.zip?a=1&b='2'"
 NOT_YET, VERIFIED, BAD = "\u2026 Not verified yet", "\u2713 Verified", "\u2717 NOT verified"
-SAFE_LINKS = ("https://example.org/app.zip", "https://example.org:8443/?file=a#b", "app.zip", "../dl/app%20x.zip", "/dl/app.zip", "?file=1",
-              "./a:b", "a/b:c")
-UNSAFE_LINKS = ("javascript:alert(1)", "JaVaScRiPt:alert(1)", " javascript:alert(1)", "java\tscript:alert(1)", "\x01javascript:alert(1)",
-                "data:text/html,x", "vbscript:x", "blob:x", "file:///etc/passwd", "http://example.org/x", "HTTP://example.org", "https:x",
-                "https:/x", "https:///x", "https://", "https://?x", "//example.org/x", "///x", "/\\example.org", "\\\\example.org",
-                "https://exa mple.org", "https://example.org/\u202ex", "https\u200b://example.org", "a:b", "", "x\n", "app.zip\"", "<b>")
+SAFE_LINKS = (
+    "https://example.org/app.zip", "https://example.org:8443/?file=a#b", "app.zip", "../dl/app%20x.zip", "/dl/app.zip",
+    "?file=1", "./a:b", "a/b:c",
+)
+UNSAFE_LINKS = (
+    "javascript:alert(1)", "JaVaScRiPt:alert(1)", " javascript:alert(1)", "java\tscript:alert(1)",
+    "\x01javascript:alert(1)", "data:text/html,x", "vbscript:x", "blob:x", "file:///etc/passwd",
+    "http://example.org/x", "HTTP://example.org", "https:x", "https:/x", "https:///x", "https://", "https://?x",
+    "//example.org/x", "///x", "/\\example.org", "\\\\example.org", "https://exa mple.org",
+    "https://example.org/\u202ex", "https\u200b://example.org", "a:b", "", "x\n",
+    "app.zip\"",
+    "<b>",
+)
 # Names of programs and of files, and how the page has to show those that it does not show unchanged.
 HOSTILE = {"</script><script>document.title='owned'</script>": None, "<img src=x onerror=document.title='owned'>": None,
            "javascript:alert(1)": None, "\u05e2\u05d1\u05e8\u05d9\u05ea.zip": None, "exe.\u202egpj.zip": "exe.U+202Egpj.zip",
@@ -31,14 +38,18 @@ def build_page(release, *words):
 
 
 def check_files_of_the_release(person):
-    """Each file has its state, and only a file that is verified by its own built-in signature, and under its name, is marked as verified."""
+    """Each file has its state, and only a file that is verified by its own built-in signature, and under its name, is
+    marked as verified."""
     release = Release(person)
     address = build_page(release, "--name", NAME, "--version", VERSION, "--link", f"{ZIP}={LINK}", f"{TAR}=dl/{TAR}")
     names, older = sorted([ZIP, TAR, "new.pub"]), release.sign(ZIP, b"older")
     links = {ZIP: LINK, TAR: f"dl/{TAR}"}
 
     def expect(what, **states):
-        shown = {name: (states.get(name.replace("-", "_").replace(".", "_"), ("waiting", NOT_YET)), links.get(name)) for name in names}
+        shown = {
+            name: (states.get(name.replace("-", "_").replace(".", "_"), ("waiting", NOT_YET)), links.get(name))
+            for name in names
+        }
         head, files = person.see("releaseList")
         person.same((head, {name: ((verdict, words), link) for name, verdict, words, link in files}), (HEADING, shown),
                     f"{what}: the files of the release")
@@ -73,7 +84,11 @@ def check_files_of_the_release(person):
 def check_pages_without_names(person):
     """Without a name, the heading is "Files of this release", and a page without signatures lists no files."""
     release = Release(person)
-    for words, head in (((), "Files of this release"), (("--name", NAME), "Files of Example"), (("--version", VERSION), "Files of 1.2.3")):
+    for words, head in (
+        ((), "Files of this release"),
+        (("--name", NAME), "Files of Example"),
+        (("--version", VERSION), "Files of 1.2.3"),
+    ):
         person.open(build_page(release, *words))
         person.same((person.see("releaseList")[0], person.is_shown("release")), (head, True), f"{words}: the heading")
     for address in (person.address, release.build_own()):
@@ -82,8 +97,8 @@ def check_pages_without_names(person):
 
 
 def check_hostile_release(person):
-    """Names, versions, file names and links of a page that was not made by build.py are shown as text, and links that are not safe are
-    left out."""
+    """Names, versions, file names and links of a page that was not made by build.py are shown as text, and links that
+    are not safe are left out."""
     module = build.taken_from(person.page)
     for at, (name, shown) in enumerate(HOSTILE.items()):
         link = UNSAFE_LINKS[at]
@@ -93,8 +108,11 @@ def check_hostile_release(person):
         person.open(f"file://{person.put('own.html', page.encode())}")
         head, files = person.see("releaseList")
         shown_file = (shown or name).rpartition("/")[2]
-        person.same((head, [row[0] for row in files], [row[3] for row in files]),
-                    (f"Files of {shown or name} {shown or name}", [shown_file], [None]), f"the release {name!r} with the link {link!r}")
+        person.same(
+            (head, [row[0] for row in files], [row[3] for row in files]),
+            (f"Files of {shown or name} {shown or name}", [shown_file], [None]),
+            f"the release {name!r} with the link {link!r}",
+        )
         seen = person.run("return [document.querySelector('h1').textContent, document.title, "
                           "document.querySelectorAll('h1 > bdi > *, h2 img, h2 script, li img').length]")
         person.same(seen, [name, name, 0], f"the release {name!r}: the heading, the title, and markup")
@@ -107,15 +125,23 @@ def check_safe_links(person):
     expected = [link in SAFE_LINKS for link in links]
     for what, found in (("build.py", [build.is_safe_link(link) for link in links]),
                         ("the page", person.run("return arguments[0].map(isSafeLink)", links))):
-        person.same([link for link, is_safe, right in zip(links, found, expected) if is_safe != right], [], f"{what}: links with a wrong result")
+        person.same(
+            [link for link, is_safe, right in zip(links, found, expected) if is_safe != right],
+            [],
+            f"{what}: links with a wrong result",
+        )
 
 
 def check_many_signatures(person):
-    """A file is read once, however many signatures are tried: in the page's own thread, in others, and with legacy signatures once more."""
+    """A file is read once, however many signatures are tried: in the page's own thread, in others, and with legacy
+    signatures once more."""
     for length, legacy, readings in ((100_000, False, 1), (3_000_001, False, 1), (100_000, True, 2)):
         release = Release(person)
         others = [person.put(f"{number}.minisig", release.sign(str(number), b"%d" % number)) for number in range(18)]
-        last = [person.put(f"old{number}.minisig", person.sign(b"x%d" % number, trusted=f"file:old{number}", legacy=True)) for number in range(3)]
+        last = [
+            person.put(f"old{number}.minisig", person.sign(b"x%d" % number, trusted=f"file:old{number}", legacy=True))
+            for number in range(3)
+        ]
         data = pattern(length)
         own = person.put("z.minisig", person.sign(data, trusted="file:z"))
         release.paths = [*others, *(last if legacy else []), own]
@@ -128,8 +154,8 @@ def check_many_signatures(person):
 
 
 def check_looks(person):
-    """The page of a release, and the form for a project's page, can be read at 400 % zoom (a window of 320 by 256), on a narrow screen, on
-    paper and with forced colours, and the states of files differ in words."""
+    """The page of a release, and the form for a project's page, can be read at 400 % zoom (a window of 320 by 256), on
+    a narrow screen, on paper and with forced colours, and the states of files differ in words."""
     release, long = Release(person), f"Example-1.2.3-{'x86_64-' * 12}installer.tar.gz"
     release.paths.append(person.put(f"{long}.minisig", release.sign(long, b"long")))
     address = build_page(release, "--name", NAME * 9, "--version", VERSION, "--link", f"{ZIP}={LINK}", f"{long}={long}?{'a' * 200}")
@@ -148,7 +174,11 @@ def check_readable(person, what):
     """Checks that nothing is cut off in small windows, and that texts have enough contrast in each view."""
     for size in ((320, 256), NARROW, ()):
         person.resize(*size)
-        person.same((person.see("fits"), person.see("cutOffParts")), (True, []), f"{what} at {size}: if rows fit, and what is cut off")
+        person.same(
+            (person.see("fits"), person.see("cutOffParts")),
+            (True, []),
+            f"{what} at {size}: if rows fit, and what is cut off",
+        )
     for view, show in (("in print", person.print_out), ("with forced colours", person.force_colours)):
         show(True)
         try:

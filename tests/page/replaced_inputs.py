@@ -15,26 +15,51 @@ def verdicts(person):
 
 
 def check_replaced_files(person):
-    """If a file, its signature or the key is replaced and the disk is slow, the rows that the replacement may affect have no verdict until the
-    page has read it. Other rows keep their verdicts."""
+    """If a file, its signature or the key is replaced and the disk is slow, the rows that the replacement may affect
+    have no verdict until the page has read it. Other rows keep their verdicts."""
     good, other = person.signed("a.zip", b"good", trusted="t"), person.signed("b.zip", b"other", trusted="t")
     evil = person.pair("a.zip", b"evil", person.sign(b"good", trusted="t"))
-    renamed = person.put("a.zip.sig", person.sign(b"x", trusted="t")), person.put("A (1).ZIP.minisig", person.sign(b"x", trusted="t"))
+    renamed = person.put("a.zip.sig", person.sign(b"x", trusted="t")), person.put(
+        "A (1).ZIP.minisig", person.sign(b"x", trusted="t")
+    )
     no_key, second = person.put("photo.jpg", b"\xff" * 70), person.put("second.pub", person.second.text)
     both, first = {"a.zip": "queued", "b.zip": "queued"}, {"a.zip": "queued", "b.zip": "good"}
     for what, act, given, at_once, after in (
-            ("a file and its signature", person.drop, ("downloads", *evil), first, {"a.zip": "bad", "b.zip": "good"}),
-            ("a file and its signature, chosen", person.choose, evil, first, {"a.zip": "bad", "b.zip": "good"}),
-            ("a file", person.drop, ("downloads", evil[0]), first, {"a.zip": "bad", "b.zip": "good"}),
-            ("a signature", person.drop, ("downloads", other[1], person.put("a.zip.minisig", b"x")), both,
-             {"a.zip": "bad", "b.zip": "good"}),
-            ("a signature file with another extension", person.drop, ("downloads", renamed[0]), first, {"a.zip": "bad", "b.zip": "good"}),
-            ("the same file", person.drop, ("downloads", *good), first, {"a.zip": "good", "b.zip": "good"}),
-            ("a file with another name", person.drop, ("downloads", person.put("c.zip", b"c")), {"a.zip": "good", "b.zip": "good"},
-             {"a.zip": "good", "b.zip": "good", "c.zip": "waiting"}),
-            ("the key", person.choose_key, (second,), both, {"a.zip": "bad", "b.zip": "bad"}),
-            ("the key, dropped", person.drop, ("key", second), both, {"a.zip": "bad", "b.zip": "bad"}),
-            ("the key, by a file without a key", person.choose_key, (no_key,), both, {"a.zip": "waiting", "b.zip": "waiting"})):
+        ("a file and its signature", person.drop, ("downloads", *evil), first, {"a.zip": "bad", "b.zip": "good"}),
+        ("a file and its signature, chosen", person.choose, evil, first, {"a.zip": "bad", "b.zip": "good"}),
+        ("a file", person.drop, ("downloads", evil[0]), first, {"a.zip": "bad", "b.zip": "good"}),
+        (
+            "a signature",
+            person.drop,
+            ("downloads", other[1], person.put("a.zip.minisig", b"x")),
+            both,
+            {"a.zip": "bad", "b.zip": "good"},
+        ),
+        (
+            "a signature file with another extension",
+            person.drop,
+            ("downloads", renamed[0]),
+            first,
+            {"a.zip": "bad", "b.zip": "good"},
+        ),
+        ("the same file", person.drop, ("downloads", *good), first, {"a.zip": "good", "b.zip": "good"}),
+        (
+            "a file with another name",
+            person.drop,
+            ("downloads", person.put("c.zip", b"c")),
+            {"a.zip": "good", "b.zip": "good"},
+            {"a.zip": "good", "b.zip": "good", "c.zip": "waiting"},
+        ),
+        ("the key", person.choose_key, (second,), both, {"a.zip": "bad", "b.zip": "bad"}),
+        ("the key, dropped", person.drop, ("key", second), both, {"a.zip": "bad", "b.zip": "bad"}),
+        (
+            "the key, by a file without a key",
+            person.choose_key,
+            (no_key,),
+            both,
+            {"a.zip": "waiting", "b.zip": "waiting"},
+        ),
+    ):
         person.begin(person.first.line, *good, *other, anew=what == "a file and its signature")
         person.expect_each("verdict", {"a.zip": "good", "b.zip": "good"}, f"before {what} is replaced")
         with person.with_held_files():
@@ -58,11 +83,13 @@ def check_queued_actions(person):
     evil = person.pair("a.zip", b"evil", person.sign(b"evil", key="second", trusted="t"))
     waiting, bad = ({"a.zip": verdict, "slow.zip": "waiting"} for verdict in ("waiting", "bad"))
     for what, act, given, after in (
-            ("another key is typed", person.type_key, (person.second.line,), bad),
-            ("the key is removed", person.click, ("key-remove",), waiting),
-            ("no key is typed", person.type_key, ("no key",), waiting), ("a file is dropped", person.drop, ("downloads", *evil), bad),
-            ("the pasted signature is cleared", person.type_text, ("signature-text", ""), waiting),
-            ("the pasted signature is changed", person.type_text, ("signature-text", text.replace("RU", "RR", 1)), bad)):
+        ("another key is typed", person.type_key, (person.second.line,), bad),
+        ("the key is removed", person.click, ("key-remove",), waiting),
+        ("no key is typed", person.type_key, ("no key",), waiting),
+        ("a file is dropped", person.drop, ("downloads", *evil), bad),
+        ("the pasted signature is cleared", person.type_text, ("signature-text", ""), waiting),
+        ("the pasted signature is changed", person.type_text, ("signature-text", text.replace("RU", "RR", 1)), bad),
+    ):
         person.begin(person.first.line, good[0])
         person.type_text("signature-text", text)
         person.only(f"before {what}", verdict="good")
@@ -75,9 +102,9 @@ def check_queued_actions(person):
 
 
 def check_while_verifying(person):
-    """While a large file is verified, the user chooses a key file that has no key, or drops the large file again. Then no old verdict is
-    left, and every row has a state. While the large file is read, the band names it and tells the user to wait, although another file
-    lacks its signature."""
+    """While a large file is verified, the user chooses a key file that has no key, or drops the large file again. Then
+    no old verdict is left, and every row has a state. While the large file is read, the band names it and tells the
+    user to wait, although another file lacks its signature."""
     paths, small = person.sparse("long", LONG_BYTES), person.signed("small", b"small", trusted="t")
     lone, no_key = person.put("lone.txt", b"lone"), person.put("photo.jpg", b"\xff" * 70000)
 
@@ -105,11 +132,20 @@ def check_signature_field(person):
     path, text = person.put("update.zip", b"data"), person.sign(b"data", trusted="t").decode()
     person.begin(person.first.line, path)
     for what, typed, verdict, has in (
-            ("an empty text", "", "waiting", MISSING), ("spaces", " \n", "waiting", MISSING), ("another text", "x", "waiting", MISSING),
-            ("a key", person.second.line, "waiting", MISSING), ("a part of the signature", text[:-40], "bad", ""),
-            ("the beginning of the signature", text[:30], "waiting", MISSING),
-            ("another signature", person.sign(b"x", trusted="t").decode(), "bad", "not the one that was signed"),
-            ("the signature with a changed comment", text.replace("trusted comment: t\n", "trusted comment: tt\n"), "bad", "")):
+        ("an empty text", "", "waiting", MISSING),
+        ("spaces", " \n", "waiting", MISSING),
+        ("another text", "x", "waiting", MISSING),
+        ("a key", person.second.line, "waiting", MISSING),
+        ("a part of the signature", text[:-40], "bad", ""),
+        ("the beginning of the signature", text[:30], "waiting", MISSING),
+        ("another signature", person.sign(b"x", trusted="t").decode(), "bad", "not the one that was signed"),
+        (
+            "the signature with a changed comment",
+            text.replace("trusted comment: t\n", "trusted comment: tt\n"),
+            "bad",
+            "",
+        ),
+    ):
         person.type_text("signature-text", text)
         person.only(f"a pasted signature, before {what}", verdict="good", name="update.zip")
         person.type_text("signature-text", typed)
@@ -121,7 +157,11 @@ def check_signature_field(person):
         person.choose(person.put(name, name.encode()))
     for name in ("two.zip", "three.zip", "one.zip"):
         person.type_text("signature-text", person.sign(name.encode(), trusted=f"file:{name}").decode())
-        person.expect_each("verdict", {each: "good" if each == name else "waiting" for each in names}, f"a signature of {name} is pasted")
+        person.expect_each(
+            "verdict",
+            {each: "good" if each == name else "waiting" for each in names},
+            f"a signature of {name} is pasted",
+        )
     person.type_text("signature-text", "")
     person.expect_each("verdict", {name: "waiting" for name in names}, "the field of several files is cleared")
     # A signature without a file.

@@ -1,6 +1,6 @@
-"""Checks that the page stays usable: the user can stop a file if its thread has ended or its read hangs, 10,000 files take
-little more time per file than 500, a large file can be stopped and verified again in little memory, and the page reports a file that
-changed while it was read.
+"""Checks that the page stays usable: the user can stop a file if its thread has ended or its read hangs, 10,000 files
+take little more time per file than 500, a large file can be stopped and verified again in little memory, and the page
+reports a file that changed while it was read.
 """
 
 import os
@@ -9,32 +9,33 @@ import re
 from person import MAX_NAMED, HEADINGS, proc_file
 
 FEW, MANY = 500, 10_000
-# The maximum processor time per file with MANY files, as a multiple of that with FEW files. It is far below MANY / FEW, the multiple of a
-# page that does work for all files whenever one is verified. It is well above 1, because the browser lays out all rows whenever some are
-# drawn, and a slow or busy machine draws more often. (Processor time of the processes that show the page depends less on the load of the
-# machine than elapsed time does. Polling the page takes processor time too, so it is polled rarely.)
+# The maximum processor time per file with MANY files, as a multiple of that with FEW files. It is far below MANY / FEW,
+# the multiple of a page that does work for all files whenever one is verified. It is well above 1, because the browser
+# lays out all rows whenever some are drawn, and a slow or busy machine draws more often. (Processor time of the
+# processes that show the page depends less on the load of the machine than elapsed time does. Polling the page takes
+# processor time too, so it is polled rarely.)
 MAX_TIME_RATIO = 6
 LONG_BYTES, BIG_BYTES = 300_000_000, 2_000_000_000
 # The maximum growth of the page's memory, in MiB, while a file of BIG_BYTES is read.
 MAX_GROWTH = 32
 
-# Returns true if the first file has a verdict, otherwise the value of its progress bar. (It is called often while memory is measured, so it
-# must not leave objects behind.)
+# Returns true if the first file has a verdict, otherwise the value of its progress bar. (It is called often while
+# memory is measured, so it must not leave objects behind.)
 VERDICT_OR_PROGRESS = """const {verdict} = document.querySelector("#verdicts > li")?.dataset ?? {};
 return ["good", "bad"].includes(verdict) || document.querySelector("progress")?.value"""
 
 # Clicks on the first button of the rows.
 CLICK = "document.querySelector('#verdicts button').click()"
-# Reasons for which a file hangs while it is verified. Each has the next file, and the function of in_page.js, with its arguments, that
-# causes it. It is called after the files were chosen and before the key is given.
+# Reasons for which a file hangs while it is verified. Each has the next file, and the function of in_page.js, with its
+# arguments, that causes it. It is called after the files were chosen and before the key is given.
 HANGS = {"threads that end": ("small", "endThreads"), "a read that hangs": ("small", "hangOnce", "replyOf"),
          "a signature whose read hangs": ("small", "hangOnce", "bytesOfTextFile"),
          "a text that arrives while the next file is read": ("long", "waitOnce")}
 
 
 def check_stopping(person):
-    """The user can stop a file that hangs. Then the next file is verified. The user can have the stopped file verified again. A late result
-    of the stopped file does not affect other files."""
+    """The user can stop a file that hangs. Then the next file is verified. The user can have the stopped file verified
+    again. A late result of the stopped file does not affect other files."""
     def is_broken():
         return person.run("return window.isBroken === true")
 
@@ -53,8 +54,8 @@ def check_stopping(person):
 
 
 def check_hanging_read(person):
-    """If reading a file hangs, the page determines from its name, after some seconds, if it is a key, a signature or a download. Other files
-    do not wait for it any longer."""
+    """If reading a file hangs, the page determines from its name, after some seconds, if it is a key, a signature or a
+    download. Other files do not wait for it any longer."""
     person.open()
     person.run("window.originalRead = window.bytesOfFile; window.bytesOfFile = () => new Promise(() => {});")
     person.choose(person.put("hanging", b"x"), *person.signed("a", b"a", trusted="t"))
@@ -102,8 +103,8 @@ def check_many_files(person):
 
 
 def check_large_file(person):
-    """The user can stop a file of 2 GB, and its row then says that it was stopped. When the file is verified again, it is read in pieces: the
-    memory of the page grows by at most MAX_GROWTH, and the page stays responsive."""
+    """The user can stop a file of 2 GB, and its row then says that it was stopped. When the file is verified again, it
+    is read in pieces: the memory of the page grows by at most MAX_GROWTH, and the page stays responsive."""
     paths = person.sparse("big", BIG_BYTES)
     person.begin(person.first.line, *paths, *person.signed("small", b"small", trusted="t"))
     person.wait(lambda: person.run("return (document.querySelector('progress')?.value ?? 0) > 0"))

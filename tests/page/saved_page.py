@@ -1,4 +1,5 @@
-"""Checks the button that saves a page for a project: the saved page has the same bytes as the page that build.py makes from this input."""
+"""Checks the button that saves a page for a project: the saved page has the same bytes as the page that build.py makes
+from this input."""
 
 import os
 import tempfile
@@ -55,7 +56,10 @@ def check_saved_page(person):
         person.same(release.build("--from", person.page, "--key", key, *words), (0, ""), f"{what}: build.py")
         fill(person, release, **given)
         page = save_page(person)
-        person.check(page == read(release.out), f"{what}: the saved page has {len(page)} bytes, which differ from those of build.py")
+        person.check(
+            page == read(release.out),
+            f"{what}: the saved page has {len(page)} bytes, which differ from those of build.py",
+        )
     person.open(f"file://{person.put('saved.html', page)}")
     person.same((person.see("titles"), person.is_shown("project")), ([TITLE, TITLE], False),
                 "the saved page: the title and heading, and whether it can save pages itself")
@@ -87,8 +91,11 @@ def check_nothing_is_saved(person):
         person.click("project-save")
         person.wait(lambda: person.text_of("project-message") != "")
         person.says("project-message", str(given), words, begins="No page was saved. ")
-    for how, take in (("no key", lambda: person.open()), ("a key in the link", lambda: person.open(f"{person.address}#{release.line}")),
-                      ("a key with the files", lambda: person.begin("", person.put("minisign.pub", person.first.text)))):
+    for how, take in (
+        ("no key", lambda: person.open()),
+        ("a key in the link", lambda: person.open(f"{person.address}#{release.line}")),
+        ("a key with the files", lambda: person.begin("", person.put("minisign.pub", person.first.text))),
+    ):
         take()
         person.run("document.getElementById('project').open = true")
         person.click("project-save")

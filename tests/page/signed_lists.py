@@ -1,5 +1,5 @@
-"""Checks that the page verifies files with a signed list, such as SHA256SUMS, on the general page, the page of a release, and a saved page.
-A renamed file is found by its digest, and the page shows its name in the list.
+"""Checks that the page verifies files with a signed list, such as SHA256SUMS, on the general page, the page of a
+release, and a saved page. A renamed file is found by its digest, and the page shows its name in the list.
 """
 
 import hashlib
@@ -25,7 +25,8 @@ def line_of(name, data, kind="sha256"):
 # A list with all hash functions, in which one name occurs twice.
 TEXT = "# a release\n" + "".join(line_of(name, data, kind) for (name, data), kind in zip(FILES.items(), (
     "sha256", "sha512", "blake2b", "sha256", "sha512"))) + 2 * line_of(TWICE, b"twice")
-# Files without signatures that are dropped: the name, the data, and the verdict, the error code and words of the row that the page shows.
+# Files without signatures that are dropped: the name, the data, and the verdict, the error code and words of the row
+# that the page shows.
 ROWS = (
     (NEW, FILES[NEW], "good", 0, [f"the entry {NEW} in the list {LIST}", "signed on 2023-11-14"]),
     ("app-1.0 (1).zip", FILES[OLD], "good", 0, [f"matches the entry {OLD}"]),
@@ -51,7 +52,8 @@ def put_list(person, text=TEXT, name=LIST, comment=COMMENT, key="first"):
 
 
 def check_listed_files(person):
-    """Each file is verified with the list. A file is not reported as verified if only its name or only its content is in the list."""
+    """Each file is verified with the list. A file is not reported as verified if only its name or only its content is
+    in the list."""
     paths = put_list(person)
     person.begin(person.first.line, *paths)
     person.named(LIST, "a list", verdict="good", number=0, cautions=[], has=["This is a list of 7 files."])
@@ -89,7 +91,8 @@ def check_order_of_files(person):
 
 
 def check_lists_that_are_not_used(person):
-    """A signed file with a malformed line, or whose trusted comment does not name it, is not used as a list, and the page says why."""
+    """A signed file with a malformed line, or whose trusted comment does not name it, is not used as a list, and the
+    page says why."""
     data = person.put(NEW, FILES[NEW])
     for what, how, words in (
             ("a malformed line", {"text": TEXT + "MD5 (b) = 00\n"}, ["Line 9: ", "This line is malformed"]),
@@ -107,7 +110,11 @@ def check_lists_that_are_not_used(person):
 def build_page(person, release, *words, text=TEXT, comment=COMMENT):
     """Builds a page with a list, and returns its address."""
     path, _ = put_list(person, text, comment=comment)
-    person.same(release.build("--from", person.page, "--key", person.first.line, "--list", path, *words), (0, ""), f"build.py --list {words}")
+    person.same(
+        release.build("--from", person.page, "--key", person.first.line, "--list", path, *words),
+        (0, ""),
+        f"build.py --list {words}",
+    )
     return f"file://{release.out}", path
 
 
@@ -118,8 +125,11 @@ def check_release_with_list(person):
     person.open(address)
     person.same(person.is_shown("signature-text"), False, "a page with a list asks for a signature")
     head, files = person.see("releaseList")
-    person.same((head, [(name, verdict, link) for name, verdict, _, link in files]),
-                ("Files of Example 2", [(name, "waiting", f"dl/{NEW}" if name == NEW else None) for name in names]), "before any download")
+    person.same(
+        (head, [(name, verdict, link) for name, verdict, _, link in files]),
+        ("Files of Example 2", [(name, "waiting", f"dl/{NEW}" if name == NEW else None) for name in names]),
+        "before any download",
+    )
     for name, data, verdict, number, words in ROWS:
         person.drop("downloads", person.put(name, data))
         person.named(name, f"the page of a release, {name} of {len(data)} bytes", verdict=verdict, number=number, has=words)
@@ -132,27 +142,40 @@ def check_release_with_list(person):
     # Files that are not in the list of the release are not reported as part of it, even with their own signature or an older list.
     person.drop("downloads", *person.signed("own.zip", b"own", trusted="file:own.zip"))
     person.only("a file with its own signature", verdict="unlisted")
-    person.drop("downloads", *put_list(person, line_of("older.zip", b"older"), name="OLDSUMS", comment="file:OLDSUMS"), person.put("older.zip", b"older"))
+    person.drop(
+        "downloads",
+        *put_list(person, line_of("older.zip", b"older"), name="OLDSUMS", comment="file:OLDSUMS"),
+        person.put("older.zip", b"older"),
+    )
     person.expect_each("verdict", {"own.zip": "unlisted", "OLDSUMS": "unlisted", "older.zip": "bad"}, "an older list")
 
 
 def check_invalid_built_in_lists(person):
-    """A page with an invalid list verifies no file of it, and says so. build.py rejects the errors that it can detect without Ed25519."""
+    """A page with an invalid list verifies no file of it, and says so. build.py rejects the errors that it can detect
+    without Ed25519."""
     release = Release(person)
     path, signature = put_list(person)
     changed = person.put(LIST, TEXT.replace("version", "x").encode() + line_of("more", b"").encode())
     person.put(f"{LIST}.minisig", read(signature), changed)
-    person.same(release.build("--from", person.page, "--key", person.first.line, "--list", changed), (0, ""), "build.py with a changed list")
+    person.same(
+        release.build("--from", person.page, "--key", person.first.line, "--list", changed),
+        (0, ""),
+        "build.py with a changed list",
+    )
     person.open(f"file://{release.out}")
     person.says("files-message", "a changed list", "The list that is built into this page is not valid")
     person.drop("downloads", person.put(NEW, FILES[NEW]))
     person.only("a file of a changed list", verdict="waiting")
     unnamed, _ = put_list(person, comment="version:2")
-    for words, why in ((["--list", path + "x"], "cannot be read"), (["--list", unnamed], "does not name the list"),
-                       (["--list", path, "--signature", *release.paths], "either --signature or --list"),
-                       (["--list", put_list(person, "# none\n")[0]], "has no entries"), (["--list", put_list(person, "x\n")[0]], "line 1"),
-                       (["--list", path, "--link", "other=x"], "does not have this file"),
-                       (["--list", put_list(person, key="second")[0]], "made with another key")):
+    for words, why in (
+        (["--list", path + "x"], "cannot be read"),
+        (["--list", unnamed], "does not name the list"),
+        (["--list", path, "--signature", *release.paths], "either --signature or --list"),
+        (["--list", put_list(person, "# none\n")[0]], "has no entries"),
+        (["--list", put_list(person, "x\n")[0]], "line 1"),
+        (["--list", path, "--link", "other=x"], "does not have this file"),
+        (["--list", put_list(person, key="second")[0]], "made with another key"),
+    ):
         status, said = release.build("--from", person.page, "--key", person.first.line, *words)
         person.check(status == 1 and why in said, f"build.py {words}: {status} {said}, expected {why}")
     status, said = release.build("--from", person.page, "--list", path)
@@ -160,13 +183,17 @@ def check_invalid_built_in_lists(person):
 
 
 def check_saved_list(person):
-    """A page that is saved with a list has the same bytes as the page that build.py writes. No page is saved with an invalid list."""
+    """A page that is saved with a list has the same bytes as the page that build.py writes. No page is saved with an
+    invalid list."""
     release = Release(person)
     _, path = build_page(person, release, "--name", "Example", "--link", f"{NEW}=dl/{NEW}", f"{OTHER}=x")
     signature = f"{path}.minisig"
     fill(person, release, signatures=[signature, path], name="Example", links=[f"{OTHER} x", f"{NEW} dl/{NEW}"])
     page = save_page(person)
-    person.check(page == read(release.out), f"the saved page with a list has {len(page)} bytes, which differ from those of build.py")
+    person.check(
+        page == read(release.out),
+        f"the saved page with a list has {len(page)} bytes, which differ from those of build.py",
+    )
     changed = person.put(LIST, TEXT.encode() + b"\n")
     for files, words in (([path], "is not a signature file"), ([path, signature, *release.paths], "is not a signature file"),
                          ([changed, signature], "cannot be used as a list. This file is not the one that was signed"),

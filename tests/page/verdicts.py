@@ -36,13 +36,14 @@ class Programs:
         self.words = {**self.meaning, **{numbers[name]: text.replace('\\"', '"') for name, text in own}}
 
     def is_same_verdict(self, case, number, comment, ran):
-        """Returns true if the program's result has the same verdict, for the same reason, as the error number and comment of a row."""
+        """Returns true if the program's result has the same verdict, for the same reason, as the error number and
+        comment of a row."""
         if number == 0:
             return ran.status == 0 and ran.stdout.decode().replace("\r", "U+000D").endswith(f"\nTrusted comment: {comment}\n")
         if number == 29:
             return ran.status == 1 and ran.stderr.startswith(b"Signature key id in ")
-        # The program reports a file that is not UTF-8 before it checks the key and the signature. Its errors name the file, and another
-        # error and a hint may follow the first line.
+        # The program reports a file that is not UTF-8 before it checks the key and the signature. Its errors name the
+        # file, and another error and a hint may follow the first line.
         line, _, more = re.sub(r"\Aerror: [^\n]+\.(?:pub|minisig): ", "", ran.stderr.decode()).partition("\n")
         is_line = re.fullmatch(r"(error: [^\n]+\.(pub|minisig): [^\n]+\n)?(hint: [^\n]+\n)?", more) is not None
         # For a weak signature the program reports, as Minisign does with libsodium, which of the two signatures is rejected.
@@ -51,8 +52,8 @@ class Programs:
 
 
 def check_corpus(person):
-    """The corpus and random changes of it have the verdicts of the C program, for the same reasons. (tests/verdicts/real_minisign.py
-    compares the C program with minisign on the same texts.)"""
+    """The corpus and random changes of it have the verdicts of the C program, for the same reasons.
+    (tests/verdicts/minisign_verdicts.py compares the C program with minisign on the same texts.)"""
     corpus, by_key, counted = kept_cases(), {}, {True: 0, False: 0}
     for case in corpus + random_cases(corpus, TEXT_COUNT if person.is_chromium else FIREFOX_TEXT_COUNT):
         by_key.setdefault(case.pk, []).append(case)
@@ -77,20 +78,31 @@ def check_corpus(person):
             ran = run_program([person.programs.program, "-V", "-p", key, "-m", pair[0], "-x", pair[1]], None)
             person.check(person.programs.is_same_verdict(case, *ours, ran),
                          f"{case.name}: the page's error and comment {ours}, c/minisign: {ran}")
-    person.check(min(counted.values()) >= sum(counted.values()) // 25, f"too few changed texts are good, or too few are bad: {counted}")
+    person.check(
+        min(counted.values()) >= sum(counted.values()) // 25,
+        f"too few changed texts are good, or too few are bad: {counted}",
+    )
 
 
 def check_new_signatures(person):
-    """New keys and signatures have the right verdicts, with the key as a file, as text and as a line. A signature of small order, which
-    would fit every file, is rejected."""
+    """New keys and signatures have the right verdicts, with the key as a file, as text and as a line. A signature of
+    small order, which would fit every file, is rejected."""
     first, data = person.first, pattern(3_000_001)
     sig, foreign = person.sign(data, trusted="version 2"), person.sign(data, key="second")
     key_id = lines(first.text)[0].rpartition(b" ")[2].decode()
-    paths, key_path, anything = person.pair("update.zip", data, sig), person.put("my.pub", first.text), person.put("anything", first.text)
+    paths, key_path, anything = (
+        person.pair("update.zip", data, sig),
+        person.put("my.pub", first.text),
+        person.put("anything", first.text),
+    )
     person.open()
-    for how, take, given in (("as text", person.type_key, [first.text.decode()]), ("as a line", person.type_key, [f"  {first.line}\n"]),
-                             ("as a file", person.choose_key, [key_path]), ("dropped on the key", person.drop, ["key", anything]),
-                             ("dropped among the files", person.drop, ["downloads", key_path])):
+    for how, take, given in (
+        ("as text", person.type_key, [first.text.decode()]),
+        ("as a line", person.type_key, [f"  {first.line}\n"]),
+        ("as a file", person.choose_key, [key_path]),
+        ("dropped on the key", person.drop, ["key", anything]),
+        ("dropped among the files", person.drop, ["downloads", key_path]),
+    ):
         what = f"a key {how}"
         person.begin("", *paths, anew=False)
         person.only(f"before {what}", verdict="waiting")
@@ -119,8 +131,8 @@ def check_new_signatures(person):
 
 
 def check_ed25519_vectors(person):
-    """The Ed25519 vectors of ed25519_edge_cases.py have the verdicts of libsodium, with the browser's Ed25519. (The error 32, for the comment
-    signature, means that the vector itself is accepted.)"""
+    """The Ed25519 vectors of ed25519_edge_cases.py have the verdicts of libsodium, with the browser's Ed25519. (The
+    error 32, for the comment signature, means that the vector itself is accepted.)"""
     by_key, numbers = {}, Counter()
     for vector in ed25519_edge_cases.vectors():
         by_key.setdefault(vector["A"], []).append(vector)
@@ -138,8 +150,11 @@ def check_ed25519_vectors(person):
             expected = shared_cases.ERRORS[ed25519_edge_cases.expected_error(vector)]
             person.same(rows.get(str(at)), expected, f"the vector {vector['name']}")
             numbers[expected] += 1
-    person.same((numbers[WEAK], numbers[32], sum(numbers.values())), (ed25519_edge_cases.WEAK_COUNT, ed25519_edge_cases.ACCEPTED_COUNT, ed25519_edge_cases.VECTOR_COUNT),
-                "the numbers of weak, of accepted and of all vectors")
+    person.same(
+        (numbers[WEAK], numbers[32], sum(numbers.values())),
+        (ed25519_edge_cases.WEAK_COUNT, ed25519_edge_cases.ACCEPTED_COUNT, ed25519_edge_cases.VECTOR_COUNT),
+        "the numbers of weak, of accepted and of all vectors",
+    )
 
 
 def check_errors(person):
@@ -177,33 +192,59 @@ def check_errors(person):
 
 
 def check_matching(person):
-    """Files are matched with signatures by name, or if they are the only two that are dropped together or unmatched. A file counts as a
-    signature by its content, unless there is a signature for it."""
+    """Files are matched with signatures by name, or if they are the only two that are dropped together or unmatched. A
+    file counts as a signature by its content, unless there is a signature for it."""
     sign = lambda data: person.sign(data, trusted="t")
     a, b = sign(b"a"), sign(b"b")
     two, parts_of = {"b": b"b", "b.minisig": b}, {0: ("good", 0, "t"), None: ("waiting", None, None)}
     person.begin(person.first.line)
     for what, given, expected, *has in (
-            ("only a signature", [{"a.minisig": a}], {"a": None}, "file itself is missing"),
-            ("a file and a signature with different names", [{"a": b"a", "b.minisig": b}], {"a": 31}, "with the signature b.minisig"),
-            ("several pairs, and a file without a signature", [{"b.minisig": b, "a": b"a", "c": b"c", "a.minisig": a, "b": b"b"}],
-             {"b": 0, "a": 0, "c": None}, "Its signature is missing. Choose or drop c.minisig"),
-            ("a renamed file", [{"renamed": b"a", "a.minisig": a}], {"renamed": 0}),
-            ("a renamed file, and then its signature", [two, {"renamed": b"a"}, {"a.minisig": a}], {"b": 0, "renamed": 0}),
-            ("a signature, and then its renamed file", [two, {"a.minisig": a}, {"renamed": b"a"}], {"b": 0, "renamed": 0}),
-            ("two files and a signature with another name", [{"a": b"a"}, {"b": b"b"}, {"c.minisig": a}],
-             {"a": None, "b": None, "c": None}),
-            ("a file that replaces an older one with the same name", [two, {"b": b"B"}], {"b": 31}),
-            *((f"the signature {name}", [{"a.zip": b"a", name: a}], {"a.zip": 0}) for name in (
-                "a.zip.sig", "a.zip.minisig.txt", "signature", "a.zip.minisig (1)")),
-            ("similar names, and a file without a signature",
-             [{"a (1).zip": b"a"}, {"B.ZIP": b"b"}, {"c": b"c"}, {"b.zip.minisig": b}, {"a.zip.minisig": a}],
-             {"a (1).zip": 0, "B.ZIP": 0, "c": None}),
-            ("several signatures that are recognized by their content",
-             [{"a.zip": b"a", "a.zip.sig": a, "b.zip": b"b", "b.zip.minisig.txt": b}], {"a.zip": 0, "b.zip": 0}),
-            # A signature or key that was itself signed is a file like any other.
-            *((f"{name}, which was signed", [{name: data, f"{name}.minisig": sign(data)}], {name: 0}) for name, data in (
-                ("list.txt", a), ("new.pub", person.second.text), ("old.key", person.minisign.read("second.key"))))):
+        ("only a signature", [{"a.minisig": a}], {"a": None}, "file itself is missing"),
+        (
+            "a file and a signature with different names",
+            [{"a": b"a", "b.minisig": b}],
+            {"a": 31},
+            "with the signature b.minisig",
+        ),
+        (
+            "several pairs, and a file without a signature",
+            [{"b.minisig": b, "a": b"a", "c": b"c", "a.minisig": a, "b": b"b"}],
+            {"b": 0, "a": 0, "c": None},
+            "Its signature is missing. Choose or drop c.minisig",
+        ),
+        ("a renamed file", [{"renamed": b"a", "a.minisig": a}], {"renamed": 0}),
+        ("a renamed file, and then its signature", [two, {"renamed": b"a"}, {"a.minisig": a}], {"b": 0, "renamed": 0}),
+        ("a signature, and then its renamed file", [two, {"a.minisig": a}, {"renamed": b"a"}], {"b": 0, "renamed": 0}),
+        (
+            "two files and a signature with another name",
+            [{"a": b"a"}, {"b": b"b"}, {"c.minisig": a}],
+            {"a": None, "b": None, "c": None},
+        ),
+        ("a file that replaces an older one with the same name", [two, {"b": b"B"}], {"b": 31}),
+        *(
+            (f"the signature {name}", [{"a.zip": b"a", name: a}], {"a.zip": 0})
+            for name in ("a.zip.sig", "a.zip.minisig.txt", "signature", "a.zip.minisig (1)")
+        ),
+        (
+            "similar names, and a file without a signature",
+            [{"a (1).zip": b"a"}, {"B.ZIP": b"b"}, {"c": b"c"}, {"b.zip.minisig": b}, {"a.zip.minisig": a}],
+            {"a (1).zip": 0, "B.ZIP": 0, "c": None},
+        ),
+        (
+            "several signatures that are recognized by their content",
+            [{"a.zip": b"a", "a.zip.sig": a, "b.zip": b"b", "b.zip.minisig.txt": b}],
+            {"a.zip": 0, "b.zip": 0},
+        ),
+        # A signature or key that was itself signed is a file like any other.
+        *(
+            (f"{name}, which was signed", [{name: data, f"{name}.minisig": sign(data)}], {name: 0})
+            for name, data in (
+                ("list.txt", a),
+                ("new.pub", person.second.text),
+                ("old.key", person.minisign.read("second.key")),
+            )
+        ),
+    ):
         person.click("clear")
         person.same(person.rows(), [], f"the list after it was cleared, before {what}")
         for files in given:

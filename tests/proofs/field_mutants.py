@@ -76,7 +76,9 @@ ONE_VALUE = "rejected by a contract that allows one value"
 GOOD = (ONE_VALUE, REJECTED, AROUND, SAME)
 OUTCOMES = (*GOOD, GAVE_UP, APART, UNFIT, PROVED, FAILED)
 LIST = "tests/proofs/field_mutants.txt"
-HEAD = """# The outcomes of the mutants that tests/proofs/field_mutants.py generates, for each function of which all are rejected or change
+HEAD = """\
+# The outcomes of the mutants that tests/proofs/field_mutants.py generates, for each function of which all are rejected \
+or change
 # nothing: a digest of everything that decides this, and their numbers. Below it are the mutants that change nothing.
 """
 # The names of the files in the directory of a function's written proof.
@@ -153,9 +155,10 @@ class Mutant(WrongBody):
 
 
 class Twice(Mutant):
-    """A function that calls the unchanged function twice, with equal arguments, and ensures that the outputs of both calls are equal:
-    the result and what is behind each `&mut` parameter. The prover knows only the contract of the function, so a clause that it
-    proves shows that the contract allows only one value of this output. Then every mutant with another value violates the contract."""
+    """A function that calls the unchanged function twice, with equal arguments, and ensures that the outputs of both
+    calls are equal: the result and what is behind each `&mut` parameter. The prover knows only the contract of the
+    function, so a clause that it proves shows that the contract allows only one value of this output. Then every mutant
+    with another value violates the contract."""
 
     def __init__(self, generator, fields=()):
         super().__init__(generator.structs.crate, generator.path, generator.item, generator.function, [], "two calls")
@@ -401,7 +404,11 @@ class Generator:
             clauses.append(f"ensures determined_{number} {{ {' ≡ '.join(sides)} }}")
         # The prover names a clause only if there is another one.
         clauses.append(clauses[0].replace("determined_0", "determined_again"))
-        required = [f"requires {clause.name or 'given'} {{ {clause.text} }}" for clause in item.clauses if clause.kind == "requires"]
+        required = [
+            f"requires {clause.name or 'given'} {{ {clause.text} }}"
+            for clause in item.clauses
+            if clause.kind == "requires"
+        ]
         required += [f"requires same_{number} {{ {each} }}" for number, each in enumerate(requires)]
         begin = self.reader.text.rindex("fn ", item.begin, item.named)
         declared = self.reader.text[item.named:self.after_parameters].rstrip()
@@ -409,7 +416,9 @@ class Generator:
         where = re.search(r" where (.*)$", item.header)
         result = f" -> ({self.result}, {self.result})" if self.result != "()" else ""
         body = f"let one_call = {call}; let other_call = {other}; (one_call, other_call)" if result else f"{call}; {other};"
-        head = f"{self.reader.text[begin:item.named]}{SUFFIX}{declared}{comma}{', '.join(words)}){result}{where[0] if where else ''}"
+        head = (
+            f"{self.reader.text[begin:item.named]}{SUFFIX}{declared}{comma}{', '.join(words)}){result}{where[0] if where else ''}"
+        )
         return "\n\n" + "\n    ".join([head, *required, *clauses]) + f"\n{{ {body} }}\n", ensured
 
     def resets(self, name, field, reset, kind):
@@ -440,15 +449,19 @@ class Generator:
             yield self.mutant([(begin, stop, early)], f"{does} before early return {number}", f"{name}{field}", is_clause("new"))
 
     def endings(self, sets):
-        """Yields the ways to reset a field at the end of a function that returns a value. Each is a description of when, the text that
-        follows the returned value (which has the name `returned`), and a clause with a place for a condition. A contract promises
-        different things after a success and after an error, so these are separate mutants."""
+        """Yields the ways to reset a field at the end of a function that returns a value. Each is a description of
+        when, the text that follows the returned value (which has the name `returned`), and a clause with a place for a
+        condition. A contract promises different things after a success and after an error, so these are separate
+        mutants."""
         last = self.bare[self.item.body + 1:self.item.end - 1]
         last = last[self.last_statement(last):].strip()
         if success_of(self.result):
             if not last.startswith("Err("):
-                yield (" after a success", f"match returned {{ Ok(passed) => {{ {sets} Ok(passed) }}, Err(failed) => Err(failed) }}",
-                       "OnOk result ({})")
+                yield (
+                    " after a success",
+                    f"match returned {{ Ok(passed) => {{ {sets} Ok(passed) }}, Err(failed) => Err(failed) }}",
+                    "OnOk result ({})",
+                )
             if not last.startswith("Ok("):
                 yield (" after an error", f"match returned {{ Ok(passed) => Ok(passed), Err(failed) => {{ {sets} Err(failed) }} }}",
                        "OnErr result ({})")
@@ -465,7 +478,8 @@ class Generator:
         return 'extern "C"' in self.reader.text[self.item.begin:self.item.body] and bool(INTEGER.fullmatch(self.result))
 
     def sets_first(self, name, field):
-        """Returns true if the first use of the parameter assigns this field or the whole struct, so that a reset at entry has no effect."""
+        """Returns true if the first use of the parameter assigns this field or the whole struct, so that a reset at
+        entry has no effect."""
         text = self.bare[self.item.body + 1:self.item.end - 1]
         first = re.search(rf"(?<![\w.]){name}\b", text)
         if not first:
@@ -586,8 +600,8 @@ class FieldTrial(Trial):
             return proved.rattle("check", self.crate, directory, *words).stdout
 
     def try_mutants(self, group):
-        """Tries a group, and returns the verdicts. Mutants that do not compile are taken out of the group. Those that call functions not
-        known to be proved are tried again, once these functions are assumed."""
+        """Tries a group, and returns the verdicts. Mutants that do not compile are taken out of the group. Those that
+        call functions not known to be proved are tried again, once these functions are assumed."""
         settled = []
         while group:
             known, (text, verdicts, lines) = len(self.proved), self.try_once(group)
@@ -605,8 +619,8 @@ class FieldTrial(Trial):
         return settled
 
     def try_twices(self, group):
-        """Checks a group of `Twice`s. Each reads from the output which of its clauses are proved. Those that do not compile are left out.
-        Returns the group."""
+        """Checks a group of `Twice`s. Each reads from the output which of its clauses are proved. Those that do not
+        compile are left out. Returns the group."""
         left = list(group)
         while left:
             known, (text, lines) = len(self.proved), self.run(left)
@@ -620,13 +634,14 @@ class FieldTrial(Trial):
         return group
 
     def try_once(self, group):
-        """Checks a copy of the crate with a group. Returns the output, the verdicts, and a function that gives the mutants at a line of a
-        file."""
+        """Checks a copy of the crate with a group. Returns the output, the verdicts, and a function that gives the
+        mutants at a line of a file."""
         text, lines = self.run(group)
         return text, [self.verdict(body, text) for body in group], lines
 
     def run(self, group):
-        """Checks a copy of the crate with a group. Returns the output, and a function that gives the mutants at a line of a file."""
+        """Checks a copy of the crate with a group. Returns the output, and a function that gives the mutants at a line
+        of a file."""
         checked = {body.checked for body in group}
         with tempfile.TemporaryDirectory(prefix="field-mutants-") as scratch:
             self.copy_into(scratch, group)
@@ -649,7 +664,11 @@ class FieldTrial(Trial):
             # An import follows the comment of the module and its attributes.
             at = re.search(r"(?m)^(?!//!|#!|$)", text).start()
             if needed:
-                write(directory, path, f"{text[:at]}ghost use Rattle.std.specs.Prelude.{{{', '.join(needed)}}};\n{text[at:]}".encode())
+                write(
+                    directory,
+                    path,
+                    f"{text[:at]}ghost use Rattle.std.specs.Prelude.{{{', '.join(needed)}}};\n{text[at:]}".encode(),
+                )
 
     def learn(self, text):
         """Adds the functions that mutants call to those that are assumed as proved. In the unchanged crate they are proved."""
@@ -675,8 +694,8 @@ def supply(crate):
 
 
 def names_of(crate, known):
-    """Returns the prover's names of the functions of a crate, as far as they are needed for methods of traits. Those that are not among
-    the names in `known` are read from a check in which all bodies are endless loops."""
+    """Returns the prover's names of the functions of a crate, as far as they are needed for methods of traits. Those
+    that are not among the names in `known` are read from a check in which all bodies are endless loops."""
     structs = structs_of(crate)
     items = [(path, item) for path, (_, source) in structs.files.items() for item in functions_in(source) if item.trait]
     unnamed = [generator for path, item in items for generator in [Generator(structs, path, item, False, known)]
@@ -725,8 +744,9 @@ def determined(trial, generators, mutants, pool):
 
 
 def begun(crate, mutants, places):
-    """Returns a trial for a crate, and the verdicts that are known before any mutant is tried: on all mutants if the unchanged functions
-    are not proved, otherwise on those of generic functions, for which the prover uses other names."""
+    """Returns a trial for a crate, and the verdicts that are known before any mutant is tried: on all mutants if the
+    unchanged functions are not proved, otherwise on those of generic functions, for which the prover uses other
+    names."""
     trial, unnamed = FieldTrial(crate, places), []
     why = trial.lacks_proof(mutants)
     while unknown := re.search(r"has no function `([^`]+)`", why):
@@ -747,9 +767,9 @@ def try_functions(trial, generators, mutants, pool, is_unchanged):
 
 
 def looked_at_again(trial, verdicts, pool):
-    """Tries again, in another way, the mutants that are proved or whose rejection says nothing about the contract. Returns the verdicts.
-    After an unclear rejection, a function is tried that calls the unchanged one and then makes the change. For a proved mutant, a
-    probe shows if it changes anything at all."""
+    """Tries again, in another way, the mutants that are proved or whose rejection says nothing about the contract.
+    Returns the verdicts. After an unclear rejection, a function is tried that calls the unchanged one and then makes
+    the change. For a proved mutant, a probe shows if it changes anything at all."""
     unclear = [verdict.body for verdict in verdicts if verdict.outcome in (APART, GAVE_UP) and verdict.body.around]
     calls = {body.function: body.with_body(f"{{ {body.call} }}") for body in unclear}
     called = {verdict.body.function for verdict in in_groups(trial, [*calls.values()], pool) if verdict.outcome == PROVED}
@@ -795,7 +815,9 @@ class Digests:
         # The texts of the written proofs by the directory of the function.
         self.proofs = {}
         for each in (*proved.crates()[crate].dependencies, crate):
-            self.common.update(f"\0{each} {proved.crates()[each].direct_dependencies} {proved.crates()[each].kit_dependencies}".encode())
+            self.common.update(
+                f"\0{each} {proved.crates()[each].direct_dependencies} {proved.crates()[each].kit_dependencies}".encode()
+            )
             for file in files_below(f"{ROOT}/crates/{each}/src", ".rt"):
                 source = read_source(file)
                 self.add(file, replaced(source.text, loops(source, [])))

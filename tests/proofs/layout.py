@@ -10,8 +10,8 @@
 
 The script prints a warning for each clause with more than three lines or 300 characters, where a run of white space
 counts as one, and for each function with more than 50 lines. CLAUSES and FUNCTIONS list the exceptions and their
-reasons. A warning is not a failure. The script prints a line for each failure; the last line is `N passed, M
-failed`.
+reasons. A warning is not a failure. The script prints a line for each failure; the last line is
+`N passed, M failed`.
 
 Needs Python 3.9 or later.
 """
@@ -51,8 +51,10 @@ CLAUSES = {
 # The functions that may be longer, by crate and name, and the reason.
 FUNCTIONS = {("minisign_base", "NamedFault::row"): "the table of all errors",
              ("minisign_install", "InstallFault::row"): "the table of the errors of installing"}
-WIDE_HINT = ("break clauses and comments, whose line breaks `rt fmt` keeps, and split imports into several, because `rt fmt` puts each "
-             "name of a broken import on a separate line")
+WIDE_HINT = (
+    "break clauses and comments, whose line breaks `rt fmt` keeps, and split imports into several, because `rt fmt` puts each "
+    "name of a broken import on a separate line"
+)
 TEXT = re.compile(r'"(?:[^"\\]|\\.)*"')
 ATTRIBUTE = re.compile(r"\s*#!?\[.*\]$")
 # A line of a file that consists of re-exports.

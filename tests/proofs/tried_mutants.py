@@ -53,7 +53,11 @@ def digest(crate, crates, top, logic, mutants=MUTANTS):
         sha256.update(f"\0{each} {crates[each].direct_dependencies} {crates[each].kit_dependencies}".encode())
         for part in (*PARTS, *([mutants] if mutants and each == crate else [])):
             directory = os.path.join(top, "crates", each, part)
-            paths = sorted(os.path.relpath(os.path.join(at, name), directory) for at, _, names in os.walk(directory) for name in names)
+            paths = sorted(
+                os.path.relpath(os.path.join(at, name), directory)
+                for at, _, names in os.walk(directory)
+                for name in names
+            )
             for path in paths:
                 data = COMMENT.sub(b"", read(directory, path)) if path.endswith((".rt", ".antt")) else read(directory, path)
                 sha256.update(f"\0{part}/{path} {len(data)}\0".encode() + data)
@@ -124,7 +128,11 @@ def check_digests(checks, scratch):
     checks.check(not {*all_digests("another kit").values()} & {*all_digests().values()}, "another kit did not change each digest")
     without = digest("low", crates, scratch, "the kit", mutants="")
     put("low/wrong-bodies/one.edit", b"again")
-    checks.same(digest("low", crates, scratch, "the kit", mutants=""), without, "the digest without mutants after a change of a mutant")
+    checks.same(
+        digest("low", crates, scratch, "the kit", mutants=""),
+        without,
+        "the digest without mutants after a change of a mutant",
+    )
     record({"low": "1", "high": "2"}, crates, "record", scratch)
     record({"high": "3"}, crates, "record", scratch)
     checks.same((recorded("record", scratch), recorded("none", scratch)), ({"low": "1", "high": "3"}, {}), "the record")

@@ -123,7 +123,10 @@ class WrongBody:
         proof = f"{ROOT}/crates/{crate}/proofs/{self.function.replace('::', '/')}"
         self.clause, self.why_not = self.named if is_searched(proof, self.named) else "", ""
         if not (file.endswith(".edit") and FORM.fullmatch(text) and text.count("\nfn: ") == 1 and self.path and self.changes):
-            self.why_not = "it must be named *.edit, begin with `why:`, and have one `fn:`, a `file:`, and pairs of `old:` and `new:`"
+            self.why_not = (
+                "it must be named *.edit, begin with `why:`, and have one `fn:`, a `file:`, and pairs of `old:` and"
+                " `new:`"
+            )
         if self.by and f"rejected by {self.by}" not in (GAVE_UP, APART):
             self.why_not = f"`by: {self.by}` is none of the outcomes `{GAVE_UP}` and `{APART}`"
         if not self.why_not and not os.path.isfile(f"{ROOT}/crates/{crate}/{self.path}"):
@@ -431,8 +434,16 @@ def main(words):
         here = tried_mutants.recorded(tried_mutants.TRIED_HERE)
         done = {**done, **{crate: tried for crate, tried in here.items() if tried == digests.get(crate)}}
     # The crates that need not be tried again.
-    skipped = set() if names or {"--all", "--unchanged"} & flags else {crate for crate in bodies if done.get(crate) == digests[crate]}
-    is_tried = lambda crate, body: body.label in names or not body.is_for_kit and (crate in names or not names and crate not in skipped)
+    skipped = (
+        set()
+        if names or {"--all", "--unchanged"} & flags
+        else {crate for crate in bodies if done.get(crate) == digests[crate]}
+    )
+    is_tried = (
+        lambda crate, body: body.label in names
+        or not body.is_for_kit
+        and (crate in names or not names and crate not in skipped)
+    )
     tasks = {crate: tried for crate in bodies if (tried := [body for body in bodies[crate] if is_tried(crate, body)])}
     outcomes, well = {crate: Counter() for crate in tasks}, Counter()
     for crate in skipped:

@@ -31,24 +31,40 @@ def derivation_case(password, salt, n_log2, r, p, length=64, key=None):
 
 
 ROWS = [
-    *rows("scrypt", "scrypt",
-          *(derivation_case(*numbers, key=bytes.fromhex(key)) for *numbers, key in VECTORS),
-          # Each r and p with small N; keys with lengths around multiples of SHA-256's output; passwords and salts with lengths around
-          # SHA-256's block size.
-          *(derivation_case(b"password", b"some salt", n_log2, r, p, 104)
-            for n_log2 in range(1, 7) for r in (1, 2, 3, 8) for p in (1, 2, 3)),
-          *(derivation_case(b"password", b"some salt", 3, r, 1, 104) for r in range(1, 33)),
-          *(derivation_case(b"pw", b"na", 1, 1, 1, length) for length in (1, 31, 32, 33, 63, 64, 65, 100)),
-          *(derivation_case(*words, 2, 1, 1) for length in (0, 1, 63, 64, 65, 128, 200)
-            for words in ((b"k" * length, b"some salt"), (b"pw", b"s" * length))),
-          derivation_case(b"", b"", 15, 8, 1),
-          # A key of no bytes, and more rows than any memory holds. Rows of 2 to the 64th bytes or more are invalid parameters.
-          *((f"{length} bytes by {numbers}", *numbers, length, b"pw", b"salt", error) for numbers, length, error in (
-              ((4, 1, 1), 0, "InvalidOutputLength"), ((53, 8, 1), 0, "InvalidOutputLength"),
-              ((53, 8, 1), 32, "OutOfMemory"), ((54, 7, 1), 32, "OutOfMemory"),
-              *((numbers, 32, "InvalidParameters") for numbers in INVALID_PARAMETERS)))),
-    # The scrypt parameters for limits of memory and operations, worked out by hand. As in the Rust crate, p is computed from the low 32
-    # bits of a quotient; in the first rejected case they are all zero.
+    *rows(
+        "scrypt",
+        "scrypt",
+        *(derivation_case(*numbers, key=bytes.fromhex(key)) for *numbers, key in VECTORS),
+        # Each r and p with small N; keys with lengths around multiples of SHA-256's output; passwords and salts with lengths around
+        # SHA-256's block size.
+        *(
+            derivation_case(b"password", b"some salt", n_log2, r, p, 104)
+            for n_log2 in range(1, 7)
+            for r in (1, 2, 3, 8)
+            for p in (1, 2, 3)
+        ),
+        *(derivation_case(b"password", b"some salt", 3, r, 1, 104) for r in range(1, 33)),
+        *(derivation_case(b"pw", b"na", 1, 1, 1, length) for length in (1, 31, 32, 33, 63, 64, 65, 100)),
+        *(
+            derivation_case(*words, 2, 1, 1)
+            for length in (0, 1, 63, 64, 65, 128, 200)
+            for words in ((b"k" * length, b"some salt"), (b"pw", b"s" * length))
+        ),
+        derivation_case(b"", b"", 15, 8, 1),
+        # A key of no bytes, and more rows than any memory holds. Rows of 2 to the 64th bytes or more are invalid parameters.
+        *(
+            (f"{length} bytes by {numbers}", *numbers, length, b"pw", b"salt", error)
+            for numbers, length, error in (
+                ((4, 1, 1), 0, "InvalidOutputLength"),
+                ((53, 8, 1), 0, "InvalidOutputLength"),
+                ((53, 8, 1), 32, "OutOfMemory"),
+                ((54, 7, 1), 32, "OutOfMemory"),
+                *((numbers, 32, "InvalidParameters") for numbers in INVALID_PARAMETERS),
+            )
+        ),
+    ),
+    # The scrypt parameters for limits of memory and operations, worked out by hand. As in the Rust crate, p is computed
+    # from the low 32 bits of a quotient; in the first rejected case they are all zero.
     *rows("limits", "raw_scrypt_params",
           *((f"{memory} and {operations}", memory, operations, 20, response(n_log2=n_log2, r=8, p=p))
             for memory, operations, n_log2, p in (

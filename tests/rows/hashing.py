@@ -19,8 +19,8 @@ NUMBERS = [(value, value.to_bytes(8, "little"))
 
 
 def digest_case(name, message, cuts=NOT_SPLIT, length=64, digest=None):
-    """Returns a case for a digest of `length` bytes. The response has three digests, which must be equal: of the whole message, of the
-    message split at the positions `cuts`, and of a second finalization."""
+    """Returns a case for a digest of `length` bytes. The response has three digests, which must be equal: of the whole
+    message, of the message split at the positions `cuts`, and of a second finalization."""
     digest = digest or hashlib.blake2b(message, digest_size=length).digest()
     return name, length, cuts, message, response(whole=digest, pieces=digest, again=digest)
 
@@ -31,7 +31,11 @@ ROWS = [
           # Digests of each length, and of messages of each length up to three blocks, cut in two or byte by byte.
           *(digest_case(f"{length} bytes of {message}", message, 1, length)
             for length in range(1, 65) for message in (b"", b"abc")),
-          *(digest_case(f"{length} bytes cut after {cut}", some_data(length), cut) for length in range(386) for cut in SPLIT_POSITIONS),
+          *(
+              digest_case(f"{length} bytes cut after {cut}", some_data(length), cut)
+              for length in range(386)
+              for cut in SPLIT_POSITIONS
+          ),
           *(digest_case(f"{length} bytes one by one", some_data(length), Word(",".join(map(str, range(1, length)))))
             for length in (127, 128, 129, 255, 256, 257, 385)),
           *((f"no digest of {length} bytes", length, NOT_SPLIT, b"abc", OUTSIDE_PRECONDITION) for length in (0, 65))),

@@ -32,17 +32,36 @@ def signature_of_abc(comment=b"c"):
 #   empty_first: the error for a file with an additional empty first line.
 Kind = namedtuple("Kind", "name request words left body read read_long nothing cut other other_error letter after empty_first")
 KINDS = (
-    Kind("public", "pk_from_file", (), 0, public_keys.LINE, public_keys.KEY_A, public_keys.KEY_A,
-         "MissingPublicKeyComment", "MissingEncodedPublicKey", "signature", "PublicKeyLineLength",
-         b" ", "PublicKeyLineLength", "PublicKeyLineNotBase64"),
+    Kind(
+        "public",
+        "pk_from_file",
+        (),
+        0, public_keys.LINE, public_keys.KEY_A, public_keys.KEY_A, "MissingPublicKeyComment",
+        "MissingEncodedPublicKey", "signature", "PublicKeyLineLength", b" ", "PublicKeyLineLength",
+        "PublicKeyLineNotBase64",
+    ),
     # The pair that is generated from random bytes that count up from 0, encrypted with the empty password, which is typed.
-    Kind("secret", "sk_from_file", (None, typed(b"")), 1, base64.b64encode(sealed("")),
-         *[secret_key(DECRYPTED, stdout=OUTPUT_IF_EMPTY)] * 2,
-         "MissingSecretKeyComment", "MissingEncodedSecretKey", "public", "RecordTooShort",
-         b" ", "SecretKeyNotBase64", "SecretKeyNotBase64"),
-    Kind("signature", "sig_from_file", (), 0, toy.signature_text(b"abc")[len(COMMENT):-1], signature_of_abc(), signature_of_abc(LONG_LINE),
-         "MissingUntrustedComment", "MissingSignature", "public", "MissingTrustedComment",
-         b"!", "SignatureNotBase64", "UntrustedCommentPrefix"),
+    Kind(
+        "secret",
+        "sk_from_file",
+        (None, typed(b"")),
+        1,
+        base64.b64encode(sealed("")),
+        *[secret_key(DECRYPTED, stdout=OUTPUT_IF_EMPTY)] * 2,
+        "MissingSecretKeyComment", "MissingEncodedSecretKey", "public", "RecordTooShort", b" ", "SecretKeyNotBase64",
+        "SecretKeyNotBase64",
+    ),
+    Kind(
+        "signature",
+        "sig_from_file",
+        (),
+        0,
+        toy.signature_text(b"abc")[len(COMMENT) : -1],
+        signature_of_abc(),
+        signature_of_abc(LONG_LINE),
+        "MissingUntrustedComment", "MissingSignature", "public", "MissingTrustedComment", b"!", "SignatureNotBase64",
+        "UntrustedCommentPrefix",
+    ),
 )
 
 

@@ -1,5 +1,5 @@
-"""Reads the named errors of `named_errors.txt`, which was written by hand, and compares them with docs/FORMATS.md, which is generated
-from the proved definition.
+"""Reads the named errors of `named_errors.txt`, which was written by hand, and compares them with docs/FORMATS.md,
+which is generated from the proved definition.
 """
 
 import os

@@ -6,8 +6,8 @@ from request_format import NOTHING_TYPED, rejected, response, rows, typed
 PROMPT = b"Password: "
 PROMPT_AND_EMPTY = PROMPT + b"<empty>\n"
 
-# A name; the typed lines; and the expected password or error, with the output and the number of lines left unread. At most 1026 bytes
-# are read, including the line feed. The rest of a longer line is left unread.
+# A name; the typed lines; and the expected password or error, with the output and the number of lines left unread. At
+# most 1026 bytes are read, including the line feed. The rest of a longer line is left unread.
 ROWS = rows(
     "a password", "get_password",
     ("a line", typed("password"), response(out="password", stdout=PROMPT)),

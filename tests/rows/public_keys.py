@@ -25,8 +25,8 @@ KEY_A = public_key(RECORD)
 NO_KEY, LENGTH, TOO_SHORT = "MissingEncodedPublicKey", "PublicKeyLineLength", "RecordTooShort"
 NOT_BASE64, BARE_NOT_BASE64 = "PublicKeyLineNotBase64", "BarePublicKeyNotBase64"
 
-# Sizes around each power of two up to 2^17. Comments of these sizes, and comments that contain one of the first 256 characters except
-# the line feed.
+# Sizes around each power of two up to 2^17. Comments of these sizes, and comments that contain one of the first 256
+# characters except the line feed.
 SIZES = sorted({(1 << exponent) + more for exponent in range(18) for more in (-1, 0, 1)})
 COMMENTS = {
     **{f"{size} letters": b"x" * size for size in SIZES},
@@ -46,8 +46,8 @@ ROWS = [
     *rows("public half", "pk_from_secret_key", *(
         (f"key derivation {derivation}", toy.KEY_A.record(derivation, other=bytes(32)), KEY_A)
         for derivation in (bytes(2), b"Sc"))),
-    # The error for a prefix of a file depends on its length. The first line may have any content. The second line is trimmed, but its
-    # length is checked before.
+    # The error for a prefix of a file depends on its length. The first line may have any content. The second line is
+    # trimmed, but its length is checked before.
     *rows("public box", "pk_from_box",
           *((f"the first {length} bytes", TEXT[:length], response_to_prefix(length)) for length in range(len(TEXT) + 1)),
           ("a line feed", b"\n", NO_KEY),

@@ -1,4 +1,5 @@
-"""Test cases for the binary records of keys: parsing them, comparing them, and telling encrypted secret keys from unencrypted ones."""
+"""Test cases for the binary records of keys: parsing them, comparing them, and telling encrypted secret keys from
+unencrypted ones."""
 
 import public_keys
 import secret_keys

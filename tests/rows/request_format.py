@@ -1,7 +1,8 @@
 """Encodes requests to the program `minisign_compare`, and the expected responses.
 
-compare/oracle/README.md describes requests and responses. A request is a name followed by words. In the test cases, a word is bytes or
-a string, which are sent in hexadecimal digits; an integer, a boolean or None; or a `Word`, which is sent unchanged.
+compare/oracle/README.md describes requests and responses. A request is a name followed by words. In the test cases, a
+word is bytes or a string, which are sent in hexadecimal digits; an integer, a boolean or None; or a `Word`, which is
+sent unchanged.
 """
 
 import base64
@@ -25,14 +26,16 @@ def typed(*lines):
 
 
 def data(content, **options):
-    """Returns a reader for data. `pos` is the offset of the first read, `chunk` the maximum number of bytes that a read returns, `fail`
-    the number of the read that fails, counted from 1, and `second` the content after rewinding. Options that are None are not sent."""
+    """Returns a reader for data. `pos` is the offset of the first read, `chunk` the maximum number of bytes that a read
+    returns, `fail` the number of the read that fails, counted from 1, and `second` the content after rewinding. Options
+    that are None are not sent."""
     parts = [f"{name}={encoded(value)}" for name, value in options.items() if value is not None]
     return Word(",".join([encoded(content), *parts]))
 
 
 def sink(size=None, flushes=True):
-    """Returns a writer on which writes beyond `size` bytes fail, unless `size` is None. If `flushes` is false, flushing it fails."""
+    """Returns a writer on which writes beyond `size` bytes fail, unless `size` is None. If `flushes` is false, flushing
+    it fails."""
     return Word(("" if flushes else "f") + ("-" if size is None else str(size)))
 
 
@@ -57,8 +60,9 @@ def encode_request(name, *words):
 
 # A test case: its name, a request, and the expected response, which is an `Answer` or the name of an error.
 Row = namedtuple("Row", "name request answer")
-# An expected response. `head` is "ok", "outside" (the call's precondition does not hold), or a whole error (`err`, its kind and its
-# text). `values` has the values to compare by name. They include the output of the call, and the number of typed lines that it did not
+# An expected response. `head` is "ok", "outside" (the call's precondition does not hold), or a whole error (`err`, its
+# kind and its text). `values` has the values to compare by name. They include the output of the call, and the number of
+# typed lines that it did not
 # read.
 Answer = namedtuple("Answer", "head values")
 # The kind and the text of each named error.
@@ -66,14 +70,14 @@ ERROR_TEXTS = {error["name"]: (error["kind"], error["text"]) for error in ERRORS
 
 
 def rows(what, request, *cases):
-    """Returns a `Row` for each of `cases`, which is a tuple of a name, the words of the request, and the expected response. The name of
-    the row is `what`, a colon and the name."""
+    """Returns a `Row` for each of `cases`, which is a tuple of a name, the words of the request, and the expected
+    response. The name of the row is `what`, a colon and the name."""
     return [Row(f"{what}: {name}", encode_request(request, *words), answer) for name, *words, answer in cases]
 
 
 def response(head="ok", **values):
-    """Returns an expected response, by default of a call that succeeds. In `verify`, `stdout` is the copied data and `stderr` the status
-    lines; in other requests, `stdout` is the text of the prompts."""
+    """Returns an expected response, by default of a call that succeeds. In `verify`, `stdout` is the copied data and
+    `stderr` the status lines; in other requests, `stdout` is the text of the prompts."""
     return Answer(head, {"stdout": b"", "stderr": b"", "typed_left": 0, **values})
 
 
@@ -93,8 +97,8 @@ def public_key(record, **tail):
 
 
 def secret_key(record, is_encrypted=False, **tail):
-    """Returns the expected response with the secret key of a record. Its debug output has each secret byte in hexadecimal digits, without
-    leading zeros."""
+    """Returns the expected response with the secret key of a record. Its debug output has each secret byte in
+    hexadecimal digits, without leading zeros."""
     debug = "".join(f"{byte:x}" for byte in record[62:126])
     return response(raw=record, keynum=record[54:62], encrypted=is_encrypted, debug=debug, **tail)
 

@@ -3,11 +3,12 @@
 
     tests/rows/rows.py [MODULE ..]
 
-MODULE is the name of a module, such as `signing`; by default all modules are run. The program `minisign_compare`, which `rt ci` or
-`rt run` has built, makes the calls. No expected value was computed by a crate of this repository. They come from standards, from
-Python's hashlib and base64, or from the upstream program minisign, or were worked out by hand from a definition. A module has its
-test cases in `ROWS`, and the files that they name in `FILES`. These files are created in a new directory for each module. The script
-also compares the named errors with docs/FORMATS.md. The last line is `N passed, M failed`.
+MODULE is the name of a module, such as `signing`; by default all modules are run. The program `minisign_compare`,
+which `rt ci` or `rt run` has built, makes the calls. No expected value was computed by a crate of this repository. They
+come from standards, from Python's hashlib and base64, or from the upstream program minisign, or were worked out by hand
+from a definition. A module has its test cases in `ROWS`, and the files that they name in `FILES`. These files are
+created in a new directory for each module. The script also compares the named errors with docs/FORMATS.md. The last
+line is `N passed, M failed`.
 
 Needs Python 3.9 or later.
 """
@@ -43,7 +44,8 @@ def responses_to(requests, directory):
 
 
 def difference(answer, line):
-    """Describes the differences between the response `line` and the expected `Answer`. Returns an empty string if there are none."""
+    """Describes the differences between the response `line` and the expected `Answer`. Returns an empty string if there
+    are none."""
     result, _, tail = line.partition(" | ")
     head, *words = [result] if result.startswith("err ") else result.split(" ")
     values = dict(word.partition("=")[::2] for word in [*words, *tail.split()])

@@ -12,8 +12,8 @@ from toy import KEY_A, NOT_ENCRYPTED, NO_LIMITS, SCRYPT, SMALL_LIMITS, USUAL_LIM
 # The salt with which key A is encrypted.
 SALT = bytes(range(0x20, 0x40))
 
-# The output: the message about the key derivation, the prompt and the message before it is finished, and the whole output, for a password
-# that is not empty and for an empty one.
+# The output: the message about the key derivation, the prompt and the message before it is finished, and the whole
+# output, for a password that is not empty and for an empty one.
 DERIVING_TEXT = b"Deriving a key from the password and decrypting the secret key... "
 OUTPUT_WHILE_DERIVING = PROMPT + DERIVING_TEXT
 WHOLE_OUTPUT = OUTPUT_WHILE_DERIVING + b"done\n"
@@ -48,7 +48,12 @@ ROWS = [
         (name, text, password, typed("typed"), decrypted(record, typed_left=1)) for name, text, password, record in (
             ("a password", ENCRYPTED, "password", DECRYPTED),
             ("the empty password", ENCRYPTED_WITH_EMPTY, "", DECRYPTED),
-            ("the limits of generated keys", encrypted(b"password", USUAL_LIMITS), "password", KEY_A.record(SCRYPT, USUAL_LIMITS, SALT)),
+            (
+                "the limits of generated keys",
+                encrypted(b"password", USUAL_LIMITS),
+                "password",
+                KEY_A.record(SCRYPT, USUAL_LIMITS, SALT),
+            ),
             ("encrypted in 512 parts", secret_text(KEY_A.sealed(b"password", NO_LIMITS, bytes(32))), "password",
              KEY_A.record(SCRYPT)),
             ("a password with a capital letter", ENCRYPTED, "Password", None),
@@ -76,8 +81,8 @@ ROWS = [
               for limits in (NO_LIMITS, TOO_HIGH) for derivation, error in (
                   (NOT_ENCRYPTED, "KeyNotEncrypted"), (b"Xx", "UnsupportedEncryptionAlgorithm"),
                   (b"SC", "UnsupportedEncryptionAlgorithm")))))),
-    # The limits are checked after the password was read and before the key derivation. The record of key A here is not encrypted although
-    # it names scrypt, so no password is right.
+    # The limits are checked after the password was read and before the key derivation. The record of key A here is not
+    # encrypted although it names scrypt, so no password is right.
     *(row for name, limits, error, shown in (
         ("one byte of memory too many", TOO_HIGH, "ParametersTooHigh", OUTPUT_WHILE_DERIVING),
         ("the greatest number of bytes", MAX_LIMITS, "ParametersTooHigh", OUTPUT_WHILE_DERIVING),

@@ -18,14 +18,14 @@ NO_KEY, NOT_BASE64, TOO_SHORT = "MissingEncodedSecretKey", "SecretKeyNotBase64",
 
 
 def response_to_prefix(length):
-    """Returns the expected response for the first `length` bytes of key A's file. Its comment line has 46 bytes, and the base64, in groups
-    of 4 characters, ends with the 258th byte."""
+    """Returns the expected response for the first `length` bytes of key A's file. Its comment line has 46 bytes, and
+    the base64, in groups of 4 characters, ends with the 258th byte."""
     error_in_base64 = TOO_SHORT if (length - 46) % 4 == 0 else NOT_BASE64
     return "MissingSecretKeyComment" if length == 0 else NO_KEY if length <= 46 else error_in_base64 if length <= 257 else KEY_A
 
 
-# A name; a record; a comment, or None for the default one; the file that `sk_to_box` must write; and the expected response of `sk_plain`
-# for this file.
+# A name; a record; a comment, or None for the default one; the file that `sk_to_box` must write; and the expected
+# response of `sk_plain` for this file.
 WRITTEN = [
     *((name, record, None, secret_text(record), answer) for name, record, answer in (
         ("no key derivation", RECORD, KEY_A),
@@ -38,8 +38,8 @@ WRITTEN = [
 
 ROWS = [
     *rows("secret key", "sk_to_box", *((name, record, comment, response(text=text)) for name, record, comment, text, _ in WRITTEN)),
-    # The error for a prefix of a file depends on its length. The first line may have any content. Only the line ending is removed from the
-    # second line, so any other white space in it is an error.
+    # The error for a prefix of a file depends on its length. The first line may have any content. Only the line ending
+    # is removed from the second line, so any other white space in it is an error.
     *rows("secret box", "sk_plain",
           *((name, text, answer) for name, _, _, text, answer in WRITTEN),
           *((f"the first {length} bytes", TEXT[:length], response_to_prefix(length)) for length in range(len(TEXT))),

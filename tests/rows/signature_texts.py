@@ -28,8 +28,8 @@ def verify_and_copy(name, outcome, text, content=b"abc", **how):
 
 
 def parse_and_verify(name, outcome, text, written=PREHASHED_TEXT, trusted=b"t", untrusted=b"c", **how):
-    """Yields test cases that parse a signature file and verify with it. If the file is well-formed, `written` is the file that is written
-    for the parsed signature."""
+    """Yields test cases that parse a signature file and verify with it. If the file is well-formed, `written` is the
+    file that is written for the parsed signature."""
     is_well_formed = outcome in (ACCEPTED, "CommentSignatureRefused")
     answer = signature(PREHASHED_RECORD, written, trusted, untrusted) if is_well_formed else outcome
     yield from rows("signature", "sig_from_string", (name, text, answer))
@@ -46,15 +46,15 @@ def prefix_cases(length):
 
 
 def unusual_text(front="", end="\n", before="", fourth=FOURTH):
-    """Returns the worked signature with a fifth line, with `front` before the first line, `before` before the trusted comment, other line
-    endings, and another fourth line."""
+    """Returns the worked signature with a fifth line, with `front` before the first line, `before` before the trusted
+    comment, other line endings, and another fourth line."""
     whole = [front.encode() + FIRST, SECOND, f"trusted comment: {before}t".encode(), fourth, b"fifth"]
     return end.encode().join(whole)
 
 
 def comment_size_cases(size):
-    """Yields test cases in which both comments have `size` characters. Parsing returns the same comments, and the signature is accepted,
-    also with a public key file that has such a comment."""
+    """Yields test cases in which both comments have `size` characters. Parsing returns the same comments, and the
+    signature is accepted, also with a public key file that has such a comment."""
     comment, name = b"x" * size, f"comments: {size} letters"
     text = toy.signature_text(b"abc", trusted=comment, untrusted=comment)
     yield from signing_cases(f"{name}, signed", b"abc", comment, comment, time=0, public=RECORD, chunks=AT_ONCE)
@@ -72,26 +72,30 @@ def signed_and_verified(name, content):
         yield from verify_and_copy(f"{name} without the last byte", "SignatureRefused", text, content[:-1], chunks=AT_ONCE)
 
 
-# A trusted comment with spaces at both ends. Signing keeps the spaces, but parsing removes them, so that the comment signature is rejected.
+# A trusted comment with spaces at both ends. Signing keeps the spaces, but parsing removes them, so that the comment
+# signature is rejected.
 SPACES = toy.signature_text(b"abc", trusted=b" t ")
 TRIMMED = toy.signature_text(b"abc", trusted=b"t", comment_signature=record_of(SPACES, 3))
 UNKNOWN = base64.b64encode(UNKNOWN_RECORD)
-# A comment signature of which both halves are changed in the same way, so that the toy scheme accepts it. Bytes after the first 64 are
-# ignored.
+# A comment signature of which both halves are changed in the same way, so that the toy scheme accepts it. Bytes after
+# the first 64 are ignored.
 BOTH_HALVES_CHANGED = COMMENT_SIGNATURE[:31] + b"\xf2" + COMMENT_SIGNATURE[32:63] + bytes([COMMENT_SIGNATURE[63] ^ 0xF2])
 LONG_FOURTH = base64.b64encode(BOTH_HALVES_CHANGED + bytes(range(151)))
 ALL_LETTERS = with_line(PREHASHED_TEXT, 3, ALPHABET)
 
 # The white space of Unicode, except the line feed, which ends a line; and similar characters that are not white space.
-WHITE_SPACE = "\t\v\f\r \u0085\u00a0\u1680\u2000\u2001\u2002\u2003\u2004\u2005\u2006\u2007\u2008\u2009\u200a\u2028\u2029\u202f\u205f\u3000"
+WHITE_SPACE = (
+    "\t\v\f\r"
+    " \u0085\u00a0\u1680\u2000\u2001\u2002\u2003\u2004\u2005\u2006\u2007\u2008\u2009\u200a\u2028\u2029\u202f\u205f\u3000"
+)
 NO_WHITE_SPACE = "\x1c\x1d\x1e\x1f\u180e\u200b\ufeff"
 
 ROWS = [row for rows_of in (
     signing_cases("written", time=0),
     signing_cases("spaces: signed", b"abc", b" t ", time=0),
     parse_and_verify("spaces", "CommentSignatureRefused", SPACES, TRIMMED),
-    # A bare signature is only a record, without comments and without a text form. Bytes after a record are not read. A short record is
-    # rejected before an unknown algorithm is noticed.
+    # A bare signature is only a record, without comments and without a text form. Bytes after a record are not read. A
+    # short record is rejected before an unknown algorithm is noticed.
     *(rows(request, request, ("prehashed", PREHASHED_RECORD, answer or BARE), ("legacy", LEGACY_RECORD, answer or BARE_LEGACY),
            ("longer", PREHASHED_RECORD + b"!", answer or BARE),
            ("short", PREHASHED_RECORD[:73], "RecordTooShort"),
@@ -134,8 +138,14 @@ ROWS = [row for rows_of in (
     # White space is trimmed at both ends of the trusted comment, and no other character is.
     *(verify_and_copy(f"white space: U+{ord(letter):04X}", outcome, unusual_text(before=letter, end=f"{letter}\n"))
       for letters, outcome in ((WHITE_SPACE, ACCEPTED), (NO_WHITE_SPACE, NOT_BASE64)) for letter in letters),
-    *(verify_and_copy(f"no white space: U+{ord(letter):04X} before the comment", "CommentSignatureRefused", unusual_text(before=letter))
-      for letter in NO_WHITE_SPACE),
+    *(
+        verify_and_copy(
+            f"no white space: U+{ord(letter):04X} before the comment",
+            "CommentSignatureRefused",
+            unusual_text(before=letter),
+        )
+        for letter in NO_WHITE_SPACE
+    ),
     # Bytes after a record in the second line are not read, and are not written again.
     *(parse_and_verify(f"{more} bytes more", ACCEPTED, with_record(PREHASHED_TEXT, 1, PREHASHED_RECORD + bytes(range(more))))
       for more in (1, 60)),

@@ -1,7 +1,7 @@
 """Test cases for signing with the record of a secret key, and for verifying the signatures.
 
-The signer is key A of `toy`. Random bytes are zeros unless a case says otherwise. There are two cases for the same data: one reads it
-at once, the other one byte by byte.
+The signer is key A of `toy`. Random bytes are zeros unless a case says otherwise. There are two cases for the same
+data: one reads it at once, the other one byte by byte.
 """
 
 import toy
@@ -27,8 +27,8 @@ def signing_cases(name, content=b"abc", trusted=b"t", untrusted=b"c", error=None
            public=None, time=TIME, chunks=AT_ONCE_AND_BY_BYTES, fail=None):
     """Yields test cases that sign data, or fail with this error; one for each size of a read in `chunks`.
 
-    An encrypted key is rejected first. Then the data is read to its end, and 64 random bytes are requested twice. If fewer are left, a
-    request uses none of them. A public key that is passed in is checked last."""
+    An encrypted key is rejected first. Then the data is read to its end, and 64 random bytes are requested twice. If
+    fewer are left, a request uses none of them. A public key that is passed in is checked last."""
     trusted_comment = b"timestamp:%d" % time if trusted is None else trusted
     untrusted_comment = DEFAULT_COMMENT if untrusted is None else untrusted
     for chunk in chunks:
@@ -38,8 +38,16 @@ def signing_cases(name, content=b"abc", trusted=b"t", untrusted=b"c", error=None
             effects = {"drawn": 0, "reads": 0, "pos": 0}
         elif error == "ReadingFailed":
             effects = {"drawn": 0, "reads": fail, "pos": fail - 1}
-        answer = signature(*expected_signature(content, trusted_comment, untrusted_comment, random), trusted_comment, untrusted_comment, **effects) if not error else rejected(
-            error, OTHER_KEY_GIVEN_MESSAGE if error == "RefusedByGivenKey" else None, **effects)
+        answer = (
+            signature(
+                *expected_signature(content, trusted_comment, untrusted_comment, random),
+                trusted_comment,
+                untrusted_comment,
+                **effects,
+            )
+            if not error
+            else rejected(error, OTHER_KEY_GIVEN_MESSAGE if error == "RefusedByGivenKey" else None, **effects)
+        )
         yield Row(name_with_read_size(name, chunk), request, answer)
 
 
@@ -52,11 +60,16 @@ ROWS = [row for rows in (
     *(signing_cases(f"comments {trusted} and {untrusted}", b"abc", trusted, untrusted)
       for trusted, untrusted in ((b"t", b"c"), (b"", b""), (None, None), (b"t", None), (None, b"c"))),
     signing_cases("nothing, with empty comments: signed", b"", b"", b""),
-    *(verification_cases("nothing, with empty comments: judged", outcome, expected_signature(b"", b"", b"")[1], content, RECORD, b"")
-      for content, outcome in ((b"", ACCEPTED), (b"x", "SignatureRefused"))),
+    *(
+        verification_cases(
+            "nothing, with empty comments: judged", outcome, expected_signature(b"", b"", b"")[1], content, RECORD, b""
+        )
+        for content, outcome in ((b"", ACCEPTED), (b"x", "SignatureRefused"))
+    ),
     signing_cases("random byte 95: signed", random=OTHER_95),
     verification_cases("random byte 95: judged", ACCEPTED, expected_signature(b"abc", random=OTHER_95)[1], key=RECORD),
-    # An unencrypted key signs even with a wrong checksum. An encrypted key is rejected before the data and the random source are used.
+    # An unencrypted key signs even with a wrong checksum. An encrypted key is rejected before the data and the random
+    # source are used.
     *(signing_cases(f"key: {name}", b"abc", None, None, error, SEVENS[:length], key, chunks=BY_BYTES, fail=fail)
       for name, key, length, fail, error in (
           ("not encrypted, with another checksum", WRONG_CHECKSUM, 128, 5, None),
@@ -65,8 +78,8 @@ ROWS = [row for rows in (
           ("encrypted, no device works", ENCRYPTED, 0, 1, "EncryptedKeyRefused"))),
     signing_cases("source: not read for an encrypted key", b"abc", None, None, "EncryptedKeyRefused", b"", ENCRYPTED),
     signing_cases("source: read to its end without random bytes", b"abc", None, None, "RandomSourceFailed", b"", WRONG_CHECKSUM),
-    # Only the 32 bytes of a public key that is passed in are compared, and not its key ID. The last key belongs to a seed of 32 bytes
-    # of 01.
+    # Only the 32 bytes of a public key that is passed in are compared, and not its key ID. The last key belongs to a
+    # seed of 32 bytes of 01.
     *(signing_cases(f"given public key: {name}", error=error, public=public) for name, public, error in (
         ("of the signer", RECORD, None), ("of the signer, with another key ID", OTHER_RECORD, None),
         ("another key", OTHER_RECORD[:10] + bytes([0x5B]) * 32, "RefusedByGivenKey"))),

@@ -1,5 +1,5 @@
-"""Test cases for verification, with parsed keys and with key files: each result and error, the printed and the copied bytes, and how
-far the data is read."""
+"""Test cases for verification, with parsed keys and with key files: each result and error, the printed and the copied
+bytes, and how far the data is read."""
 
 from itertools import product
 
@@ -43,11 +43,13 @@ def name_with_read_size(name, chunk):
 
 def verification_cases(name, outcome, signature=PREHASHED_TEXT, content=b"abc", key=None, trusted=b"t", quiet=False, output=False,
            legacy=False, chunks=AT_ONCE_AND_BY_BYTES, front=b"", second=None, fail=None):
-    """Yields test cases that verify a signature with a public key; one case for each size of a read in `chunks`. The signature and the
-    key are files or records. `outcome` is ACCEPTED or an error. `front` is data that was read before the call. When the data is read a
-    second time, it is `second`, if that is not None. `fail` is the number of the read that fails.
+    """Yields test cases that verify a signature with a public key; one case for each size of a read in `chunks`. The
+    signature and the key are files or records. `outcome` is ACCEPTED or an error. `front` is data that was read before
+    the call. When the data is read a second time, it is `second`, if that is not None. `fail` is the number of the read
+    that fails.
 
-    The data is read once. To copy it, it is read a second time, except with a legacy signature, which needs the whole data in memory."""
+    The data is read once. To copy it, it is read a second time, except with a legacy signature, which needs the whole
+    data in memory."""
     is_bare = signature[:1] == b"E"
     key = key if key is not None else RECORD if is_bare else KEY_TEXT
     request = "verify" if key[:1] == b"E" else "verify_texts"
@@ -82,12 +84,21 @@ def with_changed_comment_signature(record):
 
 
 def cases_for_all_options(name, key, signature, content, outcome, strict=None, **how):
-    """Yields test cases for each combination of quiet, output and legacy. If `strict` is not None, it is the outcome if legacy signatures
-    are not accepted."""
+    """Yields test cases for each combination of quiet, output and legacy. If `strict` is not None, it is the outcome if
+    legacy signatures are not accepted."""
     for quiet, output, legacy in product((False, True), repeat=3):
         options = [option for option, is_set in (("quiet", quiet), ("output", output), ("legacy", legacy)) if is_set]
-        yield from verification_cases(f"{name}; {', '.join(options) or 'no options'}", outcome if legacy or strict is None else strict,
-                          signature, content, key, quiet=quiet, output=output, legacy=legacy, **how)
+        yield from verification_cases(
+            f"{name}; {', '.join(options) or 'no options'}",
+            outcome if legacy or strict is None else strict,
+            signature,
+            content,
+            key,
+            quiet=quiet,
+            output=output,
+            legacy=legacy,
+            **how,
+        )
 
 
 CHANGED_TEXT = with_changed_comment_signature(PREHASHED_RECORD)
@@ -97,8 +108,8 @@ LONG_DATA = bytes((7 * i + i // 256) % 256 for i in range(100_000))
 LONG_DATA_RECORD = b"ED" + toy.KEYNUM + bytes(32) + bytes.fromhex(
     "d4f140d88e494e19283fe4a31a2b66a60cde500f743d176788259b07d1098643")
 
-# The name, the key, the signature, the data, the outcome, and another outcome if legacy signatures are not accepted. If several checks
-# fail, the outcome is the error of the first one.
+# The name, the key, the signature, the data, the outcome, and another outcome if legacy signatures are not accepted. If
+# several checks fail, the outcome is the error of the first one.
 CASES = (
     ("a signature", RECORD, PREHASHED_RECORD, b"abc", ACCEPTED),
     ("a signature, no data", RECORD, PREHASHED_RECORD, b"", "SignatureRefused"),
@@ -134,8 +145,14 @@ CASES = (
     ("text: no signature", KEY_TEXT, b"", b"abc", "MissingUntrustedComment"),
     ("text: a changed comment signature, other data", KEY_TEXT, CHANGED_TEXT, b"abd", "SignatureRefused"),
     ("text: a changed comment signature", KEY_TEXT, CHANGED_TEXT, b"abc", "CommentSignatureRefused"),
-    ("text: legacy, a changed comment signature", KEY_TEXT, with_changed_comment_signature(LEGACY_RECORD), b"abc", "CommentSignatureRefused",
-     "LegacyNotAccepted"),
+    (
+        "text: legacy, a changed comment signature",
+        KEY_TEXT,
+        with_changed_comment_signature(LEGACY_RECORD),
+        b"abc",
+        "CommentSignatureRefused",
+        "LegacyNotAccepted",
+    ),
     ("text: another key", OTHER_KEY_TEXT, PREHASHED_TEXT, b"abc", "DifferentKeyIds"),
     ("text: another key, legacy, other data", OTHER_KEY_TEXT, LEGACY_TEXT, b"abd", "DifferentKeyIds"),
     ("text: another key, a changed comment signature, no data", OTHER_KEY_TEXT, CHANGED_TEXT, b"", "DifferentKeyIds"),
@@ -168,16 +185,36 @@ def upstream_parts(text):
 ROWS = [row for rows in (
     *(cases_for_all_options(*case) for case in CASES),
     # The copy begins at the position of the source before the call.
-    *(verification_cases(f"{name}: copied from the position before the call", ACCEPTED, signature, output=True, legacy=True, front=b"xx")
-      for name, signature in (("a signature", PREHASHED_RECORD), ("text", PREHASHED_TEXT), ("text: legacy", LEGACY_TEXT))),
+    *(
+        verification_cases(
+            f"{name}: copied from the position before the call",
+            ACCEPTED,
+            signature,
+            output=True,
+            legacy=True,
+            front=b"xx",
+        )
+        for name, signature in (
+            ("a signature", PREHASHED_RECORD),
+            ("text", PREHASHED_TEXT),
+            ("text: legacy", LEGACY_TEXT),
+        )
+    ),
     # The toy scheme xors the blocks of a message, so that zero bytes at the end do not change the signature.
     verification_cases("toy: a zero byte appended to legacy data", ACCEPTED, LEGACY_TEXT, b"abc\0", output=True, legacy=True),
     verification_cases("toy: a zero byte appended to the trusted comment", ACCEPTED,
            PREHASHED_TEXT.replace(b"comment: t\n", b"comment: t\0\n"), trusted=b"t\0"),
     # The scheme also accepts the upstream tool's signatures from a table, until the table is cleared.
-    [Row("upstream: a signature is added to the table", encode_request("table_add", signed, UPSTREAM_RECORD[10:], signature), response())
-     for text, message in UPSTREAM_MESSAGES.items() for record, trusted, of_comment in [upstream_parts(text)]
-     for signed, signature in ((message, record[10:]), (record[10:] + trusted, of_comment))],
+    [
+        Row(
+            "upstream: a signature is added to the table",
+            encode_request("table_add", signed, UPSTREAM_RECORD[10:], signature),
+            response(),
+        )
+        for text, message in UPSTREAM_MESSAGES.items()
+        for record, trusted, of_comment in [upstream_parts(text)]
+        for signed, signature in ((message, record[10:]), (record[10:] + trusted, of_comment))
+    ],
     *(cases_for_all_options(f"upstream: {name}", UPSTREAM_TEXT, text, content, *outcomes, trusted=upstream_parts(text)[1])
       for name, text, content, *outcomes in (
           ("legacy", UPSTREAM_LEGACY, b"test", ACCEPTED, "LegacyNotAccepted"),

@@ -1,8 +1,8 @@
 /* A library for LD_PRELOAD that reports, breaks and delays the system calls of a program. Environment variables control it.
 
    Reporting and changing calls:
-     TRACE_TO=FD     For each call that opens, writes, reads back, locks, syncs, renames or removes a file, write a line to this file
-                     descriptor: the name of the call and the last part of the file's path.
+     TRACE_TO=FD     For each call that opens, writes, reads back, locks, syncs, renames or removes a file, write a line
+                     to this file descriptor: the name of the call and the last part of the file's path.
      LEAVE_OUT=STEP  Omit a step, or do it wrongly, but return success. STEP is `sync` (fsync of files), `directory` (fsync of
                      directories), `new` (O_EXCL), `mode` (create files that everybody may read), `permissions` (fchmod), `owner`
                      (fchown), `lock` (flock), `rename`, or `digit` (write a version record without its last byte).

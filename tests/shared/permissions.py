@@ -69,14 +69,21 @@ def run_case(program, prepare, arguments, case):
             os.chown(path, *case.owners)
         set_old_permissions(directory, path, case.old_mode, case.entries, case.inherited)
         before, old_acl = os.stat(path), acl_of(path)
-        expect((old_acl is None) == (not case.entries), f"the old file has the list {old_acl}, expected the entries {case.entries!r}")
+        expect(
+            (old_acl is None) == (not case.entries),
+            f"the old file has the list {old_acl}, expected the entries {case.entries!r}",
+        )
         fault = {"CALLS": case.failing_call, "AT": 1, "ERRNO": ERRORS.get(case.failing_call)}
         run = functools.partial(program.run_broken, fault=fault) if case.failing_call else program.run
         ran = run(directory, arguments(case.requested), **(AS_NOBODY if case.as_nobody else {}))
         after, new_acl = os.stat(path), acl_of(path)
         mode = stat.S_IMODE(after.st_mode)
         owners = (NOBODY, NOBODY) if case.as_nobody else (before.st_uid, before.st_gid)
-        expect(ran.status == 0 and after.st_ino != before.st_ino, ran, f"the file was{' not' * (after.st_ino == before.st_ino)} replaced")
+        expect(
+            ran.status == 0 and after.st_ino != before.st_ino,
+            ran,
+            f"the file was{' not' * (after.st_ino == before.st_ino)} replaced",
+        )
         expect(mode == case.new_mode, f"the new file has the mode {mode:o}, expected {case.new_mode:o}")
         expect((after.st_uid, after.st_gid) == owners, f"the new file belongs to {(after.st_uid, after.st_gid)}, expected {owners}")
         expected_acl = old_acl if case.keeps_acl else None
@@ -109,11 +116,26 @@ KEPT = [
     ("a list with a group that may do nothing is copied", Replacement(0o755, 0o775, GROUP_MAY_DO_NOTHING, keeps_acl=True)),
     ("a list whose mask allows nothing is copied", Replacement(0o700, 0o700, f"u:{OTHER_USER}:rwx,m::---", keeps_acl=True)),
     ("a list inherited from the directory is removed", Replacement(0o770, 0o770, inherited=INHERITED)),
-    ("a list is kept in a directory that gives another list to new files", Replacement(0o755, 0o775, USER_MAY_DO_LESS, INHERITED, keeps_acl=True)),
-    ("a list with a user who may do more leaves mode 0705 if it cannot be copied", without_copied_acl(0o755, 0o705, USER_MAY_DO_MORE)),
-    ("a list with a user who may do less leaves mode 0704 if it cannot be copied", without_copied_acl(0o755, 0o704, USER_MAY_DO_LESS)),
-    ("a list with a group that may do nothing leaves mode 0700 if it cannot be copied", without_copied_acl(0o755, 0o700, GROUP_MAY_DO_NOTHING)),
-    ("a list whose owning group may do less leaves mode 0704 if it cannot be copied", without_copied_acl(0o757, 0o704, f"g::r--,u:{OTHER_USER}:rwx")),
+    (
+        "a list is kept in a directory that gives another list to new files",
+        Replacement(0o755, 0o775, USER_MAY_DO_LESS, INHERITED, keeps_acl=True),
+    ),
+    (
+        "a list with a user who may do more leaves mode 0705 if it cannot be copied",
+        without_copied_acl(0o755, 0o705, USER_MAY_DO_MORE),
+    ),
+    (
+        "a list with a user who may do less leaves mode 0704 if it cannot be copied",
+        without_copied_acl(0o755, 0o704, USER_MAY_DO_LESS),
+    ),
+    (
+        "a list with a group that may do nothing leaves mode 0700 if it cannot be copied",
+        without_copied_acl(0o755, 0o700, GROUP_MAY_DO_NOTHING),
+    ),
+    (
+        "a list whose owning group may do less leaves mode 0704 if it cannot be copied",
+        without_copied_acl(0o757, 0o704, f"g::r--,u:{OTHER_USER}:rwx"),
+    ),
     ("a list leaves mode 0704 if the group cannot be kept", of_other_group(0o755, 0o704, USER_MAY_DO_LESS)),
     ("a list is copied if the user nobody owns and replaces the file", by_nobody(0o755, 0o775, USER_MAY_DO_LESS, keeps_acl=True)),
     ("a list of an unreadable file is copied", by_nobody(0o311, 0o311, f"g::--x,u:{OTHER_USER}:--x", keeps_acl=True)),
@@ -130,11 +152,19 @@ WITHOUT_PROC = [
 # group cannot be kept, the permissions that KEPT forbids are removed from the mode.
 REQUESTED = [
     ("a requested mode is set", Replacement(0o700, 0o775, requested="775")),
-    ("a requested mode gives nothing to the new group if the old one cannot be kept", of_other_group(0o700, 0o705, requested="775")),
-    ("a requested mode gives all others no more than the group if the old group cannot be kept",
-     of_other_group(0o755, 0o700, requested="705")),
+    (
+        "a requested mode gives nothing to the new group if the old one cannot be kept",
+        of_other_group(0o700, 0o705, requested="775"),
+    ),
+    (
+        "a requested mode gives all others no more than the group if the old group cannot be kept",
+        of_other_group(0o755, 0o700, requested="705"),
+    ),
     ("a requested mode removes the old file's list", Replacement(0o755, 0o770, USER_MAY_DO_MORE, requested="770")),
-    ("a requested mode removes a list inherited from the directory", Replacement(0o700, 0o770, inherited=INHERITED, requested="770")),
+    (
+        "a requested mode removes a list inherited from the directory",
+        Replacement(0o700, 0o770, inherited=INHERITED, requested="770"),
+    ),
 ]
 
 

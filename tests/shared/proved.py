@@ -44,7 +44,9 @@ class Crate:
         named = right.split()
         self.direct_dependencies = [name for name in named if name in crates]
         self.kit_dependencies = ["std", *(name for name in named if name not in crates)]
-        self.dependencies = list(dict.fromkeys(name for each in self.direct_dependencies for name in (*crates[each].dependencies, each)))
+        self.dependencies = list(
+            dict.fromkeys(name for each in self.direct_dependencies for name in (*crates[each].dependencies, each))
+        )
 
 
 @functools.lru_cache(maxsize=None)

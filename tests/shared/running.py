@@ -21,7 +21,7 @@ from collections import namedtuple
 from dataclasses import dataclass, field
 
 import needs
-import selected
+import case_selection
 from process import with_report_pipe
 
 # The time limit of a run.
@@ -180,7 +180,7 @@ def run_cases(cases):
     Returns the failures and the number of cases that were not skipped."""
     failures, count = [], 0
     for name, run, *arguments in cases:
-        if not selected.is_selected(name):
+        if not case_selection.is_selected(name):
             continue
         try:
             run(*arguments)
@@ -281,8 +281,15 @@ class Runner(Program):
         """Creates the files of a case in a directory, runs the program, and checks the results."""
         with contextlib.ExitStack() as stack:
             pipes, streams = make_files(directory, case.files, stack), Streams(directory, case, stack)
-            with subprocess.Popen([self.program, *case.arguments], cwd=directory, env=environment, umask=case.umask, pass_fds=inherited_fds,
-                                  preexec_fn=streams.prepare_child(), **streams.ends) as process:
+            with subprocess.Popen(
+                [self.program, *case.arguments],
+                cwd=directory,
+                env=environment,
+                umask=case.umask,
+                pass_fds=inherited_fds,
+                preexec_fn=streams.prepare_child(),
+                **streams.ends,
+            ) as process:
                 try:
                     streams.serve()
                     wait(process, [*pipes, *streams.terminals])
@@ -331,7 +338,10 @@ class WrittenPipe:
     def poll(self, has_ended):
         """Compares the received data with the expected data, once the program has ended."""
         received = os.read(self.reader, 1 << 16) if has_ended else self.data
-        expect(received == self.data, f"the program wrote {received[:200]} to {os.path.basename(self.path)}, expected {self.data[:200]}")
+        expect(
+            received == self.data,
+            f"the program wrote {received[:200]} to {os.path.basename(self.path)}, expected {self.data[:200]}",
+        )
 
 
 class Terminal:

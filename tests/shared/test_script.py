@@ -5,7 +5,7 @@ import sys
 import tempfile
 
 import needs
-import selected
+import case_selection
 import static_library
 from checks import Checks
 from running import Failure
@@ -20,14 +20,14 @@ def run_checks(name, run, *exceptions):
     failure. `name` is the prefix of the directory's name."""
     checks = Checks()
     # Replaces the check functions of the script that the words do not select.
-    selected.select_checks(sys.modules["__main__"])
+    case_selection.select_checks(sys.modules["__main__"])
     with tempfile.TemporaryDirectory(prefix=f"{name}-") as directory:
         try:
             run(checks, directory)
         except (needs.Missing, static_library.NotBuilt, Failure, OSError, subprocess.SubprocessError, *exceptions) as error:
             checks.check(False, str(error))
-    if selected.words() and not checks.passed and not checks.failures:
-        checks.check(False, f"no case has a name with {' or '.join(selected.words())}")
+    if case_selection.words() and not checks.passed and not checks.failures:
+        checks.check(False, f"no case has a name with {' or '.join(case_selection.words())}")
     return checks.end()
 
 

@@ -19,7 +19,7 @@ sys.path += [os.path.join(HERE, "..", name) for name in ("shared", "c")]
 
 import proved
 import test_script
-from commands import Clone, commands_of, run_in_shell
+from document_commands import Clone, commands_of, run_in_shell
 from running import read, write
 
 PROGRAM = "crates/minisign_tool/out/minisign_tool"
@@ -49,7 +49,10 @@ def run_all(checks, scratch):
     shutil.copy(os.path.join(proved.ROOT, PROGRAM), os.path.join(clone.top, PROGRAM))
     lines = commands_of("docs/GUIDE.md")
     verifying = [line for line in lines if "verify" in line]
-    checks.check(len(lines) >= 9 and len(verifying) == 3, f"docs/GUIDE.md: expected 9 commands or more, 3 with `verify`, got {lines}")
+    checks.check(
+        len(lines) >= 9 and len(verifying) == 3,
+        f"docs/GUIDE.md: expected 9 commands or more, 3 with `verify`, got {lines}",
+    )
     path = os.pathsep.join([rt_wrapper_directory(scratch), os.environ["PATH"]])
     for command, status, output in run_in_shell(clone.top, lines, scratch, path):
         checks.check(status == 0, f"{command}: exit status {status}, expected 0: {output[-600:]}")

@@ -1,4 +1,4 @@
-"""Test cases for `minisign_tool keygen`, which real_runs.py runs: the two files that it leaves, its prompts, and that the
+"""Test cases for `minisign_tool keygen`, which tool_program.py runs: the two files that it leaves, its prompts, and that the
 secret key can be decrypted."""
 
 import toy
@@ -60,15 +60,22 @@ def check_secret(text):
 
 
 def check_pair(password, public_text, secret_text):
-    """Decrypts the secret key, compares both files with those of this key in the toy scheme, and checks that random bytes differ."""
+    """Decrypts the secret key, compares both files with those of this key in the toy scheme, and checks that random
+    bytes differ."""
     sealed = record_of(secret_text)
     salt = sealed[6:38]
     opened = bytes(a ^ b for a, b in zip(sealed[54:], toy.key_stream(password, toy.USUAL_LIMITS, salt)))
     key = toy.Key(opened[8:40], opened[:8])
-    expect(secret_text == toy.secret_text(key.sealed(password, toy.USUAL_LIMITS, salt)), f"{password!r} does not decrypt {secret_text!r}")
+    expect(
+        secret_text == toy.secret_text(key.sealed(password, toy.USUAL_LIMITS, salt)),
+        f"{password!r} does not decrypt {secret_text!r}",
+    )
     public = toy.public_text(key.keynum, key.public)
     expect(public_text == public, f"the public key is {public_text!r}, that of the secret key is {public!r}")
-    expect(key.keynum not in MADE_BEFORE and salt != key.seed, f"random bytes occur twice: key ID {key.keynum.hex()}, salt {salt.hex()}")
+    expect(
+        key.keynum not in MADE_BEFORE and salt != key.seed,
+        f"random bytes occur twice: key ID {key.keynum.hex()}, salt {salt.hex()}",
+    )
     MADE_BEFORE.add(key.keynum)
 
 
@@ -107,8 +114,8 @@ ACROSS = {PK: Link("kept/link"), "kept/link": Link("public"), SK: Link("kept/sec
 PUBLIC_PIPE, SECRET_PIPE, EMPTY_PIPE = {PK: OutputPipe(COUNTED_PUBLIC)}, {SK: OutputPipe(COUNTED_SECRET)}, {SK: OutputPipe(b"")}
 INTO_PIPES = {"random_and_time": RandomAndTime(), "check_directory": None}
 
-# Closed or full streams. No file may get the descriptor of a closed stream, because then a prompt or an error would be written into the
-# file, or a password read from it.
+# Closed or full streams. No file may get the descriptor of a closed stream, because then a prompt or an error would be
+# written into the file, or a password read from it.
 WITH_STREAMS = [
     keygen(f"stdin {typed}, stdout {stdout}", line, typed=typed, output=output, stdout=stdout, **TO_OLDER)
     for typed, stdout, line, output in (
@@ -140,10 +147,26 @@ CASES = [
     keygen("a password and an empty password", DIFFERENT, typed=b"a\n\n", output=TWICE + b"<empty>\n"),
     keygen("two passwords that differ, and files that exist", DIFFERENT, **DIFFER, **TO_OLDER),
     # Known random bytes determine both files. If there are too few, nothing is asked.
-    *(made(f"{random} random bytes, which count up", random_and_time=RandomAndTime(random_bytes=random), check_directory=ExpectedFiles({PK: COUNTED_PUBLIC, SK: COUNTED_SECRET}))
-      for random in (256, 72)),
-    *(keygen(f"{count} random bytes", RANDOM_FAILED, output=b"", random_and_time=RandomAndTime(random_bytes=count), **TO_OLDER) for count in (0, 32, 40, 71)),
-    # At a terminal, each line is typed when the program asks for it, and not echoed unless a case says so. Control-D ends the input.
+    *(
+        made(
+            f"{random} random bytes, which count up",
+            random_and_time=RandomAndTime(random_bytes=random),
+            check_directory=ExpectedFiles({PK: COUNTED_PUBLIC, SK: COUNTED_SECRET}),
+        )
+        for random in (256, 72)
+    ),
+    *(
+        keygen(
+            f"{count} random bytes",
+            RANDOM_FAILED,
+            output=b"",
+            random_and_time=RandomAndTime(random_bytes=count),
+            **TO_OLDER,
+        )
+        for count in (0, 32, 40, 71)
+    ),
+    # At a terminal, each line is typed when the program asks for it, and not echoed unless a case says so. Control-D
+    # ends the input.
     made("at a terminal", typed=AT_TERMINAL),
     made("at a terminal that shows what is typed", typed=TypedInput((b"p\n", b"p\n"), shows=True),
          output=b"".join(part.replace(b"\n", b"\r\n") for part in (ONCE, b"p\n", TWICE[len(ONCE):], b"p\n", TOLD))),
@@ -157,22 +180,33 @@ CASES = [
         ("a public file that exists", {PK: b""}, 0o644, 0o600),
         ("a secret file that exists", {SK: LONGER}, 0o644, 0o644),
         ("files that exist, with modes", {PK: WithMode(LONGER, 0o640), SK: WithMode(LONGER, 0o620)}, 0o600, 0o600),
-        ("files whose groups have the permissions that all others have", {PK: WithMode(LONGER, 0o664), SK: WithMode(LONGER, 0o646)}, 0o644,
-         0o646),
+        (
+            "files whose groups have the permissions that all others have",
+            {PK: WithMode(LONGER, 0o664), SK: WithMode(LONGER, 0o646)},
+            0o644,
+            0o646,
+        ),
         ("a secret file with an access control list", {SK: WithMode(LONGER, 0o600, "u:65534:r")}, 0o644, 0o600),
         ("files with access control lists",
          {PK: WithMode(LONGER, 0o644, "g::---,u:65534:rw"), SK: WithMode(LONGER, 0o600, "u:65534:rw")}, 0o644, 0o600),
         ("files that exist and can only be written", {PK: WithMode(LONGER, 0o200), SK: WithMode(LONGER, 0o200)}, 0o200, 0o200))),
     made("a umask without permission to write", umask=0o222, check_directory=pair(b"p", 0o444, 0o400)),
     made("paths that begin with ./", arguments=("./" + PK, "././" + SK)),
-    *(made(name, files={"kept": DIRECTORY, **files, **links}, check_directory=pair(b"p", *modes, ("kept/public", "kept/secret"), links))
-      for name, links, files, *modes in (
-          ("links to files", LINKS, {"kept/public": OLDER_FILE, "kept/secret": OLDER_FILE}, 0o604, 0o604),
-          ("dangling links", LINKS, {}, 0o644, 0o600),
-          ("links to links", CHAIN, {"kept/public": OLDER_FILE}, 0o604, 0o600),
-          ("a link to a link in another directory", ACROSS, {}, 0o644, 0o600))),
-    # If both paths lead to the same file, it is the secret key in the end, and only its owner may read it, whatever the mode of the old
-    # file. If the paths are two hard links of a file, each becomes a separate file.
+    *(
+        made(
+            name,
+            files={"kept": DIRECTORY, **files, **links},
+            check_directory=pair(b"p", *modes, ("kept/public", "kept/secret"), links),
+        )
+        for name, links, files, *modes in (
+            ("links to files", LINKS, {"kept/public": OLDER_FILE, "kept/secret": OLDER_FILE}, 0o604, 0o604),
+            ("dangling links", LINKS, {}, 0o644, 0o600),
+            ("links to links", CHAIN, {"kept/public": OLDER_FILE}, 0o604, 0o600),
+            ("a link to a link in another directory", ACROSS, {}, 0o644, 0o600),
+        )
+    ),
+    # If both paths lead to the same file, it is the secret key in the end, and only its owner may read it, whatever the
+    # mode of the old file. If the paths are two hard links of a file, each becomes a separate file.
     *(made(f"{name}, and a umask of {umask:o}", arguments=arguments, files=files, umask=umask,
            check_directory=one_file(shared, files) if shared else pair(b"p", 0o644 if files else 0o666 & ~umask, 0o600))
       for umask in (0o000, 0o022, 0o077)
@@ -190,26 +224,36 @@ CASES = [
           ("two hard links of one file", (PK, SK), None, {PK: READABLE, SK: HardLink(PK)}),
           ("new files", (PK, SK), None, {}))),
     # Files that cannot be written. Nothing is replaced before both new files are complete.
-    *(keygen(name, WRITING_FAILED, arguments=arguments, files=files,
-             check_directory=ExpectedFiles({path: held.data if isinstance(held, WithMode) else held for path, held in files.items()}))
-      for name, arguments, files in (
-          ("no room for the public key", (FULL_DEVICE, SK), {}),
-          ("no room for the public key, and a secret file that exists", (FULL_DEVICE, SK), {SK: b"older"}),
-          ("no room for the secret key", (PK, FULL_DEVICE), {}),
-          ("no room for the secret key, and a public file that exists", (PK, FULL_DEVICE), {PK: b"older" * 99}),
-          ("a directory as public key", (PK, SK), {PK: DIRECTORY, SK: b"older"}),
-          ("a directory as secret key", (PK, SK), {SK: DIRECTORY}),
-          ("a link to itself as secret key", (PK, SK), {PK: b"older", SK: Link(SK)}),
-          ("a link into a missing directory as secret key", (PK, SK), {PK: b"older", SK: Link("none/key")}),
-          ("a missing directory of the public key", ("none/key", SK), {}),
-          ("a missing directory of the secret key", (PK, "none/key"), {}),
-          ("a locked directory of the public key", ("locked/key", SK), {"locked": READ_ONLY_DIRECTORY}),
-          ("a locked directory of the secret key", (PK, "locked/key"), {"locked": READ_ONLY_DIRECTORY}),
-          ("a public file that may not be written", (PK, SK), {PK: WithMode(b"older", 0o444)}),
-          ("a secret file that may not be written", (PK, SK), {SK: WithMode(b"older", 0o400)}),
-          ("an empty name of the public key", ("", SK), {}),
-          ("an empty name of the secret key", (PK, ""), {}),
-          ("a name of the public key that is too long", ("k" * 256, SK), {}))),
+    *(
+        keygen(
+            name,
+            WRITING_FAILED,
+            arguments=arguments,
+            files=files,
+            check_directory=ExpectedFiles(
+                {path: held.data if isinstance(held, WithMode) else held for path, held in files.items()}
+            ),
+        )
+        for name, arguments, files in (
+            ("no room for the public key", (FULL_DEVICE, SK), {}),
+            ("no room for the public key, and a secret file that exists", (FULL_DEVICE, SK), {SK: b"older"}),
+            ("no room for the secret key", (PK, FULL_DEVICE), {}),
+            ("no room for the secret key, and a public file that exists", (PK, FULL_DEVICE), {PK: b"older" * 99}),
+            ("a directory as public key", (PK, SK), {PK: DIRECTORY, SK: b"older"}),
+            ("a directory as secret key", (PK, SK), {SK: DIRECTORY}),
+            ("a link to itself as secret key", (PK, SK), {PK: b"older", SK: Link(SK)}),
+            ("a link into a missing directory as secret key", (PK, SK), {PK: b"older", SK: Link("none/key")}),
+            ("a missing directory of the public key", ("none/key", SK), {}),
+            ("a missing directory of the secret key", (PK, "none/key"), {}),
+            ("a locked directory of the public key", ("locked/key", SK), {"locked": READ_ONLY_DIRECTORY}),
+            ("a locked directory of the secret key", (PK, "locked/key"), {"locked": READ_ONLY_DIRECTORY}),
+            ("a public file that may not be written", (PK, SK), {PK: WithMode(b"older", 0o444)}),
+            ("a secret file that may not be written", (PK, SK), {SK: WithMode(b"older", 0o400)}),
+            ("an empty name of the public key", ("", SK), {}),
+            ("an empty name of the secret key", (PK, ""), {}),
+            ("a name of the public key that is too long", ("k" * 256, SK), {}),
+        )
+    ),
     # Named pipes are written directly, the public key's first. The first failed write ends the run; a failed message has no effect.
     made("keys into pipes", files={**PUBLIC_PIPE, **SECRET_PIPE}, **INTO_PIPES),
     made("keys into pipes, stderr takes five bytes", lines=["warni"], files={**PUBLIC_PIPE, **SECRET_PIPE}, typed=AT_TERMINAL,
@@ -223,8 +267,20 @@ CASES = [
     keygen("the public key into a pipe, and the secret key into stderr, which takes one byte", "u", status=1,
            files=PUBLIC_PIPE, arguments=(PK, "/dev/stderr"), typed=AT_TERMINAL, stderr=SizeLimit(1), **INTO_PIPES),
     *WITH_STREAMS,
-    *without_stderr([*WITH_STREAMS, made("a password"), keygen("two passwords that differ", DIFFERENT, **DIFFER, **TO_OLDER),
-             keygen("no room for the secret key", WRITING_FAILED, arguments=(PK, FULL_DEVICE), files=OLDER, check_directory=ExpectedFiles(OLDER))]),
+    *without_stderr(
+        [
+            *WITH_STREAMS,
+            made("a password"),
+            keygen("two passwords that differ", DIFFERENT, **DIFFER, **TO_OLDER),
+            keygen(
+                "no room for the secret key",
+                WRITING_FAILED,
+                arguments=(PK, FULL_DEVICE),
+                files=OLDER,
+                check_directory=ExpectedFiles(OLDER),
+            ),
+        ]
+    ),
     # Each allocation fails. If it is for the files of a generated pair, the error is a failed write. No file is touched.
     *out_of_memory(OneOf(([WARNING, OUT_OF_MEMORY], [WARNING, WRITING_FAILED])),
               ("a pair", keygen("", OUT_OF_MEMORY, output=PrefixOf(MADE), **TO_OLDER))),

@@ -1,4 +1,4 @@
-"""Test cases for `minisign_tool sign`, which real_runs.py runs: the file that it leaves, its prompt, and that the signature
+"""Test cases for `minisign_tool sign`, which tool_program.py runs: the file that it leaves, its prompt, and that the signature
 is accepted."""
 
 import base64
@@ -44,8 +44,8 @@ def leaves_signature(signature=MISSING):
 
 
 def signed_at(seconds, data=b"abc", half=bytes(range(32)), comment_half=bytes(range(64, 96))):
-    """Returns the signature file for the data at this time. The two halves are the first 32 of the 64 random bytes for each signature.
-    The default is that of random bytes that count up from 0."""
+    """Returns the signature file for the data at this time. The two halves are the first 32 of the 64 random bytes for
+    each signature. The default is that of random bytes that count up from 0."""
     record, trusted = toy.signature_record(data, half=half), b"timestamp:%d" % seconds
     return toy.signature_text(data, record, trusted, toy.DEFAULT_COMMENT, toy.signature_of(record[10:] + trusted, comment_half))
 
@@ -58,7 +58,10 @@ def check_signature(data, text):
     expect(text == expected, f"the signature is {text!r}, expected {expected!r}")
     expect(abs(seconds - time.time()) <= 60, f"the signature's timestamp is {seconds}, and it is {time.time()}")
     drawn = {*halves}
-    expect(len(drawn) == 2 and not drawn & DRAWN_BEFORE and bytes(32) not in drawn, f"random bytes occur twice, or are zeros: {text!r}")
+    expect(
+        len(drawn) == 2 and not drawn & DRAWN_BEFORE and bytes(32) not in drawn,
+        f"random bytes occur twice, or are zeros: {text!r}",
+    )
     DRAWN_BEFORE.update(drawn)
 
 
@@ -69,7 +72,13 @@ OVER_OLDER = {"files": {SIG: b"older"}, "check_directory": leaves_signature(b"ol
 def sign(name, *lines, files=None, arguments=(SK, FILE, SIG), **changes):
     """Returns a case of `sign`, by default with an unencrypted key and the data `abc`. If it fails, no signature may be left."""
     left = leaves_signature() if lines and lines[-1].startswith("error: ") else signed()
-    return command_case(name, ["sign", *arguments], lines, files={SK: OPEN_KEY, FILE: b"abc", **(files or {})}, **{"check_directory": left, **changes})
+    return command_case(
+        name,
+        ["sign", *arguments],
+        lines,
+        files={SK: OPEN_KEY, FILE: b"abc", **(files or {})},
+        **{"check_directory": left, **changes},
+    )
 
 
 def sealed(name, *lines, key=SEALED_KEY, typed=b"p\n", output=OPENED, files=None, **changes):
@@ -80,52 +89,100 @@ def sealed(name, *lines, key=SEALED_KEY, typed=b"p\n", output=OPENED, files=None
 WIDE = "\u00e4\U0001f511 \u0000".encode()
 LONGER = b"older\n" * 200
 
-# The files are opened in the order of the arguments, and nothing is read or asked before both are open. The key file is read completely
-# and has to be UTF-8. A bad key is rejected before the password is asked for and before data is read. The signature file is opened last.
+# The files are opened in the order of the arguments, and nothing is read or asked before both are open. The key file is
+# read completely and has to be UTF-8. A bad key is rejected before the password is asked for and before data is read.
+# The signature file is opened last.
 ORDER = list(in_order(
     sign,
     opening(SK, "key", OPEN_KEY),
     opening(FILE, "data", b"abc"),
-    (SK, [("a directory as key", DIRECTORY, READING_FAILED),
-          ("a key that is not UTF-8", TEXT_NOT_UTF8, NOT_UTF8),
-          ("a key that ends inside a character", OPEN_KEY + b"\xc3", NOT_UTF8),
-          ("an empty key", b"", "error: Missing comment in secret key\n"),
-          ("a key of one line", b"c\n", "error: Missing encoded key in secret key\n"),
-          ("a public key", toy.public_text(), TOO_SHORT),
-          ("a signature", toy.signature_text(b"abc"), TOO_SHORT),
-          ("a key with a space after it", OPEN_KEY.rstrip(b"\n") + b" \n", "error: invalid base64\n"),
-          ("a key with a changed checksum", toy.secret_text(toy.flip_bit(toy.SECRET_RECORD)), "error: Corrupted key\n"),
-          ("a key with an unknown key derivation", toy.secret_text(toy.KEY_A.record(b"Xx")), "error: Unsupported encryption algorithm\n")]),
+    (
+        SK,
+        [
+            ("a directory as key", DIRECTORY, READING_FAILED),
+            ("a key that is not UTF-8", TEXT_NOT_UTF8, NOT_UTF8),
+            ("a key that ends inside a character", OPEN_KEY + b"\xc3", NOT_UTF8),
+            ("an empty key", b"", "error: Missing comment in secret key\n"),
+            ("a key of one line", b"c\n", "error: Missing encoded key in secret key\n"),
+            ("a public key", toy.public_text(), TOO_SHORT),
+            ("a signature", toy.signature_text(b"abc"), TOO_SHORT),
+            ("a key with a space after it", OPEN_KEY.rstrip(b"\n") + b" \n", "error: invalid base64\n"),
+            (
+                "a key with a changed checksum",
+                toy.secret_text(toy.flip_bit(toy.SECRET_RECORD)),
+                "error: Corrupted key\n",
+            ),
+            (
+                "a key with an unknown key derivation",
+                toy.secret_text(toy.KEY_A.record(b"Xx")),
+                "error: Unsupported encryption algorithm\n",
+            ),
+        ],
+    ),
     (FILE, [("a directory as data", DIRECTORY, READING_FAILED)])))
 
-# Closed or full streams. No file may get the descriptor of a closed stream, because then the password would be read from the key file, or
-# a message written into the signature file.
+# Closed or full streams. No file may get the descriptor of a closed stream, because then the password would be read
+# from the key file, or a message written into the signature file.
 WITH_STREAMS = [
-    *(sign(f"{what}, stdin {stdin or 'empty'}, stdout {stdout or 'open'}", *lines, stdin=stdin, stdout=stdout, **changes)
-      for stdin, stdout in [(b"", None), (CLOSED, None), (b"", CLOSED), (CLOSED, CLOSED), (b"", FULL)]
-      for what, changes, *lines in (
-          ("an unencrypted key", {}),
-          ("a directory as data", {"files": {FILE: DIRECTORY, SIG: b"older"}, "check_directory": leaves_signature(b"older")}, READING_FAILED),
-          ("no room for the signature", {"arguments": (SK, FILE, FULL_DEVICE)}, WRITING_FAILED))),
-    *(sealed(f"an encrypted key, stdin {typed}, stdout {stdout or 'open'}", line, typed=typed, output=output, stdout=stdout, **OVER_OLDER)
-      for typed, stdout, line, output in (
-          (CLOSED, None, READING_FAILED, ASKED), (CLOSED, CLOSED, WRITING_FAILED, b""),
-          (b"p\n", CLOSED, WRITING_FAILED, b""), (b"p\n", FULL, WRITING_FAILED, b""))),
+    *(
+        sign(
+            f"{what}, stdin {stdin or 'empty'}, stdout {stdout or 'open'}",
+            *lines,
+            stdin=stdin,
+            stdout=stdout,
+            **changes,
+        )
+        for stdin, stdout in [(b"", None), (CLOSED, None), (b"", CLOSED), (CLOSED, CLOSED), (b"", FULL)]
+        for what, changes, *lines in (
+            ("an unencrypted key", {}),
+            (
+                "a directory as data",
+                {"files": {FILE: DIRECTORY, SIG: b"older"}, "check_directory": leaves_signature(b"older")},
+                READING_FAILED,
+            ),
+            ("no room for the signature", {"arguments": (SK, FILE, FULL_DEVICE)}, WRITING_FAILED),
+        )
+    ),
+    *(
+        sealed(
+            f"an encrypted key, stdin {typed}, stdout {stdout or 'open'}",
+            line,
+            typed=typed,
+            output=output,
+            stdout=stdout,
+            **OVER_OLDER,
+        )
+        for typed, stdout, line, output in (
+            (CLOSED, None, READING_FAILED, ASKED),
+            (CLOSED, CLOSED, WRITING_FAILED, b""),
+            (b"p\n", CLOSED, WRITING_FAILED, b""),
+            (b"p\n", FULL, WRITING_FAILED, b""),
+        )
+    ),
 ]
 
 # Generates a pair, signs a file, verifies it and copies it. After the file was changed, both are rejected until it is signed again.
 SIGNING, SIGNED = ["sign", SK, FILE, SIG], (PK, FILE, SIG)
 GOOD = [WARNING, f"{VERIFIED_RAW}Trusted comment: timestamp:{RandomAndTime.unix_time}\n"]
-WHOLE_WAY = Case("a pair is generated, and a file is signed, verified and copied", ["keygen", PK, SK], 0, [WARNING], stdin=b"p\np\n",
-                 output=MADE, random_and_time=RandomAndTime(), next_steps=(
-    Case("", SIGNING, 0, [WARNING], files={FILE: b"abc"}, stdin=b"p\n", output=OPENED),
-    Case("", ["verify", *SIGNED], 0, GOOD),
-    Case("", ["cat", *SIGNED], 0, GOOD, output=b"abc"),
-    Case("", ["verify", *SIGNED], 1, [WARNING, REJECTED], files={FILE: b"abd"}),
-    Case("", ["cat", *SIGNED], 1, [WARNING, REJECTED]),
-    Case("", SIGNING, 1, [WARNING, WRONG_PASSWORD], stdin=b"q\n", output=OPENED),
-    Case("", SIGNING, 0, [WARNING], stdin=b"p\n", output=OPENED),
-    Case("", ["cat", *SIGNED], 0, GOOD, output=b"abd")))
+WHOLE_WAY = Case(
+    "a pair is generated, and a file is signed, verified and copied",
+    ["keygen", PK, SK],
+    0,
+    [WARNING],
+    stdin=b"p\np\n",
+    output=MADE,
+    random_and_time=RandomAndTime(),
+    next_steps=(
+        Case("", SIGNING, 0, [WARNING], files={FILE: b"abc"}, stdin=b"p\n", output=OPENED),
+        Case("", ["verify", *SIGNED], 0, GOOD),
+        Case("", ["cat", *SIGNED], 0, GOOD, output=b"abc"),
+        Case("", ["verify", *SIGNED], 1, [WARNING, REJECTED], files={FILE: b"abd"}),
+        Case("", ["cat", *SIGNED], 1, [WARNING, REJECTED]),
+        Case("", SIGNING, 1, [WARNING, WRONG_PASSWORD], stdin=b"q\n", output=OPENED),
+        Case("", SIGNING, 0, [WARNING], stdin=b"p\n", output=OPENED),
+        Case("", ["cat", *SIGNED], 0, GOOD, output=b"abd"),
+    ),
+)
 
 CASES = [
     *(sign(f"data of {len(data)} bytes", files={FILE: data}, check_directory=signed(data)) for data in map(toy.some_data, LENGTHS)),
@@ -150,8 +207,15 @@ CASES = [
     *(sealed(name, line, typed=typed, output=ASKED) for name, typed, line in NO_PASSWORD),
     sign("an unencrypted key, and an input that cannot be read", stdin=WRITE_ONLY),
     *ORDER,
-    *(replace(case, name=f"{case.name}, and a signature that exists", files={**case.files, **OVER_OLDER["files"]}, check_directory=OVER_OLDER["check_directory"])
-      for case in ORDER),
+    *(
+        replace(
+            case,
+            name=f"{case.name}, and a signature that exists",
+            files={**case.files, **OVER_OLDER["files"]},
+            check_directory=OVER_OLDER["check_directory"],
+        )
+        for case in ORDER
+    ),
     *(sealed(f"missing data before a password is asked for, and {what}", READING_FAILED, typed=b"", output=b"",
              files={FILE: MISSING, SIG: held}, check_directory=leaves_signature(held))
       for what, held in (("no signature", MISSING), ("a signature that exists", b"older"))),
@@ -161,14 +225,36 @@ CASES = [
     sealed("a key whose derivation has no parts, because the low 32 bits are zero", "error: invalid scrypt parameters\n",
            key=toy.secret_text(toy.KEY_A.record(b"Sc", toy.Limits(0, 1 << 40))), output=ASKED + DERIVING),
     # Known random bytes and a known time determine the whole file. There may be too few random bytes, or a time before 1970.
-    *(make(f"{name} at time {seconds}", random_and_time=RandomAndTime(unix_time=seconds), check_directory=leaves_signature(signed_at(seconds)), **changes)
-      for seconds in (0, 1555779966)
-      for make, name, changes in ((sign, "an unencrypted key", {}), (sealed, "an encrypted key", {}),
-                              (sealed, "an encrypted key with limits of zero", {"key": KEY_WITHOUT_LIMITS}))),
-    sign("128 random bytes", random_and_time=RandomAndTime(random_bytes=128), check_directory=leaves_signature(signed_at(RandomAndTime.unix_time))),
-    *(sign(f"{count} random bytes", RANDOM_FAILED, random_and_time=RandomAndTime(random_bytes=count), **OVER_OLDER) for count in (0, 63, 64, 127)),
+    *(
+        make(
+            f"{name} at time {seconds}",
+            random_and_time=RandomAndTime(unix_time=seconds),
+            check_directory=leaves_signature(signed_at(seconds)),
+            **changes,
+        )
+        for seconds in (0, 1555779966)
+        for make, name, changes in (
+            (sign, "an unencrypted key", {}),
+            (sealed, "an encrypted key", {}),
+            (sealed, "an encrypted key with limits of zero", {"key": KEY_WITHOUT_LIMITS}),
+        )
+    ),
+    sign(
+        "128 random bytes",
+        random_and_time=RandomAndTime(random_bytes=128),
+        check_directory=leaves_signature(signed_at(RandomAndTime.unix_time)),
+    ),
+    *(
+        sign(f"{count} random bytes", RANDOM_FAILED, random_and_time=RandomAndTime(random_bytes=count), **OVER_OLDER)
+        for count in (0, 63, 64, 127)
+    ),
     sign("a time before 1970", CLOCK_INCORRECT, random_and_time=RandomAndTime(unix_time=-1), **OVER_OLDER),
-    sign("a time before 1970 is reported before an empty key", CLOCK_INCORRECT, random_and_time=RandomAndTime(unix_time=-1), files={SK: b""}),
+    sign(
+        "a time before 1970 is reported before an empty key",
+        CLOCK_INCORRECT,
+        random_and_time=RandomAndTime(unix_time=-1),
+        files={SK: b""},
+    ),
     # An existing signature is replaced and keeps its mode. A failed write of the signature is the last error that is reported.
     sign("a signature that exists", files={SIG: LONGER}),
     sign("an empty signature that exists", files={SIG: b""}),

@@ -13,9 +13,9 @@ from toy import READING_FAILED, WARNING
 def command_case(name, arguments, lines, status=None, stderr=None, **fields):
     """Returns a case that expects these lines on standard error, after the warning.
 
-    The expected exit status is 1 if the last line is an error, and otherwise 0, unless `status` is given. With `stderr`, the case has that
-    standard error, and the lines do not include the warning: a standard error that fails has received only a part of it. `fields` are more
-    fields of the case."""
+    The expected exit status is 1 if the last line is an error, and otherwise 0, unless `status` is given. With
+    `stderr`, the case has that standard error, and the lines do not include the warning: a standard error that fails
+    has received only a part of it. `fields` are more fields of the case."""
     if status is None:
         status = 1 if lines and lines[-1].startswith("error: ") else 0
     return Case(name, arguments, status, [*lines] if stderr else [WARNING, *lines], stderr=stderr, **fields)
@@ -29,17 +29,21 @@ def without_stderr(cases, **changes):
 
 def opening(file, description, data):
     """Returns a phase of `in_order` in which a file is opened."""
-    return file, [(f"missing {description}", MISSING, READING_FAILED), (f"unreadable {description}", unreadable(data), READING_FAILED)]
+    return file, [
+        (f"missing {description}", MISSING, READING_FAILED),
+        (f"unreadable {description}", unreadable(data), READING_FAILED),
+    ]
 
 
 def in_order(make, *phases):
     """Yields cases that show in which order a command opens, reads and checks its files: it reports the first error.
 
-    A phase is a file and its possible faults in that phase. A fault is a title, the content of the file, and the line of the error. The
-    first phase of a file opens it, and the second phase, if there is one, reads it.
+    A phase is a file and its possible faults in that phase. A fault is a title, the content of the file, and the line
+    of the error. The first phase of a file opens it, and the second phase, if there is one, reads it.
 
-    There is a case for each fault without another fault, and for each fault together with each later fault of another file. In further
-    cases, another file is a named pipe without a writer. A command that opens this pipe too early, or reads it too early, does not end."""
+    There is a case for each fault without another fault, and for each fault together with each later fault of another
+    file. In further cases, another file is a named pipe without a writer. A command that opens this pipe too early, or
+    reads it too early, does not end."""
     faults = [(phase, file, *fault) for phase, (file, file_faults) in enumerate(phases) for fault in file_faults]
     phases_of = {file: [phase for phase, (phase_file, _) in enumerate(phases) if phase_file == file] for file, _ in phases}
     for phase, file, title, content, line in faults:
@@ -64,9 +68,9 @@ def out_of_memory(lines, *named_cases, **changes):
 class ExpectedFiles:
     """Checks the files in a directory after a run.
 
-    `files` maps names to contents, to functions that check the content, to links, to DIRECTORY, or to LOCKED. `modes` maps names to modes.
-    The names in `optional` may be missing, and other files may have these names, with any content. No other files may exist. `check` is
-    called with the result of `files_in`."""
+    `files` maps names to contents, to functions that check the content, to links, to DIRECTORY, or to LOCKED. `modes`
+    maps names to modes. The names in `optional` may be missing, and other files may have these names, with any content.
+    No other files may exist. `check` is called with the result of `files_in`."""
 
     def __init__(self, files, modes=None, optional=(), check=None):
         self.files, self.modes, self.optional, self.check = files, modes or {}, {*optional}, check

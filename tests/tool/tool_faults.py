@@ -1,4 +1,4 @@
-"""Test cases with faults for `minisign_tool`, which real_runs.py runs. The program is killed at each of its system
+"""Test cases with faults for `minisign_tool`, which tool_program.py runs. The program is killed at each of its system
 calls, each call fails in turn, the disk is full, a file size limit is reached, or the data is larger than the memory.
 After each run, every file is the old or the new one, complete. Unless the program was killed, no temporary file is left.
 """
@@ -43,9 +43,10 @@ class Task(faults.Task):
         return self.arguments
 
     def may_have(self, name, mode, data, files):
-        """Returns true if a file may have this mode. A file that existed keeps its mode. A temporary file, even an incomplete one, has
-        no more permissions than the file that it replaces, or than a new file of its kind. The public key's temporary file is complete
-        before that of the secret key is created. So if there are two, the one without a public key is that of the secret key."""
+        """Returns true if a file may have this mode. A file that existed keeps its mode. A temporary file, even an
+        incomplete one, has no more permissions than the file that it replaces, or than a new file of its kind. The
+        public key's temporary file is complete before that of the secret key is created. So if there are two, the one
+        without a public key is that of the secret key."""
         if not os.path.basename(name).startswith(TEMPORARY):
             return mode == self.mode or name not in self.files or isinstance(data, Link)
         temporary_files = [each for each in files if os.path.basename(each).startswith(TEMPORARY)]
@@ -107,21 +108,30 @@ class ToolFaultRunner(TaskFaultRunner):
         def check_run(ran, directory):
             result, allowed = (ran.status, sum(task.check(directory))), allowed_results(next(counter)) if ran.reached else [success]
             is_reported = result == success or len(allowed) > 1 or ran.stderr.endswith(WRITING_FAILED)
-            expect(result in allowed and is_reported, ran,
-                   f"exit status and number of new files: {result}, expected one of {allowed}, and an error that ends with {WRITING_FAILED}")
+            expect(
+                result in allowed and is_reported,
+                ran,
+                (
+                    f"exit status and number of new files: {result}, expected one of {allowed}, and an error that ends"
+                    f" with {WRITING_FAILED}"
+                ),
+            )
 
         count = self.break_each(task.make, check_run, CALLS=calls, ERRNO=number)
         expect(count or len(allowed_results(1)) > 1, f"the run made none of the calls {calls}, expected at least one")
 
     def check_taken_names(self, task, directory, count):
-        """Checks a run with constant random numbers in a directory where the first `count` names of temporary files are taken. It succeeds
-        after up to 40 attempts, fails after 200, and changes none of these files."""
+        """Checks a run with constant random numbers in a directory where the first `count` names of temporary files are
+        taken. It succeeds after up to 40 attempts, fails after 200, and changes none of these files."""
         taken = [f"{TEMPORARY}{number:016x}" for number in range(count)]
         for name in taken:
             write(directory, name, b"another file")
         ran = self.run(directory, task.arguments, {"LD_PRELOAD": self.preload, "DRAW_ZEROS": "1"})
         for name in taken:
-            expect(content_or_none(directory, name) == b"another file", f"{name} was changed to {content_or_none(directory, name)!r}")
+            expect(
+                content_or_none(directory, name) == b"another file",
+                f"{name} was changed to {content_or_none(directory, name)!r}",
+            )
             os.remove(os.path.join(directory, name))
         result, expected = (ran.status, sum(task.check(directory))), (0, 2) if count < 99 else (1, 0)
         expect(result == expected, ran, f"exit status and number of new files: {result}, expected {expected}")
@@ -147,10 +157,22 @@ class ToolFaultRunner(TaskFaultRunner):
             def run_within(data, signature, kibibytes):
                 limit = (kibibytes * 1024,) * 2
                 with open(os.path.join(directory, data if is_raw else os.devnull), "rb") as file:
-                    return self.run(directory, [command, PK, *([] if is_raw else [data]), signature], stdin=file, stdout=subprocess.DEVNULL,
-                                    preexec_fn=lambda: resource.setrlimit(resource.RLIMIT_AS, limit))
+                    return self.run(
+                        directory,
+                        [command, PK, *([] if is_raw else [data]), signature],
+                        stdin=file,
+                        stdout=subprocess.DEVNULL,
+                        preexec_fn=lambda: resource.setrlimit(resource.RLIMIT_AS, limit),
+                    )
 
-            needed = next((kibibytes for kibibytes in range(1024, 65536, 256) if run_within("nothing", "new", kibibytes).status == 0), None)
+            needed = next(
+                (
+                    kibibytes
+                    for kibibytes in range(1024, 65536, 256)
+                    if run_within("nothing", "new", kibibytes).status == 0
+                ),
+                None,
+            )
             expect(needed is not None, "64 MiB are not enough to verify no data")
             ran = run_within("large", "old", needed + 1024 * mebibytes)
             expect(ran.status == 1 and ran.stderr.endswith(LEGACY.encode()), ran, f"expected exit status 1 and {LEGACY!r}")
@@ -167,7 +189,9 @@ def cases_of_task(runner, task):
             yield f"a write fails with {errno.errorcode[number]}{more}", partial(runner.check_failing_writes, **changes), number
     # The files are synced first. Their directory is synced last, when all files are replaced.
     yield "a sync fails", runner.check_failing_calls, "fsync", lambda at: [unchanged if at <= count else (1, count)]
-    yield "a sync is not supported", runner.check_failing_calls, "fsync", lambda at: [unchanged if at <= count else all_new], errno.EINVAL
+    yield "a sync is not supported", runner.check_failing_calls, "fsync", lambda at: [
+        unchanged if at <= count else all_new
+    ], errno.EINVAL
     yield "a rename fails", runner.check_failing_calls, "rename", lambda at: [(1, at - 1)]
     yield "a close fails", runner.check_failing_calls, "close", lambda at: [all_new]
     yield "no random bytes for the name of a temporary file", runner.check_failing_calls, "getentropy", lambda at: [unchanged]
@@ -196,7 +220,8 @@ def cases(program, scratch):
         for name, *row in permission_cases(runner, prepare, lambda _: KEYGEN, OWNERS):
             yield f"{replaced}: {name}", *row
     for count in (1, 40, 200):
-        yield f"{count} names of temporary files are taken", runner.run_in_new_directory, runner.check_taken_names, REPLACED_PAIR, count
+        name = f"{count} names of temporary files are taken"
+        yield name, runner.run_in_new_directory, runner.check_taken_names, REPLACED_PAIR, count
     yield "concurrent runs", runner.check_concurrent_runs, NEW_SIGNATURE
     yield "a program whose path is not UTF-8", runner.run_in_new_directory, runner.check_path_that_is_not_utf8, NEW_SIGNATURE
     for command in ("verify", "cat", "verify-raw"):

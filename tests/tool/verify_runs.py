@@ -1,5 +1,5 @@
 """Test cases for the commands `verify`, `cat` and `verify-raw` of `minisign_tool`: their messages and exit statuses, and the data
-that `cat` copies. real_runs.py runs them. `verify` and `cat` have the same arguments and share most cases."""
+that `cat` copies. tool_program.py runs them. `verify` and `cat` have the same arguments and share most cases."""
 
 import os
 from dataclasses import replace
@@ -96,14 +96,18 @@ VERDICTS = [
     ("a signature without the label of its trusted comment", {SIG: FIRST + SECOND + b"t\n" + FOURTH},
      "error: Trusted comment should start with: trusted comment: \n"),
     ("a signature of an unknown algorithm", signed(record=toy.signature_record(b"abc", algorithm=b"Ex")), UNSUPPORTED),
-    ("lines that end with carriage return and line feed", {name: GOOD[name].replace(b"\n", b"\r\n") for name in (PK, SIG)}, VERIFIED),
+    (
+        "lines that end with carriage return and line feed",
+        {name: GOOD[name].replace(b"\n", b"\r\n") for name in (PK, SIG)},
+        VERIFIED,
+    ),
     ("more lines", {PK: GOOD[PK] + b"more", SIG: GOOD[SIG] + b"more\n" * 20_000}, VERIFIED),
     ("last lines without a line feed", {PK: GOOD[PK][:-1], SIG: GOOD[SIG][:-1]}, VERIFIED),
 ]
 
-# The cases for both commands. `in_order` combines faults, of which the first one has to be reported. The files are opened in the order of
-# the arguments, and nothing is read before all are open. Then the key is read, then the signature, then both are checked, and then the
-# data is read.
+# The cases for both commands. `in_order` combines faults, of which the first one has to be reported. The files are
+# opened in the order of the arguments, and nothing is read before all are open. Then the key is read, then the
+# signature, then both are checked, and then the data is read.
 BOTH = [
     *(verify(name, line, files=files) for name, files, line in VERDICTS),
     *in_order(
@@ -112,7 +116,13 @@ BOTH = [
         opening(FILE, "data", GOOD[FILE]),
         opening(SIG, "signature", GOOD[SIG]),
         (PK, [("a directory as key", DIRECTORY, READING_FAILED), ("a key that is not UTF-8", TEXT_NOT_UTF8, NOT_UTF8)]),
-        (SIG, [("a directory as signature", DIRECTORY, READING_FAILED), ("a signature that is not UTF-8", TEXT_NOT_UTF8, NOT_UTF8)]),
+        (
+            SIG,
+            [
+                ("a directory as signature", DIRECTORY, READING_FAILED),
+                ("a signature that is not UTF-8", TEXT_NOT_UTF8, NOT_UTF8),
+            ],
+        ),
         (PK, [("an empty key", b"", NO_PUBLIC_KEY)]),
         (SIG, [("an empty signature", b"", NO_SIGNATURE)]),
         (FILE, [("a directory as data", DIRECTORY, READING_FAILED)]),
@@ -122,15 +132,16 @@ BOTH = [
 
 
 def over_streams(make, *cases):
-    """Returns each case four times: with standard input empty or closed, and standard output open or closed. Each case has a name, the
-    files that differ from the default ones, and the expected lines."""
+    """Returns each case four times: with standard input empty or closed, and standard output open or closed. Each case
+    has a name, the files that differ from the default ones, and the expected lines."""
     return [make(f"{what}, stdin {stdin or 'empty'}, stdout {stdout or 'open'}", *lines, files=files, stdin=stdin, stdout=stdout)
             for stdin, stdout in [(b"", None), (CLOSED, None), (b"", CLOSED), (CLOSED, CLOSED)]
             for what, files, *lines in cases]
 
 
 def failing_allocations(make, *more_lines):
-    """Returns cases in which each allocation fails in turn. The error output is the warning and the error, or one of `more_lines`."""
+    """Returns cases in which each allocation fails in turn. The error output is the warning and the error, or one of
+    `more_lines`."""
     named_files = [("a good signature", {}), ("other data", {FILE: b"abd"}), ("an empty key", {PK: b""})]
     return out_of_memory(OneOf(([WARNING, OUT_OF_MEMORY], *more_lines)),
                          *((name, make("", OUT_OF_MEMORY, files=files)) for name, files in named_files), output=PrefixOf(b"abc"))
@@ -194,8 +205,8 @@ CAT = [
           ("a missing signature, before stdout appends to the data", READING_FAILED, FILE, FILE, APPEND, {SIG: MISSING}, b"abc")]),
     cat("stdout appends to another file", VERIFIED, files={"other": b"abc"}, stdout=ToFile("other", APPEND),
         check_directory=holding("other", b"abcabc")),
-    # The data is changed after the status was written and before all of it was copied. The output is not read until then, so the program
-    # could not copy more than a pipe holds.
+    # The data is changed after the status was written and before all of it was copied. The output is not read until
+    # then, so the program could not copy more than a pipe holds.
     *(cat(f"while it is copied, {name}", VERIFIED, *([] if output == LONG else [DATA_CHANGED]), files=signed(LONG), output=output,
           stdout=ReadLate(2, lambda directory, change=change: change(os.path.join(directory, FILE))))
       for name, change, output in [
@@ -219,7 +230,8 @@ UNKNOWN_ALGORITHM, LEGACY_ALGORITHM = b"Ex" + SIGNATURE[2:], b"Ed" + SIGNATURE[2
 
 
 def verify_raw(name, *lines, files=None, arguments=(PK, SIG), **changes):
-    """Returns a case of `verify-raw`, by default with a good key, a good signature, and the data `abc`. The data is standard input."""
+    """Returns a case of `verify-raw`, by default with a good key, a good signature, and the data `abc`. The data is
+    standard input."""
     files = {PK: KEY, SIG: SIGNATURE, FILE: b"abc", **(files or {})}
     return command_case(name, ["verify-raw", *arguments], lines, stdin=files.pop(FILE), files=files, **changes)
 
@@ -247,8 +259,8 @@ RAW = [
         ("a short signature of an unknown algorithm", {SIG: UNKNOWN_ALGORITHM[:73]}, TOO_SHORT),
         ("data that cannot be read", {FILE: WRITE_ONLY}, READING_FAILED),
         ("stdin closed", {FILE: CLOSED}, READING_FAILED))),
-    # The key is opened first, then the signature, and nothing is read before both are open. Then the key is read, then the signature, then
-    # both are checked, and then the data is read.
+    # The key is opened first, then the signature, and nothing is read before both are open. Then the key is read, then
+    # the signature, then both are checked, and then the data is read.
     *in_order(
         verify_raw,
         opening(PK, "key", KEY),
@@ -261,8 +273,9 @@ RAW = [
         (PK, [("another key ID", toy.OTHER_RECORD, OTHER_KEY_ID_ERROR)]),
         (SIG, [("a prehashed signature with the algorithm of a legacy signature", LEGACY_ALGORITHM, LEGACY),
                ("a changed signature", toy.flip_bit(SIGNATURE), REJECTED)])),
-    # Each read of the key, of the signature and of data that comes byte by byte fails in turn, including the one that finds the end. This
-    # is reported before any verdict, and with a short key before the contents of the two files are checked.
+    # Each read of the key, of the signature and of data that comes byte by byte fails in turn, including the one that
+    # finds the end. This is reported before any verdict, and with a short key before the contents of the two files are
+    # checked.
     *(verify_raw(f"{name}, and a read fails", READING_FAILED, files={PK: key, FILE: BY_BYTES}, failing_call="read")
       for name, key in (("good data", KEY), ("another key ID", toy.OTHER_RECORD), ("a short key", KEY[:41]))),
     # File names are used unchanged.
@@ -293,6 +306,10 @@ RAW = [
     *(verify_raw(f"good data, stdout {stdout}", VERIFIED_RAW, stdout=stdout) for stdout in (CLOSED, FULL)),
     verify_raw("stderr takes five bytes after the warning", WARNING + VERIFIED_RAW[:5], **CUT_SHORT),
     # Each allocation fails. The first ones are made while the arguments are read.
-    *out_of_memory([WARNING, OUT_OF_MEMORY], ("good data", verify_raw("", OUT_OF_MEMORY)),
-              ("other data", verify_raw("", OUT_OF_MEMORY, files={FILE: b"abd"})), ("no arguments", command_case("", [], [OUT_OF_MEMORY]))),
+    *out_of_memory(
+        [WARNING, OUT_OF_MEMORY],
+        ("good data", verify_raw("", OUT_OF_MEMORY)),
+        ("other data", verify_raw("", OUT_OF_MEMORY, files={FILE: b"abd"})),
+        ("no arguments", command_case("", [], [OUT_OF_MEMORY])),
+    ),
 ]

@@ -42,7 +42,9 @@ func cases() []listCase {
 		for index, digits := range strings.Split(scanner.Text(), " ") {
 			parts[index], _ = hex.DecodeString(strings.Trim(digits, "-"))
 		}
-		result = append(result, listCase{parts[0], parts[1], parts[2], string(parts[3]), string(parts[4]), string(parts[5]), string(parts[6])})
+		result = append(result, listCase{
+			parts[0], parts[1], parts[2], string(parts[3]), string(parts[4]), string(parts[5]), string(parts[6]),
+		})
 	}
 	return result
 }
@@ -56,7 +58,9 @@ func verified(testCase listCase) (*minisign.SignedList, error) {
 	if err != nil {
 		return nil, err
 	}
-	options := minisign.ListOptions{Name: testCase.listName, AnyName: testCase.listName == "", LongDigest: longDigests[testCase.longDigest]}
+	options := minisign.ListOptions{
+		Name: testCase.listName, AnyName: testCase.listName == "", LongDigest: longDigests[testCase.longDigest],
+	}
 	text := append([]byte(nil), testCase.text...)
 	list, err := key.VerifyList(text, signature, options)
 	// The SignedList must contain a copy of the text, so clearing the text has no effect.
@@ -185,7 +189,8 @@ func files(directory string) {
 	}
 	os.WriteFile(at("other"), []byte("other data"), 0o644)
 	digest := sha512.Sum512([]byte("data"))
-	key := writeSignedList(directory, fmt.Sprintf("%[1]x  app\n%[1]x  other\n%[1]x  sub/app\n%[1]x  absent\n", digest), "version:1\tfile:SHA512SUMS")
+	lines := fmt.Sprintf("%[1]x  app\n%[1]x  other\n%[1]x  sub/app\n%[1]x  absent\n", digest)
+	key := writeSignedList(directory, lines, "version:1\tfile:SHA512SUMS")
 	var none minisign.ListOptions
 	list, err := key.VerifyListFromFile(at("SHA512SUMS"), minisign.ListOptions{Name: "not used"})
 	show("version:1 file:SHA512SUMS", strings.ReplaceAll(list.TrustedComment(), "\t", " "), err)

@@ -35,7 +35,15 @@ function streamOf(data, lengths) {
 // Verifies data in each form that a browser has. Returns all results if they differ.
 async function answerInPieces(data, signature, key) {
   const blob = new Blob([data]), address = URL.createObjectURL(blob);
-  const forms = [data, data.buffer, blob, new File([data], "data"), blob.stream(), streamOf(data, [1000, 1, 65536]), (await fetch(address)).body];
+  const forms = [
+    data,
+    data.buffer,
+    blob,
+    new File([data], "data"),
+    blob.stream(),
+    streamOf(data, [1000, 1, 65536]),
+    (await fetch(address)).body
+  ];
   const results = new Set(await Promise.all(forms.map(form => answerOf(form, signature, key))));
   URL.revokeObjectURL(address);
   return [...results].join(" and ");
@@ -131,8 +139,13 @@ if (typeof document === "undefined") {
   asked().then(postMessage);
 } else {
   const worker = new Worker("browser.mjs", {type: "module"});
-  const inWorker = new Promise((resolve, reject) => Object.assign(worker, {onmessage: event => resolve(event.data), onerror: reject}));
-  const answers = await Promise.all([asked(), inWorker]).then(([page, thread]) => ({page, thread}), why => ({why: String(why.message ?? why)}));
+  const inWorker = new Promise(
+    (resolve, reject) => Object.assign(worker, {onmessage: event => resolve(event.data), onerror: reject})
+  );
+  const answers = await Promise.all([asked(), inWorker]).then(
+    ([page, thread]) => ({page, thread}),
+    why => ({why: String(why.message ?? why)})
+  );
   document.body.textContent = JSON.stringify(answers);
   document.documentElement.dataset.ready = "";
 }

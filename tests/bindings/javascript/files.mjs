@@ -1,6 +1,7 @@
 // Checks how the package handles files, in Node. javascript.py copies this program into a user's directory, beside `node_modules`.
 //
-//     node files.mjs comments FILE OTHER ..    prints the default trusted comments of these files without the time, for each form of data
+//     node files.mjs comments FILE OTHER ..    prints the default trusted comments of these files, without the time, for
+//                                              each form of data
 //     node files.mjs names                     checks the default trusted comments for names that are not those of regular files
 //     node files.mjs new DIRECTORY             checks writing new files in this directory
 //     node files.mjs full DIRECTORY            checks writing a new file while the file size limit is 0
@@ -9,7 +10,17 @@
 // The lines of `names`, `new` and `full` have the expected result, a tab, and the actual result.
 
 import {File} from "node:buffer";
-import {createReadStream, existsSync, lstatSync, readdirSync, readFileSync, readlinkSync, statSync, symlinkSync, writeFileSync} from "node:fs";
+import {
+  createReadStream,
+  existsSync,
+  lstatSync,
+  readdirSync,
+  readFileSync,
+  readlinkSync,
+  statSync,
+  symlinkSync,
+  writeFileSync
+} from "node:fs";
 import {basename, join} from "node:path";
 import {Readable} from "node:stream";
 import {pathToFileURL} from "node:url";
@@ -43,7 +54,8 @@ const streamOf = path => Object.assign(Readable.from([new Uint8Array(1)]), {path
 async function names() {
   const secretKey = await generateSecretKey(), lines = [], bytes = new Uint8Array(1), {platform} = process;
   const outcome = (data, options) => sign(data, secretKey, options).then(commentOf, why => `${why.name}: ${why.message}`);
-  const unnamed = "trusted comment: timestamp:TIME\thashed", named = name => `trusted comment: timestamp:TIME\tfile:${name}\thashed`;
+  const unnamed = "trusted comment: timestamp:TIME\thashed";
+  const named = name => `trusted comment: timestamp:TIME\tfile:${name}\thashed`;
   const rejected = why => `TypeError: a file name ${why} cannot be in the default trusted comment; pass a trustedComment`;
   const signer = await createSigner(secretKey);
   lines.push([unnamed, commentOf(await signer.end())]);
@@ -79,7 +91,11 @@ async function newFiles([directory]) {
   for (const [umask, mode] of [[0, "600"], [0o22, "600"], [0o77, "600"], [0o277, "600"], [0o777, "600"]]) {
     process.umask(umask);
     const path = at(`mode-${umask}`);
-    lines.push(["written", await result(writeNew(path, text))], [mode, modeOf(path)], [text, readFileSync(path, "utf8")].map(JSON.stringify));
+    lines.push(
+      ["written", await result(writeNew(path, text))],
+      [mode, modeOf(path)],
+      [text, readFileSync(path, "utf8")].map(JSON.stringify)
+    );
   }
   process.umask(0o22);
   const bytes = new TextEncoder().encode(text);
@@ -117,7 +133,8 @@ async function full([directory]) {
 
 async function ids([path]) {
   const secretKey = await readSecretKey(readFileSync(path)), publicKey = await writePublicKey(secretKey);
-  const read = [await readPublicKey(publicKey), await readSignature(await sign(new Uint8Array(1), secretKey))].map(({keyId}) => keyId);
+  const signed = await readSignature(await sign(new Uint8Array(1), secretKey));
+  const read = [await readPublicKey(publicKey), signed].map(({keyId}) => keyId);
   return [[...new Set([secretKey.keyId, ...read])].join(" and "), publicKey.split("\n")[0]];
 }
 

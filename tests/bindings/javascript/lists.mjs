@@ -130,19 +130,30 @@ async function checkArguments() {
     await check(`INVALID_ARGUMENT: longDigest must be "sha512", "blake2b" or "none", not ${kind}`, () =>
       verifyList(text, signature, key, listName, {longDigest: value}));
   }
-  await check("INVALID_ARGUMENT: unknown option allowLegacy", () => verifyList(text, signature, key, listName, {allowLegacy: true}));
+  await check(
+    "INVALID_ARGUMENT: unknown option allowLegacy",
+    () => verifyList(text, signature, key, listName, {allowLegacy: true})
+  );
   for (const call of [() => list.find(1), () => list.verifyListed(data, 1), () => list.verifyListedTrustingWebCrypto(data, 1)]) {
     await check("INVALID_ARGUMENT: name must be a string or bytes, not number", call);
   }
   for (const value of [1, "data", null]) {
     const kind = value === null ? "null" : typeof value;
-    await check(`INVALID_ARGUMENT: data must be bytes, a Blob, a stream or an iterable of bytes, not ${kind}`, () => list.verifyListed(value, name));
-    await check(`INVALID_ARGUMENT: data must be bytes or a Blob, not ${kind}`, () => list.verifyListedTrustingWebCrypto(value, name));
+    await check(
+      `INVALID_ARGUMENT: data must be bytes, a Blob, a stream or an iterable of bytes, not ${kind}`,
+      () => list.verifyListed(value, name)
+    );
+    await check(
+      `INVALID_ARGUMENT: data must be bytes or a Blob, not ${kind}`,
+      () => list.verifyListedTrustingWebCrypto(value, name)
+    );
   }
   await check("INVALID_ARGUMENT: unknown option name", () => list.verifyListed(data, name, {name: "x"}));
   await check("INVALID_ARGUMENT: progress must be a function, not string", () => list.verifyListed(data, name, {progress: "x"}));
   const progress = [];
-  await check(3, () => list.verifyListed([data, data.subarray(0, 0)], name, {progress: (bytes, total) => progress.push(bytes, total)}));
+  await check(3, () => list.verifyListed([data, data.subarray(0, 0)], name, {
+    progress: (bytes, total) => progress.push(bytes, total)
+  }));
   // Two calls of the function, without a total.
   results.push([`${data.length},,${data.length},`, progress.join()]);
   // An iterable without end. Closing it or its iterator sets isClosed.
@@ -188,18 +199,29 @@ async function checkFiles(directory) {
   }
   const list = await verifyListFile(at("SHA512SUMS"), key);
   await check(1, () => verifyListedFile(at("app"), list));
-  await check(1, async () => verifyListedFile(pathToFileURL(at("app")), await verifyListFile(pathToFileURL(at("SHA512SUMS")), key)));
+  await check(
+    1,
+    async () =>
+      verifyListedFile(pathToFileURL(at("app")), await verifyListFile(pathToFileURL(at("SHA512SUMS")), key))
+  );
   await check("DIGEST_MISMATCH", () => verifyListedFile(at("other"), list));
   await check("NOT_LISTED", () => verifyListedFile(at("renamed"), list));
   await check(3, () => verifyListedFile(at("renamed"), list, {name: "sub/app"}));
   await check("ENOENT", () => verifyListedFile(at("absent"), list, {name: "app"}));
   await check("INVALID_ARGUMENT: path must be a string or a URL, not number", () => verifyListedFile(1, list));
-  await check("INVALID_ARGUMENT: list must be the result of verifyList, not string", () => verifyListedFile(at("app"), at("SHA512SUMS")));
+  await check(
+    "INVALID_ARGUMENT: list must be the result of verifyList, not string",
+    () => verifyListedFile(at("app"), at("SHA512SUMS"))
+  );
   await check("INVALID_ARGUMENT: unknown option mode", () => verifyListedFile(at("app"), list, {mode: 1}));
   await check("INVALID_ARGUMENT: path must be a string or a URL, not object", () => verifyListFile({}, key));
   await check("ENOENT", () => verifyListFile(at("app"), key));
   await check("ENOENT", () => verifyListFile(at("absent"), key));
-  await check("DIGEST_MISMATCH", async () => verifyListedFile(at("app"), await verifyListFile(at("SHA512SUMS"), key, {longDigest: "blake2b"})));
+  await check(
+    "DIGEST_MISMATCH",
+    async () =>
+      verifyListedFile(at("app"), await verifyListFile(at("SHA512SUMS"), key, {longDigest: "blake2b"}))
+  );
   copyFileSync(at("SHA512SUMS"), at("OTHER"));
   copyFileSync(at("SHA512SUMS.minisig"), at("OTHER.minisig"));
   await check("OTHER_LIST", () => verifyListFile(at("OTHER"), key));

@@ -6,7 +6,17 @@
 // DIRECTORY is empty, and SIGNATURE is valid for DATA. For each check the program prints the expected result, a tab, and the actual
 // result.
 
-import {createReadStream, existsSync, mkdirSync, readdirSync, readFileSync, statSync, symlinkSync, chmodSync, writeFileSync} from "node:fs";
+import {
+  createReadStream,
+  existsSync,
+  mkdirSync,
+  readdirSync,
+  readFileSync,
+  statSync,
+  symlinkSync,
+  chmodSync,
+  writeFileSync
+} from "node:fs";
 import {join} from "node:path";
 import {pathToFileURL} from "node:url";
 import {setTimeout as wait} from "node:timers/promises";
@@ -17,7 +27,9 @@ const [directory, ...paths] = process.argv.slice(2);
 const [key, data, signature] = paths.map(path => readFileSync(path));
 const target = join(directory, "app"), results = [];
 // Returns "saved", or the error with which saving failed.
-const outcomeOf = promise => promise.then(() => "saved", why => why instanceof TypeError ? `${why.name} ${why.code}` : why.code ?? why.name ?? why);
+const outcomeOf = promise => promise.then(
+  () => "saved", why => why instanceof TypeError ? `${why.name} ${why.code}` : why.code ?? why.name ?? why
+);
 const modeOf = path => (statSync(path).mode & 0o777).toString(8);
 const namesInDirectory = () => readdirSync(directory).join(" ");
 // Returns the content of the target, or "none", and the names of all files in the directory.
@@ -83,8 +95,11 @@ results.push(["saved test [app]", `${await save((function* () { yield changing; 
 // Directories and symbolic links are not replaced.
 mkdirSync(join(directory, "d"));
 symlinkSync(target, join(directory, "l"));
-for (const [error, path] of [["TypeError INVALID_ARGUMENT", join(directory, "d")], ["TypeError INVALID_ARGUMENT", join(directory, "l")],
-                              ["ENOENT", join(directory, "absent", "app")], ["TypeError INVALID_ARGUMENT", 7]]) {
+for (const [error, path] of [
+       ["TypeError INVALID_ARGUMENT", join(directory, "d")],
+       ["TypeError INVALID_ARGUMENT", join(directory, "l")],
+       ["ENOENT", join(directory, "absent", "app")],
+       ["TypeError INVALID_ARGUMENT", 7]]) {
   results.push([`${error} [app d l]`, `${await outcomeOf(saveVerified(data, path, signature, key))} [${namesInDirectory()}]`]);
 }
 const result = await saveVerified(data, target, signature, key);

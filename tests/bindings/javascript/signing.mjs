@@ -3,7 +3,8 @@
 //     node signing.mjs make DIRECTORY [PASSWORD]                   writes a key pair there
 //     node signing.mjs sign KEY DATA TO COMMENT [PASSWORD]         signs a file, passing its data in each form
 //     node signing.mjs strength KEY [PASSWORD]                     prints `weak` or `strong`
-//     node signing.mjs growth COUNT                                makes COUNT keys; prints by how many bytes memory grows after a tenth of them
+//     node signing.mjs growth COUNT                                makes COUNT keys; prints by how many bytes memory grows after
+//                                                                  a tenth of them
 //     node signing.mjs threads                                     prints whether three threads can sign at once
 //
 //     node signing.mjs checks DATA
@@ -57,7 +58,8 @@ async function signFile(file, data, to, trustedComment, password) {
   }
   writeFileSync(to, expected);
   const verified = await verify(bytes, readFileSync(to), await writePublicKey(key));
-  const hasComments = verified.trustedComment === trustedComment && expected.startsWith(`untrusted comment: ${UNTRUSTED_COMMENT}\n`);
+  const hasComments = verified.trustedComment === trustedComment
+    && expected.startsWith(`untrusted comment: ${UNTRUSTED_COMMENT}\n`);
   return hasComments ? "OK" : `other comments: ${verified.trustedComment}, ${expected}`;
 }
 
@@ -69,7 +71,12 @@ async function strength(file, password) {
 async function shown() {
   const key = await generateSecretKey(), digits = (await writeSecretKey(key, null)).split("\n")[1];
   const secret = Buffer.from(digits, "base64").subarray(62, 94);
-  const forms = [inspect(key, {showHidden: true, depth: 9}), JSON.stringify(key), String(key), Object.entries(structuredClone(key)).join()];
+  const forms = [
+    inspect(key, {showHidden: true, depth: 9}),
+    JSON.stringify(key),
+    String(key),
+    Object.entries(structuredClone(key)).join()
+  ];
   const beginnings = [...["hex", "base64"].map(encoding => secret.toString(encoding).slice(0, 8)), [...secret].join()];
   const hides = form => !beginnings.some(text => form.includes(text));
   const lines = [forms.every(hides), forms[0] === inspect({keyId: key.keyId, isWeak: false}), Object.isFrozen(key)];
@@ -78,7 +85,12 @@ async function shown() {
   clearSecretKey(key);
   const [, , line] = (await sign(new Uint8Array(1), await generateSecretKey())).split("\n");
   lines.push(/^trusted comment: timestamp:\d{10,}\thashed$/.test(line));
-  const cleared = [() => signer.end(), () => sign(new Uint8Array(1), key), () => writeSecretKey(key, null), () => writePublicKey(key)];
+  const cleared = [
+    () => signer.end(),
+    () => sign(new Uint8Array(1), key),
+    () => writeSecretKey(key, null),
+    () => writePublicKey(key)
+  ];
   return [...lines.map(line => `true\t${line}`), ...await outcomes(cleared.map(run => ["KEY_NOT_OPENED", run]))];
 }
 
@@ -92,7 +104,8 @@ async function wrong() {
   // The beginnings of the error messages about each argument.
   const KEY = "TypeError: secretKey must be a secret key from this package, not";
   const OPTIONS = "TypeError: options must be a plain object, not", ROWS = "TypeError: mostRows must be a positive integer, not";
-  const DATA = "TypeError: data must be bytes, a Blob, a stream or an iterable of bytes, not", PIECE = "TypeError: a piece of data must be bytes, not";
+  const DATA = "TypeError: data must be bytes, a Blob, a stream or an iterable of bytes, not";
+  const PIECE = "TypeError: a piece of data must be bytes, not";
   const textNamed = name => `TypeError: ${name} must be a string or bytes, not`;
   return outcomes([
     [`${KEY} string`, () => sign(bytes, "a key")], [`${KEY} null`, () => sign(bytes, null)],
@@ -124,13 +137,16 @@ async function wrong() {
 }
 
 async function streams(path) {
-  const key = await generateSecretKey(), lines = [], seen = [], bytes = readFileSync(path), gone = Object.assign(new Error(), {code: "GONE"});
+  const key = await generateSecretKey(), lines = [], seen = [], bytes = readFileSync(path);
+  const gone = Object.assign(new Error(), {code: "GONE"});
   await sign(bytes, key, {progress: (...reported) => seen.push(reported)});
   await sign([bytes, bytes], key, {progress: (...reported) => seen.push(reported)});
   lines.push(`[[4,4],[4,null],[8,null]]\t${JSON.stringify(seen)}`);
   lines.push(`ENOENT\t${await sign(createReadStream(`${path}.absent`), key).catch(why => why.code)}`);
   const controller = new AbortController(), stopped = {cancelled: null};
-  const stream = new ReadableStream({cancel: why => { stopped.cancelled = why?.code === "INVALID_ARGUMENT" ? why.name : why.code; }});
+  const stream = new ReadableStream({
+    cancel: why => { stopped.cancelled = why?.code === "INVALID_ARGUMENT" ? why.name : why.code; }
+  });
   const signing = sign(stream, key, {signal: controller.signal}).catch(why => why.code);
   setTimeout(() => controller.abort(gone), 50);
   lines.push(`GONE GONE\t${await signing} ${stopped.cancelled}`);

@@ -66,7 +66,11 @@ function webStream(pieces) {
 
 // Returns a stream of Node that fails with this code when it is read after these pieces.
 function failingStream(pieces, code) {
-  return new Readable({read() { pieces.length > 0 ? this.push(pieces.shift()) : this.destroy(Object.assign(new Error(code), {code})); }});
+  return new Readable({
+    read() {
+      pieces.length > 0 ? this.push(pieces.shift()) : this.destroy(Object.assign(new Error(code), {code}));
+    }
+  });
 }
 
 // A stream whose iteration neither ends nor fails, and that reports errors only by the event "error".
@@ -198,7 +202,10 @@ const CHECKS = {
   // Streams that verify are closed and unlocked.
   async accepted() {
     const before = countDescriptors(), web = new Blob([data]).stream();
-    const outcomes = [await outcome(verify(createReadStream(dataPath), signature, key)), await outcome(verify(web, signature, key))];
+    const outcomes = [
+      await outcome(verify(createReadStream(dataPath), signature, key)),
+      await outcome(verify(web, signature, key))
+    ];
     return [`${outcomes} ${await countUnclosed(before)} ${web.locked}`];
   },
 };

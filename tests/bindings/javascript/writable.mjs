@@ -7,7 +7,15 @@
 
 import {readFileSync} from "node:fs";
 
-import {createSigner, createVerifier, generateSecretKey, MinisignError, parseTrustedComment, verify, writePublicKey} from "minisign-proved";
+import {
+  createSigner,
+  createVerifier,
+  generateSecretKey,
+  MinisignError,
+  parseTrustedComment,
+  verify,
+  writePublicKey
+} from "minisign-proved";
 
 const [what, ...paths] = process.argv.slice(2);
 const [key, data, signature] = paths.map(path => readFileSync(path));
@@ -30,11 +38,17 @@ async function piped(...pieces) {
 }
 
 async function streams() {
-  const rows = [[`accepted, ${COMMENT}, 4`, await piped(data)], [`accepted, ${COMMENT}, 4`, await piped(data.subarray(0, 1), data.subarray(1))],
-    [`accepted, ${COMMENT}, 4`, await piped(data.buffer.slice(data.byteOffset, data.byteOffset + data.length))],
+  const rows = [
+    [`accepted, ${COMMENT}, 4`, await piped(data)],
+    [`accepted, ${COMMENT}, 4`, await piped(data.subarray(0, 1), data.subarray(1))],
+    [
+      `accepted, ${COMMENT}, 4`,
+      await piped(data.buffer.slice(data.byteOffset, data.byteOffset + data.length))
+    ],
     ["SIGNATURE_REFUSED, SIGNATURE_REFUSED, 5", await piped(data, Uint8Array.of(0))],
     ["SIGNATURE_REFUSED, SIGNATURE_REFUSED, 0", await piped()],
-    ["TypeError INVALID_ARGUMENT, TypeError INVALID_ARGUMENT, 4", await piped(data, "text")]];
+    ["TypeError INVALID_ARGUMENT, TypeError INVALID_ARGUMENT, 4", await piped(data, "text")]
+  ];
   // A stream is split with `tee`, to verify the data and to store it.
   const verifier = await createVerifier(signature, key), [first, second] = streamOf(data).tee();
   const [, stored] = await Promise.all([first.pipeTo(verifier.writable), new Response(second).text()]);
@@ -117,11 +131,16 @@ async function instances() {
                                          apply: (target, itself, words) => (count += 1, target.apply(itself, words))});
   const secretKey = await generateSecretKey(), publicKey = await writePublicKey(secretKey);
   Object.assign(WebAssembly, {Instance: counted(Instance), instantiate: counted(instantiate)});
-  const reserved = () => Number(/VmPeak:\s*(\d+) kB/.exec(readFileSync("/proc/self/status", "latin1"))[1]) / 1048576, before = reserved();
+  const status = () => readFileSync("/proc/self/status", "latin1");
+  const reserved = () => Number(/VmPeak:\s*(\d+) kB/.exec(status())[1]) / 1048576, before = reserved();
   const { sign } = await import("minisign-proved");
-  const signatures = await Promise.all(Array.from({length: COUNT}, (_, at) => sign(Uint8Array.of(at), secretKey, {trustedComment: `${at}`})));
+  const signatures = await Promise.all(
+    Array.from({length: COUNT}, (_, at) => sign(Uint8Array.of(at), secretKey, {trustedComment: `${at}`}))
+  );
   const grown = reserved() - before;
-  const comments = await Promise.all(signatures.map((text, at) => verify(Uint8Array.of(at), text, publicKey).then(each => each.trustedComment)));
+  const comments = await Promise.all(
+    signatures.map((text, at) => verify(Uint8Array.of(at), text, publicKey).then(each => each.trustedComment))
+  );
   return [[true, count <= 1 || `${count} instances`], [true, grown < 32 || `${grown} GiB more`],
     [COUNT, comments.filter((comment, at) => comment === `${at}`).length]];
 }

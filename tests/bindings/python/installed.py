@@ -1,5 +1,5 @@
-"""Verifies the file `app` with the published key, as a program of a user who has installed the package. tests/bindings/install_commands.py
-runs it.
+"""Verifies the file `app` with the published key, as a program of a user who has installed the package.
+tests/bindings/install_commands.py runs it.
 """
 
 import minisign_proved

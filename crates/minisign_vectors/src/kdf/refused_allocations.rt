@@ -1,5 +1,5 @@
 //! Tests that key derivation gives the right key or out of memory, whichever allocation fails. With
-//! enough memory each call succeeds. `tests/library/refused_memory.py` runs each test with each of
+//! enough memory each call succeeds. `tests/library/failing_allocations.py` runs each test with each of
 //! its allocations failing in turn, and counts them.
 //!
 //! The keys are from RFC 7914, section 12.

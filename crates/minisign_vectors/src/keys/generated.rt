@@ -1,6 +1,6 @@
 //! Tests of generating key pairs with devices that no request to `minisign_compare` can describe:
 //! they accept one byte at a time, or fail at each byte, each read and each flush in turn.
-//! `tests/rows/generating_keys.py` and `tests/rows/failing_devices.py` have all other cases.
+//! `tests/rows/generating_keys.py` and `tests/rows/failing_readers.py` have all other cases.
 
 use crate::tables::assert_row;
 use minisign::{KeyPair, Result};

@@ -1,5 +1,5 @@
 //! Tests that calls on keys give the right result or out of memory, whichever allocation fails.
-//! With enough memory each call succeeds. `tests/library/refused_memory.py` runs each test with
+//! With enough memory each call succeeds. `tests/library/failing_allocations.py` runs each test with
 //! each of its allocations failing in turn. A call that writes to a buffer may also return
 //! `WritingFailed`, because a buffer that cannot grow fails like any other sink.
 

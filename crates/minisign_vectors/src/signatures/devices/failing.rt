@@ -1,7 +1,7 @@
 //! Tests of devices (sources, sinks, prompts and random sources) of which one operation fails and
 //! later operations succeed. No request to `minisign_compare` can describe such devices. Each call of
 //! the library is made many times: first the first operation of a device fails, then only its second
-//! one, and so on, until no operation fails. `tests/rows/failing_devices.py` tests data of which a
+//! one, and so on, until no operation fails. `tests/rows/failing_readers.py` tests data of which a
 //! read fails, for `sign`, `verify` and `verify_texts`.
 
 use crate::keys::sealed::calls::{OpeningCall, opened};

@@ -1,5 +1,5 @@
 //! Tests that calls give the right result or out of memory, whichever allocation fails. With enough
-//! memory each call succeeds. `tests/library/refused_memory.py` runs each test once for each of its
+//! memory each call succeeds. `tests/library/failing_allocations.py` runs each test once for each of its
 //! allocations, which then fails. A sink that is a growing buffer fails if the buffer cannot grow, so
 //! a call with such a sink may also return `WritingFailed`.
 
