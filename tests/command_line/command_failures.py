@@ -14,7 +14,7 @@ from functools import partial
 import faults
 from command_running import DATA, OTHER_PUBLIC_KEY, PLAIN_KEY, PUBLIC_KEY, Programs, case, put_files
 from faults import TaskFaultRunner, run_concurrently
-from permissions import KEPT, permission_cases
+from permissions import REPLACEMENTS, permission_cases
 from running import Skip, expect, read
 from texts import record_of
 
@@ -287,7 +287,7 @@ class Breaking(TaskFaultRunner, Programs):
             put_files(directory, replaced_signature.files)
             return os.path.join(directory, *replaced_signature.targets)
 
-        yield from permission_cases(self, prepare, lambda _: replaced_signature.arguments, KEPT)
+        yield from permission_cases(self, prepare, lambda _: replaced_signature.arguments, REPLACEMENTS)
 
 
 def temporary_files(directory):

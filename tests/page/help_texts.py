@@ -23,11 +23,11 @@ STATES = ("unusable", "controls")
 def served(page, **headers):
     """Runs a server for the page with these headers. Yields its address, its address under a name that browsers do not
     treat as local, and the list of requested paths."""
-    asked = []
+    requested = []
 
     class Handler(http.server.BaseHTTPRequestHandler):
         def do_GET(self):
-            asked.append(self.path)
+            requested.append(self.path)
             self.send_response(200)
             for name, value in {"Content_Type": "text/html", **headers}.items():
                 self.send_header(name.replace("_", "-"), value)
@@ -40,7 +40,7 @@ def served(page, **headers):
     with http.server.ThreadingHTTPServer(("127.0.0.1", 0), Handler) as server:
         threading.Thread(target=server.serve_forever, daemon=True).start()
         try:
-            yield (*(f"http://{name}:{server.server_port}/minisign.html" for name in ("127.0.0.1", NON_LOCAL_NAME)), asked)
+            yield (*(f"http://{name}:{server.server_port}/minisign.html" for name in ("127.0.0.1", NON_LOCAL_NAME)), requested)
         finally:
             server.shutdown()
 

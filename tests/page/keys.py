@@ -187,8 +187,13 @@ SIMILAR = {
     "App (2024) (1).zip": "file:App (2024).zip",
     "no end (3)": "file:no end",
 }
-SAME = {"a.zip": "timestamp:1700000000\tfile:a.zip\thashed", "caf\u00e9": "file:cafe\u0301", "d.zip": "timestamp:17000000000000",
-        "e.zip": "no file:x and timestamp:1", "App (2023).zip": "file:App (2023).zip"}
+MATCHING_NAMES = {
+    "a.zip": "timestamp:1700000000\tfile:a.zip\thashed",
+    "caf\u00e9": "file:cafe\u0301",
+    "d.zip": "timestamp:17000000000000",
+    "e.zip": "no file:x and timestamp:1",
+    "App (2023).zip": "file:App (2023).zip",
+}
 
 
 def check_signed_names(person):
@@ -196,10 +201,14 @@ def check_signed_names(person):
     comment. A signed comment with white space at its beginning or end is rejected."""
     data = b"update"
     person.begin(person.first.line)
-    for name, comment in {**DIFFERENT, **SIMILAR, **SAME}.items():
+    for name, comment in {**DIFFERENT, **SIMILAR, **MATCHING_NAMES}.items():
         person.choose(*person.signed(name, data, trusted=comment))
     rows = {row.name: row for row in person.settled("comments")}
-    for names, words, lacks in ((DIFFERENT, [NAMED, OTHER_FILE], []), (SIMILAR, [NAMED], [OTHER_FILE]), (SAME, [], [NAMED])):
+    for names, words, lacks in (
+        (DIFFERENT, [NAMED, OTHER_FILE], []),
+        (SIMILAR, [NAMED], [OTHER_FILE]),
+        (MATCHING_NAMES, [], [NAMED]),
+    ):
         for name, comment in names.items():
             what = f"{name} with the comment {comment!r}"
             verdict, cautions = ("renamed", 1) if names is DIFFERENT else ("good", 0)
