@@ -594,7 +594,7 @@ def failure_of(scratch, preload, mutant):
     mutants.apply(mutant, copy)
     program = os.path.join(own, "install_file")
     sources = [f"{copy}/c/install/{name}.c" for name in ("installing", "results", "directory")]
-    sources += [f"{copy}/c/shared/{name}.c" for name in ("error_words", "handles", "permissions", "stages", "streams")]
+    sources += [f"{copy}/c/shared/{name}.c" for name in ("error_words", "handles", "permissions", "streams", "temporary_files")]
     static_library.run_or_fail(
         [
             needs.compiler_with_libsodium(),
