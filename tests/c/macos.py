@@ -205,15 +205,15 @@ class Folding:
         return result, {name: read(directory, name) for name in os.listdir(directory)}
 
 
-def check_pair(check, folding, public, secret, other):
+def check_pair(check, folding, public, secret, other_inode):
     """Checks runs with two names of the same file. All names of the file have the same inode number, except the
     name `other`."""
     ran_alone, texts = folding.run(["-G", "-W", "-p", "p", "-s", "s"], {})
     check(ran_alone.status == 0 and sorted(texts) == ["p", "s"], f"two other names: {ran_alone}")
-    names = f"{public} and {secret}{' with another inode number' if other else ''}"
+    names = f"{public} and {secret}{' with another inode number' if other_inode else ''}"
 
     def rejects(status, output, arguments, files):
-        result, remaining = folding.run(arguments, files, other)
+        result, remaining = folding.run(arguments, files, other_inode)
         check(
             result.status == status and output.encode() in result.stderr and remaining == files,
             f"{names}: {' '.join(arguments)} over {[*files]}: {result}, leaves {[*remaining]}",
@@ -222,7 +222,7 @@ def check_pair(check, folding, public, secret, other):
     generating, recreating = ["-p", public, "-s", secret, "-G", "-W"], ["-p", public, "-s", secret, "-R"]
     # A new file gets the inode number of the name with which it was created. If that name is `other`, the two names
     # look like different files, so this error cannot be expected.
-    for force in ([], ["-f"]) if other != public else ():
+    for force in ([], ["-f"]) if other_inode != public else ():
         rejects(
             2,
             f"error: {secret}: on this file system, this is the same file as the other key file\n",
@@ -236,9 +236,9 @@ def check_pair(check, folding, public, secret, other):
     rejects(1, f"{public} already exists", recreating, existing)
     for arguments in ([*recreating, "-f"], ["-S", "-s", secret, "-m", "data", "-x", public]):
         rejects(2, f"error: {public}: this is the secret key, which would be overwritten\n", arguments, existing)
-    result, remaining = folding.run(["-C", "-W", "-s", public], existing, other)
+    result, remaining = folding.run(["-C", "-W", "-s", public], existing, other_inode)
     check(result.status == 0 and sorted(remaining) == sorted(existing), f"{names}: -C: {result}, leaves {[*remaining]}")
-    result, remaining = folding.run(["-R", "-p", "k.pub", "-s", secret], remaining, other)
+    result, remaining = folding.run(["-R", "-p", "k.pub", "-s", secret], remaining, other_inode)
     check(
         result.status == 0 and remaining["k.pub"].splitlines()[1] == texts["p"].splitlines()[1],
         f"{names}: the key after -C: {result}",
@@ -249,12 +249,12 @@ def check_folded(check, folding):
     """Checks that a pair of equivalent names is an error and that no file is lost, and that other pairs may replace
     files of the same length."""
     for public, secret in SAME_NAMES:
-        for other in (None, secret, public):
-            check_pair(check, folding, public, secret, other)
+        for other_inode in (None, secret, public):
+            check_pair(check, folding, public, secret, other_inode)
     _, texts = folding.run(["-G", "-W", "-p", "p", "-s", "s"], {})
     files = {"k.pub": texts["p"], "k.key": texts["p"][::-1]}
-    for other in (None, "k.key"):
-        result, remaining = folding.run(["-G", "-W", "-f", "-p", "k.pub", "-s", "k.key"], files, other)
+    for other_inode in (None, "k.key"):
+        result, remaining = folding.run(["-G", "-W", "-f", "-p", "k.pub", "-s", "k.key"], files, other_inode)
         check(
             result.status == 0 and sorted(remaining) == sorted(files) and remaining["k.key"] != files["k.key"],
             f"two names over other files: {result}",

@@ -96,7 +96,7 @@ def check_new_signatures(person):
         person.put("anything", first.text),
     )
     person.open()
-    for how, take, given in (
+    for how, take, arguments in (
         ("as text", person.type_key, [first.text.decode()]),
         ("as a line", person.type_key, [f"  {first.line}\n"]),
         ("as a file", person.choose_key, [key_path]),
@@ -106,7 +106,7 @@ def check_new_signatures(person):
         what = f"a key {how}"
         person.begin("", *paths, anew=False)
         person.only(f"before {what}", verdict="waiting")
-        take(*given)
+        take(*arguments)
         person.only(what, number=0, comment="version 2", has=[key_id])
         person.says("key-message", what, f"Key {key_id}")
         person.uses(first, what)
