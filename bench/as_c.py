@@ -103,13 +103,13 @@ def main():
                 for what, time in timed.items():
                     results[name][what].append(time())
     print("| Job | By | Processor time | Speed relative to the archives |\n|---|---|---|---|")
-    for name, taken in results.items():
-        for what, seconds in taken.items():
-            print(f"| {name} | {what} | {min(seconds):.2f} s | {speed(seconds, taken[ARCHIVES]):.2f} |")
+    for name, times in results.items():
+        for what, seconds in times.items():
+            print(f"| {name} | {what} | {min(seconds):.2f} s | {speed(seconds, times[ARCHIVES]):.2f} |")
     print()
-    for name, taken in results.items():
+    for name, times in results.items():
         for what in (GCC, CLANG):
-            print(f"{name}, {what}: {speed(taken[what], taken[ARCHIVES]):.2f} of the speed of the archives; the goal is {GOAL}")
+            print(f"{name}, {what}: {speed(times[what], times[ARCHIVES]):.2f} of the speed of the archives; the goal is {GOAL}")
     hashing = results[f"hashing {MIB} MiB"]
     for what in (GCC, CLANG):
         print(f"{what} takes {1 / speed(hashing[what], hashing[PLAIN]):.2f} of the time of libsodium's portable BLAKE2b")

@@ -30,11 +30,11 @@ PASSWORD = "a password\n"
 
 def called(program, *words):
     """Returns the elapsed and processor seconds of one call."""
-    ran = subprocess.run([program, *words], stdout=subprocess.PIPE, check=True)
-    return tuple(map(float, ran.stdout.split()))
+    result = subprocess.run([program, *words], stdout=subprocess.PIPE, check=True)
+    return tuple(map(float, result.stdout.split()))
 
 
-def ran(typed, *command):
+def seconds_of(typed, *command):
     """Returns the elapsed and processor seconds of a run of a program."""
     ended = measured(command, typed)
     return ended.seconds, ended.processor_seconds
@@ -71,8 +71,8 @@ def jobs(directory):
             lambda: called(calls, "open", key),
             lambda: called(calls, "sodium"),
         ),
-        "`-S`, which decrypts a key": (lambda: ran(typed, ours, *opening), lambda: ran(typed, minisign, *opening)),
-        "`-G`, which makes a key": (lambda: ran(typed, ours, *making), lambda: ran(typed, minisign, *making)),
+        "`-S`, which decrypts a key": (lambda: seconds_of(typed, ours, *opening), lambda: seconds_of(typed, minisign, *opening)),
+        "`-G`, which makes a key": (lambda: seconds_of(typed, ours, *making), lambda: seconds_of(typed, minisign, *making)),
     }
 
 

@@ -83,12 +83,12 @@ def run(arguments):
         theirs = answers(build_oracle(arguments, directory), lines, files)
         ours = answers(arguments.program, lines, files)
     entries, names, differences = collections.Counter(), collections.Counter(), collections.defaultdict(list)
-    for request, line, answered in zip(lines, theirs, ours):
+    for request, line, answer in zip(lines, theirs, ours):
         names[request.split(' ')[0]] += 1
         expected, explained = known_differences.expected(request, line)
         entries.update(explained)
-        if not expected.matches(known_differences.Answer(answered)):
-            differences[summary(request, known_differences.Answer(answered))].append((request, expected.line(), answered))
+        if not expected.matches(known_differences.Answer(answer)):
+            differences[summary(request, known_differences.Answer(answer))].append((request, expected.line(), answer))
     with open(DIFFERENCES, encoding='utf-8') as file:
         listed = file.read()
     unlisted = [entry for entry in entries if entry not in listed]
@@ -99,8 +99,8 @@ def run(arguments):
     for entry, count in entries.most_common():
         print(f'{count:7} intended differences: {entry}')
     for of_one_kind in differences.values():
-        request, expected, answered = min(of_one_kind, key=lambda difference: len(difference[0]))
-        print(f'DIFFERENCE, {len(of_one_kind)} times:\n  {request}\n  expected {expected}\n  answered {answered}')
+        request, expected, answer = min(of_one_kind, key=lambda difference: len(difference[0]))
+        print(f'DIFFERENCE, {len(of_one_kind)} times:\n  {request}\n  expected {expected}\n  answered {answer}')
     different = sum(map(len, differences.values())) + len(unlisted)
     print(f'seed {arguments.seed}: {len(lines) - different} passed, {different} failed')
     return different == 0

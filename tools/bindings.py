@@ -23,7 +23,7 @@ import textwrap
 
 import boundary
 import sources
-from c_header import FILE as HEADER, LISTS, every, parsed
+from c_header import FILE as HEADER, LIST_HEADER, all_headers, parsed
 from sources import Unfit
 
 RUST, RUST_SYS = "bindings/rust/src/raw/header.rs", "bindings/rust-sys/src/header.rs"
@@ -102,7 +102,7 @@ def buffer_size_of(call, parameter, header, length_of, field_of):
     """Returns the size of the buffer of a parameter, as its role says: a sum of numbers, constants, and lengths of other
     parameters."""
     constants = {name for name, *_ in [*header.numbers, *header.sizes]}
-    lengths = {length.name: bytes.name for bytes, length in boundary.lengths([*header.taken(call)]) if length}
+    lengths = {length.name: bytes.name for bytes, length in boundary.lengths([*header.flat_parameters(call)]) if length}
     lengths |= {name.rpartition("->")[2]: of.rpartition("->")[2] for name, of in lengths.items()}
 
     def term(word):
@@ -319,7 +319,7 @@ def go_flat(call, header):
     """Returns a C function that takes the fields of a struct of parts one by one, because Go may not store its pointers
     in a C struct."""
     parameters, lines = [], []
-    for parameter in header.taken(call):
+    for parameter in header.flat_parameters(call):
         struct, _, field = parameter.name.rpartition("->")
         parameters.append(f"{parameter.const}{parameter.kind} {'*' if parameter.count else parameter.star}{field}")
         if struct and parameter.count:
@@ -706,7 +706,7 @@ def rust_header(header):
 
 def generated_files():
     """Yields the paths and texts of the generated files."""
-    header, installing_too = parsed(sources.read(HEADER), sources.read(LISTS)), every()
+    header, installing_too = parsed(sources.read(HEADER), sources.read(LIST_HEADER)), all_headers()
     for path, make in (
         (RUST, rust_header),
         (RUST_SYS, rust_sys_header),

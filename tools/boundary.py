@@ -103,7 +103,7 @@ def boundary_text(header):
     return "\n".join(
         [
             head_of(FILE, rf"\w+ {HAND_WRITTEN_CALL}\(void\)\n\{{.*?\n\}}"),
-            *(call_text(call, [*header.taken(call)], header.secrets) for call in proved_calls(header)),
+            *(call_text(call, [*header.flat_parameters(call)], header.secrets) for call in proved_calls(header)),
         ]
     )
 
@@ -204,7 +204,7 @@ def pointers_call(call, structs):
 
 def taken_by_names(header, call):
     """Returns the parameters of the proved call. A field of a struct gets its own name, without that of the struct."""
-    return (parameter._replace(name=parameter.name.rpartition("->")[2]) for parameter in header.taken(call))
+    return (parameter._replace(name=parameter.name.rpartition("->")[2]) for parameter in header.flat_parameters(call))
 
 
 def pointers_text(header):

@@ -28,8 +28,8 @@ sys.path.append(os.path.join(ROOT, "tests", "shared"))
 import needs
 
 FILE = "include/minisign.h"
-INSTALLING = "include/minisign_install.h"
-LISTS = "include/minisign_list.h"
+INSTALL_HEADER = "include/minisign_install.h"
+LIST_HEADER = "include/minisign_list.h"
 
 # Names are without `MINISIGN_`. A Size is a macro with parameters: its number for lengths of 0, and the names of these lengths.
 Size = namedtuple("Size", "name number lengths")
@@ -68,7 +68,7 @@ class Header:
             if name.startswith(PROBE)
         }
         self.texts = [(name, body) for name, _, body in macros if body.startswith('"')]
-        self.numbers = [(name, shown(values[name])) for name, lengths, _ in macros if name in values and lengths is None]
+        self.numbers = [(name, number_text(values[name])) for name, lengths, _ in macros if name in values and lengths is None]
         self.sizes = [
             Size(name, str(values[name]), re.split(", ?", lengths))
             for name, lengths, _ in macros
@@ -87,7 +87,7 @@ class Header:
         self.in_parts = {name for name, fields in self.structs.items() if any(field.star for field in fields)}
         self.secrets = {name for name, fields in self.structs.items() if any("secret" in field.roles for field in fields)}
 
-    def taken(self, call):
+    def flat_parameters(self, call):
         """Yields the parameters of the proved call, which has the fields of a struct of `in_parts` in its place."""
         for parameter in call.parameters:
             if parameter.kind in self.in_parts:
@@ -111,14 +111,14 @@ def parsed(*texts):
     return Header(*texts)
 
 
-def both():
+def install_headers():
     """Returns the declarations of minisign.h and minisign_install.h."""
-    return parsed(read(FILE), read(INSTALLING))
+    return parsed(read(FILE), read(INSTALL_HEADER))
 
 
-def every():
+def all_headers():
     """Returns the declarations of all headers with proved calls."""
-    return parsed(read(FILE), read(INSTALLING), read(LISTS))
+    return parsed(read(FILE), read(INSTALL_HEADER), read(LIST_HEADER))
 
 
 def run_clang(directory, main, *flags):
@@ -218,7 +218,7 @@ def enums_of(declared):
             ]
 
 
-def shown(number):
+def number_text(number):
     return str(number) if number < 1 << 63 else hex(number)
 
 

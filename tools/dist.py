@@ -105,7 +105,7 @@ def built_calls(directory, is_check):
         print(f"dist: {name}, after proving what is not proved yet", flush=True)
         verdict = proved.build_archive(CALLS, archive, *flags, *incremental, compilers=compilers if name == C_CALLS_OF else None)
         yield Built(name, read(archive), {name: verdict, "sources of the calls": build.sources_sum("calls")})
-    names = [call.name for call in boundary.proved_calls(c_header.every())]
+    names = [call.name for call in boundary.proved_calls(c_header.all_headers())]
     line = (
         f"{C_CALLS}, by tools/wasm_to_c.py, which is tested and not proved; sum of the bitcode"
         f" {hashlib.sha256(read(bitcode)).hexdigest()}"
@@ -274,18 +274,18 @@ def main(words):
     parser.add_argument("--check", action="store_true")
     parser.add_argument("--after")
     parser.add_argument("parts", nargs="*")
-    given = parser.parse_args(words)
-    parts, unknown = given.parts or [*PARTS], {*given.parts} - {*PARTS}
+    options = parser.parse_args(words)
+    parts, unknown = options.parts or [*PARTS], {*options.parts} - {*PARTS}
     if unknown:
         parser.error(f"there is no part {' '.join(sorted(unknown))}")
     try:
-        if given.after:
-            proved.use_ci_output(given.after)
-        if given.check:
+        if options.after:
+            proved.use_ci_output(options.after)
+        if options.check:
             return check(parts)
         make(parts)
     except (needs.Missing, proved.NotBuilt, build.NotPossible, OSError) as why:
-        print(f"FAILED: {why}" + ("\n0 passed, 1 failed" if given.check else ""))
+        print(f"FAILED: {why}" + ("\n0 passed, 1 failed" if options.check else ""))
         return 1
     return 0
 

@@ -22,11 +22,11 @@ from collections import namedtuple
 import boundary
 import manual
 import sources
-from c_header import FILE as HEADER, INSTALLING, LISTS, parsed
+from c_header import FILE as HEADER, INSTALL_HEADER, LIST_HEADER, parsed
 from sources import ROOT, Unfit, read
 
 # The header of the call that installs. Nothing in it is generated.
-ONE_CALL = "include/minisign_installing.h"
+INSTALLING_HEADER = "include/minisign_installing.h"
 
 FORMATS = "docs/FORMATS.md"
 
@@ -34,12 +34,12 @@ FAULTS = "crates/minisign_base/src/faults.rt"
 KINDS = "crates/minisign_base/src/errors.rt"
 FAULT_ROWS = "crates/minisign_base/specs/Faults.antt"
 NUMBERS = "crates/minisign_external/src/numbers.rt"
-INSTALL = "crates/minisign_install"
-INSTALL_NUMBERS = f"{INSTALL}/specs/Installations.antt"
-OF_LISTS = "crates/minisign_lists"
+INSTALL_CRATE = "crates/minisign_install"
+INSTALL_NUMBERS = f"{INSTALL_CRATE}/specs/Installations.antt"
+LISTS_CRATE = "crates/minisign_lists"
 
 # The named errors that no call of the headers returns. All others have a name in C. tests/c/error_lists.py checks this list.
-UNANSWERED = {"GoingBackFailed", "EndOfInput", "PasswordTooLong", "PasswordsDiffer", "EncryptedKeyRefused", "RefusedByGivenKey",
+NOT_RETURNED = {"GoingBackFailed", "EndOfInput", "PasswordTooLong", "PasswordsDiffer", "EncryptedKeyRefused", "RefusedByGivenKey",
               "TrustedCommentAbsent", "SignatureBoxIncomplete", "ClockIncorrect", "DataChanged", "InvalidOutputLength",
               "InputOrOutputFailed", "FormattingFailed", "InvalidUtf8"}
 
@@ -72,13 +72,13 @@ class Number(namedtuple("Number", "number variant comment")):
 # The generated enums of minisign_install.h and minisign_list.h: the first word of the comments around the generated
 # text (see `header_text`), the prefix of the enum's members, and the name and the file of the enum in the crate.
 Choice = namedtuple("Choice", "place prefix enum file")
-DUE = Choice("Operations", "DUE", "Operation", f"{INSTALL}/src/installation.rt")
-NUMBERING = Choice("Numberings", "NUMBERING", "Numbering", f"{INSTALL}/src/comments.rt")
-HASHES = Choice("Hashes", "HASH", "Algorithm", f"{OF_LISTS}/src/digests.rt")
+DUE = Choice("Operations", "DUE", "Operation", f"{INSTALL_CRATE}/src/installation.rt")
+NUMBERING = Choice("Numberings", "NUMBERING", "Numbering", f"{INSTALL_CRATE}/src/comments.rt")
+HASHES = Choice("Hashes", "HASH", "Algorithm", f"{LISTS_CRATE}/src/digests.rt")
 # The list of the operations, whose numbers are their positions.
-OPERATIONS = f"{INSTALL}/specs/Step.antt"
+OPERATIONS = f"{INSTALL_CRATE}/specs/Step.antt"
 # The numbers of the hash functions of lists, and the member that no crate has.
-HASH_NUMBERS = f"{OF_LISTS}/specs/Numbers.antt"
+HASH_NUMBERS = f"{LISTS_CRATE}/specs/Numbers.antt"
 NO_HASH = "    /* None: a line with 128 digits must name its hash function. */\n    MINISIGN_HASH_NONE = 0"
 
 
@@ -146,7 +146,9 @@ def weak_row():
 
 def install_rows(comments):
     """Returns the errors that only installing returns, in the form of `fault_rows`."""
-    rows = re.findall(r'^install_row (\w+) =\s+row (\d+) (\w+) \(codes "([^"]*)"\)$', read(f"{INSTALL}/specs/Faults.antt"), re.M)
+    rows = re.findall(
+        r'^install_row (\w+) =\s+row (\d+) (\w+) \(codes "([^"]*)"\)$', read(f"{INSTALL_CRATE}/specs/Faults.antt"), re.M
+    )
     # The variant `Library` contains another named error, whose row is one of `fault_rows`.
     if {name for name, *_ in rows} != {*comments} - {"Library"}:
         raise Unfit("install_row must have one row for each error of installing")
@@ -157,7 +159,7 @@ def list_rows(comments):
     """Returns the errors of lists, in the form of `fault_rows`."""
     rows = re.findall(
         r'^list_row \(?(\w+)(?: \w+\))? = row (\d+) (\w+) \(codes "([^"]*)"\)$',
-        read(f"{OF_LISTS}/specs/Faults.antt"),
+        read(f"{LISTS_CRATE}/specs/Faults.antt"),
         re.M,
     )
     if {name for name, *_ in rows} != {*comments} - {"Library"}:
@@ -174,9 +176,11 @@ def rows_once(installs, lists):
 
 def all_numbers(rows, comments):
     """Returns the errors that calls of the headers return, in the order of their numbers."""
-    if UNANSWERED - {name for name, *_ in rows}:
-        raise Unfit(f"UNANSWERED names {', '.join(sorted(UNANSWERED - {name for name, *_ in rows}))}, which are not named errors")
-    found = [*misuses(), *(Number(int(number), name, comments[name]) for name, number, _, _ in rows if name not in UNANSWERED)]
+    if NOT_RETURNED - {name for name, *_ in rows}:
+        raise Unfit(
+            f"NOT_RETURNED names {', '.join(sorted(NOT_RETURNED - {name for name, *_ in rows}))}, which are not named errors"
+        )
+    found = [*misuses(), *(Number(int(number), name, comments[name]) for name, number, _, _ in rows if name not in NOT_RETURNED)]
     if len({error.number for error in found}) != len(found) or len({error.name for error in found}) != len(found):
         raise Unfit("two errors have the same number or the same name")
     if {*NAMES} - {error.variant for error in found}:
@@ -319,8 +323,8 @@ def formats_text(numbers, rows, comments):
 
 def generated_files():
     """Yields the paths and texts of the generated files."""
-    comments, install_comments = comments_of(FAULTS, "NamedFault"), comments_of(f"{INSTALL}/src/faults.rt", "InstallFault")
-    list_comments = comments_of(f"{OF_LISTS}/src/faults.rt", "ListFault")
+    comments, install_comments = comments_of(FAULTS, "NamedFault"), comments_of(f"{INSTALL_CRATE}/src/faults.rt", "InstallFault")
+    list_comments = comments_of(f"{LISTS_CRATE}/src/faults.rt", "ListFault")
     weak, weak_comment = weak_row()
     rows = [*fault_rows(), weak, *rows_once(install_rows(install_comments), list_rows(list_comments))]
     comments = comments | install_comments | list_comments | {weak[0]: weak_comment}
@@ -328,18 +332,24 @@ def generated_files():
     # Each header is parsed by itself for its attributes, because these do not depend on structs of the other headers.
     header = header_text(HEADER, {"Numbers": enum_text("error", numbers, first=["    MINISIGN_OK = 0"]), "Kinds": kinds_text(),
                                   "Answers": answers_text(numbers), "Attributes": attributes_text(parsed(read(HEADER)))})
-    installing = header_text(INSTALLING, {**dict(choices_texts()), "Attributes": attributes_text(parsed(read(INSTALLING)))})
-    of_lists = header_text(LISTS, {HASHES.place: hashes_text(), "Attributes": attributes_text(parsed(read(LISTS)))})
+    install_text = header_text(
+        INSTALL_HEADER, {**dict(choices_texts()), "Attributes": attributes_text(parsed(read(INSTALL_HEADER)))}
+    )
+    list_text = header_text(LIST_HEADER, {HASHES.place: hashes_text(), "Attributes": attributes_text(parsed(read(LIST_HEADER)))})
     yield HEADER, header
-    yield INSTALLING, installing
-    yield LISTS, of_lists
-    calls = parsed(header, installing, of_lists)
+    yield INSTALL_HEADER, install_text
+    yield LIST_HEADER, list_text
+    calls = parsed(header, install_text, list_text)
     yield boundary.FILE, boundary.boundary_text(calls)
     yield boundary.POINTERS, boundary.pointers_text(calls)
     yield "c/library/names", boundary.names_text(calls)
     version = dict(calls.texts)["VERSION_TEXT"].strip('"')
-    for file, page, examples in ((HEADER, header, manual.EXAMPLES), (INSTALLING, installing, {}), (LISTS, of_lists, {}),
-                                 (ONE_CALL, read(ONE_CALL), manual.INSTALLING)):
+    for file, page, examples in (
+        (HEADER, header, manual.EXAMPLES),
+        (INSTALL_HEADER, install_text, {}),
+        (LIST_HEADER, list_text, {}),
+        (INSTALLING_HEADER, read(INSTALLING_HEADER), manual.INSTALL_EXAMPLES),
+    ):
         yield manual.page_of(file), manual.manual_text(manual.page_of(file), page, version, examples)
     yield FORMATS, formats_text(numbers, rows, comments)
 

@@ -13,7 +13,7 @@ from sources import read
 # The example programs in the manual page of minisign.h, with their headings.
 EXAMPLES = {"verifying, in full, with libsodium": "c/examples/verify.c", "signing, in full, with libsodium": "c/examples/sign.c"}
 # The same for the manual page of minisign_installing.h.
-INSTALLING = {"installing, in full, with libsodium": "c/examples/install.c"}
+INSTALL_EXAMPLES = {"installing, in full, with libsodium": "c/examples/install.c"}
 # A comment that begins at the left margin.
 PIECE = re.compile(r"^/\*.*?\*/", re.S | re.M)
 MAKERS_NOTE = re.compile(r"(?:[\w ]+, made by tools/header\.py|The end of the [a-z]+)\.|SPDX-License-Identifier: .*")

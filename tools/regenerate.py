@@ -42,18 +42,18 @@ def main():
     parser = argparse.ArgumentParser(usage="tools/regenerate.py [--check] [--quick]")
     parser.add_argument("--check", action="store_true")
     parser.add_argument("--quick", action="store_true")
-    given = parser.parse_args()
+    options = parser.parse_args()
     failed = []
     for step in STEPS:
-        if step.proves and given.quick:
+        if step.proves and options.quick:
             continue
-        if step.needs_kit and given.quick and shutil.which("rt") is None:
+        if step.needs_kit and options.quick and shutil.which("rt") is None:
             print(f"left out: tools/{step.script}, because the Rattle kit is not installed")
             continue
         print(f"tools/{step.script}", flush=True)
-        if subprocess.run([sys.executable, os.path.join(HERE, step.script), *(["--check"] if given.check else [])]).returncode:
+        if subprocess.run([sys.executable, os.path.join(HERE, step.script), *(["--check"] if options.check else [])]).returncode:
             failed.append(f"tools/{step.script}")
-            if not given.check:
+            if not options.check:
                 break
     if failed:
         print(f"failed: {', '.join(failed)}")

@@ -262,7 +262,7 @@ class Definition:
 Module = namedtuple("Module", "definitions imports passed_on")
 BEGINS = re.compile(r"(?:(?:abbrev|unfoldable|pub|opaque|inline)\s+)*(?:(?P<kind>record|data)\s+)?(?P<name>[^\s(){}:]+)")
 KEYWORDS = re.compile(r"(?:abbrev|unfoldable|pub|record|data|opaque|inline)\b|[^\s=]+ :(?!:)")
-OTHER = re.compile(r"(?P<before>(?:(?:unfoldable|pub)\s+)*)(?P<word>use|mod|syntax|infix\w*|open|import|elab)\b")
+DIRECTIVE = re.compile(r"(?P<before>(?:(?:unfoldable|pub)\s+)*)(?P<word>use|mod|syntax|infix\w*|open|import|elab)\b")
 
 
 @functools.lru_cache(maxsize=None)
@@ -281,7 +281,7 @@ def read_module(file):
             if not raw.startswith(indent):
                 line, indent = raw, ""
             is_new = not line.startswith((" ", "}", ")"))
-            other, begins = is_new and OTHER.match(line), is_new and KEYWORDS.match(line) and BEGINS.match(line)
+            other, begins = is_new and DIRECTIVE.match(line), is_new and KEYWORDS.match(line) and BEGINS.match(line)
             if other and other["word"] == "use":
                 for imports in (module.imports, module.passed_on) if "pub" in other["before"] else (module.imports,):
                     take_use(imports, line)
@@ -323,12 +323,12 @@ class Library:
         crates = sorted(os.scandir(os.path.join(ROOT, "crates")), key=lambda value: value.name)
         self.crates = {crate.name: crate.path for crate in crates if crate.is_dir()}
 
-    def is_own(self, file):
+    def is_in_repository(self, file):
         return os.path.commonpath([ROOT, file]) == ROOT
 
-    def shown(self, file):
+    def relative_path(self, file):
         """Returns the path of a file relative to the repository or to the kit."""
-        return os.path.relpath(file, ROOT if self.is_own(file) else self.kit)
+        return os.path.relpath(file, ROOT if self.is_in_repository(file) else self.kit)
 
     def directories_of(self, crate):
         if crate in self.crates:

@@ -124,7 +124,7 @@ class Trusted:
         named, traits = [], []
         for function, name in self.clauses[part]:
             for clause in function.clause(name):
-                named += self.found(clause.text, sources.read_source(function.file).imports)
+                named += self.named_definitions(clause.text, sources.read_source(function.file).imports)
                 traits += self.traits_named(clause.text, function) if part is not VERDICT else []
             # The models of the types that the function takes or returns.
             names = {*re.findall(r"\w+", function.header), function.owner}
@@ -137,14 +137,14 @@ class Trusted:
         found = {}
         while named:
             definition, *named = named
-            if definition not in found and self.library.is_own(definition.file):
+            if definition not in found and self.library.is_in_repository(definition.file):
                 found[definition] = None
                 named += self.named_by(definition)
         return found
 
     def follow(self, definition, part):
         """Adds a definition to a part, and then the definitions that it names, in that order."""
-        is_own = self.library.is_own(definition.file)
+        is_own = self.library.is_in_repository(definition.file)
         if definition not in self.parts:
             self.parts[definition] = part if is_own else KIT
             if not is_own:
@@ -161,7 +161,7 @@ class Trusted:
         return (item for crate in self.library.crates for source in self.library.crate_sources(crate)
                 for item in source.items if item.what == what)
 
-    def found(self, text, imports, definitions=()):
+    def named_definitions(self, text, imports, definitions=()):
         """Returns the imported definitions, and those in `definitions`, that a text names, in the order of the text."""
         found = []
         for name, module, source, definition in self.library.named_in(text, imports, dict(definitions)):
@@ -204,15 +204,15 @@ class Trusted:
             module = sources.read_module(definition.file)
             others = [(name, value) for name, value in module.definitions.items() if value is not definition]
             text, signature = definition.text, signature_of(definition)
-            return self.found(text[len(signature):] + "\n" + signature, module.imports, others)
-        if not self.library.is_own(definition.file):
+            return self.named_definitions(text[len(signature):] + "\n" + signature, module.imports, others)
+        if not self.library.is_in_repository(definition.file):
             return []
-        return self.found(re.sub(r"//.*", "", definition.text), sources.read_source(definition.file).imports)
+        return self.named_definitions(re.sub(r"//.*", "", definition.text), sources.read_source(definition.file).imports)
 
 
 def is_word_of_kit(definition, library):
     """Returns true for a definition of the kit that is not a data type. The constructors of a data type have their own names."""
-    return isinstance(definition, Definition) and definition.kind == "word" and not library.is_own(definition.file)
+    return isinstance(definition, Definition) and definition.kind == "word" and not library.is_in_repository(definition.file)
 
 
 def signature_of(definition):
@@ -337,7 +337,7 @@ class Writer:
 
     def linked(self, file):
         """Returns a Markdown link to a file. Its target is printed after the parts."""
-        shown = self.library.shown(file)
+        shown = self.library.relative_path(file)
         name = re.sub(r"^crates/|specs/(?=[^/]+$)|\.antt$", "", shown)
         self.links[name] = f"[{name}]: ../{shown}"
         return f"[{name}]"
@@ -358,7 +358,7 @@ class Writer:
         yield ("### The kit's definitions\n\nThe definitions above use these definitions of the kit. They are printed here file by "
                "file, in the order of their first use. The paths are relative to `rattle/` in the kit.")
         for file in dict.fromkeys(definition.file for definition in definitions):
-            yield f"`{self.library.shown(file)}`:"
+            yield f"`{self.library.relative_path(file)}`:"
             of_file = [definition for definition in definitions if definition.file == file]
             yield block_of("antt" if file.endswith(".antt") else "rust", of_file, text_of_kit)
         renamed = ", ".join(f"`{name}` is `{own}`" for name, own in sorted(self.trusted.renamed_first.items()))
@@ -394,7 +394,7 @@ class Writer:
                                lines_of([*clauses, *map(text_of, definitions), *map(text_of_kit, in_full)]))
         pieces = [self.by_hand(number, self.counts[number])]
         if part is KIT:
-            return "\n\n".join([*pieces, self.by_name(definitions, self.library.shown), self.built_in()])
+            return "\n\n".join([*pieces, self.by_name(definitions, self.library.relative_path), self.built_in()])
         pieces += [f"`{function.path}` in {self.linked(function.file)}:\n\n```rust\n{text}\n```"
                    for function, text in self.clauses_of(part)]
         pieces += self.in_order(shown)

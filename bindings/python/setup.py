@@ -30,8 +30,8 @@ INSTALLER = [
     "c/shared/error_words.c",
     "c/shared/handles.c",
     "c/shared/permissions.c",
-    "c/shared/stages.c",
     "c/shared/streams.c",
+    "c/shared/temporary_files.c",
 ]
 INCLUDE_DIRECTORIES = ["include", "c", "c/library", "c/library/portable"]
 # The kinds of machines, with the macros that a C compiler for them defines.

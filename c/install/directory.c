@@ -8,8 +8,8 @@
 
 #include "shared/handles.h"
 #include "shared/permissions.h"
-#include "shared/stages.h"
 #include "shared/streams.h"
+#include "shared/temporary_files.h"
 
 /* The mode of new files. The lock file keeps it, because whoever can open the lock file can hold the lock for ever. */
 #define OWNER_ONLY_MODE 0600

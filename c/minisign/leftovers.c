@@ -3,7 +3,7 @@
 #include "leftovers.h"
 
 #include "shared/handles.h"
-#include "shared/stages.h"
+#include "shared/temporary_files.h"
 
 /* The maximum number of directories that are remembered as cleaned. After that, the oldest are forgotten. */
 #define MAX_DIRECTORIES 32

@@ -10,8 +10,8 @@
 #include "files.h"
 #include "leftovers.h"
 #include "shared/permissions.h"
-#include "shared/stages.h"
 #include "shared/streams.h"
+#include "shared/temporary_files.h"
 
 /* The maximum number of tries to create a temporary file, if other runs delete it before it is locked. */
 #define MAX_TRIES 100

@@ -15,7 +15,7 @@
 #include "minisign/leftovers.h"
 #include "native.h"
 #include "shared/handles.h"
-#include "shared/stages.h"
+#include "shared/temporary_files.h"
 
 #define STAGE_PREFIX_CHARACTERS (sizeof STAGE_PREFIX - 1)
 

@@ -55,8 +55,8 @@ PACKAGE = os.path.join(TOP, "bindings", "javascript")
 PROGRAMS = [
     os.path.join(HERE, "javascript", f"{name}.mjs")
     for name in (
-        "verifying", "signing", "streams", "writable", "saving", "without_globals", "options", "long_data", "files", "heap", "bundled",
-        "bundled_signing", "lists",
+        "verifying", "signing", "streams", "writable", "saving", "without_globals", "options", "long_data", "files",
+        "heap", "bundled", "bundled_signing", "lists",
     )
 ]
 MODULE, SIGNING_MODULE = "module.js", "signing_module.js"

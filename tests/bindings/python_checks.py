@@ -188,7 +188,7 @@ def keys(scratch: str) -> None:
     many = b"EdScB2" + bytes(32) + struct.pack("<QQ", 2**40, 2**24) + bytes(104)
     costly = write(scratch, "costly.key", key.to_bytes(None).split(b"\n")[0] + b"\n" + base64.b64encode(many) + b"\n")
     rejects(minisign.WorkTooHigh, lambda: SecretKey.from_file(costly, "x"), "a key that takes too much work")
-    link, away = os.path.join(scratch, "link.key"), os.path.join(scratch, "away")
+    link, outside = os.path.join(scratch, "link.key"), os.path.join(scratch, "away")
     os.symlink("ours.key", link)
     minisign.change_password(link, None, None)
     check(os.path.islink(link), "change_password replaced a symbolic link")
@@ -197,8 +197,8 @@ def keys(scratch: str) -> None:
         key.public_key,
         "the public key after change_password through a symbolic link",
     )
-    os.mkdir(away)
-    write(away, "app.key", key.to_bytes(None))
+    os.mkdir(outside)
+    write(outside, "app.key", key.to_bytes(None))
     real_open = os.open
 
     def open_existing(path: str, flags: int, *rest: int, **more: int) -> int:
@@ -210,11 +210,11 @@ def keys(scratch: str) -> None:
         with mock.patch.object(os, name, replacement):
             rejects(
                 PermissionError,
-                lambda: minisign.change_password(os.path.join(away, "app.key"), None, None),
+                lambda: minisign.change_password(os.path.join(outside, "app.key"), None, None),
                 f"change_password while {name} fails",
             )
         same(
-            os.listdir(away),
+            os.listdir(outside),
             ["app.key"],
             f"the files in a directory after change_password failed because {name} failed",
         )

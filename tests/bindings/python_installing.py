@@ -30,8 +30,8 @@ from installer_program import cases_of
 from running import expect, run_cases
 from runs import InstallerRunner
 
-FAILED, MISUSED, REJECTED, OLDER, IN_USE, NOT_ON_DISK, UNRECORDED, SAME, EXPIRED, THERE = range(1, 11)
-OFFERS = {minisign.Offer.NEWER: 0, minisign.Offer.THERE: THERE, minisign.Offer.OLDER: OLDER}
+FAILED, MISUSED, REJECTED, OLDER, IN_USE, NOT_ON_DISK, UNRECORDED, SAME_VERSION, EXPIRED, ALREADY_INSTALLED = range(1, 11)
+OFFERS = {minisign.Offer.NEWER: 0, minisign.Offer.THERE: ALREADY_INSTALLED, minisign.Offer.OLDER: OLDER}
 OPTIONS = [
     "first", "again", "check", "must-expire", "new-key", "roll-back", "key=", "name=", "list=", "blake2b",
     "numbering=", "mode=", "max-size=", "most=", "wait=",
@@ -41,7 +41,7 @@ UNITS = {"K": 10, "M": 20}
 # The exit statuses of `minisign-install` for errors. For all other errors the status is that of a rejected update.
 STATUSES = {
     minisign.OlderUpdate: OLDER, minisign.Expired: EXPIRED, minisign.TargetInUse: IN_USE, minisign.DirectoryNotSynced: NOT_ON_DISK,
-    minisign.SameNumber: SAME,
+    minisign.SameNumber: SAME_VERSION,
     **dict.fromkeys((minisign.NoRecord, minisign.DamagedRecord, minisign.KeptByTimestamp, minisign.KeptByVersion), UNRECORDED),
     **dict.fromkeys((minisign.OutOfMemory, minisign.ReadingFailed, minisign.WritingFailed, minisign.RandomSourceFailed), FAILED),
 }
@@ -142,7 +142,7 @@ def rejection(data, signature, place, name, list_path, numbering, error):
         file = data
     elif STATUSES.get(type(error)) == UNRECORDED:
         file = os.path.join(os.path.dirname(place) or ".", f".{os.path.basename(place)}.number")
-    elif STATUSES.get(type(error)) in (FAILED, IN_USE, NOT_ON_DISK, SAME):
+    elif STATUSES.get(type(error)) in (FAILED, IN_USE, NOT_ON_DISK, SAME_VERSION):
         file = place
     hint = NO_NUMBER[numbering] if isinstance(error, minisign.NoNumber) else HINTS.get(type(error))
     if list_path is not None and hint == DOWNLOAD_AGAIN:
@@ -217,7 +217,7 @@ def install(words):
         else:
             report(failure(why, place))
         return FAILED
-    return 0 if is_new else THERE
+    return 0 if is_new else ALREADY_INSTALLED
 
 
 # ---- Runs of the program ----

@@ -189,7 +189,8 @@ def check_archives(checks, sys_crate):
 
 
 def check_inside(checks, cargo, crate, scratch):
-    """Runs struct_layout.rs within the crate: the structs have the layout of the C structs of the header, and secret keys are cleared."""
+    """Runs struct_layout.rs within the crate: the structs have the layout of the C structs of the header, and secret
+    keys are cleared."""
     sys_crate = f"{os.path.dirname(crate)}/minisign-proved-sys-{shared_cases.VERSION}"
     source, inside, lines = read(sys_crate, GENERATED_SYS), read(HERE, "rust", "struct_layout.rs").decode(), []
     for place, expected in shared_cases.struct_layout(scratch).items():

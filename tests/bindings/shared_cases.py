@@ -755,7 +755,7 @@ def check_mutants(checks, package, source_directory, package_mutants, directory,
 # ---- The errors and structs of the header ----
 
 
-HEADERS = c_header.every()
+HEADERS = c_header.all_headers()
 VERSION = dict(HEADERS.texts)["VERSION_TEXT"].strip('"')
 # The numbers of the errors by name, without `MINISIGN_`.
 ERRORS = {error.name: error.number for error in HEADERS.errors}

@@ -88,7 +88,7 @@ class Checksums:
         installation was due."""
         functions, returned = functions_of(header), {}
         declared, errors, _ = error_lists.all_of_headers()
-        numbers = {error.name: int(error.number) for error in c_header.every().errors}
+        numbers = {error.name: int(error.number) for error in c_header.all_headers().errors}
         for name, result in re.findall(r"(?m)^(\w+) (\d+) \d+$", output):
             returned.setdefault(name, set()).add(int(result))
         program = PROGRAMS[header][0]

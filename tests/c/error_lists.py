@@ -164,7 +164,7 @@ def reached_errors(library, text, imports, definitions, seen):
             errors.add(name_in_c(variant) if variant else WEAK[1])
         elif (
             isinstance(definition, sources.Definition)
-            and library.is_own(definition.file)
+            and library.is_in_repository(definition.file)
             and definition not in seen
             and definition.kind == "word"
         ):
@@ -236,7 +236,10 @@ def check_lists(checks, calls, errors):
                 checks.check(row[0].startswith("minisign_") or errors_in_row(row, by_contract) <= whole(call),
                              f"{call}: superfluous row {row[0]} in NEVER_RETURNED or NAMED_APART")
     every = set().union(*map(returned_errors, calls))
-    checks.check(errors <= every, f"no call returns {', '.join(sorted(errors - every))}: list it in UNANSWERED of tools/header.py")
+    checks.check(
+        errors <= every,
+        f"no call returns {', '.join(sorted(errors - every))}: list it in NOT_RETURNED of tools/header.py",
+    )
     checks.check(every <= errors, f"the headers do not declare {', '.join(sorted(every - errors))}: run tools/header.py")
 
 
@@ -328,7 +331,7 @@ def check_since(checks, calls, errors, version):
 
 def all_of_headers():
     """Returns the calls of all headers by name, the names of the errors, and the version."""
-    headers = c_header.every()
+    headers = c_header.all_headers()
     numbers = dict(headers.numbers)
     version = f"{numbers['VERSION_MAJOR']}.{numbers['VERSION_MINOR']}"
     return {call.name: call for call in headers.calls}, {error.name for error in headers.errors}, version

@@ -200,7 +200,7 @@ def check_roles(checks, calls, structs):
 
 
 def run_all(checks, scratch):
-    header = c_header.every()
+    header = c_header.all_headers()
     calls = [call for call in header.calls if call.parameters]
     check_roles(checks, calls, header.secrets)
     check_mistakes(checks, scratch, calls)

@@ -205,24 +205,24 @@ class Folding:
         return result, {name: read(directory, name) for name in os.listdir(directory)}
 
 
-def check_pair(check, folding, public, secret, other):
+def check_pair(check, folding, public, secret, other_inode):
     """Checks runs with two names of the same file. All names of the file have the same inode number, except the
     name `other`."""
     ran_alone, texts = folding.run(["-G", "-W", "-p", "p", "-s", "s"], {})
     check(ran_alone.status == 0 and sorted(texts) == ["p", "s"], f"two other names: {ran_alone}")
-    names = f"{public} and {secret}{' with another inode number' if other else ''}"
+    names = f"{public} and {secret}{' with another inode number' if other_inode else ''}"
 
     def rejects(status, output, arguments, files):
-        result, left = folding.run(arguments, files, other)
+        result, remaining = folding.run(arguments, files, other_inode)
         check(
-            result.status == status and output.encode() in result.stderr and left == files,
-            f"{names}: {' '.join(arguments)} over {[*files]}: {result}, leaves {[*left]}",
+            result.status == status and output.encode() in result.stderr and remaining == files,
+            f"{names}: {' '.join(arguments)} over {[*files]}: {result}, leaves {[*remaining]}",
         )
 
     generating, recreating = ["-p", public, "-s", secret, "-G", "-W"], ["-p", public, "-s", secret, "-R"]
     # A new file gets the inode number of the name with which it was created. If that name is `other`, the two names
     # look like different files, so this error cannot be expected.
-    for force in ([], ["-f"]) if other != public else ():
+    for force in ([], ["-f"]) if other_inode != public else ():
         rejects(
             2,
             f"error: {secret}: on this file system, this is the same file as the other key file\n",
@@ -236,11 +236,11 @@ def check_pair(check, folding, public, secret, other):
     rejects(1, f"{public} already exists", recreating, existing)
     for arguments in ([*recreating, "-f"], ["-S", "-s", secret, "-m", "data", "-x", public]):
         rejects(2, f"error: {public}: this is the secret key, which would be overwritten\n", arguments, existing)
-    result, left = folding.run(["-C", "-W", "-s", public], existing, other)
-    check(result.status == 0 and sorted(left) == sorted(existing), f"{names}: -C: {result}, leaves {[*left]}")
-    result, left = folding.run(["-R", "-p", "k.pub", "-s", secret], left, other)
+    result, remaining = folding.run(["-C", "-W", "-s", public], existing, other_inode)
+    check(result.status == 0 and sorted(remaining) == sorted(existing), f"{names}: -C: {result}, leaves {[*remaining]}")
+    result, remaining = folding.run(["-R", "-p", "k.pub", "-s", secret], remaining, other_inode)
     check(
-        result.status == 0 and left["k.pub"].splitlines()[1] == texts["p"].splitlines()[1],
+        result.status == 0 and remaining["k.pub"].splitlines()[1] == texts["p"].splitlines()[1],
         f"{names}: the key after -C: {result}",
     )
 
@@ -249,33 +249,36 @@ def check_folded(check, folding):
     """Checks that a pair of equivalent names is an error and that no file is lost, and that other pairs may replace
     files of the same length."""
     for public, secret in SAME_NAMES:
-        for other in (None, secret, public):
-            check_pair(check, folding, public, secret, other)
+        for other_inode in (None, secret, public):
+            check_pair(check, folding, public, secret, other_inode)
     _, texts = folding.run(["-G", "-W", "-p", "p", "-s", "s"], {})
     files = {"k.pub": texts["p"], "k.key": texts["p"][::-1]}
-    for other in (None, "k.key"):
-        result, left = folding.run(["-G", "-W", "-f", "-p", "k.pub", "-s", "k.key"], files, other)
+    for other_inode in (None, "k.key"):
+        result, remaining = folding.run(["-G", "-W", "-f", "-p", "k.pub", "-s", "k.key"], files, other_inode)
         check(
-            result.status == 0 and sorted(left) == sorted(files) and left["k.key"] != files["k.key"],
+            result.status == 0 and sorted(remaining) == sorted(files) and remaining["k.key"] != files["k.key"],
             f"two names over other files: {result}",
         )
     # Two files with the same content, written at different times.
-    result, left = folding.run(
+    result, remaining = folding.run(
         ["-G", "-W", "-f", "-p", "k.pub", "-s", "k.key"], {"k.pub": texts["p"], "k.key": texts["p"]}, old=["k.pub"]
     )
-    check(result.status == 0 and left["k.key"] != texts["p"], f"two names over copies of one file: {result}")
-    result, left = folding.run(
+    check(result.status == 0 and remaining["k.key"] != texts["p"], f"two names over copies of one file: {result}")
+    result, remaining = folding.run(
         ["-R", "-f", "-p", "k.pub", "-s", "k.key"], {"k.key": texts["s"], "k.pub": texts["s"]}, old=["k.pub"]
     )
     check(
-        result.status == 0 and left["k.pub"].splitlines()[1] == texts["p"].splitlines()[1],
+        result.status == 0 and remaining["k.pub"].splitlines()[1] == texts["p"].splitlines()[1],
         f"-R over a copy of the secret key: {result}",
     )
     # Another file that is as long as the secret key.
-    result, left = folding.run(
+    result, remaining = folding.run(
         ["-R", "-f", "-p", "k.pub", "-s", "k.key"], {"k.key": texts["s"], "k.pub": texts["s"][::-1]}, "k.pub"
     )
-    check(result.status == 0 and left["k.pub"].splitlines()[1] == texts["p"].splitlines()[1], f"-R over another file: {result}")
+    check(
+        result.status == 0 and remaining["k.pub"].splitlines()[1] == texts["p"].splitlines()[1],
+        f"-R over another file: {result}",
+    )
 
 
 def build_folding_library(checks, scratch):

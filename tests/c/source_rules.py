@@ -47,7 +47,7 @@ INCLUDES = {"minisign": ("shared/", "library/clearing.h"), "install": ("shared/"
 # For each file, the Linux-specific names that only this file may use. The last name for handles.c is the format of
 # paths in /proc.
 LINUX_ONLY = {"handles.c": ("O_PATH", "fstatfs", "ST_NOSYMFOLLOW", '"/proc/self/fd/%d"'), "permissions.c": ("xattr",),
-            "stages.c": ("O_TMPFILE", "renameat2", "RENAME_NOREPLACE", "sync_file_range", "getrandom")}
+            "temporary_files.c": ("O_TMPFILE", "renameat2", "RENAME_NOREPLACE", "sync_file_range", "getrandom")}
 # The directories with tests that contain messages of the programs. (command_line/command_cases.py compares the
 # messages that Minisign has too.)
 TEST_DIRECTORIES = ("command_line", "installer", "check", "c", "verdicts", "shared", "bindings")

@@ -149,7 +149,7 @@ class Console:
         os.close(program_end)
 
     @property
-    def shown(self):
+    def screen_text(self):
         """The text that the console has shown so far, without escape sequences."""
         return ESCAPES.sub(lambda found: b" " if found[0].endswith(b"C") else b"", self.raw)
 
@@ -157,7 +157,7 @@ class Console:
         """Reads until the pattern is shown, or with None until the program ends. Returns false if the program ends
         first, or if the time limit is reached."""
         end = time.monotonic() + seconds
-        while time.monotonic() < end and not (pattern and re.search(pattern, self.shown)):
+        while time.monotonic() < end and not (pattern and re.search(pattern, self.screen_text)):
             if select.select([self.user_end], [], [], 0.05)[0]:
                 try:
                     self.raw += os.read(self.user_end, 1 << 16)
@@ -165,7 +165,7 @@ class Console:
                     break
             elif self.process.poll() is not None:
                 break
-        return bool(pattern and re.search(pattern, self.shown))
+        return bool(pattern and re.search(pattern, self.screen_text))
 
     def type(self, line):
         """Types bytes at the console."""
@@ -267,14 +267,14 @@ class Cases:
         for program in (self.theirs, self.ours):
             self.ended(self.run_on_linux(program, "-S", "-s", "a.key", "-m", "data", "-x", "other.minisig"), f"{program} -S")
             self.verified(f"a signature of {program}", "a.pub", "data", "-x", "other.minisig")
-        for flags, output, said in (
+        for flags, output, message in (
             (["-q"], b"", b""),
             (["-Q"], "a comment \u00e9\n".encode(), b""),
             (["-o", "-q"], self.get("data"), b""),
             (["-o"], self.get("data"), GOOD + "Trusted comment: a comment \u00e9\n".encode()),
         ):
             ran = self.run_exe("-V", "-p", "a.pub", "-m", "data", *flags)
-            self.checks.same((ran.status, ran.stdout, ran.stderr), (0, output, said), f"-V {flags}")
+            self.checks.same((ran.status, ran.stdout, ran.stderr), (0, output, message), f"-V {flags}")
         key = self.get("a.pub").split(b"\n")[1].decode()
         self.ended(self.run_exe("-V", "-P", key, "-m", "data"), "-P")
         self.put("data", self.get("data") + b"x")
@@ -568,12 +568,12 @@ class Cases:
     def removes_leftovers(self):
         """A temporary file of a killed run is removed unless a program has it open. A file whose name is not that of a
         temporary file is kept."""
-        stale, held, other = ".minisign-0123456789abcdef", ".minisign-00000000000000ff", ".minisign-0123456789abcdeX"
-        for name in (stale, held, other):
+        stale, locked, other = ".minisign-0123456789abcdef", ".minisign-00000000000000ff", ".minisign-0123456789abcdeX"
+        for name in (stale, locked, other):
             self.put(name, b"stale")
-        with self.holding(held, 20000):
+        with self.holding(locked, 20000):
             self.ended(self.run_exe("-S", "-s", "a.key", "-m", "data"), "-S")
-            self.checks.same(sorted(self.leftovers()), sorted([held, other]), "temporary files while one is open")
+            self.checks.same(sorted(self.leftovers()), sorted([locked, other]), "temporary files while one is open")
         self.ended(self.run_exe("-S", "-s", "a.key", "-m", "data"), "-S again")
         self.checks.same(self.leftovers(), [other], "temporary files after the next run")
 
@@ -595,12 +595,12 @@ class Cases:
         """A password is read as UTF-16 and used as UTF-8, and the console does not show it."""
         console = self.console("-G", "-p", "t.pub", "-s", "t.key", "-k", "16")
         for prompt in (rb"Password: ", rb"Password \(one more time\): "):
-            self.checks.check(console.wait_for(prompt), f"the console shows {console.shown[-300:]}, expected {prompt}")
+            self.checks.check(console.wait_for(prompt), f"the console shows {console.screen_text[-300:]}, expected {prompt}")
             time.sleep(0.3)
             console.type("gehe\u00efm\u65e5\r".encode())
         status = console.finish()
-        self.checks.check(status == 0 and self.existing("t.key"), f"-G at a console: status {status}, {console.shown[-400:]}")
-        self.checks.check(b"gehe" not in console.shown, f"the console shows the password: {console.shown}")
+        self.checks.check(status == 0 and self.existing("t.key"), f"-G at a console: status {status}, {console.screen_text[-400:]}")
+        self.checks.check(b"gehe" not in console.screen_text, f"the console shows the password: {console.screen_text}")
         ran = self.run_theirs("-S", "-s", "t.key", "-m", "data", typed="gehe\u00efm\u65e5\n".encode())
         self.ended(ran, "Minisign decrypts a key with the password in UTF-8")
 
@@ -610,18 +610,20 @@ class Cases:
             # No password decrypts a key that is encrypted with None. Ctrl-C ends the program before it would notice.
             self.put("slow.key", text_of(seal_record(record_of(self.get("a.key")), None, Limits(1 << 30, 1 << 25))))
             console = self.console("-S", "-s", "slow.key", "-k", "256", "-m", "data")
-            self.checks.check(console.wait_for(rb"Password: "), f"{when}: the console shows {console.shown[-300:]}")
+            self.checks.check(console.wait_for(rb"Password: "), f"{when}: the console shows {console.screen_text[-300:]}")
             time.sleep(0.3)
             if typed:
                 console.type(typed)
-                self.checks.check(console.wait_for(rb"Deriving"), f"{when}: the console shows {console.shown[-300:]}")
+                self.checks.check(console.wait_for(rb"Deriving"), f"{when}: the console shows {console.screen_text[-300:]}")
                 time.sleep(0.3)
             console.type(b"\x03")
             status = console.finish(20)
-            self.checks.check(status not in (0, None), f"Ctrl-C {when}: status {status}, {console.shown[-300:]}")
-            self.checks.check(b"done" not in console.shown, f"Ctrl-C {when}: the key was derived: {console.shown[-300:]}")
+            self.checks.check(status not in (0, None), f"Ctrl-C {when}: status {status}, {console.screen_text[-300:]}")
+            self.checks.check(
+                b"done" not in console.screen_text, f"Ctrl-C {when}: the key was derived: {console.screen_text[-300:]}"
+            )
         console = self.console("-G", "-p", "new.pub", "-s", "new.key")
-        self.checks.check(console.wait_for(rb"Password: "), f"-G shows {console.shown[-300:]}")
+        self.checks.check(console.wait_for(rb"Password: "), f"-G shows {console.screen_text[-300:]}")
         console.type(b"\x03")
         self.checks.check(console.finish(20) not in (0, None), "Ctrl-C does not end -G")
         self.checks.check(self.get("data.minisig") == b"old" and not self.existing("new.pub", "new.key") and not self.leftovers(),

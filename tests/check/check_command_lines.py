@@ -8,10 +8,10 @@ from running import expect, read, write
 
 USAGE = b"usage: minisign-check -p PUBKEY [OPTION ..] LIST [FILE ..]\n"
 KEY = ("-p", PUBLIC_FILE)
-ONCE, NEEDS_VALUE, UNKNOWN = "this option can be given only once", "this option needs a value", "unknown option"
+ONLY_ONCE, NEEDS_VALUE, UNKNOWN = "this option can be given only once", "this option needs a value", "unknown option"
 KEY_HINT = "use -p PUBKEY to name the public key file, or -P KEY to give the key itself"
 SIGNATURE_HINT = "use -x SIG to name the signature of the list"
-AGAIN = "download the list and its signature again"
+DOWNLOAD_HINT = "download the list and its signature again"
 
 
 def misuse(name, arguments, argument, why):
@@ -29,7 +29,7 @@ MISUSES = (
     misuse("a command line without a list", [*KEY], None, "missing argument, expected LIST"),
     misuse("both -p and -P", [*KEY, "-P", "key", LIST], "-P", "this option cannot be combined with -p"),
     *(
-        misuse(f"{option} twice", [*KEY, option, *value, LIST, "a", option, *value], option, ONCE)
+        misuse(f"{option} twice", [*KEY, option, *value, LIST, "a", option, *value], option, ONLY_ONCE)
         for option, *value in (
             ("-p", "k"),
             ("-x", "s"),
@@ -42,8 +42,8 @@ MISUSES = (
         )
         if option != "-p"
     ),
-    misuse("-p twice", [*KEY, LIST, *KEY], "-p", ONCE),
-    misuse("an attached -p twice", [f"-p{PUBLIC_FILE}", LIST, *KEY], "-p", ONCE),
+    misuse("-p twice", [*KEY, LIST, *KEY], "-p", ONLY_ONCE),
+    misuse("an attached -p twice", [f"-p{PUBLIC_FILE}", LIST, *KEY], "-p", ONLY_ONCE),
     *(misuse(f"{option} without a value", [LIST, option], option, NEEDS_VALUE) for option in ("-p", "-P", "-x", "--in")),
     *(misuse(f"the unknown option {option}", [*KEY, option, LIST], option, UNKNOWN)
       for option in ("--list", "--in=dir", "-h", "-q", "--help", "--version", "-ox", "--Listed", "-V")),
@@ -96,13 +96,13 @@ def accepts_file_after_end_of_options(checking):
 # ---- Keys, signatures and lists that are rejected ----
 
 
-def rejects_files(checking, change, arguments, status, said):
+def rejects_files(checking, change, arguments, status, message):
     """Calls `change` for a directory with a signed list. Checks that a run then prints this error and no result."""
     directory = checking.signed(entries(a=A), {"a": A})
     if change:
         change(checking, directory)
     ran = checking.run(directory, arguments)
-    expect(ran.status == status and ran.stderr == said and not ran.stdout, ran, f"expected status {status} and {said}")
+    expect(ran.status == status and ran.stderr == message and not ran.stdout, ran, f"expected status {status} and {message}")
 
 
 # Each of the following functions returns a function that changes a directory with a signed list.
@@ -182,20 +182,20 @@ FILES = (
     ("a directory as the list", None, [*KEY, "-x", SIG, ".", "a"], UNUSABLE, errors((".", "Is a directory"))),
     ("a missing directory", None, [*KEY, "--in", "none", LIST],
      UNUSABLE, shown_comment(comment_of()) + errors(("none", NO_SUCH_FILE))),
-    ("a changed list", with_byte(LIST, 0), PLAIN, REJECTED, errors((LIST, "Signature verification failed"), AGAIN)),
+    ("a changed list", with_byte(LIST, 0), PLAIN, REJECTED, errors((LIST, "Signature verification failed"), DOWNLOAD_HINT)),
     (
         "a list with a line added",
         replaced(LIST, entries(a=A, b=B)),
         PLAIN,
         REJECTED,
-        errors((LIST, "Signature verification failed"), AGAIN),
+        errors((LIST, "Signature verification failed"), DOWNLOAD_HINT),
     ),
     (
         "a changed trusted comment",
         changed_signature(2),
         PLAIN,
         REJECTED,
-        errors((SIG, "Comment signature verification failed"), AGAIN),
+        errors((SIG, "Comment signature verification failed"), DOWNLOAD_HINT),
     ),
     ("a list of another signer", resigned(secret=OTHER_SECRET_FILE), PLAIN, REJECTED,
      errors((SIG, OTHER_KEY), "use -p or -P to give the public key of the signer")),
@@ -229,7 +229,7 @@ FILES = (
         errors((SIG, OTHER_LIST), ANY_LIST),
     ),
     ("a changed list with --any-list", with_byte(LIST, 0), [*PLAIN, "--any-list"], REJECTED,
-     errors((LIST, "Signature verification failed"), AGAIN)),
+     errors((LIST, "Signature verification failed"), DOWNLOAD_HINT)),
     (
         "an unnamed list signed with another key with --any-list",
         resigned(secret=OTHER_SECRET_FILE, comment="x"),

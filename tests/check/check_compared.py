@@ -18,7 +18,7 @@ from collections import Counter
 import needs
 from check_running import A, DIFFERS, LIST, MISSING, OK, PUBLIC_FILE, REJECTED, UNLISTED_NAME, UNUSABLE, entry
 from running import SECONDS, Link, expect
-from signed_lists import (DATA, ESCAPED, H, NAMES, OTHER, OTHER_TOOLS, TAKEN_BY_COREUTILS, TOOLS, expected, fault_of,
+from signed_lists import (DATA, ESCAPED, DIGEST, NAMES, OTHER_DIGEST, OTHER_TOOLS, TAKEN_BY_COREUTILS, TOOLS, expected, fault_of,
                           list_by, random_list, without_dot)
 
 KEY = ("-p", PUBLIC_FILE)
@@ -26,7 +26,7 @@ LISTS, SIGNIFY_LISTS = 2000, 300
 UTF8 = {"LC_ALL": "C.UTF-8"}
 
 
-def shown(results):
+def result_lines(results):
     """Returns the expected output for these pairs of a name and an exit status."""
     return b"".join(name + b": " + (b"OK" if status == OK else b"FAILED") + b"\n" for name, status in results)
 
@@ -43,11 +43,11 @@ def accepts_list_of(checking, tool, long_hash):
     checking.sign(directory)
     flags = ["--blake2b"] if long_hash == "blake2b" else []
     names = [name.encode() for name in files]
-    checking.expect(directory, [*KEY, *flags, LIST], OK, shown((name, OK) for name in names), b"")
-    checking.expect(directory, [*KEY, *flags, "--", LIST, *names], OK, shown((name, OK) for name in names), b"")
+    checking.expect(directory, [*KEY, *flags, LIST], OK, result_lines((name, OK) for name in names), b"")
+    checking.expect(directory, [*KEY, *flags, "--", LIST, *names], OK, result_lines((name, OK) for name in names), b"")
     checking.put(directory, {name: data + b"!" for name, data in files.items()})
     ran = checking.run(directory, [*KEY, *flags, LIST])
-    expect((ran.status, ran.stdout) == (DIFFERS, shown((name, DIFFERS) for name in names)), ran)
+    expect((ran.status, ran.stdout) == (DIFFERS, result_lines((name, DIFFERS) for name in names)), ran)
 
 
 def handles_escapes_of(checking, tool, long_hash):
@@ -139,7 +139,7 @@ def result_of_all(directory, text, long_hash, listed_only):
                   else result_of_file(directory, name, function, digest))
         if not (listed_only and result == MISSING):
             results.append((name, result))
-    return combined_status([result for _, result in results] if results else [MISSING]), shown(results)
+    return combined_status([result for _, result in results] if results else [MISSING]), result_lines(results)
 
 
 def combined_status(statuses):
@@ -167,7 +167,7 @@ def result_of_names(directory, text, long_hash, names):
     # The results are printed in the order of the lines. Names without an entry come last; a name that is listed twice
     # has the place of its second line.
     results.sort(key=lambda result: result[0])
-    return combined_status([result for _, _, result in results]), shown((name, result) for _, name, result in results)
+    return combined_status([result for _, _, result in results]), result_lines((name, result) for _, name, result in results)
 
 
 def escaped(output):
@@ -249,7 +249,9 @@ def compare_signify(checking, signify, keys, scratch, seed):
     signify accepts the list. Fails if they differ for an unknown reason."""
     rng, lines = random.Random(seed), []
     for _ in range(rng.choice([1, 1, 2, 2, 3])):
-        name, digits = rng.choice([b"a", b"a", b"a", b"b", b"a b"]), rng.choice([H, H, H, OTHER, H.upper(), H[:-1]])
+        name, digits = rng.choice([b"a", b"a", b"a", b"b", b"a b"]), rng.choice(
+            [DIGEST, DIGEST, DIGEST, OTHER_DIGEST, DIGEST.upper(), DIGEST[:-1]]
+        )
         line = b"SHA256 (" + name + b") = " + digits
         lines.append(line if rng.random() < 0.93 else rng.choice([b"# a", b"x", digits + b"  " + name]))
     with tempfile.TemporaryDirectory(dir=scratch) as directory:
@@ -292,14 +294,14 @@ def agrees_with_signify(checking):
 def differs_as_documented(checking):
     """Checks the rows of the table in docs/LISTS.md on `sha256sum -c` and `signify -C`."""
     signify = needs.program("signify-openbsd", "signify-openbsd")
-    good, bad = b"SHA256 (a) = " + H + b"\n", b"SHA256 (a) = " + OTHER + b"\n"
+    good, bad = b"SHA256 (a) = " + DIGEST + b"\n", b"SHA256 (a) = " + OTHER_DIGEST + b"\n"
     # The difference; the list; the names in the arguments; whether sha256sum accepts the list, and whether signify does (None: not
     # tried); and our status.
     rows = (("a malformed line", b"hello\n" + entry("a", DATA), [], True, None, REJECTED),
             ("two lines for a name", bad + good, ["a"], False, True, UNLISTED_NAME),
-            ("the name ../a", b"SHA256 (../a) = " + H + b"\n", [], True, True, REJECTED),
+            ("the name ../a", b"SHA256 (../a) = " + DIGEST + b"\n", [], True, True, REJECTED),
             ("no entry", b"", [], False, True, REJECTED),
-            ("a name with -", b"SHA256 (-) = " + H + b"\n", [], False, True, OK))
+            ("a name with -", b"SHA256 (-) = " + DIGEST + b"\n", [], False, True, OK))
     for name, text, names, by_coreutils, by_signify, ours in rows:
         directory = checking.signed(text, {"a": DATA, "d/a": DATA, "d/-": DATA})
         subprocess.run([signify, "-G", "-n", "-p", "k.pub", "-s", "k.sec"], cwd=directory, check=True, stdout=subprocess.DEVNULL)

@@ -16,7 +16,7 @@ from check_running import (A, B, C, DIFFERS, DOWNLOAD, LIST, MISMATCH, MISSING, 
 from running import AS_NOBODY, NOBODY, SECONDS, Link, expect, read, require_root, write
 
 KEY, FILES = ("-p", PUBLIC_FILE), {"a": A, "b": B}
-BOTH = entries(a=A, b=B)
+LIST_OF_BOTH = entries(a=A, b=B)
 ALL, COPY = [*KEY, LIST], [*KEY, "-o", LIST, "a"]
 COMMENT = shown_comment(comment_of())
 # The length of data that is read in many pieces, of which the last one is not full.
@@ -34,7 +34,7 @@ def fails_in_turn(checking, arguments, calls, number, output, minimum):
     complete = set()
 
     def prepare(directory):
-        checking.put(directory, {LIST: BOTH, PUBLIC_FILE: checking.public_text, **FILES})
+        checking.put(directory, {LIST: LIST_OF_BOTH, PUBLIC_FILE: checking.public_text, **FILES})
         checking.sign(directory)
         return arguments
 
@@ -57,14 +57,14 @@ def reads_in_small_pieces(checking):
     """A read that returns few bytes, or is interrupted, changes nothing."""
     for how in ({"SHORT": 1, "REST": 1}, {"ERRNO": errno.EINTR}):
         for arguments, output in ((ALL, b"a: OK\nb: OK\n"), (COPY, A)):
-            directory = checking.signed(BOTH, FILES)
+            directory = checking.signed(LIST_OF_BOTH, FILES)
             ran = checking.run_broken(directory, arguments, {"AT": 1, "CALLS": "read", **how})
             expect(ran.reached and (ran.status, ran.stdout) == (OK, output), how, ran)
 
 
 def reports_failing_read(checking):
     """If a file cannot be read, it is not compared, and the other files are."""
-    directory = checking.signed(BOTH, FILES)
+    directory = checking.signed(LIST_OF_BOTH, FILES)
     calls = []
     for number in range(1, 20):
         ran = checking.run_broken(directory, ALL, {"AT": number, "CALLS": "read", "ERRNO": errno.EIO})
@@ -76,7 +76,7 @@ def reports_failing_read(checking):
 
 
 def works_without_threads(checking):
-    directory = checking.signed(BOTH, FILES)
+    directory = checking.signed(LIST_OF_BOTH, FILES)
     ran = checking.run_broken(directory, ALL, {"AT": 1, "REST": 1, "CALLS": "pthread_create", "ERRNO": errno.EAGAIN})
     expect(ran.reached and (ran.status, ran.stdout) == (OK, b"a: OK\nb: OK\n"), ran)
     ran = checking.run_broken(directory, ALL, {"AT": 2, "REST": 1, "CALLS": "pthread_create", "ERRNO": errno.EAGAIN})
@@ -85,20 +85,20 @@ def works_without_threads(checking):
 
 def reports_failing_directory(checking):
     """A directory that cannot be read to its end is an error of --nothing-else."""
-    directory = checking.signed(BOTH, FILES)
+    directory = checking.signed(LIST_OF_BOTH, FILES)
     ran = checking.run_broken(directory, [*ALL, "--nothing-else"], {"AT": 3, "CALLS": "readdir", "ERRNO": errno.EIO})
     expect(ran.reached and ran.status == UNUSABLE and ran.stderr.endswith(errors((".", "Input/output error"))), ran)
 
 
 def reports_failing_libsodium(checking):
-    directory = checking.signed(BOTH, FILES)
+    directory = checking.signed(LIST_OF_BOTH, FILES)
     ran = checking.run_broken(directory, ALL, {"AT": 1, "CALLS": "sodium_init", "ERRNO": errno.EIO})
     expect((ran.status, ran.stdout, ran.stderr) == (UNUSABLE, b"", b"error: libsodium could not be initialized\n"), ran)
 
 
 def reports_memory_limit(checking):
     """A list that does not fit into memory is an error of that list."""
-    directory, bound = checking.signed(BOTH, FILES), (200 << 20,) * 2
+    directory, bound = checking.signed(LIST_OF_BOTH, FILES), (200 << 20,) * 2
     with open(f"{directory}/large", "wb") as file:
         file.truncate(1 << 30)
     ran = checking.run(
@@ -114,7 +114,7 @@ def reports_memory_limit(checking):
 
 def reports_full_output(checking, arguments):
     """A result that cannot be written is an error."""
-    directory = checking.signed(BOTH, FILES)
+    directory = checking.signed(LIST_OF_BOTH, FILES)
     with open("/dev/full", "wb") as full:
         ran = checking.run(directory, arguments, stdout=full)
     error_output = errors(("standard output", "No space left on device"))
@@ -123,7 +123,7 @@ def reports_full_output(checking, arguments):
 
 def keeps_status_of_full_output(checking):
     """An output that cannot be written does not hide that content differs."""
-    directory = checking.signed(BOTH, {"a": B, "b": B})
+    directory = checking.signed(LIST_OF_BOTH, {"a": B, "b": B})
     with open("/dev/full", "wb") as full:
         ran = checking.run(directory, ALL, stdout=full)
     expect(ran.status == DIFFERS, ran, f"expected status {DIFFERS}")
@@ -131,7 +131,7 @@ def keeps_status_of_full_output(checking):
 
 def works_with_closed_streams(checking):
     """A closed standard output is not replaced by a file that the program opens."""
-    directory = checking.signed(BOTH, FILES)
+    directory = checking.signed(LIST_OF_BOTH, FILES)
     for closed in (0, 1, 2):
         ran = checking.run(directory, ALL, preexec_fn=lambda closed=closed: os.close(closed))
         status, output = (UNUSABLE, b"") if closed == 1 else (OK, b"a: OK\nb: OK\n")
@@ -167,7 +167,7 @@ def reports_unreadable_files(checking):
 def reports_unreadable_directory(checking):
     """A directory that the user may not search through is an error of --nothing-else, or of --in."""
     require_root("make directories of other users")
-    directory = checking.signed(BOTH, {"d/a": A, "d/b": B})
+    directory = checking.signed(LIST_OF_BOTH, {"d/a": A, "d/b": B})
     os.chmod(f"{directory}/d", 0o711)
     ran = by_nobody(checking, directory, ["--in", "d", *ALL])
     expect((ran.status, ran.stdout, ran.stderr) == (OK, b"a: OK\nb: OK\n", COMMENT), ran)
@@ -182,7 +182,7 @@ def opens_no_pipe_of_others(checking):
     """In a directory that others can write to, a user puts a named pipe in place of a file. Nobody writes to it. The
     program does not wait, and does not open it."""
     require_root("make files of other users")
-    directory = checking.signed(BOTH, {"b": B, "a": PIPE})
+    directory = checking.signed(LIST_OF_BOTH, {"b": B, "a": PIPE})
     os.chmod(directory, 0o1777)
     os.chown(f"{directory}/a", NOBODY, NOBODY)
     os.chmod(f"{directory}/a", 0o666)
@@ -195,7 +195,7 @@ def opens_no_pipe_of_others(checking):
 def follows_links_of_others(checking):
     """A link of another user is followed to a file with the right content, as sha256sum follows it. The content decides."""
     require_root("make links of other users")
-    directory = checking.signed(BOTH, {"b": B, "other/a": A, "a": Link("other/a")})
+    directory = checking.signed(LIST_OF_BOTH, {"b": B, "other/a": A, "a": Link("other/a")})
     os.lchown(f"{directory}/a", NOBODY, NOBODY)
     checking.expect(directory, ALL, OK, b"a: OK\nb: OK\n", b"")
     write(directory, "other/a", B)
@@ -274,7 +274,7 @@ def writes_nothing_before_verdict(checking):
 
 def takes_little_memory(checking):
     """The memory that a run needs does not depend on the size of a file."""
-    directory = checking.signed(BOTH, FILES)
+    directory = checking.signed(LIST_OF_BOTH, FILES)
     with open(f"{directory}/a", "wb") as file:
         file.truncate(1 << 26)
     ran = checking.run(directory, ALL, preexec_fn=lambda: resource.setrlimit(resource.RLIMIT_DATA, (48 << 20,) * 2))
@@ -344,7 +344,7 @@ def shows_results_as_they_come(checking):
 
 def runs_at_once(checking):
     """Several runs on the same files do not disturb each other."""
-    directory = checking.signed(BOTH, FILES)
+    directory = checking.signed(LIST_OF_BOTH, FILES)
     with concurrent.futures.ThreadPoolExecutor(8) as pool:
         for ran in pool.map(lambda _: checking.run(directory, ALL), range(16)):
             expect((ran.status, ran.stdout) == (OK, b"a: OK\nb: OK\n"), ran)
@@ -352,13 +352,17 @@ def runs_at_once(checking):
 
 def fault_cases(checking):
     """Yields the names of the cases, with their functions and arguments."""
-    done = b"a: OK\nb: OK\n"
-    for arguments, output, mode in ((ALL, done, "all files"), ([*ALL, "b", "a"], done, "given files"), (COPY, A, "-o")):
+    both_accepted = b"a: OK\nb: OK\n"
+    for arguments, output, mode in (
+        (ALL, both_accepted, "all files"),
+        ([*ALL, "b", "a"], both_accepted, "given files"),
+        (COPY, A, "-o"),
+    ):
         for calls, number, minimum in (("open openat", errno.EMFILE, 4), ("read", errno.EIO, 5), ("fstat", errno.EIO, 4),
                                        ("memory", errno.ENOMEM, 8)):
             yield f"fails in turn: {calls}, {mode}", fails_in_turn, checking, arguments, calls, number, output, minimum
     yield "fails in turn: lseek, -o", fails_in_turn, checking, COPY, "lseek", errno.EIO, A, 1
-    yield "fails in turn: chdir, --in", fails_in_turn, checking, ["--in", ".", *ALL], "chdir", errno.EIO, done, 1
+    yield "fails in turn: chdir, --in", fails_in_turn, checking, ["--in", ".", *ALL], "chdir", errno.EIO, both_accepted, 1
     yield "accepts short and interrupted reads", reads_in_small_pieces, checking
     yield "reports a file that cannot be read, and checks the others", reports_failing_read, checking
     yield "works if threads cannot be created", works_without_threads, checking

@@ -14,7 +14,7 @@ from functools import partial
 import faults
 from command_running import DATA, OTHER_PUBLIC_KEY, PLAIN_KEY, PUBLIC_KEY, Programs, case, put_files
 from faults import TaskFaultRunner, run_concurrently
-from permissions import KEPT, permission_cases
+from permissions import REPLACEMENTS, permission_cases
 from running import Skip, expect, read
 from texts import record_of
 
@@ -69,15 +69,15 @@ def tasks(keys):
     """Returns the runs in which calls fail. None of them derives a key, which would take too long."""
     pair = {"a.pub": is_public, "a.key": is_secret}
     older = {"a.pub": keys[OTHER_PUBLIC_KEY], "a.key": keys["other.key"]}
-    own = {"a.key": keys[PLAIN_KEY]}
-    signs = {"data": b"some data\n", **own}
+    key_files = {"a.key": keys[PLAIN_KEY]}
+    signs = {"data": b"some data\n", **key_files}
     names, signing = ("-p", "a.pub", "-s", "a.key"), ("-Sm", "data", "-s", "a.key")
     several = ("one", "two", "three")
     return [
         Task("new key pair", ("-GW", *names), {}, pair),
         Task("replaced key pair", ("-GWf", *names), older, pair),
-        Task("changed key", ("-CW", "-s", "a.key"), own, {"a.key": is_secret}),
-        Task("recreated public key", ("-R", *names), own, {"a.pub": is_public}),
+        Task("changed key", ("-CW", "-s", "a.key"), key_files, {"a.key": is_secret}),
+        Task("recreated public key", ("-R", *names), key_files, {"a.pub": is_public}),
         Task("new signature", signing, signs, {"data.minisig": is_signature}),
         Task("replaced signature", signing, {**signs, "data.minisig": b"older"}, {"data.minisig": is_signature}),
         Task("three replaced signatures", ("-Sm", *several, "-s", "a.key"),
@@ -229,7 +229,7 @@ class Breaking(TaskFaultRunner, Programs):
         by_path = [replace(task, by_path=True) for task in every]
         # In this environment, files without a name (O_TMPFILE) cannot be created. UNNAMED=1 below does the same.
         without_unnamed = {"LD_PRELOAD": self.preload, "BREAK_UNNAMED": "1"}
-        for what, which, run, *given in (
+        for what, selected_tasks, run, *run_arguments in (
             ("complete after a kill", every, self.check_kills),
             ("complete after a kill, named by its path", by_path, self.check_kills),
             ("complete if a call fails", every, self.failing, errno.EIO),
@@ -277,8 +277,8 @@ class Breaking(TaskFaultRunner, Programs):
                 partial(self.check_concurrent_runs, environment=without_unnamed, times=4),
             ),
         ):
-            for task in which:
-                yield f"{task.name}: {what}", run, task, *given
+            for task in selected_tasks:
+                yield f"{task.name}: {what}", run, task, *run_arguments
 
         yield "reports that libsodium cannot be initialized", self.reports_failing_libsodium
         yield from super().cases()
@@ -287,7 +287,7 @@ class Breaking(TaskFaultRunner, Programs):
             put_files(directory, replaced_signature.files)
             return os.path.join(directory, *replaced_signature.targets)
 
-        yield from permission_cases(self, prepare, lambda _: replaced_signature.arguments, KEPT)
+        yield from permission_cases(self, prepare, lambda _: replaced_signature.arguments, REPLACEMENTS)
 
 
 def temporary_files(directory):

@@ -379,7 +379,7 @@ class OtherUsers(Programs):
         secret, public, signature, again, changed = every = self.commands
         # Without `changed`, which reads the file first.
         writing = (secret, public, signature, again)
-        for commands, kinds, whose, places, users, end in (
+        for commands, kinds, owners, places, users, end in (
             (every, (FILE, PIPE, UNREAD_PIPE), OTHER_USER, [LIKE_TMP], (ROOT, RUNNING_USER), IN_SHARED_DIRECTORY),
             (every, (FILE, PIPE, UNREAD_PIPE), OTHER_USER, (OWNED_BY_THIRD, GROUP_WRITABLE), [ROOT], IN_SHARED_DIRECTORY),
             (every, [FILE], ROOT, [LIKE_TMP], [ROOT], ROOT),
@@ -397,8 +397,8 @@ class OtherUsers(Programs):
         ):
             for command, kind, parent, user in itertools.product(commands, kinds, places, users):
                 yield (f"{'rejects' if isinstance(end, str) else 'writes'} {command.name} by {USER_NAMES[user]} over "
-                       f"{POSSESSIVES[whose]} {kind}{parent.name}",
-                       self.write_over, user, command, Existing(kind, whose, parent), end)
+                       f"{POSSESSIVES[owners]} {kind}{parent.name}",
+                       self.write_over, user, command, Existing(kind, owners, parent), end)
         for name, *arguments in (("a new secret key", "-Gf", "-p", "own/a.pub", "-s", OUTPUT),
                                  ("a new public key", "-Gf", "-p", OUTPUT, "-s", "own/a.key"),
                                  ("a recreated public key", "-Rf", "-p", OUTPUT, "-s", "own/closed.key")):
@@ -423,7 +423,7 @@ class OtherUsers(Programs):
     def links_of_users(self):
         """Yields cases in which users run a command that writes through a link of the user `whose`. `why` is the error,
         or empty."""
-        for command, whose, parent, users, why in (
+        for command, owner, parent, users, why in (
             (self.signature, OTHER_USER, LIKE_TMP, (ROOT, RUNNING_USER), THROUGH_LINK),
             (self.signature, ROOT, LIKE_TMP, [ROOT], ""),
             (self.signature, RUNNING_USER, LIKE_TMP, [RUNNING_USER], ""),
@@ -436,9 +436,9 @@ class OtherUsers(Programs):
                 yield (
                     (
                         f"{'rejects' if why else 'writes'} {command.name} by {USER_NAMES[user]} through"
-                        f" {POSSESSIVES[whose]} link {what}{parent.name}"
+                        f" {POSSESSIVES[owner]} link {what}{parent.name}"
                     ),
-                    self.write_through_link, user, command, whose, what, parent, why,
+                    self.write_through_link, user, command, owner, what, parent, why,
                 )
 
 

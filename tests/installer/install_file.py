@@ -590,11 +590,11 @@ def cases_of(runner):
 
 def failure_of(scratch, preload, mutant):
     """Tries a mutant. Returns an error if its case passes, otherwise an empty string."""
-    copy, own = mutants.copy_sources(scratch, "c", "include"), tempfile.mkdtemp(dir=scratch)
+    copy, directory_of_keys = mutants.copy_sources(scratch, "c", "include"), tempfile.mkdtemp(dir=scratch)
     mutants.apply(mutant, copy)
-    program = os.path.join(own, "install_file")
+    program = os.path.join(directory_of_keys, "install_file")
     sources = [f"{copy}/c/install/{name}.c" for name in ("installing", "results", "directory")]
-    sources += [f"{copy}/c/shared/{name}.c" for name in ("error_words", "handles", "permissions", "stages", "streams")]
+    sources += [f"{copy}/c/shared/{name}.c" for name in ("error_words", "handles", "permissions", "streams", "temporary_files")]
     static_library.run_or_fail(
         [
             needs.compiler_with_libsodium(),
@@ -602,7 +602,7 @@ def failure_of(scratch, preload, mutant):
             f"{scratch}/out/libminisign.a", "-lsodium",
         ]
     )
-    runner = InstallerRunner(program, Signer(own), own)
+    runner = InstallerRunner(program, Signer(directory_of_keys), directory_of_keys)
     runner.preload = preload
     try:
         run_case_named(cases_of(runner), mutant.case)

@@ -44,7 +44,7 @@ from downloads import download_cases
 from installers import NAME, PK, TARGET, Signer
 from list_updates import list_cases
 from owners import owner_cases
-from permissions import KEPT, REQUESTED, WITHOUT_PROC, permission_cases
+from permissions import REPLACEMENTS, REQUESTED, WITHOUT_PROC, permission_cases
 from running import run_cases
 from runs import InstallerRunner
 from updates import update_cases
@@ -60,7 +60,7 @@ def cases_of(runner):
             yield name, runner.run_case, case, *arguments
     yield from permission_cases(runner, lambda path: runner.new_directory(path).path_of(TARGET),
                                 lambda mode: [*(["--mode", mode] if mode else []), PK, "new", "new.sig", TARGET],
-                                KEPT + REQUESTED + WITHOUT_PROC)
+                                REPLACEMENTS + REQUESTED + WITHOUT_PROC)
 
 
 def run_all(scratch):

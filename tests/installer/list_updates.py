@@ -494,7 +494,7 @@ def reports_unreadable_list(directory, path, status, error_output):
 )
 def recovers_with_list(directory, data, record):
     """If a run is killed at any call, the next run finishes the update. Without `record`, the record is that of the list."""
-    left = set()
+    remaining = set()
 
     def prepare(fresh):
         offer_list(fresh)
@@ -502,7 +502,7 @@ def recovers_with_list(directory, data, record):
 
     def check(fresh, _):
         state = fresh.installed_state()
-        left.add(state)
+        remaining.add(state)
         expect(state in ((OLD_DATA, b"5"), (OLD_DATA, b"6"), (NEW_DATA, b"6")), f"the run left {str(state)[:80]}")
         ran = fresh.run(list_arguments("new"))
         expect(ran.status in (0, ALREADY_INSTALLED) and not ran.stderr, "the next run", ran)
@@ -510,7 +510,7 @@ def recovers_with_list(directory, data, record):
         fresh.expect_installed_with_record(NEW_DATA, fresh.signer.version_record(NEW_LIST, 6))
 
     break_each_call(directory, check, prepare, options=("--list", LIST))
-    expect(len(left) == (3 if record else 1 if data == NEW_DATA else 2), f"the kills left {len(left)} different states")
+    expect(len(remaining) == (3 if record else 1 if data == NEW_DATA else 2), f"the kills left {len(remaining)} different states")
 
 
 @list_cases.table("installs listed data while the data file is swapped")

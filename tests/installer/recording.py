@@ -321,18 +321,18 @@ class RecordedRun:
         numbering, *flags, is_list, _ = struct.unpack("9I", octets)
         command, is_first = self.command, not self.traces
         letters, data = command.letters, command.data
-        given = [letter for letter, flag in zip(OPTION_LETTERS, flags) if flag] + ["T"] * (numbering == 0)
+        used = [letter for letter, flag in zip(OPTION_LETTERS, flags) if flag] + ["T"] * (numbering == 0)
         # The first machine for data from a pipe makes a check. Only if the data cannot be opened, the run does not know
         # that it is a pipe and makes no check. Then the first report must be a failure.
-        self.has_to_fail = command.is_pipe and is_first and "C" not in given
+        self.has_to_fail = command.is_pipe and is_first and "C" not in used
         if command.is_pipe and is_first and not self.has_to_fail:
             letters += "" if "C" in letters else "C"
         elif command.is_pipe:
             data = b"" if self.due == "ALREADY_INSTALLED" else data[:command.max_received]
         keys = [b"".join(part for name, part in self.parameters if name == key) for key in ("key", "other")]
         # Runs with a list are not recorded.
-        if {*given} != {*letters} or keys != (command.keys * 2)[:2] or is_list:
-            self.add_offence(f"the options of a machine are {given}, {is_list} and {keys}, expected {letters}")
+        if {*used} != {*letters} or keys != (command.keys * 2)[:2] or is_list:
+            self.add_offence(f"the options of a machine are {used}, {is_list} and {keys}, expected {letters}")
         self.expect_no_effects()
         self.traces.append(Trace(command, letters, data, self.files))
         self.data_file = self.record_file = self.target_inode = self.lock_inode = self.open_inode = None

@@ -100,13 +100,13 @@ class Run:
         self.items.append(["call", report, hex_word(octets), str(number), effect, str(inode), hex_word(written)])
         return self
 
-    def done(self, *effects):
+    def report_done(self, *effects):
         """Calls that report `done`, one for each effect."""
         for effect in effects:
             self.call("done", effect=effect)
         return self
 
-    def other(self, *words):
+    def other_process(self, *words):
         """A change by another process."""
         self.items.append([*words])
         return self
@@ -117,24 +117,26 @@ class Run:
 
     def create(self):
         """Removes temporary files of other runs and creates one for the data."""
-        return self.done("leftovers_removed").call("done", effect="data_created", inode=NEW_FILE)
+        return self.report_done("leftovers_removed").call("done", effect="data_created", inode=NEW_FILE)
 
     def install(self, new_record=None):
         """Copies the data in two pieces and installs it."""
         self.create()
         for piece in (self.update[:5], self.update[5:]):
             self.call("copied", number=len(piece), effect="data_grown", written=piece)
-        self.done("-").call("piece", self.update).done("-").call("accepted").done("data_permitted", "data_synced")
+        self.report_done("-").call("piece", self.update).report_done("-").call("accepted").report_done(
+            "data_permitted", "data_synced"
+        )
         self.call("done", effect="record_created", inode=NEW_RECORD)
         self.call("done", effect="record_written", written=new_record or record_text(self.version, self.update))
-        return self.done("record_synced", "record_renamed", "names_synced", "data_renamed", "names_synced")
+        return self.report_done("record_synced", "record_renamed", "names_synced", "data_renamed", "names_synced")
 
     def request(self):
         return " ".join(self.head + [each for item in self.items for each in item])
 
 
 def upgrade():
-    return Run().done("locked").begin().install()
+    return Run().report_done("locked").begin().install()
 
 
 def changed(at, position, value):
@@ -172,24 +174,32 @@ def failed_renaming():
     run = upgrade()
     run.items = run.items[:18]
     run.items[17][1] = "failed"
-    return run.done("files_removed")
+    return run.report_done("files_removed")
 
 
 def lawful_runs():
-    same = Run(version=2, update=OLD_DATA).done("locked").begin().call("accepted").call("piece", OLD_DATA)
-    same.call("done", effect="target_opened", inode=TARGET).call("accepted").done("target_synced", "names_synced")
+    reinstallation = Run(version=2, update=OLD_DATA).report_done("locked").begin().call("accepted").call("piece", OLD_DATA)
+    reinstallation.call("done", effect="target_opened", inode=TARGET).call("accepted").report_done("target_synced", "names_synced")
     return {
         "upgrade": upgrade(),
         "nothing happened": Run(),
-        "cut off after the signature file": Run().done("locked").begin(),
-        "first installation": Run(FIRST, record=None, target=None).done("locked").begin().install(),
+        "cut off after the signature file": Run().report_done("locked").begin(),
+        "first installation": Run(FIRST, record=None, target=None).report_done("locked").begin().install(),
         "check": Run(CHECK).begin(),
-        "lock in use": Run().other("busy", "1", "-").call("in_use"),
-        "another process replaces the target": Run().done("locked").begin().other("target", "9", hex_word(b"other")).install(),
-        "copying failed": Run().done("locked").begin().create().call("failed").done("files_removed"),
+        "lock in use": Run().other_process("busy", "1", "-").call("in_use"),
+        "another process replaces the target": Run()
+        .report_done("locked")
+        .begin()
+        .other_process("target", "9", hex_word(b"other"))
+        .install(),
+        "copying failed": Run().report_done("locked").begin().create().call("failed").report_done("files_removed"),
         "renaming the record failed": failed_renaming(),
-        "already installed": same,
-        "roll-back": Run(ROLL_BACK, version=1).done("locked").begin().call("refused").install(record_text(2, NEW_DATA)),
+        "already installed": reinstallation,
+        "roll-back": Run(ROLL_BACK, version=1)
+        .report_done("locked")
+        .begin()
+        .call("refused")
+        .install(record_text(2, NEW_DATA)),
     }
 
 
@@ -208,13 +218,16 @@ def unlawful_runs():
         "invalid data signature is reported as valid": (without_valid_signature("data"), 11),
         "another record is read": (changed(1, REPORTED_BYTES, hex_word(record_text(1, OLD_DATA))), 1),
         "another signature file is read": (changed(2, REPORTED_BYTES, hex_word(signature_file(b"version:9\tfile:app"))), 2),
-        "lock is taken although another run holds it": (Run().other("busy", "1", "-").done("locked"), 1),
+        "lock is taken although another run holds it": (Run().other_process("busy", "1", "-").report_done("locked"), 1),
         "another process replaces the record of a locked target":
-            (Run().done("locked").other("record", "9", hex_word(record_text(1, OLD_DATA))), 1),
-        "conflicting options": (Run(FIRST + NEW_KEY).done("locked"), 0),
-        "same version is installed": (Run(version=2).done("locked").begin().install(), 4),
-        "older version is installed": (Run(version=1).done("locked").begin().install(), 4),
-        "roll-back records its own version": (Run(ROLL_BACK, version=1).done("locked").begin().call("refused").install(), 16),
+            (Run().report_done("locked").other_process("record", "9", hex_word(record_text(1, OLD_DATA))), 1),
+        "conflicting options": (Run(FIRST + NEW_KEY).report_done("locked"), 0),
+        "same version is installed": (Run(version=2).report_done("locked").begin().install(), 4),
+        "older version is installed": (Run(version=1).report_done("locked").begin().install(), 4),
+        "roll-back records its own version": (
+            Run(ROLL_BACK, version=1).report_done("locked").begin().call("refused").install(),
+            16,
+        ),
         "check that installs": (Run(CHECK).begin().install(), 3),
     }
     calls = upgrade().items

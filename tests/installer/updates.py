@@ -208,12 +208,12 @@ class Update:
         self.created |= created
 
 
-def check_and_install(directory, status, error_output=b"", kind=Update, **given):
-    """Runs --check and all installations of an update. `given` has the fields of `kind`, which is `Update` or a subclass, and other
-    arguments of `Directory.offer`. Returns the traced calls of the last installation."""
+def check_and_install(directory, status, error_output=b"", kind=Update, **changes):
+    """Runs --check and all installations of an update. `changes` has the fields of `kind`, which is `Update` or a
+    subclass, and other arguments of `Directory.offer`. Returns the traced calls of the last installation."""
     names = {each.name for each in fields(kind)}
-    offered = {name: value for name, value in given.items() if name not in names}
-    of_update = {name: value for name, value in given.items() if name in names}
+    offered = {name: value for name, value in changes.items() if name not in names}
+    of_update = {name: value for name, value in changes.items() if name in names}
     update = kind(directory, status, error_output, offered=offered, **of_update)
     update.put_installed()
     update.offer()

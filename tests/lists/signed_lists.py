@@ -123,14 +123,25 @@ def check_tools(checks):
 
 # == Random lists ==
 
-H = hashlib.sha256(DATA).hexdigest().encode()
-OTHER = hashlib.sha256(b"other").hexdigest().encode()
+DIGEST = hashlib.sha256(DATA).hexdigest().encode()
+OTHER_DIGEST = hashlib.sha256(b"other").hexdigest().encode()
 RANDOM_NAMES = [b"a", b"./a", b"d/a", b"a b", b" a", b"*a", b"a) = b", b"SHA256 (a", b"#a", b"\\a", b"a\\\\", b"a\\n", b"././a",
                 b"a ", b"a\ta", b"\xc3\xa9", b"..", b"-", b"d//a", b".//a", b"d/../a", b"/a", b"a\r"]
 
 
 def random_line(rng):
-    digits = rng.choice([H, H, H, OTHER, H.upper(), H[:-1], H + b"0", H[:30] + b"g" + H[31:]])
+    digits = rng.choice(
+        [
+            DIGEST,
+            DIGEST,
+            DIGEST,
+            OTHER_DIGEST,
+            DIGEST.upper(),
+            DIGEST[:-1],
+            DIGEST + b"0",
+            DIGEST[:30] + b"g" + DIGEST[31:],
+        ]
+    )
     name = rng.choice(RANDOM_NAMES) if rng.random() < 0.6 else b"a"
     kind = rng.random()
     if kind < 0.45:
@@ -266,17 +277,17 @@ def compare_with_sha256sum(checks, rng, count):
                                      stdin=subprocess.DEVNULL, stdout=subprocess.PIPE, stderr=subprocess.PIPE)
             requests.append(("-", text, name, DATA))
             theirs.append((ran.returncode == 0, ran.stdout + ran.stderr))
-        for (_, text, name, _), answer, (accepts, said) in zip(requests, answers(requests), theirs):
+        for (_, text, name, _), answer, (accepts, message) in zip(requests, answers(requests), theirs):
             ours = answer.split()[0]
             kinds[ours, accepts] += 1
             if ours == "ok" and not accepts:
                 # Our line has the right digest, so sha256sum must have rejected another line.
                 lines = [line for line in text.replace(b"\r\n", b"\n").split(b"\n") if line]
-                reason = b"-: FAILED" in said or b"'standard input'" in said or b"-: " in said
-                reason = reason or len(lines) > 1 and b"FAILED" in said
+                reason = b"-: FAILED" in message or b"'standard input'" in message or b"-: " in message
+                reason = reason or len(lines) > 1 and b"FAILED" in message
                 # We skip lines with any escapes. sha256sum rejects escapes other than the three that it knows.
-                reason = reason or any(has_unknown_escape(line) for line in lines) and b"improperly formatted" in said
-                checks.check(reason, f"only we accept {name!r} in {text!r}; sha256sum: {said!r}")
+                reason = reason or any(has_unknown_escape(line) for line in lines) and b"improperly formatted" in message
+                checks.check(reason, f"only we accept {name!r} in {text!r}; sha256sum: {message!r}")
             elif accepts and ours != "ok":
                 why = expected("-", text, name, DATA)[1]
                 checks.check(
@@ -300,7 +311,7 @@ def compare_with_signify(checks, rng, count):
         for _ in range(count):
             lines = []
             for _ in range(rng.choice([1, 1, 2, 2, 3])):
-                digits = rng.choice([H, H, H, OTHER, H.upper(), H[:-1]])
+                digits = rng.choice([DIGEST, DIGEST, DIGEST, OTHER_DIGEST, DIGEST.upper(), DIGEST[:-1]])
                 name = rng.choice([b"a", b"a", b"a", b"b", b"a b"])
                 line = b"SHA256 (" + name + b") = " + digits
                 lines.append(line if rng.random() < 0.93 else rng.choice([b"# a", b"x", digits + b"  " + name]))
@@ -315,7 +326,7 @@ def compare_with_signify(checks, rng, count):
             # signify accepts neither untagged lines, nor comments, nor upper-case digits. It accepts a list in which the name
             # occurs twice, and the lines before one that it cannot parse.
             if ours == "ok" and not accepts:
-                reason = H.upper() in text or any(not line.startswith(b"SHA256 (") for line in lines)
+                reason = DIGEST.upper() in text or any(not line.startswith(b"SHA256 (") for line in lines)
                 reason = reason or any(len(line) < len(b"SHA256 (a) = ") + 64 for line in lines)
             elif accepts and ours != "ok":
                 reason = ours in ("twice", "malformed")
@@ -330,7 +341,7 @@ def main():
     parser = argparse.ArgumentParser()
     parser.add_argument("--seed", type=int, default=1)
     parser.add_argument("--lists", type=int, default=3000)
-    given = parser.parse_args()
+    options = parser.parse_args()
     checks = Checks()
     try:
         for name, package in (("openssl", "openssl"), ("shasum", "perl"), ("signify-openbsd", "signify-openbsd")):
@@ -338,11 +349,11 @@ def main():
         check_tools(checks)
         print(
             "our response, and whether sha256sum accepts:",
-            dict(compare_with_sha256sum(checks, random.Random(given.seed), given.lists)),
+            dict(compare_with_sha256sum(checks, random.Random(options.seed), options.lists)),
         )
         print(
             "our response, and whether signify accepts:",
-            dict(compare_with_signify(checks, random.Random(given.seed), given.lists // 10)),
+            dict(compare_with_signify(checks, random.Random(options.seed), options.lists // 10)),
         )
     except Missing as missing:
         checks.check(False, missing)

@@ -103,7 +103,7 @@ class Chromium(Person):
         x, y = self.see("middleOf", place)
         for kind in ("dragEnter", "dragOver", "drop"):
             self.command("Input.dispatchDragEvent", type=kind, x=x, y=y, data={**data, "dragOperationsMask": 1})
-        self.taken()
+        self.wait_until_taken()
 
     def save_into(self, directory):
         self.command("Browser.setDownloadBehavior", behavior="allow", downloadPath=directory)

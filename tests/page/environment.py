@@ -21,13 +21,13 @@ def check_network(person):
     person.begin(person.first.line, *paths)
     person.only("offline", number=0, comment="t")
     person.command("Network.emulateNetworkConditions", offline=False, **network)
-    asked = [address for address in person.requests() if not address.startswith(("about:", "blob:", "data:"))]
-    person.same(asked, [person.address], "the requests of the page from disk")
-    with served(person.page) as (address, _, asked):
+    requested = [address for address in person.requests() if not address.startswith(("about:", "blob:", "data:"))]
+    person.same(requested, [person.address], "the requests of the page from disk")
+    with served(person.page) as (address, _, requested):
         person.begin(person.first.line, *paths, address=address)
         person.only("served", number=0, comment="t")
         person.same(person.see("fetchFrom", address), [], "the requests that the policy allows")
-        person.same(asked, ["/minisign.html"], "the requests of the page from a server")
+        person.same(requested, ["/minisign.html"], "the requests of the page from a server")
     rejections = [line for line in person.console_messages() if "Content Security Policy" in line or "Refused" in line]
     person.check(len(rejections) >= 2, f"the policy rejected {rejections}, expected two requests")
 

@@ -23,11 +23,11 @@ STATES = ("unusable", "controls")
 def served(page, **headers):
     """Runs a server for the page with these headers. Yields its address, its address under a name that browsers do not
     treat as local, and the list of requested paths."""
-    asked = []
+    requested = []
 
     class Handler(http.server.BaseHTTPRequestHandler):
         def do_GET(self):
-            asked.append(self.path)
+            requested.append(self.path)
             self.send_response(200)
             for name, value in {"Content_Type": "text/html", **headers}.items():
                 self.send_header(name.replace("_", "-"), value)
@@ -40,7 +40,7 @@ def served(page, **headers):
     with http.server.ThreadingHTTPServer(("127.0.0.1", 0), Handler) as server:
         threading.Thread(target=server.serve_forever, daemon=True).start()
         try:
-            yield (*(f"http://{name}:{server.server_port}/minisign.html" for name in ("127.0.0.1", NON_LOCAL_NAME)), asked)
+            yield (*(f"http://{name}:{server.server_port}/minisign.html" for name in ("127.0.0.1", NON_LOCAL_NAME)), requested)
         finally:
             server.shutdown()
 
@@ -178,14 +178,14 @@ def check_pasted_signatures(person):
 
 def check_page_that_cannot_start(person):
     """If the script, a part of it or WebAssembly cannot run, the page says so, and what to do."""
-    seen = "return [performance.now(), getComputedStyle(document.getElementById('unusable')).visibility === 'visible']"
+    script = "return [performance.now(), getComputedStyle(document.getElementById('unusable')).visibility === 'visible']"
     what = "a script that cannot run"
     with served(person.page, Content_Security_Policy="script-src 'none'") as (address, *_):
         person.go(address)
-        milliseconds, is_early = person.run(seen)
+        milliseconds, is_early = person.run(script)
         person.check(not is_early or milliseconds > 1400,
                      f"the page says after {milliseconds} ms that it has not started, expected after 1400 ms or later")
-        person.wait(lambda: person.run(seen)[1])
+        person.wait(lambda: person.run(script)[1])
         person.says("unusable", what, "has not started", "Allow JavaScript")
         person.same([*map(person.is_shown, STATES)], [True, False], f"{what}: if {STATES} are shown")
     for policy, at, is_secure, has, lacks in (
@@ -211,7 +211,7 @@ def check_page_that_cannot_start(person):
         with served(person.page, Content_Security_Policy=policy) as addresses:
             person.open(addresses[at])
         person.says("unusable", what, *has, lacks=["newer browser", *lacks])
-        shown = person.run("return isSecureContext"), *map(person.is_shown, STATES), person.run(seen)[1]
+        shown = person.run("return isSecureContext"), *map(person.is_shown, STATES), person.run(script)[1]
         person.same(shown, (is_secure, True, False, True),
                     f"{what}: a secure context, if {STATES} are shown, and if the message is visible")
     # Without worker threads the page still verifies.

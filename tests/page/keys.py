@@ -26,17 +26,17 @@ def attack(person, good):
 def check_given_key_is_kept(person):
     """A key that the user gave is not replaced by a key that comes with the files. A different key with the same key ID
     is not taken for it."""
-    own, good, my_key = person.first, person.sign(b"update", trusted="t"), person.put("my.pub", person.first.text)
+    user_key, good, my_key = person.first, person.sign(b"update", trusted="t"), person.put("my.pub", person.first.text)
     theirs, _ = attack(person, good)
     person.open()
-    for how, give, given, words in (("typed", person.type_key, own.line, "pasted or typed"),
+    for how, give, given, words in (("typed", person.type_key, user_key.line, "pasted or typed"),
                                     ("chosen", person.choose_key, my_key, "chose as the file my.pub")):
         what = f"a key that was {how}"
         person.begin(anew=False)
         give(given)
         person.drop("downloads", *theirs)
         person.only(f"{what}, and another among the files", number=31, cautions=[])
-        person.uses(own, what)
+        person.uses(user_key, what)
         person.says(
             "files-message",
             what,
@@ -85,15 +85,15 @@ def check_key_with_files(person):
 def check_key_field(person):
     """The page does not change the text in the field for the key, even if it is not a key. As long as the field has a
     text, the page ignores keys that come with the files, and says so."""
-    own, paths = person.first, person.signed("update.zip", b"update", trusted="t")
-    keys = [person.put(name, own.text) for name in ("minisign.pub", "other.pub")]
+    user_key, paths = person.first, person.signed("update.zip", b"update", trusted="t")
+    keys = [person.put(name, user_key.text) for name in ("minisign.pub", "other.pub")]
     person.open()
-    for text in ("no key", "RWQ", "minisign -Vm update.zip", ".", own.line[:-1]):
-        for given in (keys[:1], keys):
-            what = f"{text!r} in the key's field, and {len(given)} keys among the files"
+    for text in ("no key", "RWQ", "minisign -Vm update.zip", ".", user_key.line[:-1]):
+        for dropped_keys in (keys[:1], keys):
+            what = f"{text!r} in the key's field, and {len(dropped_keys)} keys among the files"
             person.begin(text, anew=False)
             said = person.text_of("key-message")
-            person.drop("downloads", *paths, *given)
+            person.drop("downloads", *paths, *dropped_keys)
             person.only(what, verdict="waiting", number=None)
             seen = person.text_of("key-text", "value"), person.text_of("key-message"), person.is_shown("key-full")
             person.same(seen, (text, said, False), f"{what}: the field")
@@ -101,14 +101,18 @@ def check_key_field(person):
                 "{} came with the files and was ignored: the text in the field above is not a key. Correct that text,"
                 " or clear the field."
             )
-            person.says("files-message", what, *(ignored.format(name) for name in ("minisign.pub", "other.pub")[:len(given)]))
+            person.says(
+                "files-message",
+                what,
+                *(ignored.format(name) for name in ("minisign.pub", "other.pub")[: len(dropped_keys)]),
+            )
     # White space is treated like an empty field, because the user cannot see it.
     person.type_key(" \n")
     person.drop("downloads", keys[0])
     person.only("an empty field", verdict="unchecked")
     person.says("key-notice", "an empty field", WITH_FILES)
     # The user pastes the key that came with the files.
-    person.type_key(own.line)
+    person.type_key(user_key.line)
     person.only("a key with the files that is pasted then", verdict="good", cautions=[])
 
 
@@ -187,8 +191,13 @@ SIMILAR = {
     "App (2024) (1).zip": "file:App (2024).zip",
     "no end (3)": "file:no end",
 }
-SAME = {"a.zip": "timestamp:1700000000\tfile:a.zip\thashed", "caf\u00e9": "file:cafe\u0301", "d.zip": "timestamp:17000000000000",
-        "e.zip": "no file:x and timestamp:1", "App (2023).zip": "file:App (2023).zip"}
+MATCHING_NAMES = {
+    "a.zip": "timestamp:1700000000\tfile:a.zip\thashed",
+    "caf\u00e9": "file:cafe\u0301",
+    "d.zip": "timestamp:17000000000000",
+    "e.zip": "no file:x and timestamp:1",
+    "App (2023).zip": "file:App (2023).zip",
+}
 
 
 def check_signed_names(person):
@@ -196,10 +205,14 @@ def check_signed_names(person):
     comment. A signed comment with white space at its beginning or end is rejected."""
     data = b"update"
     person.begin(person.first.line)
-    for name, comment in {**DIFFERENT, **SIMILAR, **SAME}.items():
+    for name, comment in {**DIFFERENT, **SIMILAR, **MATCHING_NAMES}.items():
         person.choose(*person.signed(name, data, trusted=comment))
     rows = {row.name: row for row in person.settled("comments")}
-    for names, words, lacks in ((DIFFERENT, [NAMED, OTHER_FILE], []), (SIMILAR, [NAMED], [OTHER_FILE]), (SAME, [], [NAMED])):
+    for names, words, lacks in (
+        (DIFFERENT, [NAMED, OTHER_FILE], []),
+        (SIMILAR, [NAMED], [OTHER_FILE]),
+        (MATCHING_NAMES, [], [NAMED]),
+    ):
         for name, comment in names.items():
             what = f"{name} with the comment {comment!r}"
             verdict, cautions = ("renamed", 1) if names is DIFFERENT else ("good", 0)
@@ -217,12 +230,12 @@ def check_signed_names(person):
     person.only(f"{what}, which is pasted then", verdict="renamed", number=0)
 
     signed = {comment: person.sign(data, trusted=comment) for comment in ("t", "t ", " t", "t\t")}
-    ends, other = "white space at its beginning or end", "Do not use the file"
+    ends, warning = "white space at its beginning or end", "Do not use the file"
     for comment, in_file, number, why in (
             *((comment, in_file, 32, ends) for comment in ("t ", " t", "t\t") for in_file in (comment, "t")),
-            ("t", "u", 32, other), ("t ", "u ", 32, other), ("t", " t ", 0, "")):
+            ("t", "u", 32, warning), ("t ", "u ", 32, warning), ("t", " t ", 0, "")):
         what = f"the signed comment {comment!r}, which is {in_file!r} in the file"
         person.click("clear")
         person.choose(*person.pair("update.zip", data, with_line(signed[comment], 2, f"trusted comment: {in_file}".encode())))
         row = person.only(what, number=number, comment="t" if number == 0 else None)
-        person.check(why in row.why and ("Do not use" in row.why) == (why == other), f"{what}: {row.why!r}")
+        person.check(why in row.why and ("Do not use" in row.why) == (why == warning), f"{what}: {row.why!r}")

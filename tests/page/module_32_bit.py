@@ -51,15 +51,15 @@ def texts(person):
 
 def check_modules(person, page):
     """Compares the results of the two modules in an empty page."""
-    asked = texts(person)
-    person.check(len(asked) >= RANDOM_TEXTS + 50, f"{len(asked)} texts, expected {RANDOM_TEXTS + 50} or more")
+    cases = texts(person)
+    person.check(len(cases) >= RANDOM_TEXTS + 50, f"{len(cases)} texts, expected {RANDOM_TEXTS + 50} or more")
     script = build.script_of(f"{build.PACKAGE}/calls.js") + build.script_of("tests/page/module_results.js") + """
       return answersOf(Library, ...arguments).catch(why => [String(why)]);"""
     person.go("about:blank")
-    narrow, wide = (person.run(script, base64.b64encode(module).decode(), asked)
+    narrow, wide = (person.run(script, base64.b64encode(module).decode(), cases)
                     for module in (build.taken_from(page)[0], build.proved_module()))
     for answers in (narrow, wide):
-        person.same(len(answers), len(asked) + 1, f"the number of results, of which the first is {answers[0]:.300}")
+        person.same(len(answers), len(cases) + 1, f"the number of results, of which the first is {answers[0]:.300}")
     for at, (narrow_result, wide_result) in enumerate(zip(narrow, wide)):
         person.same(narrow_result, wide_result, f"text {at}: the result of the module for 32 bits")
     numbers = {answered.get("asked", answered)["number"] for answer in narrow[1:] for answered in json.loads(answer)[2:]}

@@ -76,16 +76,16 @@ def check_digests(checks, path):
         digests_on(page) == [ours] and PROOF in page,
         f"the proved module and sources: the page shows {digests_on(page)}, expected {[ours]} and `{PROOF}`: {PROOF in page}",
     )
-    for taken, *sums in (
+    for sources, *sums in (
         (module + b"\0", digest, ours),
         (module, "0" * 64, ours),
         (module, digest, "0" * 64),
         (module, ours, digest),
     ):
-        page = build.page(taken, by, sums=tuple(sums))
+        page = build.page(sources, by, sums=tuple(sums))
         checks.check(
             digests_on(page) == [] and PROOF not in page and "makes no claim about proofs" in page,
-            f"a module of {len(taken)} bytes, with {sums} in dist/PROVED: the page shows {digests_on(page)}, expected none",
+            f"a module of {len(sources)} bytes, with {sums} in dist/PROVED: the page shows {digests_on(page)}, expected none",
         )
     # dist/PROVED has the digests of the page in dist/.
     of_dist = os.path.join(build.TOP, "dist", "minisign.html")

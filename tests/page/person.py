@@ -233,7 +233,7 @@ class Person:
         finally:
             self.is_waiting = True
             self.run("window.letFilesGo()")
-            self.taken()
+            self.wait_until_taken()
 
     def go(self, address):
         self.send_command("Navigate", url=address)
@@ -244,7 +244,7 @@ class Person:
                 *(("keyUp", key) for key in held)]
         steps = [{"type": kind, "value": key} for kind, key in acts]
         self.send_command("PerformActions", actions=[{"type": "key", "id": "keyboard", "actions": steps}])
-        self.taken()
+        self.wait_until_taken()
 
     # ---- What the user does ----
 
@@ -273,9 +273,9 @@ class Person:
         if not self.is_waiting:
             self.run(f"{IN_PAGE}{what}(...arguments);", *arguments)
         elif self.run(f"{IN_PAGE}{what}(...arguments); return until(isTaken);", *arguments) is not True:
-            self.taken()
+            self.wait_until_taken()
 
-    def taken(self):
+    def wait_until_taken(self):
         """Waits until the page has processed the user's actions."""
         if self.is_waiting:
             self.wait_seen("isTaken")
@@ -310,7 +310,7 @@ class Person:
 
     def choose(self, *paths):
         self.send("files", *paths)
-        self.taken()
+        self.wait_until_taken()
 
     def click(self, name):
         self.act("click", name)
@@ -368,12 +368,12 @@ class Person:
         """Waits until nothing is being verified, checks that each row and the band at the top are consistent, and
         returns the rows."""
         self.wait_seen("work")
-        seen, band, is_own, whose, said = self.see("state")
+        seen, band, is_project_page, key_source, key_warning = self.see("state")
         rows = [SimpleNamespace(**row) for row in seen]
         for row in rows:
             self.check(is_consistent(row), f"{what}: the texts of a row do not fit its verdict: {row}")
-        self.same(band, band_of(rows, is_own), f"{what}: the band at the top of the window")
-        self.same(whose, key_sentences(rows, said), f"{what}: what is said once about the key, and if it is a warning")
+        self.same(band, band_of(rows, is_project_page), f"{what}: the band at the top of the window")
+        self.same(key_source, key_sentences(rows, key_warning), f"{what}: what is said once about the key, and if it is a warning")
         verdicts = [row.verdict == "bad" for row in rows]
         self.same(verdicts, sorted(verdicts, reverse=True), f"{what}: if rows are bad, in their order")
         return rows

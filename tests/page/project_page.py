@@ -304,12 +304,12 @@ def check_links(person, release):
 def check_links_to_project_page(person, release):
     """On a project's page, a file that only the signature of a link fits is not part of the release. The page says if
     it ignores the key of a link."""
-    name, key, other = "app-2.0.zip", release.line, person.second.line
+    name, key, other_key = "app-2.0.zip", release.line, person.second.line
     text, by_other = (base64.b64encode(release.sign(name, b"later", by)).decode() for by in ("first", "second"))
     for part, number, is_ignored in (
             (f"sig={text}", 0, False), (f"key={key}&sig={text}", 0, False), (f"{key}&sig={text}", 0, False),
-            (f"key={other}&sig={text}", 0, True), (f"{other}&sig={text}", 0, True), (f"key=RW&sig={text}", 0, True),
-            (f"key={key}&key={other}&sig={text}", 0, True), (f"key={other}&sig={by_other}", 29, True)):
+            (f"key={other_key}&sig={text}", 0, True), (f"{other_key}&sig={text}", 0, True), (f"key=RW&sig={text}", 0, True),
+            (f"key={key}&key={other_key}&sig={text}", 0, True), (f"key={other_key}&sig={by_other}", 29, True)):
         what = f"#{part:.20}"
         person.open(f"{release.own}#{part}")
         person.says("key-message", what, **{"ends": OTHER_KEY} if is_ignored else {"lacks": [OTHER_KEY]})

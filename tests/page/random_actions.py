@@ -46,16 +46,16 @@ class Model:
 
 def check_random_actions(person):
     """The rows and the key are those of the model, after one or several actions."""
-    chance, model, done = random.Random(20), Model(), []
+    chance, model, actions = random.Random(20), Model(), []
     keys = {"first": person.first, "second": person.second}
     texts = {what: person.sign(what[1], what[0], trusted="t") for what in SIGNED} | {data: data for data in DATA}
     texts |= {name: key.text for name, key in keys.items()}
     person.open()
     for count in range(ACTIONS):
-        done.append(act(person, model, chance, keys, texts))
+        actions.append(act(person, model, chance, keys, texts))
         if chance.random() < 0.4:
             continue
-        what = f"action {count}, after {done[-4:]}"
+        what = f"action {count}, after {actions[-4:]}"
         rows = [(row.name, row.verdict, row.number) for row in person.settled(what)]
         expected = [(name, *model.verdict(**parts)) for name, parts in model.downloads.items()]
         person.same(rows, sorted(expected, key=lambda row: row[1] != "bad"), what)

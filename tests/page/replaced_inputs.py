@@ -24,7 +24,7 @@ def check_replaced_files(person):
     )
     no_key, second = person.put("photo.jpg", b"\xff" * 70), person.put("second.pub", person.second.text)
     both, first = {"a.zip": "queued", "b.zip": "queued"}, {"a.zip": "queued", "b.zip": "good"}
-    for what, act, given, at_once, after in (
+    for what, act, arguments, at_once, after in (
         ("a file and its signature", person.drop, ("downloads", *evil), first, {"a.zip": "bad", "b.zip": "good"}),
         ("a file and its signature, chosen", person.choose, evil, first, {"a.zip": "bad", "b.zip": "good"}),
         ("a file", person.drop, ("downloads", evil[0]), first, {"a.zip": "bad", "b.zip": "good"}),
@@ -63,7 +63,7 @@ def check_replaced_files(person):
         person.begin(person.first.line, *good, *other, anew=what == "a file and its signature")
         person.expect_each("verdict", {"a.zip": "good", "b.zip": "good"}, f"before {what} is replaced")
         with person.with_held_files():
-            act(*given)
+            act(*arguments)
             seen, step = verdicts(person)
             # A file that was queued may already be being read. Neither state is a verdict.
             seen = {name: "queued" if verdict == "reading" else verdict for name, verdict in seen.items()}
@@ -82,7 +82,7 @@ def check_queued_actions(person):
     text = person.sign(b"good", trusted="file:a.zip").decode()
     evil = person.pair("a.zip", b"evil", person.sign(b"evil", key="second", trusted="t"))
     waiting, bad = ({"a.zip": verdict, "slow.zip": "waiting"} for verdict in ("waiting", "bad"))
-    for what, act, given, after in (
+    for what, act, arguments, after in (
         ("another key is typed", person.type_key, (person.second.line,), bad),
         ("the key is removed", person.click, ("key-remove",), waiting),
         ("no key is typed", person.type_key, ("no key",), waiting),
@@ -96,7 +96,7 @@ def check_queued_actions(person):
         with person.with_held_files():
             person.drop("downloads", slow)
             person.same(verdicts(person)[0], {"a.zip": "good"}, "while another file is read")
-            act(*given)
+            act(*arguments)
             person.same(verdicts(person), ({"a.zip": "queued"}, WAITS[0]), f"{what}, while another file is read")
         person.expect_each("verdict", after, f"{what}, after another file was read")
 

@@ -46,7 +46,7 @@ def check_saved_page(person):
     release = Release(person)
     key = person.put("minisign.pub", person.first.text)
     plain = person.put("plain \u05e2.minisig", person.sign(b"plain", trusted="no name \u2028 \x7f \U0001f512"))
-    for what, words, given in (
+    for what, words, fields in (
             ("only a key", [], {}),
             ("a key and a title", ["--title", TITLE], {"title": TITLE}),
             ("a release", ["--title", TITLE, "--name", NAME, "--version", VERSION, "--signature", *release.paths, plain,
@@ -54,7 +54,7 @@ def check_saved_page(person):
              {"title": TITLE, "name": NAME, "version": VERSION, "signatures": [plain, *reversed(release.paths)],
               "links": [f"{name} {link}" for name, link in reversed(LINKS.items())]})):
         person.same(release.build("--from", person.page, "--key", key, *words), (0, ""), f"{what}: build.py")
-        fill(person, release, **given)
+        fill(person, release, **fields)
         page = save_page(person)
         person.check(
             page == read(release.out),
@@ -74,7 +74,7 @@ def check_nothing_is_saved(person):
     """If an input is missing or invalid, no page is saved, and the message names the input."""
     release, other = Release(person), person.put("other.minisig", person.sign(b"x", "second"))
     signatures = release.paths
-    for given, words in (
+    for fields, words in (
             ({"title": " "}, "The title is empty"), ({"title": "\u202ex"}, "The title contains a character"),
             ({"name": "x\u200b", "signatures": signatures}, "The name contains a character"),
             ({"version": "\u2066", "signatures": signatures}, "The version contains a character"),
@@ -87,10 +87,10 @@ def check_nothing_is_saved(person):
             ({"signatures": signatures, "links": [ZIP]}, "does not begin with the name of a file"),
             ({"signatures": signatures, "links": [f"{ZIP} javascript:alert(1)"]}, "has to begin with https"),
             ({"signatures": signatures, "links": [f"{ZIP} x", f"{ZIP} y"]}, "Two lines have links for the same file")):
-        fill(person, release, **given)
+        fill(person, release, **fields)
         person.click("project-save")
         person.wait(lambda: person.text_of("project-message") != "")
-        person.says("project-message", str(given), words, begins="No page was saved. ")
+        person.says("project-message", str(fields), words, begins="No page was saved. ")
     for how, take in (
         ("no key", lambda: person.open()),
         ("a key in the link", lambda: person.open(f"{person.address}#{release.line}")),

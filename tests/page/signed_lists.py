@@ -11,8 +11,8 @@ from saved_page import fill, save_page
 
 LIST = "SHA256SUMS"
 COMMENT = f"timestamp:1700000000\tfile:{LIST}"
-NEW, OLD, OTHER, LARGE, EMPTY = "app-2.0.zip", "app-1.0.zip", "docs/manual \u00e9.txt", "large.bin", "empty"
-FILES = {NEW: b"version 2", OLD: b"version 1", OTHER: b"manual", LARGE: pattern(5_000_003), EMPTY: b""}
+NEW, OLD, OTHER_FILE, LARGE, EMPTY = "app-2.0.zip", "app-1.0.zip", "docs/manual \u00e9.txt", "large.bin", "empty"
+FILES = {NEW: b"version 2", OLD: b"version 1", OTHER_FILE: b"manual", LARGE: pattern(5_000_003), EMPTY: b""}
 TWICE = "twice.txt"
 
 
@@ -30,7 +30,7 @@ TEXT = "# a release\n" + "".join(line_of(name, data, kind) for (name, data), kin
 ROWS = (
     (NEW, FILES[NEW], "good", 0, [f"the entry {NEW} in the list {LIST}", "signed on 2023-11-14"]),
     ("app-1.0 (1).zip", FILES[OLD], "good", 0, [f"matches the entry {OLD}"]),
-    (OTHER.rpartition("/")[2], FILES[OTHER], "good", 0, [f"matches the entry {OTHER}"]),
+    (OTHER_FILE.rpartition("/")[2], FILES[OTHER_FILE], "good", 0, [f"matches the entry {OTHER_FILE}"]),
     (LARGE, FILES[LARGE], "good", 0, [f"matches the entry {LARGE}"]),
     (EMPTY, b"", "good", 0, [f"matches the entry {EMPTY}"]),
     # An old file under the name of a new one, and a file with another name.
@@ -186,9 +186,9 @@ def check_saved_list(person):
     """A page that is saved with a list has the same bytes as the page that build.py writes. No page is saved with an
     invalid list."""
     release = Release(person)
-    _, path = build_page(person, release, "--name", "Example", "--link", f"{NEW}=dl/{NEW}", f"{OTHER}=x")
+    _, path = build_page(person, release, "--name", "Example", "--link", f"{NEW}=dl/{NEW}", f"{OTHER_FILE}=x")
     signature = f"{path}.minisig"
-    fill(person, release, signatures=[signature, path], name="Example", links=[f"{OTHER} x", f"{NEW} dl/{NEW}"])
+    fill(person, release, signatures=[signature, path], name="Example", links=[f"{OTHER_FILE} x", f"{NEW} dl/{NEW}"])
     page = save_page(person)
     person.check(
         page == read(release.out),

@@ -96,7 +96,7 @@ def check_new_signatures(person):
         person.put("anything", first.text),
     )
     person.open()
-    for how, take, given in (
+    for how, take, arguments in (
         ("as text", person.type_key, [first.text.decode()]),
         ("as a line", person.type_key, [f"  {first.line}\n"]),
         ("as a file", person.choose_key, [key_path]),
@@ -106,7 +106,7 @@ def check_new_signatures(person):
         what = f"a key {how}"
         person.begin("", *paths, anew=False)
         person.only(f"before {what}", verdict="waiting")
-        take(*given)
+        take(*arguments)
         person.only(what, number=0, comment="version 2", has=[key_id])
         person.says("key-message", what, f"Key {key_id}")
         person.uses(first, what)
@@ -159,7 +159,7 @@ def check_ed25519_vectors(person):
 
 def check_errors(person):
     """Each error has its number, its own message, and the library's message."""
-    data, meaning, said = b"hello, world\n", person.programs.meaning, {}
+    data, meaning, messages = b"hello, world\n", person.programs.meaning, {}
     sig = person.sign(data, trusted="a trusted comment")
     person.open()
     for is_typed, errors in ((False, key_errors(person.first.text)), (True, typed_key_errors(person.first.text))):
@@ -174,8 +174,8 @@ def check_errors(person):
         person.click("clear")
         person.choose(*person.pair("data", data, text))
         row = person.only(f"the error {number}", number=number, has=[words, f"Library message: {meaning[number]}."])
-        said[number] = row.why
-    person.same(len(set(said.values())), len(said), f"the number of different messages: {said}")
+        messages[number] = row.why
+    person.same(len(set(messages.values())), len(messages), f"the number of different messages: {messages}")
     # A legacy signature of a file that is too large for the page.
     person.begin(person.first.line, *person.sparse("large", 64 * 1048576 + 1, "-l"), anew=False)
     person.only("a large legacy file", number=30, verdict="unsupported", has=["legacy format", "program minisign", meaning[30]])

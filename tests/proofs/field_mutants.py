@@ -65,16 +65,16 @@ import proved
 import tried_mutants
 from running import write
 from sources import NAME, ROOT, Reader, files_below, read, read_source
-from wrong_bodies import APART, FAILED, GAVE_UP, REJECTED, WELL, Places, Trial, Verdict, WrongBody
+from wrong_bodies import PROOF_ONLY, FAILED, GAVE_UP, REJECTED, PROVED_VERDICTS, Places, Trial, Verdict, WrongBody
 from wrong_bodies import assume, functions_in, loops, replaced
 
 # The outcomes of a trial besides those of wrong_bodies.py.
-PROVED, SAME, UNFIT = "PROVED", "the same function", "does not compile"
+PROVED, SAME_FUNCTION, UNFIT = "PROVED", "the same function", "does not compile"
 AROUND = "rejected as a change around a call"
 # The contract determines the value that the mutant changes, so every other value violates it.
 ONE_VALUE = "rejected by a contract that allows one value"
-GOOD = (ONE_VALUE, REJECTED, AROUND, SAME)
-OUTCOMES = (*GOOD, GAVE_UP, APART, UNFIT, PROVED, FAILED)
+GOOD = (ONE_VALUE, REJECTED, AROUND, SAME_FUNCTION)
+OUTCOMES = (*GOOD, GAVE_UP, PROOF_ONLY, UNFIT, PROVED, FAILED)
 LIST = "tests/proofs/field_mutants.txt"
 HEAD = """\
 # The outcomes of the mutants that tests/proofs/field_mutants.py generates, for each function of which all are rejected \
@@ -179,7 +179,7 @@ class Twice(Mutant):
         goals = {f"returns-clause-{name}": what for name, what in self.ensured.items()}
         goals["returns-clause-determined_again"] = self.ensured["determined_0"]
         missing = re.findall(r"`([^`]+)`", unproved[1]) if unproved else []
-        if line and (line[1].startswith(WELL) or unproved and all(goal in goals for goal in missing)):
+        if line and (line[1].startswith(PROVED_VERDICTS) or unproved and all(goal in goals for goal in missing)):
             self.determined = frozenset({*goals.values()} - {goals[goal] for goal in missing})
 
 
@@ -621,16 +621,16 @@ class FieldTrial(Trial):
     def try_twices(self, group):
         """Checks a group of `Twice`s. Each reads from the output which of its clauses are proved. Those that do not
         compile are left out. Returns the group."""
-        left = list(group)
-        while left:
-            known, (text, lines) = len(self.proved), self.run(left)
+        remaining = list(group)
+        while remaining:
+            known, (text, lines) = len(self.proved), self.run(remaining)
             if "\nonly=" in f"\n{text}" and len(self.proved) == known:
-                for body in left:
+                for body in remaining:
                     body.take(text)
                 break
             if "\nonly=" not in f"\n{text}":
                 unfit = {body for path, line in AT.findall(text) for body in lines(path, int(line))}
-                left = [body for body in left if body not in unfit] if unfit else []
+                remaining = [body for body in remaining if body not in unfit] if unfit else []
         return group
 
     def try_once(self, group):
@@ -677,7 +677,7 @@ class FieldTrial(Trial):
 
     def verdict(self, body, text):
         line = re.search(rf"(?m)^fn {re.escape(f'{self.crate}::{body.checked}')}: (.*)$", text)
-        return Verdict(body, PROVED, line[1]) if line and line[1].startswith(WELL) else self.judged(body, text)
+        return Verdict(body, PROVED, line[1]) if line and line[1].startswith(PROVED_VERDICTS) else self.verdict_on(body, text)
 
 
 def copies_in(file):
@@ -770,7 +770,7 @@ def looked_at_again(trial, verdicts, pool):
     """Tries again, in another way, the mutants that are proved or whose rejection says nothing about the contract.
     Returns the verdicts. After an unclear rejection, a function is tried that calls the unchanged one and then makes
     the change. For a proved mutant, a probe shows if it changes anything at all."""
-    unclear = [verdict.body for verdict in verdicts if verdict.outcome in (APART, GAVE_UP) and verdict.body.around]
+    unclear = [verdict.body for verdict in verdicts if verdict.outcome in (PROOF_ONLY, GAVE_UP) and verdict.body.around]
     calls = {body.function: body.with_body(f"{{ {body.call} }}") for body in unclear}
     called = {verdict.body.function for verdict in in_groups(trial, [*calls.values()], pool) if verdict.outcome == PROVED}
     around = {body: body.with_body(body.around) for body in unclear if body.function in called}
@@ -784,7 +784,7 @@ def looked_at_again(trial, verdicts, pool):
     probes = {verdict.body: verdict.body.probe(verdict.body in around) for verdict in settled
               if verdict.outcome == PROVED and verdict.body.field and verdict.body.copied}
     same = {verdict.body for verdict in in_groups(trial, [*probes.values()], pool) if verdict.outcome == PROVED}
-    return [Verdict(verdict.body, SAME, "the field has this value there in the unchanged function")
+    return [Verdict(verdict.body, SAME_FUNCTION, "the field has this value there in the unchanged function")
             if probes.get(verdict.body) in same else verdict for verdict in settled]
 
 

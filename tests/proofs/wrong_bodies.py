@@ -67,11 +67,11 @@ LIST = "tests/proofs/wrong_bodies.txt"
 HERE_TRIED, KIT_TRIED = "wrong-bodies", "must-fail"
 # The memory that checking one of these crates takes at most, in bytes.
 MEMORY = 3_000_000_000
-# The outcomes of a wrong body. GAVE_UP and APART are rejections that say nothing about the contract; a line `by:`
+# The outcomes of a wrong body. GAVE_UP and PROOF_ONLY are rejections that say nothing about the contract; a line `by:`
 # of an edit may quote them, without the words `rejected by`. PROVED is the expected outcome with --unchanged.
 REJECTED = "rejected"
 GAVE_UP = "rejected by a search that gave up at a limit"
-APART = "rejected by its written proof alone"
+PROOF_ONLY = "rejected by its written proof alone"
 FAILED = "FAILED"
 PROVED = "proved, unchanged"
 # The maximum number of wrong bodies that are tried in one run of the prover.
@@ -89,12 +89,12 @@ pub {name}_spec : {{M : Type 1}} → statement M
 # The prover's message for a called function without a proof.
 UNPROVED = re.compile(r"a call of `(\w+)::([^`]+)`, which has no proof")
 # The beginnings of the prover's verdict on a proved function. (The proofs of functions that it calls may be holes.)
-WELL = ("proved", "no holes", "depends on a hole in")
+PROVED_VERDICTS = ("proved", "no holes", "depends on a hole in")
 # The clause that a line `why:` names as false.
 FALSE = re.compile(r"`(\w+)` is false")
 # The form of an edit file, its fields, and its changes.
 FORM = re.compile(r"why: .+\n(?:(?:file|fn|by): .+\n|old: .+\nnew:.*\n)+")
-SAID, CHANGE = re.compile(r"(?m)^(why|file|fn|by): (.*)$"), re.compile(r"(?m)^old: (.*)\nnew: ?(.*)$")
+FIELD, CHANGE = re.compile(r"(?m)^(why|file|fn|by): (.*)$"), re.compile(r"(?m)^old: (.*)\nnew: ?(.*)$")
 # Parts of the prover's messages. SEARCHED: a search found no proof for a goal of the function. ENSURED: the goal is
 # a clause of the contract. AT_LIMIT: the search was cut short.
 SEARCHED = re.compile(r"did not prove `|it is not proved that")
@@ -114,7 +114,7 @@ class WrongBody:
         self.is_for_kit = os.path.basename(os.path.dirname(file)) == KIT_TRIED
         # The function if a copy of it is changed, or None if it is changed in place; and the suffix of the copy's name.
         self.copied, self.suffix = None, f"_with_wrong_body_{number}"
-        fields, self.is_unchanged = dict(SAID.findall(text)), is_unchanged
+        fields, self.is_unchanged = dict(FIELD.findall(text)), is_unchanged
         self.changes = [(old, old if is_unchanged else new) for old, new in CHANGE.findall(text)]
         self.path, self.function, self.by = (fields.get(key, "") for key in ("file", "fn", "by"))
         # `named` is the clause that the edit names as false. `clause` is the same if the copy ensures only this
@@ -127,8 +127,8 @@ class WrongBody:
                 "it must be named *.edit, begin with `why:`, and have one `fn:`, a `file:`, and pairs of `old:` and"
                 " `new:`"
             )
-        if self.by and f"rejected by {self.by}" not in (GAVE_UP, APART):
-            self.why_not = f"`by: {self.by}` is none of the outcomes `{GAVE_UP}` and `{APART}`"
+        if self.by and f"rejected by {self.by}" not in (GAVE_UP, PROOF_ONLY):
+            self.why_not = f"`by: {self.by}` is none of the outcomes `{GAVE_UP}` and `{PROOF_ONLY}`"
         if not self.why_not and not os.path.isfile(f"{ROOT}/crates/{crate}/{self.path}"):
             self.why_not = f"the crate has no file {self.path}"
         # The changes: begin and end, as offsets in the file, and the new text.
@@ -323,7 +323,7 @@ class Trial:
         # If `rt ci` did not report the functions of the crate, a wrong body may call a function that is not known
         # to be proved. Such a function is then assumed to satisfy its contract. This cannot cause a rejection.
         self.proved += {name for crate, name in UNPROVED.findall(output) if crate == self.crate} - {*self.proved}
-        return [self.judged(body, output) for body in group]
+        return [self.verdict_on(body, output) for body in group]
 
     def check(self, directory, functions):
         """Lets the prover check these functions of the crate in this directory, and returns its output. (For a
@@ -334,15 +334,15 @@ class Trial:
             words += ["--allow-holes", "--incremental", results]
             return proved.rattle("check", self.crate, directory, *words).stdout
 
-    def judged(self, body, output):
+    def verdict_on(self, body, output):
         """Returns the verdict on a body. It depends on three parts of the prover's output: the line about the
         function, the notes above this line, and the errors in the function's written proof."""
         verdict_line = re.search(rf"(?m)^fn {re.escape(f'{self.crate}::{body.checked}')}: (.*)$", output)
         if not verdict_line or not re.search(r"(?m)^only=", output):
             return Verdict(body, FAILED, f"bad edit: it did not reach the prover: {proved.first_error(output)}")
         line, before = verdict_line[1], f"\nfn \n{output[:verdict_line.start()]}".rpartition("\nfn ")[2]
-        if line.startswith(WELL) or body.is_unchanged:
-            is_well = line.startswith(WELL) and body.is_unchanged
+        if line.startswith(PROVED_VERDICTS) or body.is_unchanged:
+            is_well = line.startswith(PROVED_VERDICTS) and body.is_unchanged
             return Verdict(body, PROVED if is_well else FAILED, f"the function is {line}")
         above = [note for note in re.findall(r"(?m)^note: .*", before) if SEARCHED.search(note)]
         proof = f"./proofs/{body.checked.replace('::', '/')}/"
@@ -362,7 +362,7 @@ class Trial:
         if is_searched:
             return Verdict(body, GAVE_UP, (above or [line])[0])
         if errors or line.startswith("not proved") and "it calls `" not in line:
-            return Verdict(body, APART, (errors or [line])[0])
+            return Verdict(body, PROOF_ONLY, (errors or [line])[0])
         return Verdict(body, FAILED, f"not rejected for a goal of the function itself: {line}")
 
 
@@ -429,15 +429,15 @@ def main(words):
     bodies = {crate: of_crate for crate in proved.crates() for of_crate in [bodies_of(crate, is_unchanged)] if of_crate}
     known = {name for crate in bodies for name in (crate, *(body.label for body in bodies[crate]))}
     wrong = wrong_numbers(bodies, names) + [f"no crate or edit is named {name}" for name in names if name not in known]
-    digests, done = tried_mutants.digests(bodies), tried_mutants.recorded()
+    digests, recorded_digests = tried_mutants.digests(bodies), tried_mutants.recorded()
     if "--record" in flags:
         here = tried_mutants.recorded(tried_mutants.TRIED_HERE)
-        done = {**done, **{crate: tried for crate, tried in here.items() if tried == digests.get(crate)}}
+        recorded_digests = {**recorded_digests, **{crate: tried for crate, tried in here.items() if tried == digests.get(crate)}}
     # The crates that need not be tried again.
     skipped = (
         set()
         if names or {"--all", "--unchanged"} & flags
-        else {crate for crate in bodies if done.get(crate) == digests[crate]}
+        else {crate for crate in bodies if recorded_digests.get(crate) == digests[crate]}
     )
     is_tried = (
         lambda crate, body: body.label in names
@@ -452,10 +452,10 @@ def main(words):
         print(verdict.text, flush=True)
         outcomes[verdict.body.crate][verdict.outcome] += 1
         well[verdict.body.crate] += verdict.is_well
-        if verdict.outcome in (GAVE_UP, APART) and not verdict.is_well:
+        if verdict.outcome in (GAVE_UP, PROOF_ONLY) and not verdict.is_well:
             wrong.append(f"{verdict.body.label} is {verdict.outcome}: change a smaller function instead")
     for crate, counted in outcomes.items():
-        kinds = (PROVED, FAILED) if is_unchanged else (REJECTED, GAVE_UP, APART, FAILED)
+        kinds = (PROVED, FAILED) if is_unchanged else (REJECTED, GAVE_UP, PROOF_ONLY, FAILED)
         print(f"{crate}: " + ", ".join(f"{counted[kind]} {kind}" for kind in kinds))
     for failure in wrong:
         print(f"FAILED: {failure}")

@@ -18,7 +18,7 @@ UPSTREAM_RECORD = base64.b64decode(UPSTREAM)
 UPSTREAM_TEXT = text_of(UPSTREAM_RECORD, b"minisign public key: E7620F1842B4E81F")
 
 # Another key, and a line of 58 characters.
-OTHER = b"RWRzq51bKcS8oJvZ4xEm+nRvGYPdsNRD3ciFPu1YJEL8Bl/3daWaj72r"
+OTHER_KEY = b"RWRzq51bKcS8oJvZ4xEm+nRvGYPdsNRD3ciFPu1YJEL8Bl/3daWaj72r"
 LONGER = b"RWQt7oYqpar/yePp+nonossdnononovlOSkkckMMfvHuGc+0+oShmJyN5Y"
 
 KEY_A = public_key(RECORD)
@@ -69,9 +69,9 @@ ROWS = [
     *rows("bare key", "pk_from_base64",
           ("key A", LINE, KEY_A),
           ("a line of the upstream tool", UPSTREAM, public_key(UPSTREAM_RECORD)),
-          ("another key", OTHER, public_key(base64.b64decode(OTHER))),
-          ("a space before the key", b" " + OTHER, BARE_NOT_BASE64),
-          ("a line feed after the key", OTHER + b"\n", BARE_NOT_BASE64),
+          ("another key", OTHER_KEY, public_key(base64.b64decode(OTHER_KEY))),
+          ("a space before the key", b" " + OTHER_KEY, BARE_NOT_BASE64),
+          ("a line feed after the key", OTHER_KEY + b"\n", BARE_NOT_BASE64),
           ("58 letters", LONGER, "BarePublicKeyLength"),
           ("an empty text", b"", "BarePublicKeyLength"),
           ("a shorter key with padding", LINE[:54] + b"o=", TOO_SHORT),

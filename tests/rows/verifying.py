@@ -59,7 +59,7 @@ def verification_cases(name, outcome, signature=PREHASHED_TEXT, content=b"abc", 
     copied = second if second is not None and goes_back else content
     for chunk in chunks:
         source = data(front + content, pos=len(front) or None, second=second, chunk=chunk, fail=fail)
-        asked = encode_request(request, key, bones(signature) if is_bare else signature, source, quiet, output, legacy)
+        encoded = encode_request(request, key, bones(signature) if is_bare else signature, source, quiet, output, legacy)
         reads = reads_of(len(content), chunk)
         both = reads + (reads_of(len(copied), chunk) if goes_back else 0)
         if outcome == "ReadingFailed" and fail <= reads:
@@ -75,7 +75,7 @@ def verification_cases(name, outcome, signature=PREHASHED_TEXT, content=b"abc", 
             answer = rejected("DataChanged", **effects) if outcome else response(**effects)
         else:
             answer = rejected(outcome)
-        yield Row(name_with_read_size(name, chunk), asked, answer)
+        yield Row(name_with_read_size(name, chunk), encoded, answer)
 
 
 def with_changed_comment_signature(record):

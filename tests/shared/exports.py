@@ -85,9 +85,14 @@ def wrong_declarations():
     """Returns a line for each function whose declaration differs from its export, or that is only declared or only
     exported."""
     exports = exported()
-    headers = c_header.every()
-    declared = {call.name: ([boundary.plain_parameter(parameter) for parameter in headers.taken(call)], boundary.plain(call.answer))
-                for call in boundary.proved_calls(headers)}
+    headers = c_header.all_headers()
+    declared = {
+        call.name: (
+            [boundary.plain_parameter(parameter) for parameter in headers.flat_parameters(call)],
+            boundary.plain(call.answer),
+        )
+        for call in boundary.proved_calls(headers)
+    }
     return [f"{name}: the header declares {declared.get(name)}, and minisign_c exports {exports.get(name)}"
             for name in sorted({*declared, *exports}) if declared.get(name) != exports.get(name)]
 
@@ -106,7 +111,7 @@ def ctypes_type(kind, structs, lengths):
 
 def write_layout(directory):
     """Writes a C file with assertions about the layout of each struct of the headers, and returns the path of the file."""
-    structs, lengths, lines, headers = {}, {}, [FILE_HEAD], c_header.every()
+    structs, lengths, lines, headers = {}, {}, [FILE_HEAD], c_header.all_headers()
     for file in sources.files_below(os.path.join(sources.ROOT, "crates"), ".rt"):
         text = sources.read(file)
         lengths.update(re.findall(r"const (\w+): usize = (\d+);", text))

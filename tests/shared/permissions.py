@@ -98,7 +98,7 @@ INHERITED = f"u:{OTHER_USER}:rwx,g:{OTHER_GROUP}:rwx"
 
 # The titles and `Replacement`s for every program. If the new file cannot have the old file's group, its group and
 # all other users may do no more than the old group was allowed to.
-KEPT = [
+REPLACEMENTS = [
     ("mode 0755 is kept", Replacement(0o755, 0o755)),
     ("mode 0705 is kept", Replacement(0o705, 0o705)),
     ("the set-user-ID bit is cleared", Replacement(0o4755, 0o755)),
@@ -149,7 +149,7 @@ WITHOUT_PROC = [
 ]
 
 # The cases for a program with an option for the mode. The new file has the requested mode and no ACL. If the old
-# group cannot be kept, the permissions that KEPT forbids are removed from the mode.
+# group cannot be kept, the permissions that REPLACEMENTS forbids are removed from the mode.
 REQUESTED = [
     ("a requested mode is set", Replacement(0o700, 0o775, requested="775")),
     (

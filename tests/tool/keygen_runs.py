@@ -14,11 +14,11 @@ DIFFERENT = "error: passwords don't match!\n"
 RANDOM_FAILED = "error: random source failed\n"
 
 PURPOSE = b"Please enter a password to protect the secret key.\n"
-ONCE = PURPOSE + b"Password: "
-TWICE = ONCE + b"Password (one more time): "
-TOLD = b"Deriving a key from the password in order to encrypt the secret key... done\n"
-MADE = TWICE + TOLD
-EMPTY = PURPOSE + b"Password: <empty>\nPassword (one more time): <empty>\n" + TOLD
+FIRST_PROMPT = PURPOSE + b"Password: "
+BOTH_PROMPTS = FIRST_PROMPT + b"Password (one more time): "
+DERIVING = b"Deriving a key from the password in order to encrypt the secret key... done\n"
+GENERATED_OUTPUT = BOTH_PROMPTS + DERIVING
+EMPTY = PURPOSE + b"Password: <empty>\nPassword (one more time): <empty>\n" + DERIVING
 
 PK, SK = "key.pk", "key.sk"
 FULL_DEVICE = "/dev/full"
@@ -79,12 +79,20 @@ def check_pair(password, public_text, secret_text):
     MADE_BEFORE.add(key.keynum)
 
 
-def keygen(name, *lines, typed=b"p\np\n", output=MADE, check_directory=ExpectedFiles({}), arguments=(PK, SK), **changes):
+def keygen(
+    name,
+    *lines,
+    typed=b"p\np\n",
+    output=GENERATED_OUTPUT,
+    check_directory=ExpectedFiles({}),
+    arguments=(PK, SK),
+    **changes,
+):
     """Returns a case of `keygen`. By default `p` is typed twice and no file is left."""
     return command_case(name, ["keygen", *arguments], lines, stdin=typed, output=output, check_directory=check_directory, **changes)
 
 
-def made(name, password=b"p", lines=(), **changes):
+def generated(name, password=b"p", lines=(), **changes):
     """Returns a case in which a pair is generated. By default the password is typed twice."""
     return keygen(name, *lines, **{"typed": (password + b"\n") * 2, "check_directory": pair(password), **changes})
 
@@ -104,7 +112,7 @@ NO_PASSWORD = [
     ("an input that cannot be read", WRITE_ONLY, READING_FAILED),
     ("a directory as input", DIRECTORY, READING_FAILED),
 ]
-DIFFER, TO_OLDER = {"typed": b"a\nb\n", "output": TWICE}, {"files": OLDER, "check_directory": ExpectedFiles(OLDER)}
+DIFFER, TO_OLDER = {"typed": b"a\nb\n", "output": BOTH_PROMPTS}, {"files": OLDER, "check_directory": ExpectedFiles(OLDER)}
 AT_TERMINAL = TypedInput((b"p\n", b"p\n"))
 
 LONGER, OLDER_FILE, READABLE = b"older\n" * 200, WithMode(b"older", 0o604), WithMode(b"older", 0o644)
@@ -119,24 +127,24 @@ INTO_PIPES = {"random_and_time": RandomAndTime(), "check_directory": None}
 WITH_STREAMS = [
     keygen(f"stdin {typed}, stdout {stdout}", line, typed=typed, output=output, stdout=stdout, **TO_OLDER)
     for typed, stdout, line, output in (
-        (CLOSED, None, READING_FAILED, ONCE), (CLOSED, CLOSED, WRITING_FAILED, b""),
+        (CLOSED, None, READING_FAILED, FIRST_PROMPT), (CLOSED, CLOSED, WRITING_FAILED, b""),
         (b"p\np\n", CLOSED, WRITING_FAILED, b""), (b"p\np\n", FULL, WRITING_FAILED, b""))
 ]
 
 CASES = [
-    made("a password"),
-    made("an empty password", b"", output=EMPTY),
-    made("the longest password", LONGEST),
-    made("the longest password without the last line feed", LONGEST, typed=LONGEST + b"\n" + LONGEST),
-    made("lines that end with carriage return and line feed", typed=b"p\r\np\r\n"),
-    made("the longest password before carriage return and line feed", LONGEST, typed=(LONGEST + b"\r\n") * 2),
-    made("a carriage return before the end of the input", b"\r", typed=b"\r\r\n\r"),
-    made("characters of several bytes", "\u00e4\U0001f511 \u0000".encode()),
-    made("spaces at both ends", b" p "),
-    made("input byte by byte", typed=Pieces((b"p", b"\n", b"p", b"\n"))),
-    made("input from a file", typed=FromFile(b"p\np\nnever read")),
-    *(keygen(name, line, typed=typed, output=ONCE) for name, typed, line in NO_PASSWORD),
-    *(keygen(name, line, typed=typed, output=TWICE) for name, typed, line in (
+    generated("a password"),
+    generated("an empty password", b"", output=EMPTY),
+    generated("the longest password", LONGEST),
+    generated("the longest password without the last line feed", LONGEST, typed=LONGEST + b"\n" + LONGEST),
+    generated("lines that end with carriage return and line feed", typed=b"p\r\np\r\n"),
+    generated("the longest password before carriage return and line feed", LONGEST, typed=(LONGEST + b"\r\n") * 2),
+    generated("a carriage return before the end of the input", b"\r", typed=b"\r\r\n\r"),
+    generated("characters of several bytes", "\u00e4\U0001f511 \u0000".encode()),
+    generated("spaces at both ends", b" p "),
+    generated("input byte by byte", typed=Pieces((b"p", b"\n", b"p", b"\n"))),
+    generated("input from a file", typed=FromFile(b"p\np\nnever read")),
+    *(keygen(name, line, typed=typed, output=FIRST_PROMPT) for name, typed, line in NO_PASSWORD),
+    *(keygen(name, line, typed=typed, output=BOTH_PROMPTS) for name, typed, line in (
         ("two passwords that differ", b"a\nb\n", DIFFERENT),
         ("two passwords that differ at a terminal", TypedInput((b"a\n", b"b\n")), DIFFERENT),
         ("passwords that differ by a space", b"a\na \n", DIFFERENT),
@@ -144,11 +152,11 @@ CASES = [
         ("end of input after the first password at a terminal", TypedInput((b"a\n", b"\x04")), END_OF_INPUT),
         ("a second password that is too long", b"a\n" + TOO_MUCH + b"\n", TOO_LONG),
         ("a second password that is not UTF-8", b"a\n\xc3\n", NOT_UTF8))),
-    keygen("a password and an empty password", DIFFERENT, typed=b"a\n\n", output=TWICE + b"<empty>\n"),
+    keygen("a password and an empty password", DIFFERENT, typed=b"a\n\n", output=BOTH_PROMPTS + b"<empty>\n"),
     keygen("two passwords that differ, and files that exist", DIFFERENT, **DIFFER, **TO_OLDER),
     # Known random bytes determine both files. If there are too few, nothing is asked.
     *(
-        made(
+        generated(
             f"{random} random bytes, which count up",
             random_and_time=RandomAndTime(random_bytes=random),
             check_directory=ExpectedFiles({PK: COUNTED_PUBLIC, SK: COUNTED_SECRET}),
@@ -167,15 +175,21 @@ CASES = [
     ),
     # At a terminal, each line is typed when the program asks for it, and not echoed unless a case says so. Control-D
     # ends the input.
-    made("at a terminal", typed=AT_TERMINAL),
-    made("at a terminal that shows what is typed", typed=TypedInput((b"p\n", b"p\n"), shows=True),
-         output=b"".join(part.replace(b"\n", b"\r\n") for part in (ONCE, b"p\n", TWICE[len(ONCE):], b"p\n", TOLD))),
-    made("an empty password at a terminal", b"", typed=TypedInput((b"\n", b"\n")), output=EMPTY),
-    made("the longest password at a terminal", LONGEST, typed=TypedInput((LONGEST + b"\n",) * 2)),
-    made("the last line without a line feed at a terminal", b"p", typed=TypedInput((b"p\n", b"p\x04\x04"))),
+    generated("at a terminal", typed=AT_TERMINAL),
+    generated(
+        "at a terminal that shows what is typed",
+        typed=TypedInput((b"p\n", b"p\n"), shows=True),
+        output=b"".join(
+            part.replace(b"\n", b"\r\n")
+            for part in (FIRST_PROMPT, b"p\n", BOTH_PROMPTS[len(FIRST_PROMPT) :], b"p\n", DERIVING)
+        ),
+    ),
+    generated("an empty password at a terminal", b"", typed=TypedInput((b"\n", b"\n")), output=EMPTY),
+    generated("the longest password at a terminal", LONGEST, typed=TypedInput((LONGEST + b"\n",) * 2)),
+    generated("the last line without a line feed at a terminal", b"p", typed=TypedInput((b"p\n", b"p\x04\x04"))),
     # Existing files are replaced and keep their modes, except for permissions that the group has and all others do not. Links are
     # followed: the target is replaced, and the link is unchanged.
-    *(made(name, files=files, check_directory=pair(b"p", *modes)) for name, files, *modes in (
+    *(generated(name, files=files, check_directory=pair(b"p", *modes)) for name, files, *modes in (
         ("files that exist", {PK: LONGER, SK: LONGER}, 0o644, 0o644),
         ("a public file that exists", {PK: b""}, 0o644, 0o600),
         ("a secret file that exists", {SK: LONGER}, 0o644, 0o644),
@@ -190,10 +204,10 @@ CASES = [
         ("files with access control lists",
          {PK: WithMode(LONGER, 0o644, "g::---,u:65534:rw"), SK: WithMode(LONGER, 0o600, "u:65534:rw")}, 0o644, 0o600),
         ("files that exist and can only be written", {PK: WithMode(LONGER, 0o200), SK: WithMode(LONGER, 0o200)}, 0o200, 0o200))),
-    made("a umask without permission to write", umask=0o222, check_directory=pair(b"p", 0o444, 0o400)),
-    made("paths that begin with ./", arguments=("./" + PK, "././" + SK)),
+    generated("a umask without permission to write", umask=0o222, check_directory=pair(b"p", 0o444, 0o400)),
+    generated("paths that begin with ./", arguments=("./" + PK, "././" + SK)),
     *(
-        made(
+        generated(
             name,
             files={"kept": DIRECTORY, **files, **links},
             check_directory=pair(b"p", *modes, ("kept/public", "kept/secret"), links),
@@ -207,7 +221,7 @@ CASES = [
     ),
     # If both paths lead to the same file, it is the secret key in the end, and only its owner may read it, whatever the
     # mode of the old file. If the paths are two hard links of a file, each becomes a separate file.
-    *(made(f"{name}, and a umask of {umask:o}", arguments=arguments, files=files, umask=umask,
+    *(generated(f"{name}, and a umask of {umask:o}", arguments=arguments, files=files, umask=umask,
            check_directory=one_file(shared, files) if shared else pair(b"p", 0o644 if files else 0o666 & ~umask, 0o600))
       for umask in (0o000, 0o022, 0o077)
       for name, arguments, shared, files in (
@@ -255,8 +269,8 @@ CASES = [
         )
     ),
     # Named pipes are written directly, the public key's first. The first failed write ends the run; a failed message has no effect.
-    made("keys into pipes", files={**PUBLIC_PIPE, **SECRET_PIPE}, **INTO_PIPES),
-    made("keys into pipes, stderr takes five bytes", lines=["warni"], files={**PUBLIC_PIPE, **SECRET_PIPE}, typed=AT_TERMINAL,
+    generated("keys into pipes", files={**PUBLIC_PIPE, **SECRET_PIPE}, **INTO_PIPES),
+    generated("keys into pipes, stderr takes five bytes", lines=["warni"], files={**PUBLIC_PIPE, **SECRET_PIPE}, typed=AT_TERMINAL,
          stderr=SizeLimit(5), **INTO_PIPES),
     keygen("no room for the public key, and the secret key into a pipe", WRITING_FAILED,
            files=EMPTY_PIPE, arguments=(FULL_DEVICE, SK), **INTO_PIPES),
@@ -270,7 +284,7 @@ CASES = [
     *without_stderr(
         [
             *WITH_STREAMS,
-            made("a password"),
+            generated("a password"),
             keygen("two passwords that differ", DIFFERENT, **DIFFER, **TO_OLDER),
             keygen(
                 "no room for the secret key",
@@ -283,5 +297,5 @@ CASES = [
     ),
     # Each allocation fails. If it is for the files of a generated pair, the error is a failed write. No file is touched.
     *out_of_memory(OneOf(([WARNING, OUT_OF_MEMORY], [WARNING, WRITING_FAILED])),
-              ("a pair", keygen("", OUT_OF_MEMORY, output=PrefixOf(MADE), **TO_OLDER))),
+              ("a pair", keygen("", OUT_OF_MEMORY, output=PrefixOf(GENERATED_OUTPUT), **TO_OLDER))),
 ]

@@ -7,7 +7,7 @@ import time
 from dataclasses import replace
 
 import toy
-from keygen_runs import FULL_DEVICE, LONGEST, MADE, NO_PASSWORD, PK, RANDOM_FAILED
+from keygen_runs import FULL_DEVICE, LONGEST, GENERATED_OUTPUT, NO_PASSWORD, PK, RANDOM_FAILED
 from running import (CLOSED, DIRECTORY, FULL, MISSING, READ_ONLY_DIRECTORY, WRITE_ONLY, Case, FromFile, HardLink,
                      InputPipe, OneOf, Pieces, PrefixOf, RandomAndTime, SizeLimit, ToFile, TypedInput, WithMode,
                      expect)
@@ -18,10 +18,10 @@ from verify_runs import LARGE, LENGTHS, REJECTED, TEXT_NOT_UTF8, VERIFIED_RAW
 WRONG_PASSWORD = "error: Wrong password for that key\n"
 CLOCK_INCORRECT = "error: system clock is incorrect\n"
 
-ASKED = b"Password: "
+PROMPT = b"Password: "
 DERIVING = b"Deriving a key from the password and decrypting the secret key... "
-OPENED = ASKED + DERIVING + b"done\n"
-OPENED_EMPTY = ASKED + b"<empty>\n" + DERIVING + b"done\n"
+OPENED = PROMPT + DERIVING + b"done\n"
+OPENED_EMPTY = PROMPT + b"<empty>\n" + DERIVING + b"done\n"
 
 SK, FILE, SIG = "key.sk", "data", "data.minisig"
 OPEN_KEY = toy.secret_text()
@@ -71,13 +71,13 @@ OVER_OLDER = {"files": {SIG: b"older"}, "check_directory": leaves_signature(b"ol
 
 def sign(name, *lines, files=None, arguments=(SK, FILE, SIG), **changes):
     """Returns a case of `sign`, by default with an unencrypted key and the data `abc`. If it fails, no signature may be left."""
-    left = leaves_signature() if lines and lines[-1].startswith("error: ") else signed()
+    expected = leaves_signature() if lines and lines[-1].startswith("error: ") else signed()
     return command_case(
         name,
         ["sign", *arguments],
         lines,
         files={SK: OPEN_KEY, FILE: b"abc", **(files or {})},
-        **{"check_directory": left, **changes},
+        **{"check_directory": expected, **changes},
     )
 
 
@@ -153,7 +153,7 @@ WITH_STREAMS = [
             **OVER_OLDER,
         )
         for typed, stdout, line, output in (
-            (CLOSED, None, READING_FAILED, ASKED),
+            (CLOSED, None, READING_FAILED, PROMPT),
             (CLOSED, CLOSED, WRITING_FAILED, b""),
             (b"p\n", CLOSED, WRITING_FAILED, b""),
             (b"p\n", FULL, WRITING_FAILED, b""),
@@ -170,7 +170,7 @@ WHOLE_WAY = Case(
     0,
     [WARNING],
     stdin=b"p\np\n",
-    output=MADE,
+    output=GENERATED_OUTPUT,
     random_and_time=RandomAndTime(),
     next_steps=(
         Case("", SIGNING, 0, [WARNING], files={FILE: b"abc"}, stdin=b"p\n", output=OPENED),
@@ -204,7 +204,7 @@ CASES = [
     sealed("a wrong password at a terminal", WRONG_PASSWORD, typed=TypedInput((b"q\n",))),
     sealed("an empty password for a key with a password", WRONG_PASSWORD, typed=b"\n", output=OPENED_EMPTY),
     sealed("a wrong password, and a signature that exists", WRONG_PASSWORD, typed=b"q\n", **OVER_OLDER),
-    *(sealed(name, line, typed=typed, output=ASKED) for name, typed, line in NO_PASSWORD),
+    *(sealed(name, line, typed=typed, output=PROMPT) for name, typed, line in NO_PASSWORD),
     sign("an unencrypted key, and an input that cannot be read", stdin=WRITE_ONLY),
     *ORDER,
     *(
@@ -221,9 +221,9 @@ CASES = [
       for what, held in (("no signature", MISSING), ("a signature that exists", b"older"))),
     sign("lines that end with carriage return and line feed", files={SK: OPEN_KEY.replace(b"\n", b"\r\n")}),
     sealed("a key whose derivation takes too much memory", "error: scrypt parameters too high\n",
-           key=toy.secret_text(toy.KEY_A.record(b"Sc", toy.Limits((1 << 30) + 1))), output=ASKED + DERIVING),
+           key=toy.secret_text(toy.KEY_A.record(b"Sc", toy.Limits((1 << 30) + 1))), output=PROMPT + DERIVING),
     sealed("a key whose derivation has no parts, because the low 32 bits are zero", "error: invalid scrypt parameters\n",
-           key=toy.secret_text(toy.KEY_A.record(b"Sc", toy.Limits(0, 1 << 40))), output=ASKED + DERIVING),
+           key=toy.secret_text(toy.KEY_A.record(b"Sc", toy.Limits(0, 1 << 40))), output=PROMPT + DERIVING),
     # Known random bytes and a known time determine the whole file. There may be too few random bytes, or a time before 1970.
     *(
         make(

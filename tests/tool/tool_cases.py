@@ -76,18 +76,18 @@ class ExpectedFiles:
         self.files, self.modes, self.optional, self.check = files, modes or {}, {*optional}, check
 
     def __call__(self, directory):
-        left = files_in(directory)
+        files_after = files_in(directory)
         # Only empty directories count; others are named by their files.
-        names = {*left} - {os.path.dirname(name) for name in left}
+        names = {*files_after} - {os.path.dirname(name) for name in files_after}
         expect({*self.files} - self.optional <= names <= {*self.files} | self.optional,
                f"the run left {sorted(names)}, expected {sorted(self.files)}")
         for name, mode in self.modes.items():
-            expect(left[name][0] == mode, f"{name} has the mode {left[name][0]:o}, expected {mode:o}")
+            expect(files_after[name][0] == mode, f"{name} has the mode {files_after[name][0]:o}, expected {mode:o}")
         for name, expected in self.files.items():
-            content = left[name][1]
+            content = files_after[name][1]
             if callable(expected) and isinstance(content, bytes):
                 expected(content)
             elif expected not in (DIRECTORY, READ_ONLY_DIRECTORY):
                 expect(content == expected, f"{name} contains {content!r:.200}, expected {expected!r:.200}")
         if self.check:
-            self.check(left)
+            self.check(files_after)

@@ -108,7 +108,7 @@ VERDICTS = [
 # The cases for both commands. `in_order` combines faults, of which the first one has to be reported. The files are
 # opened in the order of the arguments, and nothing is read before all are open. Then the key is read, then the
 # signature, then both are checked, and then the data is read.
-BOTH = [
+VERIFY_AND_CAT = [
     *(verify(name, line, files=files) for name, files, line in VERDICTS),
     *in_order(
         verify,
@@ -148,7 +148,7 @@ def failing_allocations(make, *more_lines):
 
 
 VERIFY = [
-    *BOTH,
+    *VERIFY_AND_CAT,
     verify("data from a pipe", VERIFIED, files={FILE: InputPipe(b"abc")}),
     verify("large data from a pipe", VERIFIED, files={FILE: InputPipe(LARGE), SIG: toy.signature_text(LARGE)}),
     verify("other data from a pipe", REJECTED, files={FILE: InputPipe(b"abd")}),
@@ -178,7 +178,7 @@ def write_at(path, at, data):
 
 
 CAT = [
-    *map(as_cat, BOTH),
+    *map(as_cat, VERIFY_AND_CAT),
     cat("data from a pipe", GOING_BACK_FAILED, files={FILE: InputPipe(b"abc")}),
     cat("data from a pipe before another key ID", GOING_BACK_FAILED, files={PK: OTHER_KEY, FILE: InputPipe(b"abc")}),
     cat("an empty signature before data from a pipe", NO_SIGNATURE, files={SIG: b"", FILE: InputPipe(b"abc")}),

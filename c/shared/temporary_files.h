@@ -12,8 +12,8 @@
  *   kill in between leaves the file with both names;
  * - two names cannot be exchanged.
  */
-#ifndef STAGES_H
-#define STAGES_H
+#ifndef TEMPORARY_FILES_H
+#define TEMPORARY_FILES_H
 
 #include "system.h"
 

@@ -2,7 +2,7 @@
 /* Creates, links, renames and syncs temporary files, with calls of Linux or only with calls of POSIX. */
 #define _GNU_SOURCE
 
-#include "stages.h"
+#include "temporary_files.h"
 
 #include <dirent.h>
 
