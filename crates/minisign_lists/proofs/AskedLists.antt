@@ -105,7 +105,8 @@ pub comment_held : (s : SignatureValue) (c message : List ℕ) → length c ≡ 
     → take s.comment_len (drop 64 message) ≡ c
 comment_held s c message len fits whole =
     let signature : List ℕ = s.signature in
-    let taken : length (take (64 + length c) message) ≡ 64 + length c = length-take-le (64 + length c) message fits in
+    let taken : length (take (64 + length c) message) ≡ 64 + length c =
+    length-take-le (64 + length c) message fits in
     let both : length (take (64 + length c) message) ≡ length signature + length c =
     ap length whole ∙ length-append signature c in
     let size : length signature ≡ 64 = omega (arith, taken, both) in

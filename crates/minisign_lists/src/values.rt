@@ -297,7 +297,8 @@ impl ListValue {
         // about, the questions are those about the key and the signature, with the digest of the list, and
         // the message is the data signature followed by the trusted comment.
         ensures list { result ≡ Ok true → (c : List ℕ) → comment_of signature.now sig_text.now ≡ Ok c
-            → self.new ≡ asked_list key.now signature.now (option_map (λ n. n.now) list_name.entry) text.now c }
+            → self.new ≡ asked_list key.now signature.now (option_map (λ n. n.now) list_name.entry)
+            text.now c }
         ensures questions { result ≡ Ok true → questions.new ≡ record (questions_about key.now signature.now)
             { digest = blake2b_digest 64 text.now } }
         ensures message { result ≡ Ok true → HoldsCommentMessage signature.now sig_text.now message.new }
@@ -829,8 +830,8 @@ impl FileValue {
 
     /// Feeds the next piece of the data.
     pub fn update(&mut self, piece: &[u8]) -> std::result::Result<(), Misuse>
-        // On success, the piece is appended to the data that the state was fed, and the reserved fields are 0.
-        // The call fails only if no check was begun; then the state is unchanged.
+        // On success, the piece is appended to the data that the state was fed, and the reserved fields are
+        // 0. The call fails only if no check was begun; then the state is unchanged.
         ensures fed { (d : ListedDigest) (m : List ℕ) → IsFedValue self.old d m
             → MatchResult result (λ _. IsFedValue self.new d (m ++ piece.now)) (λ _. ⊥) }
         ensures reserved { OnOk result (self.new.reserved ≡ replicate 4 0) }
