@@ -206,6 +206,13 @@ pub extern "C" fn page_ask(
         key.now t × HasAsked state.new key.now sig_text.now (allow_legacy == 1) }
     ensures fed { (m : List ℕ) → IsFedState state.old m → IsFedState state.new m }
 
+    // On success, whatever the signature was read from: the state only records that it was asked about this
+    // signature, the questions are those about the key and the signature, and the message is the data
+    // signature followed by the trusted comment.
+    ensures state { result ≡ 0 → state.new ≡ asked_about state.old signature.now }
+    ensures questions { result ≡ 0 → questions.new ≡ questions_about key.now signature.now }
+    ensures message { result ≡ 0 → HoldsCommentMessage signature.now sig_text.now message.new }
+
     // On success, if the signature was read from this text, neither the key nor a signature in the text is
     // weak. The comment signature is only tested if it has at least 64 bytes.
     ensures strict { result ≡ 0 → (t : SignatureTextRecord) → IsReadFrom signature.now sig_text.now t
@@ -309,6 +316,15 @@ pub extern "C" fn page_list_ask(
         × AreListQuestions questions.new message.new key.now t text.now
         × (list.new ≡ asked_list key.now signature.now (Some list_name.now) text.now t.comments.trusted) }
 
+    // On success, whatever the signature was read from: `list` records what it was asked about, the questions
+    // are those about the key and the signature, with the digest of the list, and the message is the data
+    // signature followed by the trusted comment.
+    ensures list { result ≡ 0 → (c : List ℕ) → comment_of signature.now sig_text.now ≡ Ok c
+        → list.new ≡ asked_list key.now signature.now (Some list_name.now) text.now c }
+    ensures questions { result ≡ 0 → questions.new ≡ record (questions_about key.now signature.now)
+        { digest = blake2b_digest 64 text.now } }
+    ensures message { result ≡ 0 → HoldsCommentMessage signature.now sig_text.now message.new }
+
     // On success, if the signature was read from this text, neither the key nor a signature in the text is
     // weak. The comment signature is only tested if it has at least 64 bytes.
     ensures strict { result ≡ 0 → (t : SignatureTextRecord) → IsReadFrom signature.now sig_text.now t
@@ -353,6 +369,11 @@ pub extern "C" fn page_list_ask_any(
         → (read_under key.now false sig_text.now ≡ Ok t)
         × AreListQuestions questions.new message.new key.now t text.now
         × (list.new ≡ asked_list key.now signature.now None text.now t.comments.trusted) }
+    ensures list { result ≡ 0 → (c : List ℕ) → comment_of signature.now sig_text.now ≡ Ok c
+        → list.new ≡ asked_list key.now signature.now None text.now c }
+    ensures questions { result ≡ 0 → questions.new ≡ record (questions_about key.now signature.now)
+        { digest = blake2b_digest 64 text.now } }
+    ensures message { result ≡ 0 → HoldsCommentMessage signature.now sig_text.now message.new }
     ensures strict { result ≡ 0 → (t : SignatureTextRecord) → IsReadFrom signature.now sig_text.now t
         → is_strict_text key.now t ≡ true }
     ensures rest_unchanged { result ≡ 0 → drop questions.new.message_len message.new
