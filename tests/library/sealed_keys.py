@@ -26,7 +26,7 @@ SALT = bytes(range(0x20, 0x40))
 # scrypt needs 1 GiB.
 ENCRYPTED_KEYS = {
     "SEALED": (b"password", SMALL_LIMITS),
-    "SEALED_WITH_NOTHING": (b"", SMALL_LIMITS),
+    "SEALED_WITH_EMPTY_PASSWORD": (b"", SMALL_LIMITS),
     "SEALED_AS_USUAL": (b"password", USUAL_LIMITS),
     "SEALED_AS_MINISIGN": (b"password", Limits(1073741824, 33554432, 1048576, 1)),
 }
