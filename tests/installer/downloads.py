@@ -37,8 +37,9 @@ DATA = "/app"
 
 
 class Server(http.server.ThreadingHTTPServer):
-    """Serves the files in the subdirectory `url` of a `Directory`. `responses` has methods of `Handler` that answer requests for
-    particular paths differently. Counts the bytes `sent`. `is_over` is set when the handlers must return."""
+    """Serves the files in the subdirectory `url` of a `Directory`. `responses` has methods of `Handler` that answer
+    requests for particular paths differently. `sent` is the number of bytes that the handlers have begun to send.
+    `is_over` is set when the handlers must return."""
 
     daemon_threads = True
 
@@ -76,8 +77,9 @@ class Handler(http.server.BaseHTTPRequestHandler):
         self.close_connection = True
 
     def send(self, data):
-        self.wfile.write(data)
+        # The client may have received a part of the data, and have closed the connection, before `write` returns.
         self.server.sent += len(data)
+        self.wfile.write(data)
 
     def send_file(self, content):
         self.send_head(Content_Length=len(content))
