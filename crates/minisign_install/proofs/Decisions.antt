@@ -57,7 +57,7 @@ is_a_number : (text : List ℕ) (n : ℕ) → IsNumberText text n → is_number 
 is_a_number [] n is = absurd (omega (arith, is.numeral.0))
 is_a_number (c ∷ text) n is =
     rw (all_digits (c ∷ text) is.numeral.1) (lt-ltb (digits_value 10 (c ∷ text)) (2 ^ 64) (omega
-    (arith, is.is, is.bound)))
+    (arith, is.value_is, is.bound)))
 
 picked : {A : Type 0} (b : Bool) (x y : A) → (if b then Some x else None) ≡ Some y → (b ≡ true) × (x ≡ y)
 picked true x y is = (refl, same_Some x y is)

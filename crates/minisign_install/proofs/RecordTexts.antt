@@ -61,7 +61,7 @@ length_digest m = refl
 
 pub same_number : (numbering : Numbering) (bytes : List ℕ) (n m : ℕ) → IsNumberFor numbering bytes n
     → IsNumberFor numbering bytes m → n ≡ m
-same_number numbering bytes n m a b = sym a.number.is ∙ b.number.is
+same_number numbering bytes n m a b = sym a.number.value_is ∙ b.number.value_is
 
 label_short : (numbering : Numbering) → length (number_label numbering) ≤ 10
 label_short Timestamp = omega arith
