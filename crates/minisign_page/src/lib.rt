@@ -18,6 +18,8 @@ ghost use Rattle.minisign_external.specs.Numbers.{WritesCut, fault_number, misus
 ghost use Rattle.minisign_external.specs.Numbers.{refusal_number};
 ghost use Rattle.minisign_external.specs.PublicKeys.{read_utf8, key_outcome_number};
 ghost use Rattle.minisign_external.specs.Signatures.{IsReadFrom, read_signature_value, signature_outcome};
+ghost use Rattle.minisign_external.specs.Signatures.{comment_of};
+ghost use Rattle.minisign_external.specs.States.{HoldsCommentMessage, asked_about, questions_about};
 ghost use Rattle.minisign_external.specs.States.{AreQuestionsWithoutDigest, GivesNumber, HasAsked};
 ghost use Rattle.minisign_external.specs.States.{HasReturnedDigest};
 ghost use Rattle.minisign_external.specs.States.{IsAnswered};
