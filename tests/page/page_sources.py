@@ -15,9 +15,10 @@ PROOF = "proved as built for 64-bit WebAssembly"
 
 
 def check_contracts(checks):
-    """Checks that each export of the page has the signature and clauses of the one for C, word for word, except the
-    definition of error numbers: the library for C also has the errors of installing. The calls that hash are only in
-    the page."""
+    """Checks that each function page_NAME that the page's module exports has the same contract as the function
+    minisign_NAME of the library for C: the same parameters, result and clauses, word for word. Only the definition that
+    gives error numbers their meaning has another name, because the library for C also has the errors of installing. The
+    functions that compute SHA-256 and SHA-512 digests are only in the page."""
     texts = {}
     for crate, prefix in (("minisign_page", "page_"), ("minisign_c", "minisign_")):
         source = build.read(f"crates/{crate}/src/lib.rt")
@@ -33,6 +34,7 @@ def check_contracts(checks):
         if name in names:
             checks.check(name not in texts["minisign_c"], f"minisign_{name} is in minisign_c too")
             continue
+        # The definitions of the meaning of error numbers.
         for_c = text.replace("IsListMeaning", "IsCallMeaning")
         checks.check(for_c == texts["minisign_c"].get(name),
                      f"page_{name} has another contract than minisign_{name}: {for_c}, and {texts['minisign_c'].get(name)}")
@@ -69,23 +71,23 @@ def check_digests(checks, path):
     """Checks that the page shows the digest of tools/sources.sh and says that it is proved, if dist/PROVED has this
     digest and that of the page's module. With another module, or other sources, it shows no digest and does not say
     that it is proved."""
-    module, by = build.taken_from(path)
+    module, lowered_by = build.taken_from(path)
     ours, digest = run_with_stderr(["sh", "tools/sources.sh", "page"], build.TOP)[1].strip(), hashlib.sha256(module).hexdigest()
-    page = build.page(module, by, sums=(digest, ours))
+    page = build.page(module, lowered_by, sums=(digest, ours))
     checks.check(
         digests_on(page) == [ours] and PROOF in page,
         f"the proved module and sources: the page shows {digests_on(page)}, expected {[ours]} and `{PROOF}`: {PROOF in page}",
     )
-    for sources, *sums in (
+    for other_module, *sums in (
         (module + b"\0", digest, ours),
         (module, "0" * 64, ours),
         (module, digest, "0" * 64),
         (module, ours, digest),
     ):
-        page = build.page(sources, by, sums=tuple(sums))
+        page = build.page(other_module, lowered_by, sums=tuple(sums))
         checks.check(
             digests_on(page) == [] and PROOF not in page and "makes no claim about proofs" in page,
-            f"a module of {len(sources)} bytes, with {sums} in dist/PROVED: the page shows {digests_on(page)}, expected none",
+            f"a module of {len(other_module)} bytes, with {sums} in dist/PROVED: the page shows {digests_on(page)}, expected none",
         )
     # dist/PROVED has the digests of the page in dist/.
     of_dist = os.path.join(build.TOP, "dist", "minisign.html")
