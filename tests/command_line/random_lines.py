@@ -197,8 +197,8 @@ def check_files(initial, directory, line):
     for name, data in initial.files.items():
         expect(name in after, f"{name!r} was removed")
         expect(after[name][1] == data or os.path.realpath(os.path.join(directory, name)) in outputs, f"{name!r} was changed")
-        # -R and -C may write the secret key file that -s names, and -C also the default one. `is_secret` fails unless the file
-        # still contains a complete secret key.
+        # `is_secret` fails unless the file is still a complete secret key. -G may replace the file that -s names by a new key.
+        # -C may write to any of the secret keys, also by a link.
         if data in initial.secrets and (name == line.value_of("-s") and line.command != "G" or line.command == "C"):
             is_secret(after[name][1])
     for name, (mode, data) in after.items():

@@ -99,11 +99,11 @@ class RecordedDirectory(Directory):
         self.put_installed()
         os.chmod(self.path_of(TARGET), 0o751)
 
-    def make_offer(self, name="new", data=NEW_DATA, number=6, signed=None, legacy=False, names=TARGET, label="timestamp", more="",
+    def make_offer(self, name="new", data=NEW_DATA, number=6, signed=None, legacy=False, signed_name=TARGET, label="timestamp", more="",
                    forge=bytes):
         """Offers an update, as `Directory.offer` does. `forge` changes the signature file. Returns the signature file,
         the data, and the signatures that Ed25519 accepts, as tuples of message, key and signature."""
-        comment = f"{label}:{number}\tfile:{names}{more}".encode()
+        comment = f"{label}:{number}\tfile:{signed_name}{more}".encode()
         signed = data if signed is None else signed
         text = self.signer.sign(signed, comment.decode(), legacy)
         lines = text.split(b"\n")
