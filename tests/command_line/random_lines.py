@@ -32,7 +32,7 @@ sys.path += [os.path.join(HERE, "..", name) for name in ("shared", "verdicts")]
 
 import needs
 import test_script
-from command_failures import TEMPORARY, is_secret
+from command_failures import TEMPORARY, expect_secret
 from command_cases import keys_of
 from command_line import build_program, reset_signals
 from command_running import (DATA, ENCRYPTED_KEY, HOME, OTHER_PUBLIC_KEY, PASSWORD, PLAIN_KEY, PUBLIC_KEY, ProgramPaths,
@@ -197,10 +197,10 @@ def check_files(initial, directory, line):
     for name, data in initial.files.items():
         expect(name in after, f"{name!r} was removed")
         expect(after[name][1] == data or os.path.realpath(os.path.join(directory, name)) in outputs, f"{name!r} was changed")
-        # `is_secret` fails unless the file is still a complete secret key. -G may replace the file that -s names by a new key.
+        # `expect_secret` fails unless the file is still a complete secret key. -G may replace the file that -s names by a new key.
         # -C may write to any of the secret keys, also by a link.
         if data in initial.secrets and (name == line.value_of("-s") and line.command != "G" or line.command == "C"):
-            is_secret(after[name][1])
+            expect_secret(after[name][1])
     for name, (mode, data) in after.items():
         older = initial.files.get(name)
         expect(not os.path.basename(name).startswith(TEMPORARY), f"it left {name}")

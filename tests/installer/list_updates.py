@@ -186,6 +186,7 @@ LIST_TABLE = (
       for size in (len(NEW_LIST), len(NEW_DATA) - 1, len(NEW_DATA) + 1, 0)),
     *(
         (f"file of a list, with keys {' and '.join(keys)}", 0, dict(keys=keys))
+        # (`twin` is another key with the same key ID.)
         for keys in (["own"], ["other", "own"], ["twin", "own"])
     ),
     # The data.
@@ -199,7 +200,7 @@ LIST_TABLE = (
     ("list in place of its file", REJECTED, DIGEST_ERROR, dict(data=NEW_LIST, check_status=0)),
     # The name.
     ("name that is not listed", REJECTED, other_name(NOT_LISTED), dict(listed=line(NEW_DATA, "other"))),
-    ("name in other letters", REJECTED, other_name(NOT_LISTED), dict(listed=line(NEW_DATA, TARGET.upper()))),
+    ("name in upper case", REJECTED, other_name(NOT_LISTED), dict(listed=line(NEW_DATA, TARGET.upper()))),
     ("name with a directory in the list", REJECTED, other_name(NOT_LISTED), dict(listed=line(NEW_DATA, f"bin/{TARGET}"))),
     ("name with escapes in the list", REJECTED, other_name(NOT_LISTED), dict(listed=b"\\" + line(NEW_DATA, f"{TARGET}\\n"))),
     ("list without entries", REJECTED, other_name(NOT_LISTED), dict(listed=b"# nothing\n")),
@@ -262,7 +263,7 @@ LIST_TABLE = (
     ("older list that is not signed", OLDER_VERSION, OLDER_ERROR, dict(number=4, signed=EXTENDED_LIST)),
     ("older list with --first", OLDER_VERSION, OLDER_ERROR, dict(options=FIRST, number=4)),
     ("list, and no version record", UNRECORDED, NO_RECORD_ERROR, dict(record=None)),
-    ("version of a list over a timestamp", UNRECORDED, HOLDS_TIMESTAMP_ERROR,
+    ("version of a list, but the record holds a timestamp", UNRECORDED, HOLDS_TIMESTAMP_ERROR,
      dict(options=BY_VERSION, record=recorded(OLD_DATA, 5), label="version")),
     # The recorded version.
     ("same list", ALREADY_INSTALLED, LIST_IS_INSTALLED),
@@ -510,6 +511,8 @@ def recovers_with_list(directory, data, record):
         fresh.expect_installed_with_record(NEW_DATA, fresh.signer.version_record(NEW_LIST, 6))
 
     break_each_call(directory, check, prepare, options=("--list", LIST))
+    # A kill leaves the old file and the old record, the old file and the new record, or the new file and the new record. If
+    # the record or the file was new from the beginning, some of these states are the same.
     expect(len(remaining) == (3 if record else 1 if data == NEW_DATA else 2), f"the kills left {len(remaining)} different states")
 
 

@@ -99,8 +99,8 @@ class RecordedDirectory(Directory):
         self.put_installed()
         os.chmod(self.path_of(TARGET), 0o751)
 
-    def make_offer(self, name="new", data=NEW_DATA, number=6, signed=None, legacy=False, signed_name=TARGET, label="timestamp", more="",
-                   forge=bytes):
+    def make_offer(self, name="new", data=NEW_DATA, number=6, signed=None, legacy=False, signed_name=TARGET, label="timestamp",
+                   more="", forge=bytes):
         """Offers an update, as `Directory.offer` does. `forge` changes the signature file. Returns the signature file,
         the data, and the signatures that Ed25519 accepts, as tuples of message, key and signature."""
         comment = f"{label}:{number}\tfile:{signed_name}{more}".encode()
@@ -500,7 +500,8 @@ class Forked:
 
 
 def load_package(scratch):
-    """Builds the Python package with recorded_calls.c and imports it. Returns a function like that which `program_starter` returns."""
+    """Builds the Python package with recorded_calls.c and imports it. Returns a function of the kind that `program_starter`
+    returns."""
     calls = compile_object(f"{HERE}/recorded_calls.c", scratch, "recorded_calls_shared.o", "-fPIC")
     arguments = ["-q", "build", "--build-base", f"{scratch}/base", "--build-lib", f"{scratch}/package"]
     static_library.run_or_fail([python(), "setup.py", *arguments], f"{proved.ROOT}/bindings/python", CC=needs.c_compiler(),
