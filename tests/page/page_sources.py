@@ -15,9 +15,9 @@ PROOF = "proved as built for 64-bit WebAssembly"
 
 
 def check_contracts(checks):
-    """Checks that each function page_NAME that the page's module exports has the same contract as the function
-    minisign_NAME of the library for C: the same parameters, result and clauses, word for word. Only the definition that
-    gives error numbers their meaning has another name, because the library for C also has the errors of installing. The
+    """Checks that each function that the page's module exports has the same contract as the function of the library for
+    C whose name has another prefix: the same parameters, result and clauses, word for word. Only the definition that gives
+    error numbers their meaning has another name, because the library for C also has the errors of installing. The
     functions that compute SHA-256 and SHA-512 digests are only in the page."""
     texts = {}
     for crate, prefix in (("minisign_page", "page_"), ("minisign_c", "minisign_")):
