@@ -54,7 +54,7 @@ def check_file(checks, page):
                  and "connect-src" not in policy and policy.endswith("; trusted-types minisign-thread"), f"the policy is {policy}")
     checks.same(len(re.findall("<script", text)), 1, "the number of scripts")
     checks.check(
-        build.page(*build.taken_from(page)) == text,
+        build.page(*build.module_of_page(page)) == text,
         "building the page again from its module and the sources gives other bytes",
     )
     for words in (f"Minisign in Rattle {build.version()}, under the MIT License", "Permission is hereby granted"):
@@ -71,7 +71,7 @@ def check_digests(checks, path):
     """Checks that the page shows the digest of tools/sources.sh and says that it is proved, if dist/PROVED has this
     digest and that of the page's module. With another module, or other sources, it shows no digest and does not say
     that it is proved."""
-    module, lowered_by = build.taken_from(path)
+    module, lowered_by = build.module_of_page(path)
     ours, digest = run_with_stderr(["sh", "tools/sources.sh", "page"], build.TOP)[1].strip(), hashlib.sha256(module).hexdigest()
     page = build.page(module, lowered_by, sums=(digest, ours))
     checks.check(
@@ -92,5 +92,5 @@ def check_digests(checks, path):
     # dist/PROVED has the digests of the page in dist/.
     of_dist = os.path.join(build.TOP, "dist", "minisign.html")
     of_module, of_sources = build.named_sums()
-    checks.same(of_module, hashlib.sha256(build.taken_from(of_dist)[0]).hexdigest(), "the digest of the module in dist/PROVED")
+    checks.same(of_module, hashlib.sha256(build.module_of_page(of_dist)[0]).hexdigest(), "the digest of the module in dist/PROVED")
     checks.same(digests_on(build.read(of_dist)), [of_sources], "the digests that the page of dist/ shows")
