@@ -1,12 +1,13 @@
 #!/usr/bin/env python3
-"""Times the calls as C, dist/calls.c, compared with the archives of dist/, libsodium and Minisign's own program.
+"""Times the library when it is compiled from C (dist/calls.c), compared with the machine code in the archives of dist/, with
+libsodium, and with Minisign's own program.
 
     bench/as_c.py [TURNS]
 
-The jobs are hashing, by calls and by `minisign -V`, and decrypting a key with the limits of `minisign -G`, by a call
-and by `minisign -S`. All programs take turns; TURNS is the number of turns. The table has the minimum processor time,
-and the median ratio to the archives within a turn. The last lines compare the C with the goal and with libsodium's
-portable BLAKE2b. docs/PERFORMANCE.md has the results.
+The jobs are hashing, by functions of the library and by `minisign -V`, and decrypting a key with the limits of
+`minisign -G`, by a function of the library and by `minisign -S`. All programs take turns; TURNS is the number of turns. The
+table has the minimum processor time, and the median ratio to the archives within a turn. The last lines compare the C with
+the goal and with libsodium's portable BLAKE2b. docs/PERFORMANCE.md has the results.
 
 Needs: Python 3.9 or later, make, binutils, gcc, clang, libsodium with its header, minisign, and 1.1 GB of memory.
 """
@@ -24,18 +25,20 @@ import needs
 import static_library
 
 HERE = os.path.dirname(os.path.realpath(__file__))
-TURNS, MIB = 5, 384
+# The default number of turns, and the size of the data to hash, in MiB.
+TURNS, DATA_MIB = 5, 384
 # The speed that the C should have, relative to the archives.
 GOAL = 0.65
 ARCHIVES, GCC, CLANG, PLAIN = "the archives", "C by gcc", "C by clang", "libsodium without vectors"
-# The libraries by name, with the arguments of make.
+# The libraries by name, with the arguments with which make builds them. ARCHIVES has an archive for each kind of processor,
+# and chooses one at run time. In the second library, the archive for x86-64-v2 is used in place of the one for x86-64-v3.
 LIBRARIES = {ARCHIVES: [], "the archive for x86-64-v2": [f"V3={static_library.DIST}/calls-x86-64-v2.a"], GCC: ["PORTABLE=1"],
              CLANG: ["PORTABLE=1", "CC=clang"]}
 
 
 def build(directory, name, words):
-    """Builds the programs with a library: the one that hashes, the one that decrypts keys, and `c/minisign`. Returns
-    their directory."""
+    """Builds the library, and with it as_c.c, which hashes, usual_keys.c, which decrypts a key that has the limits of
+    `minisign -G`, and `c/minisign`. Returns their directory."""
     out = os.path.join(directory, name.replace(" ", "-"))
     compiler = installed(needs.compiler_with_libsodium)
     static_library.run_make(f"OUT={out}", f"CC={compiler}", *words)
@@ -46,14 +49,15 @@ def build(directory, name, words):
     return out
 
 
-def called(*command):
+def seconds_of(*command):
     """Returns the processor seconds that as_c (its first number) or usual_keys (its second number) prints."""
     words = subprocess.run(command, stdout=subprocess.PIPE, check=True).stdout.split()
     return float(words[0] if "as_c" in command[0] else words[1])
 
 
 def jobs(directory):
-    """Returns, for each job, the functions to time by name, the archives first."""
+    """Returns the functions to time: for each job, a dictionary with a function for each library or program. Calling it
+    runs the job once and returns the processor seconds."""
     outs = {name: build(directory, name, words) for name, words in LIBRARIES.items()}
     minisign, first = installed(needs.minisign), outs[ARCHIVES]
     typed, key, data, large = (os.path.join(directory, name) for name in ("typed", "sealed.key", "data", "large"))
@@ -62,24 +66,24 @@ def jobs(directory):
     with open(data, "wb") as file:
         file.write(b"data\n")
     with open(large, "wb") as file:
-        file.write(bytes(range(256)) * (MIB * 4096))
+        file.write(bytes(range(256)) * (DATA_MIB * 4096))
     measured([minisign, "-G", "-p", f"{key}.pub", "-s", key], typed)
     measured([minisign, "-S", "-s", key, "-m", large], typed)
     signing, verifying = ("-S", "-s", key, "-m", data), ("-V", "-q", "-p", f"{key}.pub", "-m", large)
     programs = {**{name: f"{out}/minisign" for name, out in outs.items()}, "Minisign": minisign}
     return {
-        f"hashing {MIB} MiB": {
-            **{name: (lambda out=out: called(f"{out}/as_c", "library", str(MIB))) for name, out in outs.items()},
-            "libsodium": lambda: called(f"{first}/as_c", "sodium", str(MIB)),
-            PLAIN: lambda: called(f"{first}/as_c", "plain", str(MIB)),
+        f"hashing {DATA_MIB} MiB": {
+            **{name: (lambda out=out: seconds_of(f"{out}/as_c", "library", str(DATA_MIB))) for name, out in outs.items()},
+            "libsodium": lambda: seconds_of(f"{first}/as_c", "sodium", str(DATA_MIB)),
+            PLAIN: lambda: seconds_of(f"{first}/as_c", "plain", str(DATA_MIB)),
         },
-        f"`-V` of {MIB} MiB": {
+        f"`-V` of {DATA_MIB} MiB": {
             name: (lambda program=program: measured([program, *verifying]).processor_seconds)
             for name, program in programs.items()
         },
         "a call that decrypts a key": {
-            **{name: (lambda out=out: called(f"{out}/usual_keys", "open", key)) for name, out in outs.items()},
-            "libsodium's derivation": lambda: called(f"{first}/usual_keys", "sodium"),
+            **{name: (lambda out=out: seconds_of(f"{out}/usual_keys", "open", key)) for name, out in outs.items()},
+            "libsodium's derivation": lambda: seconds_of(f"{first}/usual_keys", "sodium"),
         },
         "`-S` with that key": {
             name: (lambda program=program: measured([program, *signing], typed).processor_seconds)
@@ -110,7 +114,7 @@ def main():
     for name, times in results.items():
         for what in (GCC, CLANG):
             print(f"{name}, {what}: {speed(times[what], times[ARCHIVES]):.2f} of the speed of the archives; the goal is {GOAL}")
-    hashing = results[f"hashing {MIB} MiB"]
+    hashing = results[f"hashing {DATA_MIB} MiB"]
     for what in (GCC, CLANG):
         print(f"{what} takes {1 / speed(hashing[what], hashing[PLAIN]):.2f} of the time of libsodium's portable BLAKE2b")
 

@@ -56,9 +56,10 @@ copy c/library/portable/allocation.c memory.c "$as_c"
     cat <<'END'
 /* SPDX-License-Identifier: MIT */
 /*
- * Renames functions, because the proved calls in the archives have the public names, such as minisign_ask. Where boundary.c
- * calls portable_minisign_ask, the call minisign_ask of the archive is linked. The function that boundary.c defines gets the
- * name bounded_minisign_ask. Made from c/library/names by bindings/go_copies.sh.
+ * Renames functions. boundary.c defines each function of the headers, such as minisign_ask, which calls the proved function
+ * portable_minisign_ask. But in the archives, the proved function has the name minisign_ask. So the linker gets the name
+ * minisign_ask for the function that is called, and bounded_minisign_ask for the function that boundary.c defines. Made from
+ * c/library/names by bindings/go_copies.sh.
  */
 #ifndef MINISIGN_PORTABLE
 #define MINISIGN_PORTABLE

@@ -1,6 +1,9 @@
-"""Makes requests for the comparison: all short inputs, inputs around each limit, and valid inputs with random changes.
+"""Makes the requests with which compare.py compares this library with the Rust crate minisign: both answer each request.
 
-Keys and signatures are those of the toy scheme (tests/shared/toy.py). A request is one line; oracle/README.md describes them.
+The requests have all short inputs, inputs around each limit, and valid inputs with random changes. Keys and signatures are those
+of the toy scheme (tests/shared/toy.py). A request is one line: the name of a call and its arguments. oracle/README.md describes
+the calls and how arguments are written, such as `x616263` (bytes), `-` (None), `c7` (random bytes that count up from 7) and `f42`
+(a writer that fails after 42 bytes, or else when it is flushed).
 """
 
 import hashlib
@@ -43,8 +46,8 @@ def is_utf8(data):
 
 
 def sealed_record(password, opslimit, memlimit, salt=bytes(range(32)), keynum=KEYNUM, kdf=b'Sc'):
-    """Returns the record of a secret key that is encrypted with the password, with these limits. They have to be small:
-    N 2^1 to 2^8."""
+    """Returns the record of a secret key that is encrypted with the password. It runs scrypt with these limits, so they have to
+    be small. The parameters N and p follow from the limits as in `raw_scrypt_params`, and as in libsodium."""
     operations = max(32768, opslimit)
     n_log2 = 1
     if operations < memlimit // 32:
@@ -62,6 +65,7 @@ def sealed_record(password, opslimit, memlimit, salt=bytes(range(32)), keynum=KE
 
 
 def secret_text(record, comment=b'c'):
+    """Returns a secret key file with this record."""
     return toy.join_lines([COMMENT + comment, base64.b64encode(record)])
 
 
@@ -79,11 +83,12 @@ def files():
     }
 
 
-# ---- texts ------------------------------------------------------------------------------------------
+# ---- key and signature files ------------------------------------------------------------------------
 
 
 def texts_of(pieces, max_lines, ends=(b'\n',)):
-    """Yields every text of up to `max_lines` lines from these pieces, with each of these line endings, and without the last one."""
+    """Yields every text of up to `max_lines` lines from these pieces, with each of these line endings, and each text also without
+    the line ending of its last line."""
     for count in range(max_lines + 1):
         for lines in itertools.product(pieces, repeat=count):
             for end in ends:
@@ -94,6 +99,7 @@ def texts_of(pieces, max_lines, ends=(b'\n',)):
 
 
 def public_key_texts(rng):
+    """Yields requests that parse public key files and public keys in base64."""
     key = base64.b64encode(PUBLIC)
     pieces = [b'', COMMENT + b'c', key, key[:-1], key + b'A', key[:-1] + b'=', b' ' * 56,
               b' ' + key[:55], key[:30] + b'-' + key[31:], b'\r', key + b'\r']
@@ -143,6 +149,7 @@ def signature_lines():
 
 
 def signature_texts(rng):
+    """Yields requests that parse signature files."""
     lines = signature_lines()
     for four in itertools.product(*lines):
         yield f'sig_from_string {text(toy.join_lines(four))}'
@@ -177,12 +184,14 @@ def signature_texts(rng):
 
 
 def secret_key_texts(rng):
+    """Yields requests that parse secret key files, most of them not encrypted."""
     plain = base64.b64encode(SECRET)
     kinds = [SECRET, SECRET[:2] + b'Sc' + SECRET[4:], SECRET[:2] + b'sC' + SECRET[4:],
              SECRET[:2] + b'\0\1' + SECRET[4:], SECRET[:-1] + b'\0', SECRET[:157], SECRET + b'x', b'']
     pieces = [b'', COMMENT + b'c'] + [base64.b64encode(kind) for kind in kinds[:6]] + [plain[:-1], b' ' + plain]
     for body in texts_of(pieces, 3):
         yield f'sk_plain {text(body)}'
+        # RWRTY0Iy is the beginning of an encrypted key (EdScB2) in base64. `sealed_keys` decrypts such keys.
         if b'RWRTY0Iy' not in body:
             yield f'sk_open {text(body)} x70 -'
             yield f'sk_open {text(body)} - x70'
@@ -247,6 +256,8 @@ def damaged_texts(rng, count):
 
 
 def records(rng, count):
+    """Yields requests with records (decoded keys and signatures) of all lengths and algorithms, and comparisons of keys. The calls
+    `bones_..` take a bare signature, which has no comments: the crate calls it `SignatureBones`."""
     for length in range(200):
         raw = bytes(rng.randrange(256) for _ in range(length))
         for begin in (b'', b'Ed', b'ED', b'eD', b'E'):
@@ -284,6 +295,7 @@ def records(rng, count):
 
 
 def hashes(rng, count):
+    """Yields requests for BLAKE2b digests of each length, of data in one piece and in several."""
     for outlen in range(67):
         for length in (0, 1, 127, 128, 129, 255, 256, 257, 384):
             yield f'blake2b {outlen} - {hexed(toy.some_data(length))}'
@@ -300,6 +312,7 @@ def hashes(rng, count):
 
 
 def numbers(rng, count):
+    """Yields requests that encode and decode numbers, read the clock, and compare byte strings in constant time."""
     values = [0, 1, 255, 256, 65535, 2 ** 32 - 1, 2 ** 32, 2 ** 63, 2 ** 64 - 1]
     for value in values + [rng.randrange(2 ** 64) for _ in range(count)]:
         yield f'store_u64_le {value}'
@@ -320,6 +333,7 @@ def numbers(rng, count):
 
 
 def limits(rng, count):
+    """Yields requests that derive the parameters of scrypt from the limits of a secret key."""
     edges = sorted({max(0, value + by) for value in
                     [0, 1024, 2048, 16384, 32768, 1 << 20, 1 << 25, 1 << 30, 1 << 31, 1 << 40, 1 << 63]
                     for by in (-1, 0, 1)} | {2 ** 64 - 1})
@@ -336,6 +350,7 @@ def limits(rng, count):
 
 
 def derivations(rng, count):
+    """Yields requests that run scrypt, with valid and invalid parameters."""
     for n_log2, r, p, length in [(4, 1, 1, 64), (1, 8, 1, 1), (1, 1, 1, 0), (2, 0, 1, 8), (2, 1, 0, 8),
                                  (16, 1, 1, 8), (64, 8, 1, 8), (3, 2, 2, 33), (15, 1, 1, 4),
                                  (1, 1 << 30, 1, 4), (1, 1 << 15, 1 << 15, 4), (63, 8, 1, 4)]:
@@ -351,6 +366,7 @@ def derivations(rng, count):
 
 
 def passwords(rng):
+    """Yields requests that read a password which is typed at a prompt."""
     lines = [b'', b'p', b'a password', '\xe9\u3042'.encode(), b' p ', b'x' * 1023, b'x' * 1024, b'x' * 1025,
              b'x' * 1026, b'x' * 1027, b'x' * 3000, '\xe9'.encode() * 512, b'x' + '\xe9'.encode() * 512]
     for count in range(3):
@@ -373,6 +389,7 @@ def sealed_keys(rng, count):
     for opslimit, memlimit in [(2 ** 64 - 1, 2048), (1 << 25, 1 << 31), (1 << 25, (1 << 30) + 1), (0, 2 ** 64 - 1),
                                (1 << 60, 1 << 20), (0, 1 << 32), (1 << 20, (1 << 32) + 2048)]:
         limited = record[:38] + opslimit.to_bytes(8, 'little') + memlimit.to_bytes(8, 'little') + record[54:]
+        # With a very high opslimit and a small memlimit, p is about 2^27, and scrypt would take too long.
         if opslimit < 1 << 40 or memlimit > 1 << 30:
             yield f'sk_open {text(secret_text(limited))} x70 -'
             yield f'sk_open {text(secret_text(limited))} - x70'
@@ -389,6 +406,7 @@ def sealed_keys(rng, count):
 
 
 def file_requests():
+    """Yields requests that read each of `files` as each kind of file, and paths that cannot be read."""
     for name in ['good.pub', 'good.minisig', 'sealed.key', 'plain.key', 'empty', 'not_utf8', 'one_line', 'absent',
                  '.', 'good.pub/below']:
         path = text(name.encode())
@@ -399,10 +417,11 @@ def file_requests():
         yield f'sk_from_file {path} - -'
 
 
-# ---- pairs ------------------------------------------------------------------------------------------
+# ---- key pairs --------------------------------------------------------------------------------------
 
 
-def pairs(rng, count):
+def key_pairs(rng, count):
+    """Yields requests that generate key pairs and write their files, with too few random bytes, failing writers, and passwords."""
     for length in range(75):
         yield f'gen_plain {hexed(bytes(range(length)))}'
         yield f'gen_write_plain {hexed(bytes(range(length)))} - -'
@@ -439,7 +458,8 @@ def pairs(rng, count):
 
 
 def data_word(rng, body, legacy=False, output=True):
-    """Encodes data for a request, randomly with a position, a size of reads, a failing read, and a changed second reading."""
+    """Encodes data for a request. At random, reading starts at another position, each read returns few bytes, or a read fails. With
+    `output`, the data may also be different when it is read the second time, to be copied to the output."""
     parts = []
     if rng.randrange(4) == 0:
         parts.append(f'pos={rng.choice((0, 1, len(body), len(body) + 1, rng.randrange(len(body) + 2)))}')
@@ -453,6 +473,7 @@ def data_word(rng, body, legacy=False, output=True):
 
 
 def signings(rng, count):
+    """Yields requests that sign data."""
     # No public key, that of the secret key, another key with the same key ID, and the same key with another key ID.
     keys = ['-', hexed(PUBLIC), hexed(PUBLIC[:10] + bytes(32)), hexed(PUBLIC[:2] + bytes(8) + PUBLIC[10:])]
     comments = ['-', 'x', 'x74', text('\xe9\u3042'.encode()), text(b' t '), text(b't\nu'), text(b'x' * 500)]
@@ -479,10 +500,13 @@ def signings(rng, count):
 
 
 def all_flags():
+    """Returns all values of the last three arguments of `verify`: quiet, output and legacy."""
     return [' '.join(flags) for flags in itertools.product('01', repeat=3)]
 
 
 def verifications(rng, count):
+    """Yields requests that verify data with valid and invalid signatures. A signature is a signature file, or with the prefix
+    `bones:` a record without comments."""
     signature = toy.signature_record(b'abc')
     legacy = toy.signature_record(b'abc', algorithm=b'Ed')
     other = b'ED' + toy.OTHER_KEYNUM + signature[10:]
@@ -534,6 +558,7 @@ def verifications(rng, count):
 
 
 def large_data():
+    """Yields requests that verify and sign data of 64 KiB and more."""
     for length in (65535, 65536, 65537, 131072, 200000):
         body = toy.some_data(length)
         for algorithm in (b'ED', b'Ed'):
@@ -544,7 +569,7 @@ def large_data():
 
 
 def tables(rng):
-    """Yields requests that fill the table of additionally accepted signatures, use it, and clear it."""
+    """Yields requests that fill, use and clear the table of signatures that the toy scheme accepts besides its own."""
     public = bytes(rng.randrange(256) for _ in range(32))
     record = b'ED' + KEYNUM + bytes(rng.randrange(256) for _ in range(64))
     comment_signature = bytes(rng.randrange(256) for _ in range(64))
@@ -575,7 +600,7 @@ def all_requests(seed, count):
     yield from passwords(rng)
     yield from sealed_keys(rng, count // 8)
     yield from file_requests()
-    yield from pairs(rng, count // 2)
+    yield from key_pairs(rng, count // 2)
     yield from signings(rng, 2 * count)
     yield from verifications(rng, 4 * count)
     yield from large_data()

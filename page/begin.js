@@ -1,6 +1,6 @@
 // SPDX-License-Identifier: MIT
-// Starts the page: loads the library and accepts files, or shows which features the browser lacks. The same script runs in the worker
-// threads, which have no document.
+// Starts the page: loads the library and accepts files, or shows which features the browser lacks. build.py joins this file and the
+// other files of PAGE_SCRIPTS to one script. The same script runs in the worker threads, which have no document.
 
 // A WebAssembly module with a 32-bit memory and a function that takes a 64-bit number. A browser that accepts it can run the library.
 const SMALLEST_MODULE = Uint8Array.of(0, 97, 115, 109, 1, 0, 0, 0, 1, 5, 1, 96, 1, 126, 0, 5, 3, 1, 0, 1);
@@ -24,7 +24,8 @@ function showUnusable(words) {
   document.documentElement.dataset.ready = "no";
 }
 
-// Starts the page. Takes the text of its script, which it passes to the worker threads and to keepSource.
+// Starts the page. Takes the text of its script, which the worker threads run too, and which keepSource keeps for copies of the page
+// that the visitor saves.
 async function begin(script) {
   keepSource(script);
   const features = await missingFeatures();
@@ -58,14 +59,14 @@ async function begin(script) {
 // Hides the elements that ask for what the page already has. The attribute data-unless says which elements these are:
 //   key        there is a built-in key
 //   signature  there are signatures or a list in the page, or signatures in the link
-//   steps      the visitor does not have to follow numbered steps; then the key is shown at the end
+//   preset     the visitor needs only a file, or a file and its signature: the steps are not numbered, and the key is shown at the end
 function hideUnneeded() {
   const has = {key: BUILT_IN_KEY !== "", signature: presetSignatures.length > 0 || BUILT_IN_LIST.length > 0};
-  has.steps = has.key || key !== null && has.signature;
+  has.preset = has.key || key !== null && has.signature;
   for (const part of document.querySelectorAll("[data-unless]")) {
     part.hidden = has[part.dataset.unless];
   }
-  if (has.steps) {
+  if (has.preset) {
     byId("controls").append(byId("key"));
   }
 }
@@ -95,6 +96,8 @@ function addListeners() {
       document.body.classList.toggle("dropping", ["dragenter", "dragover"].includes(type));
     });
   }
+  // Files that are dropped on the form for a project page become its signatures. A text goes into the text field of its section. A
+  // single file that is dropped on the section of the key is the key. Other files are downloads, signatures or keys.
   addEventListener("drop", event => {
     const {files, hasDirectories} = droppedFiles(event.dataTransfer);
     if (byId("project").contains(event.target)) {

@@ -144,7 +144,7 @@ function isSignedName(name, signedName) {
 
 // Returns comments that the signer may have signed instead of `comment`, from which the library has removed white space at both ends:
 // the comment with the white space that is in the file, and with white space that may have been lost before.
-function commentsWithOuterSpace(signatureText, comment) {
+function untrimmedComments(signatureText, comment) {
   const line = signatureText.split("\n")[2] ?? "";
   const inFile = line.slice(line.indexOf(":") + 1).replace(/^ /, "");
   const spaces = [" ", "  ", "\t", "\r"];

@@ -56,7 +56,7 @@ const REASONS = new Map([
 ]);
 
 // The reason if the trusted comment differs from the signed one only in white space at its beginning or end, which the library removes.
-const OUTER_SPACE_REASON = "The file is the one that was signed, but the signer's trusted comment has white space at its beginning or end, " +
+const UNTRIMMED_REASON = "The file is the one that was signed, but the signer's trusted comment has white space at its beginning or end, " +
   "and this page rejects such comments. This is probably a mistake and not an attack. Ask the signer for a new signature, with a " +
   "comment that neither begins nor ends with white space.";
 

@@ -1,6 +1,9 @@
 // SPDX-License-Identifier: MIT
 // Accepts a public key, files and signatures from the visitor, and verifies one file after another with the proved library and the
-// browser's Ed25519.
+// browser's Ed25519. build.py joins this file and the other files of PAGE_SCRIPTS to one script, so they share all names.
+//
+// A project can make a copy of the page for a release: a key, signatures and a signed list are then built into the page. This copy is
+// called the page of the release. A link to the page can also contain a key and signatures, in its part after #.
 
 const SIGNATURE_ENDING = ".minisig";
 const KEY_ENDING = ".pub";
@@ -20,14 +23,15 @@ let enginePromise;
 // The public key, or null if there is none:
 //   bytes, keyId  its struct and its key ID, as the library returns them
 //   base64        its 56 characters
-//   source        where it came from: kind, a key of KEY_SOURCES, and the name of its file, if any
+//   source        where it came from: kind, one of the kinds in KEY_SOURCES, and name, the name of its file, if any
 let key = null;
 // The signatures that are built into the page (isBuiltIn is true) or part of its link. Each has:
 //   file          the signature, as a File
 //   names         the names that its download may have
 //   releaseName   the name under which the page lists its download
 const presetSignatures = [];
-// The downloads by their names, in the order in which they were added. takeDownload says what each has.
+// The downloads by their names, in the order in which they were added. A download is a file, a signature or both: what the visitor has
+// added of a file and its signature. takeDownload says what properties it has.
 const downloads = new Map();
 // The downloads that have to be verified.
 const unverified = new Set();
@@ -342,7 +346,7 @@ function downloadsWithout(part) {
 // Uses a key that came with the files, if it is the only one, the page has no key yet, and the field for the key is empty.
 async function takeKeysAmongFiles(files) {
   if (key || byId("key-text").value.trim() !== "") {
-    // On a page that only needs the download, the key is shown below.
+    // If the key is preset (see hideUnneeded), it is shown below the other parts of the page.
     const side = byId("key").nextElementSibling ? "above" : "below";
     for (const file of files) {
       const reason = key ? [`this page uses the key ${side}, `, codeBox(key.keyId), "."] : [`the text in the field ${side} ${NO_KEY_IN_FIELD}`];
@@ -478,7 +482,7 @@ async function work() {
 async function verify(download) {
   const run = download.run = beginRun();
   const verdict = await Promise.race([verdictOn(download, run), run.stopped]).catch(() => ({verdict: "bad", why: WENT_WRONG}));
-  // The old threads may still send results for the stopped file, so they are replaced.
+  // The old threads may still send results for the stopped download, so they are replaced.
   if (run.isStopped || verdict.why === WENT_WRONG) {
     enginePromise.then(engine => engine.end?.());
     enginePromise = startEngine();
@@ -537,17 +541,17 @@ async function verdictOn(download, run) {
   return verdict;
 }
 
-// Returns the verdict on a download with a valid signature. It is good only if the file has the signed name and, on a release page, the
-// signature is built in. signedNames are the signed names that the file does not have exactly, otherNames those that it does not have
-// even without the suffix that a browser adds.
+// Returns the verdict on a download with a valid signature. It is good only if the file has the signed name and, on the page of a
+// release, the signature is built in. inexactNames are those signed names that differ from the name of the file. otherNames are those
+// that differ even if the suffix that a browser adds is removed.
 function signedVerdict(verdict, {data, tried}, isBuiltIn, isRelease) {
   const namesInComment = fieldsOfComment(verdict.comment).names;
   const names = isBuiltIn && namesInComment.length === 0 ? [downloadName(tried.name)] : namesInComment;
   // Names are compared after Unicode normalization, because accented letters have several encodings.
-  const signedNames = names.filter(name => name.normalize() !== data.name.normalize());
-  const otherNames = signedNames.filter(name => !isSignedName(data.name, name));
+  const inexactNames = names.filter(name => name.normalize() !== data.name.normalize());
+  const otherNames = inexactNames.filter(name => !isSignedName(data.name, name));
   const finalVerdict = isRelease && !isBuiltIn ? "unlisted" : otherNames.length > 0 ? "renamed" : "good";
-  return {...verdict, verdict: finalVerdict, signedNames, otherNames};
+  return {...verdict, verdict: finalVerdict, inexactNames, otherNames};
 }
 
 // Returns the verdict on a download without a valid signature, from the verdicts by all signatures that were tried. It is the verdict by
@@ -561,7 +565,7 @@ function failedVerdict(failed, isRelease) {
     return unsupported;
   }
   if (given && !otherGiven) {
-    // On a release page, a legacy signature that is not built in must not turn the verdict from red to amber.
+    // On the page of a release, a legacy signature that is not built in must not turn the verdict from red to amber.
     return isRelease ? {...given, verdict: "bad", more: NOT_OF_RELEASE} : given;
   }
   if (builtIn && !otherBuiltIn) {
@@ -649,14 +653,15 @@ async function verdictBySignature(signature, download, run, reading) {
     return {verdict: "good", number, keyIds, comment: verification.comment()};
   }
   const verdict = rejectedVerdict(number, keyIds);
-  const hasOuterSpace = isDataValid && await differsInOuterSpace(new TextDecoder().decode(text), verification);
-  return hasOuterSpace ? {...verdict, why: OUTER_SPACE_REASON} : verdict;
+  const isUntrimmed = isDataValid && await isSignedUntrimmed(new TextDecoder().decode(text), verification);
+  return isUntrimmed ? {...verdict, why: UNTRIMMED_REASON} : verdict;
 }
 
-// Returns true if the trusted comment differs from the signed one only in white space at its beginning or end.
-async function differsInOuterSpace(signatureText, verification) {
+// Returns true if the comment signature is valid for a comment that differs from the trusted comment only in white space at its
+// beginning or end.
+async function isSignedUntrimmed(signatureText, verification) {
   const {questions} = verification;
-  const comments = commentsWithOuterSpace(signatureText, verification.comment());
+  const comments = untrimmedComments(signatureText, verification.comment());
   const messages = comments.map(comment => Uint8Array.of(...questions.signature, ...new TextEncoder().encode(comment)));
   const results = await Promise.all(messages.map(message => accepts(questions.publicKey, questions.commentSignature, message)));
   return results.includes(true);

@@ -214,11 +214,11 @@ function commandLines({name, tried}) {
 
 // Returns the elements that explain the verdict on a file with a valid signature, or in a valid list.
 function signedLines(verdict, source) {
-  const {keyIds, comment, signedNames = [], otherNames, listName} = verdict;
+  const {keyIds, comment, inexactNames = [], otherNames, listName} = verdict;
   const what = listName === undefined ? "file" : "list";
   const first = listName !== undefined ? listedLine(verdict, source)
     : element("p", "", "This file is exactly what was signed with the key ", codeBox(keyIds.publicKeyId), ", ", ...sourceNodes(source), ".");
-  const names = signedNames.map(name => nameLine(name, otherNames.includes(name)));
+  const names = inexactNames.map(name => nameLine(name, otherNames.includes(name)));
   if (comment === "") {
     return [first, ...names, element("p", "", `The trusted comment, which was signed with the ${what}, is empty.`)];
   }

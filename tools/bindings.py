@@ -221,14 +221,15 @@ def python_line(line):
 
 
 def docstring(text, indent):
-    """Returns a text as a docstring."""
+    """Returns a text as a docstring. No line is broken inside of a quotation."""
     width = PYTHON_WIDTH - len(indent)
+    text = re.sub(r'"[^"]*"', lambda quotation: quotation[0].replace(" ", "\0"), text)
     lines = textwrap.wrap(f'"""{text}', width, break_on_hyphens=False)
     if len(lines) == 1 and len(lines[0]) + 3 > width:
         # black moves the closing quotes of a single line back to its end, however long it is.
         lines = textwrap.wrap(f'"""{text}', width - 3, break_on_hyphens=False)
     ending = '"""' if len(lines[-1]) + 3 <= PYTHON_WIDTH - len(indent) else f'\n{indent}"""'
-    return "".join(f"{indent}{line}\n" for line in lines)[:-1] + ending + "\n"
+    return ("".join(f"{indent}{line}\n" for line in lines)[:-1] + ending + "\n").replace("\0", " ")
 
 
 def python_errors(header):

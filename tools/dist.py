@@ -118,7 +118,7 @@ def built_page(*_):
     module, by = build.lowered(build.proved_module()), build.lowering_tool()
     if os.path.exists(os.path.join(DIST, PAGE_FILE)):
         # If the module is the same, the page has it in the same compressed form, whichever zopfli is installed.
-        build.taken_from(os.path.join(DIST, PAGE_FILE))
+        build.module_of_page(os.path.join(DIST, PAGE_FILE))
     sums = build.sha256_of(module), build.sources_sum("page")
     page = build.page(module, by, sums=sums).encode()
     yield Built(PAGE_FILE, page, {PAGE_FILE: proved.verdicts[PAGE], SOURCES_OF_PAGE: sums[1], LOWERED: by, MODULE: sums[0]})
@@ -235,7 +235,7 @@ def check(parts):
     check_files(report)
     check_verdicts(report, lines)
     check_sources(report, parts, lines)
-    module = build.taken_from(os.path.join(DIST, PAGE_FILE))[0]
+    module = build.module_of_page(os.path.join(DIST, PAGE_FILE))[0]
     report.check(
         lines.get(MODULE) == build.sha256_of(module),
         f"dist/{PAGE_FILE}",

@@ -57,7 +57,7 @@ def main():
             project_page = os.path.join(directory, "project.html")
             signature = ("test.minisig", read(CORPUS, "published.minisig").decode())
             with open(project_page, "w", encoding="utf-8") as file:
-                file.write(build.page(*build.taken_from(page), PUBLISHED, "Verify a download of Example", [signature]))
+                file.write(build.page(*build.module_of_page(page), PUBLISHED, "Verify a download of Example", [signature]))
             person.open(f"file://{project_page}")
             choose_files(person, "test")
             take_picture(person, "page_project.png", 390, "light")

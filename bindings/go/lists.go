@@ -113,7 +113,7 @@ func (publicKey *PublicKey) VerifyList(text []byte, signature Signature, options
 	if err != nil {
 		return nil, err
 	}
-	// The fields differ if a comment contains a line feed or ends with white space.
+	// Encoding and parsing the signature changed its fields if a comment contains a line feed or ends with white space.
 	if parsed.signature() != signature {
 		return nil, ErrBadComment
 	}

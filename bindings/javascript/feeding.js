@@ -13,10 +13,11 @@ const SLICE_BYTES = 1048576;
 // Makes the object that createVerifier and createSigner return. It passes each
 // piece of data to `feed`, and its method `end` resolves to the result of the
 // parameter `end`. After that, its methods fail with NOT_BEGUN, which also
-// means "already ended". Only if `writable` was closed or aborted, the method
-// `end` can still be called, and settles as that did. `more` returns further
-// properties of the object. It gets a function that throws NOT_BEGUN after the
-// end.
+// means "already ended". An exception is `end` after `writable` was closed or
+// aborted, or after a write to it failed: `end` can still be called, and
+// resolves to the result, or rejects with the error or the reason for aborting.
+// The function `more` returns further properties of the object. Its parameter
+// is a function that throws NOT_BEGUN after the end.
 export function pieceConsumer(library, feed, end, more = () => ({})) {
   let bytesFed = 0;
   let isEnded = false;

@@ -25,7 +25,7 @@ class Replacement {
   }
 
   // Creates the temporary file. Until `commit`, only its owner can read it. The
-  // promise is kept, because `discard` waits for it.
+  // promise is stored, because `discard` waits until the file is created.
   begin() {
     this.creation = this.create();
     return this.creation;

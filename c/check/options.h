@@ -7,21 +7,26 @@
 
 /* The parsed command line. */
 struct check_options {
-    /* The public key: the path of its file (-p), or the key in base64 (-P). The other one is NULL. */
+    /* The public key: the path of its file (-p), or the key in base64 (-P). One of them is NULL. */
     const char *key_file;
     const char *bare_key;
-    /* The path of the signature file. NULL: LIST.minisig. */
+    /* -x: the path of the signature file. NULL: LIST.minisig. */
     const char *signature;
-    /* The directory of the files. NULL: the current directory. */
+    /* --in: the directory of the files. NULL: the current directory. */
     const char *directory;
+    /* --listed: check only those listed files that exist. */
     bool listed_only;
+    /* --nothing-else: fail if the directory contains a regular file that is not listed. */
     bool nothing_else;
+    /* --any-list: accept a list that the trusted comment of its signature does not name. */
     bool any_list;
+    /* --blake2b: treat 128 digits as a BLAKE2b digest if their line names no hash function. The default is SHA-512. */
     bool blake2b;
-    /* -o: copy the file to standard output. */
+    /* -o: verify the file, then copy it to standard output. There is exactly one file then. */
     bool copies;
+    /* The path of the signed list, such as SHA256SUMS. */
     const char *list;
-    /* The files to check. If there are none, all files of the list are checked. */
+    /* The files to check. If there are none, all listed files are checked. */
     const char **files;
     size_t file_count;
 };

@@ -50,7 +50,7 @@ struct destination {
 struct destination find_destination(const char *file, bool is_secret);
 
 /* Opens the existing file, if there is one, for writing. Ends the program if it cannot be opened, or if it is to be
- * replaced and cannot be. A file without write permission is thus not replaced either. */
+ * replaced and cannot be. So a file without write permission is neither written nor replaced. */
 void open_existing(struct destination *destination);
 
 /* Returns true if the file is written in place, instead of being replaced. */

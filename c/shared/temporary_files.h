@@ -30,7 +30,7 @@ bool for_each_random_name(int directory, const char *prefix, size_t len,
 int open_named(int directory, const char *name, mode_t mode);
 
 /* Creates a file without a name. It disappears if the program ends before `link_unnamed` gives it a name. On failure,
- * returns -1. */
+ * and always where files need a name, returns -1, and errno may not say why. */
 int open_unnamed(int directory, mode_t mode);
 
 /* Gives an unnamed file this name. Fails if the name exists. On failure, returns false and sets errno. */

@@ -1,6 +1,7 @@
-"""Checks that `install` and `check` of the Python package pass the cases of tests/installer. A program in Python with the
-options of `minisign-install` calls them. Each run of the program is a fork of this process, which has loaded the package
-before. `python.py` runs this script in a Python that has the package installed, with `faulty_calls.c` preloaded.
+"""Checks that `install` and `check` of the Python package pass the cases of tests/installer. The function `install` below takes
+the arguments of `minisign-install`, calls the package, and prints what the program would print. Where a case starts the program,
+this script forks instead, and the child process calls this function, so that the package is loaded only once. `python.py` runs
+this script in a Python that has the package installed, with `faulty_calls.c` preloaded.
 
 It prints a line for each case that failed or was skipped; the last line counts the cases. Needs Python 3.9 or later,
 minisign and setfacl.
@@ -32,6 +33,7 @@ from runs import InstallerRunner
 
 FAILED, MISUSED, REJECTED, OLDER, IN_USE, NOT_ON_DISK, UNRECORDED, SAME_VERSION, EXPIRED, ALREADY_INSTALLED = range(1, 11)
 OFFERS = {minisign.Offer.NEWER: 0, minisign.Offer.THERE: ALREADY_INSTALLED, minisign.Offer.OLDER: OLDER}
+# The options of `minisign-install`. --most is the former name of --max-size.
 OPTIONS = [
     "first", "again", "check", "must-expire", "new-key", "roll-back", "key=", "name=", "list=", "blake2b",
     "numbering=", "mode=", "max-size=", "most=", "wait=",
@@ -45,7 +47,7 @@ STATUSES = {
     **dict.fromkeys((minisign.NoRecord, minisign.DamagedRecord, minisign.KeptByTimestamp, minisign.KeptByVersion), UNRECORDED),
     **dict.fromkeys((minisign.OutOfMemory, minisign.ReadingFailed, minisign.WritingFailed, minisign.RandomSourceFailed), FAILED),
 }
-# The hints of `minisign-install` for errors, and below for the causes of failed calls.
+# The hints of `minisign-install` for errors of the library. HINTS_OF_CAUSES has its hints for system errors.
 HINTS = {
     minisign.NoRecord: "use --first for the first installation", minisign.DamagedRecord: "use --first to install anyway",
     minisign.SameNumber: "use --again to install anyway", minisign.TargetInUse: "use --wait SECONDS to wait for it",
@@ -88,12 +90,13 @@ MALFORMED = {
         "this is not a public key: it is not base64\nhint: copy the second line of the public key file"
     ),
 }
-# With a list, the errors that are about the list, and the texts that name a line of it.
+# With a list, the errors that are reported for the list and not for the signature, and the texts that name a line of the list.
 ABOUT_LIST = (
     minisign.SignatureRefused, minisign.NotUtf8, minisign.BadName, minisign.MalformedLine, minisign.NotListed,
     minisign.ListedTwice,
 )
 LINES = {minisign.MalformedLine: "line {} is malformed", minisign.ListedTwice: "line {} is the second line with this name"}
+# For a system error or a file that cannot be used: the beginning of its text, and the hint.
 HINTS_OF_CAUSES = {
     "this directory does not exist": "create it first",
     "only the owner of this file can open it": "use chown to change its owner to that of the installed file",
@@ -104,14 +107,14 @@ HINTS_OF_CAUSES = {
 }
 
 
-def failure(why, place):
-    """Returns the error line and the hint, or None, that `minisign-install` prints for a failed call."""
+def failure(why, target):
+    """Returns the error line that `minisign-install` prints for the OSError `why`, and its hint, or None if it has no hint."""
     cause, is_own_text = why.strerror, why.strerror != os.strerror(why.errno)
     if not is_own_text and isinstance(why, FileNotFoundError):
         cause, is_own_text = "this directory does not exist", True
     hint = next((hint for front, hint in HINTS_OF_CAUSES.items() if cause.startswith(front)), None)
     if cause.startswith("this is "):
-        kind = cause if why.filename == place else ""
+        kind = cause if why.filename == target else ""
         hint = (
             "use the path that it points to"
             if "symbolic link" in kind
@@ -122,8 +125,8 @@ def failure(why, place):
     return f"error: {why.filename}: {cause}" + ("" if is_own_text else f" (os error {why.errno})"), hint
 
 
-def rejection(data, signature, place, name, list_path, numbering, error):
-    """Returns the error line and the hint, or None, that `minisign-install` prints for a rejected update."""
+def rejection(data, signature, target, name, list_path, numbering, error):
+    """Returns the error line that `minisign-install` prints for an error of the library, and its hint, or None if it has no hint."""
     file, text = signature, WORDS.get(type(error), str(error)).format(numbering=numbering)
     if isinstance(error, minisign.TooLong) and "1 MiB" in text:
         return f"error: {list_path}: this file is larger than 1 MiB", None
@@ -141,9 +144,9 @@ def rejection(data, signature, place, name, list_path, numbering, error):
     ):
         file = data
     elif STATUSES.get(type(error)) == UNRECORDED:
-        file = os.path.join(os.path.dirname(place) or ".", f".{os.path.basename(place)}.number")
+        file = os.path.join(os.path.dirname(target) or ".", f".{os.path.basename(target)}.number")
     elif STATUSES.get(type(error)) in (FAILED, IN_USE, NOT_ON_DISK, SAME_VERSION):
-        file = place
+        file = target
     hint = NO_NUMBER[numbering] if isinstance(error, minisign.NoNumber) else HINTS.get(type(error))
     if list_path is not None and hint == DOWNLOAD_AGAIN:
         hint = DOWNLOAD_LIST_AGAIN
@@ -171,14 +174,15 @@ def read_text(kind, word):
 
 
 def install(words):
-    """Does what `minisign-install` does with these arguments, by a call of the package, and returns the exit status."""
+    """Does what `minisign-install` does with these arguments, by one call of the package. Prints the error and the hint of the
+    program, and returns its exit status."""
     # A second thread, which gets a signal for the process while the installer blocks signals in the first thread.
     threading.Thread(target=threading.Event().wait, daemon=True).start()
     pairs, paths = getopt.gnu_getopt(words, "", OPTIONS)
     options, keys = dict(pairs), [value for name, value in pairs if name == "--key"]
     key = None if keys else paths.pop(0)
     data = None if "--check" in options else paths.pop(0)
-    signature, place = paths
+    signature, target = paths
     most, mode, name = options.get("--max-size", options.get("--most")), options.get("--mode"), options.get("--name")
     numbering, list_path = options.get("--numbering", "timestamp"), options.get("--list")
     if most is not None:
@@ -196,15 +200,16 @@ def install(words):
         if "--blake2b" in options:
             parameters["long_digest"] = "blake2b"
         if "--check" in options:
-            return OFFERS[minisign.check(public_keys, text, place, **parameters)]
-        is_new = minisign.install(public_keys, data, text, place, mode=None if mode is None else int(mode, 8),
+            return OFFERS[minisign.check(public_keys, text, target, **parameters)]
+        is_new = minisign.install(public_keys, data, text, target, mode=None if mode is None else int(mode, 8),
                                   most=most, wait=int(options.get("--wait", 0)), **parameters)
     except minisign.MinisignError as error:
         status, cause = STATUSES.get(type(error), REJECTED), error.__cause__
         has_cause = status in (FAILED, NOT_ON_DISK) and isinstance(cause, OSError)
-        errors = [rejection(data, signature, place, name or os.path.basename(place), list_path, numbering, error)]
+        errors = [rejection(data, signature, target, name or os.path.basename(target), list_path, numbering, error)]
         if has_cause:
-            errors = [*errors[status == FAILED:], failure(cause, place)]
+            # The error itself is printed only if the directory was not synced. For a failed call, the cause says it all.
+            errors = [*([] if status == FAILED else errors), failure(cause, target)]
         report(*errors)
         return status
     except ValueError as why:
@@ -215,25 +220,28 @@ def install(words):
         if list_path is not None and why.filename == list_path:
             print(f"error: {list_path}: {why.strerror} (os error {why.errno})", file=sys.stderr)
         else:
-            report(failure(why, place))
+            report(failure(why, target))
         return FAILED
     return 0 if is_new else ALREADY_INSTALLED
 
 
 # ---- Runs of the program ----
 
-# Cases that test the command line or the messages of a program, which functions do not have.
+# Cases that are not run, because they test the command line or the messages of a program, which functions do not have.
 LEFT_OUT = {
     "shows progress at a terminal", "works with a closed error stream", "installs nothing if an allocation fails",
     "exits normally if its error pipe has no reader", "--check shows only signed text, without control characters",
     "--list --check shows the comment of the list", "docs/INSTALLING.md shows the updater's files",
     "systemd accepts the updater's service and timer", "warns that --mode does not change an installed file",
 }
+# Cases of command lines that are run all the same, because they pass a name to the function.
 INCLUDED = {"takes a name that begins with a dash", "takes a file name other than the signed one"}
 
 
 def chosen_cases(runner):
-    # Interrupted runs that begin in other ways are left out, because the cases of `minisign-install` test the same C code.
+    """Returns the cases of tests/installer that test what the functions of the package do too."""
+    # Interrupted runs are tried only over the first of INITIAL_STATES, because the cases of `minisign-install` test the same C code
+    # over all of them.
     cut_off = {f"recovers from {cut}, over {begin}" for begin, *_ in INITIAL_STATES[1:] for cut, _ in CUTS}
     # The cases of downloads are left out, because the updater script runs `minisign-install`.
     left_out = LEFT_OUT | cut_off | {name for name, *_ in (*command_line_cases, *download_cases)} - INCLUDED
@@ -243,7 +251,8 @@ def chosen_cases(runner):
 
 
 def run_as_program(words, environment, descriptors):
-    """Runs the program in a forked process, with the signal handlers of a new Python, and with only these descriptors open."""
+    """Calls `install` in a forked process as if it were a new program: with the signal handlers of a new Python, and with only the
+    standard streams and these descriptors open. Ends the process with its exit status."""
     status = FAILED
     try:
         signal.signal(signal.SIGINT, signal.default_int_handler)
@@ -263,14 +272,15 @@ def run_as_program(words, environment, descriptors):
 
 def run_all(scratch):
     """Runs the cases, and returns the failures and the number of cases."""
-    # find_library runs other programs, which the cases would trace. Without it, the package loads libsodium by its usual name.
+    # find_library runs other programs, whose system calls the cases would count. Without it, the package loads libsodium by its
+    # usual name.
     ctypes.util.find_library = lambda _: None
     runner = InstallerRunner(__file__, Signer(scratch), scratch)
     runner.preload, popen = os.environ.pop("LD_PRELOAD"), subprocess.Popen
 
     def begin(command, preexec_fn=None, pass_fds=(), **how):
         """Starts a command as Popen does. If it is the program, the forked process runs `run_as_program` and executes nothing."""
-        prepare = preexec_fn or bool
+        prepare = preexec_fn or (lambda: None)
         if command[0] == runner.program:
             preexec_fn, how["restore_signals"] = lambda: (prepare(), run_as_program(command[1:], how["env"], pass_fds)), False
         return popen(command, preexec_fn=preexec_fn, pass_fds=pass_fds, **how)

@@ -59,7 +59,8 @@ PROGRAM_KIND, LIBRARY_KIND = 2, 6
 FROM_MANUAL_PAGES = {"acl_free", "acl_init", "acl_set_fd", "getentropy", "strsep"}
 FROM_STANDARDS = {"atexit", "pthread_create", "putc", "putchar", "qsort", "strftime", "vfprintf", "vsnprintf"}
 MIN_CONSTANTS = 50
-# Pairs of names that such a file system treats as the same. An accented letter can be one Unicode character or two.
+# Pairs of names that a file system may treat as the same: it may ignore case and the Unicode form of an accented letter, which
+# can be one character or two.
 SAME_NAMES = (("k.KEY", "k.key"), ("k\u00e9.key", "ke\u0301.key"), ("ke\u0301.key", "k\u00e9.key"), ("K\u00c9.key", "ke\u0301.key"))
 
 
@@ -181,7 +182,7 @@ def check_signals(checks, scratch):
 
 
 def folded_name(name):
-    """Returns the name under which folded_names.c stores a file."""
+    """Returns the name under which the preloaded library (folded_names.c) stores a file."""
     return unicodedata.normalize("NFD", name).lower()
 
 
@@ -191,38 +192,38 @@ class Folding:
     def __init__(self, scratch, program, preload):
         self.scratch, self.program, self.preload = scratch, program, preload
 
-    def run(self, arguments, files, other=None, old=()):
-        """Runs the program in a directory with these files. Returns the result and the files after the run. `other`
-        is a name for which the file system shows another inode number. The files in `old` get the modification time
-        1970."""
+    def run(self, arguments, files, other_name=None, old=()):
+        """Runs the program in a new directory with these files. Returns the result and the files after the run. If
+        `other_name` is not None, a file has another inode number when it is looked up by this name. The files in `old` get
+        the modification time 1970."""
         directory = tempfile.mkdtemp(dir=self.scratch)
         for name, content in files.items():
             write(directory, name, content)
         for name in old:
             os.utime(os.path.join(directory, name), (0, 0))
-        variables = {"LD_PRELOAD": self.preload, **({"OTHER_NUMBER": other} if other else {})}
+        variables = {"LD_PRELOAD": self.preload, **({"OTHER_NUMBER": other_name} if other_name else {})}
         result = run_program([self.program, *arguments], directory, env={**os.environ, **variables})
         return result, {name: read(directory, name) for name in os.listdir(directory)}
 
 
-def check_pair(check, folding, public, secret, other_inode):
-    """Checks runs with two names of the same file. All names of the file have the same inode number, except the
-    name `other`."""
+def check_pair(check, folding, public, secret, other_name):
+    """Checks runs in which `public` and `secret` are two names of the same file. The file has the same inode number by all
+    names, except by `other_name`, unless this is None."""
     ran_alone, texts = folding.run(["-G", "-W", "-p", "p", "-s", "s"], {})
     check(ran_alone.status == 0 and sorted(texts) == ["p", "s"], f"two other names: {ran_alone}")
-    names = f"{public} and {secret}{' with another inode number' if other_inode else ''}"
+    names = f"{public} and {secret}{' with another inode number' if other_name else ''}"
 
     def rejects(status, output, arguments, files):
-        result, remaining = folding.run(arguments, files, other_inode)
+        result, remaining = folding.run(arguments, files, other_name)
         check(
             result.status == status and output.encode() in result.stderr and remaining == files,
             f"{names}: {' '.join(arguments)} over {[*files]}: {result}, leaves {[*remaining]}",
         )
 
     generating, recreating = ["-p", public, "-s", secret, "-G", "-W"], ["-p", public, "-s", secret, "-R"]
-    # A new file gets the inode number of the name with which it was created. If that name is `other`, the two names
-    # look like different files, so this error cannot be expected.
-    for force in ([], ["-f"]) if other_inode != public else ():
+    # A new file keeps the inode number that it has by the name with which it was created, which is `public`.
+    # If this is `other_name`, the two names look like different files, so this error cannot be expected.
+    for force in ([], ["-f"]) if other_name != public else ():
         rejects(
             2,
             f"error: {secret}: on this file system, this is the same file as the other key file\n",
@@ -236,9 +237,9 @@ def check_pair(check, folding, public, secret, other_inode):
     rejects(1, f"{public} already exists", recreating, existing)
     for arguments in ([*recreating, "-f"], ["-S", "-s", secret, "-m", "data", "-x", public]):
         rejects(2, f"error: {public}: this is the secret key, which would be overwritten\n", arguments, existing)
-    result, remaining = folding.run(["-C", "-W", "-s", public], existing, other_inode)
+    result, remaining = folding.run(["-C", "-W", "-s", public], existing, other_name)
     check(result.status == 0 and sorted(remaining) == sorted(existing), f"{names}: -C: {result}, leaves {[*remaining]}")
-    result, remaining = folding.run(["-R", "-p", "k.pub", "-s", secret], remaining, other_inode)
+    result, remaining = folding.run(["-R", "-p", "k.pub", "-s", secret], remaining, other_name)
     check(
         result.status == 0 and remaining["k.pub"].splitlines()[1] == texts["p"].splitlines()[1],
         f"{names}: the key after -C: {result}",
@@ -249,12 +250,12 @@ def check_folded(check, folding):
     """Checks that a pair of equivalent names is an error and that no file is lost, and that other pairs may replace
     files of the same length."""
     for public, secret in SAME_NAMES:
-        for other_inode in (None, secret, public):
-            check_pair(check, folding, public, secret, other_inode)
+        for other_name in (None, secret, public):
+            check_pair(check, folding, public, secret, other_name)
     _, texts = folding.run(["-G", "-W", "-p", "p", "-s", "s"], {})
     files = {"k.pub": texts["p"], "k.key": texts["p"][::-1]}
-    for other_inode in (None, "k.key"):
-        result, remaining = folding.run(["-G", "-W", "-f", "-p", "k.pub", "-s", "k.key"], files, other_inode)
+    for other_name in (None, "k.key"):
+        result, remaining = folding.run(["-G", "-W", "-f", "-p", "k.pub", "-s", "k.key"], files, other_name)
         check(
             result.status == 0 and sorted(remaining) == sorted(files) and remaining["k.key"] != files["k.key"],
             f"two names over other files: {result}",
@@ -299,8 +300,8 @@ def build_folding_library(checks, scratch):
 
 
 def check_names(checks, scratch):
-    """Checks the program and its mutants. Without the checks of the program, the second file of a pair would
-    replace the first."""
+    """Checks the program, and that its mutants are noticed. They lack a check, so that the second file of a pair replaces
+    the first."""
     preload, program = build_folding_library(checks, scratch), os.path.join(scratch, "usual", "minisign")
     check_folded(checks.check, Folding(scratch, program, preload))
     base = mutants.copy_sources(scratch, "include", "c")

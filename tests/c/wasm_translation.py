@@ -86,7 +86,7 @@ CUSTOM, TYPES, IMPORTS, FUNCTIONS, MEMORIES, EXPORTS, CODE, SEGMENTS = 0, 1, 2, 
 # of all other numbers.
 ADDRESS = bytes(DATA >> shift & 127 | (128 if shift < 63 else 0) for shift in range(0, 70, 7))
 # For each instruction, its opcode and the kind of its operand. OPERANDS has a function that encodes each kind of
-# operand. A "place" is the operand of a load or store: an alignment, here always 0, and an offset.
+# operand. The kind "place" is the operand of a load or store: an alignment, here always 0, and an offset.
 CODES = {name: (code, operand) for code, (name, operand) in wasm_object.INSTRUCTIONS.items()}
 # In a list of labels, the last one is the default, which is not counted.
 OPERANDS = {
@@ -140,9 +140,10 @@ class Module:
         addresses = [bytes([wasm_object.CONSTANT]) + number(found.start()) + number(count) + b"\0"
                      for found in re.finditer(re.escape(ADDRESS), encode_list(bodies))]
         segment = b"\0" + assemble(f"i64.const {DATA} end") + with_size(DATA_BYTES)
-        # Places in a section are counted from its size on; the 1 is the byte with the number of segments.
-        place = len(segment) - len(DATA_BYTES) + 1 + POINTER_AT
-        pointer = bytes([wasm_object.DATA]) + number(place) + number(count) + number(POINTS_TO, 64)
+        # A relocation has the offset of the address in its section, after the size of the section. The data section begins
+        # with the number of segments, which takes one byte.
+        offset = 1 + len(segment) - len(DATA_BYTES) + POINTER_AT
+        pointer = bytes([wasm_object.DATA]) + number(offset) + number(count) + number(POINTS_TO, 64)
         symbols = [b"\0\0" + number(index) + text(name) for index, name in enumerate(self.names())]
         symbols.append(b"\1\0" + text("data") + b"\0\0" + number(len(DATA_BYTES)))
         exports = [text(name) + b"\0" + number(index) for index, name in enumerate(self.names())]
@@ -205,18 +206,18 @@ class Runners:
     def program(self, module, flags, machine=MACHINE):
         """Builds a program that reads calls from its standard input and makes them with the translated functions.
         Returns its path."""
-        place, declared, cases = tempfile.mkdtemp(dir=self.scratch), [], []
+        directory, declared, cases = tempfile.mkdtemp(dir=self.scratch), [], []
         for at, (name, parameters, result_kind, *_) in enumerate(module.functions):
             declared.append(f"{C_TYPES[result_kind]} machine_{name}({', '.join(map(C_TYPES.get, parameters))});")
             arguments = ", ".join("base" if kind == "base" else letter for letter, kind in zip("abc", parameters))
             cases.append(f"        case {at}: {'' if result_kind == 'none' else 'made = '}machine_{name}({arguments}); break;")
         files = {"calls.c": wasm_to_c.translate(module.bytes(), module.names()), "machine.h": machine,
                  "runner.c": RUNNER % ("\n".join(declared), BUFFER_BYTES, "\n".join(cases))}
-        sources = [write(place, name, words.encode()) for name, words in files.items()]
+        sources = [write(directory, name, words.encode()) for name, words in files.items()]
         static_library.run_or_fail(
-            [self.compiler, "-std=c99", "-w", *flags, "-I", place, "-o", f"{place}/run", sources[0], sources[2]]
+            [self.compiler, "-std=c99", "-w", *flags, "-I", directory, "-o", f"{directory}/run", sources[0], sources[2]]
         )
-        return f"{place}/run"
+        return f"{directory}/run"
 
     def run_in_c(self, program, calls):
         """Makes the calls in C, and returns the result of running the program."""
@@ -290,7 +291,7 @@ def add_memory(module, rng):
             yield call(at, (0, value % 40 if module.names()[at] == "copy" else value, value % 60), buffer)
 
 
-def add_places(module, _):
+def add_addresses(module, _):
     """Adds functions that read data at its address, and at an address that is stored in the data, and three
     functions with stack frames. Returns calls. The result of frame_above includes the alignment of its frame."""
     data = module.add("data_read", ["i64"], "i64", "i64.const data local.get 0 i64.add i64.load8_u 0")
@@ -429,7 +430,7 @@ class Case:
 
     def __init__(self, runners, rng, count):
         self.module, self.trapping, self.answered = Module(), {}, []
-        calls = [each for add in (add_numbers, add_memory, add_places) for each in add(self.module, rng)]
+        calls = [each for add in (add_numbers, add_memory, add_addresses) for each in add(self.module, rng)]
         calls += add_random_functions(self.module, rng, count)
         for encoded, answer in zip(calls, runners.run_in_node(self.module, calls)):
             (self.trapping.setdefault(self.describe(encoded)[0], []) if answer[0] else self.answered).append((encoded, answer))
@@ -484,15 +485,17 @@ KEEP, BEGIN = wasm_to_c.Body.keep_what_reads, wasm_to_c.Body.begin
 
 
 def begin_without_keeping(self, translating, words):
-    """Begins a block like the translator, but does not first store the values on the stack in variables."""
+    """A mutation of the translator's method `begin`, which begins a block: it does not first store the values on the stack in
+    variables."""
     values, self.stack = self.stack, [wasm_to_c.Value("0", value.kind, frozenset(), True) for value in self.stack]
     BEGIN(self, translating, words)
     self.stack = values
 
 
-# Steps of the translator, and wrong replacements for them.
+# Methods of the translator, and wrong replacements for them. `keep_what_reads` is called before code that changes memory or a
+# variable: it stores values on the stack that still have to read this memory or variable in variables of their own.
 STEP_MUTATIONS = {
-    "values are never stored in variables before a change": ("keep_what_reads", lambda self, what: None),
+    "values on the stack are not stored before what they read is changed": ("keep_what_reads", lambda self, what: None),
     "memory is read late": ("keep_what_reads", lambda self, what: KEEP(self, what) if what != wasm_to_c.MEMORY else None),
     "values are not stored before a block": ("begin", begin_without_keeping),
 }
@@ -523,7 +526,7 @@ def check_mutants(checks, case, single, runners):
 
 # Code that the translator does not support, and words that the error must contain.
 UNSUPPORTED = {
-    "a float": ("0x4300000000", "f32.const"), "a float that is compared": ("0x5b", "f32.eq"), "a root": ("0x9f", "f64.sqrt"),
+    "a float": ("0x4300000000", "f32.const"), "a float that is compared": ("0x5b", "f32.eq"), "a square root": ("0x9f", "f64.sqrt"),
     "a call by table": ("0x110000", "call_indirect"), "more memory": ("0x4000", "memory.grow"), "a vector": ("0xfd", "0xfd"),
     "a load of a float": ("f32.load 0", "f32.load"), "a conversion": ("i32.trunc_f32_s", "i32.trunc_f32_s"),
     "another variable": ("global.get 1", "how much of the stack it takes"),

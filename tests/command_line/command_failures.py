@@ -60,14 +60,14 @@ def complete_file(begin, *lengths):
     return check
 
 
-is_public = complete_file(b"untrusted comment: minisign public key ", 42)
-is_secret = complete_file(b"untrusted comment: ", 158)
-is_signature = complete_file(b"untrusted comment: ", 74, 64)
+expect_public = complete_file(b"untrusted comment: minisign public key ", 42)
+expect_secret = complete_file(b"untrusted comment: ", 158)
+expect_signature = complete_file(b"untrusted comment: ", 74, 64)
 
 
 def tasks(keys):
     """Returns the runs in which calls fail. None of them derives a key, which would take too long."""
-    pair = {"a.pub": is_public, "a.key": is_secret}
+    pair = {"a.pub": expect_public, "a.key": expect_secret}
     older = {"a.pub": keys[OTHER_PUBLIC_KEY], "a.key": keys["other.key"]}
     key_files = {"a.key": keys[PLAIN_KEY]}
     signs = {"data": b"some data\n", **key_files}
@@ -76,13 +76,13 @@ def tasks(keys):
     return [
         Task("new key pair", ("-GW", *names), {}, pair),
         Task("replaced key pair", ("-GWf", *names), older, pair),
-        Task("changed key", ("-CW", "-s", "a.key"), key_files, {"a.key": is_secret}),
-        Task("recreated public key", ("-R", *names), key_files, {"a.pub": is_public}),
-        Task("new signature", signing, signs, {"data.minisig": is_signature}),
-        Task("replaced signature", signing, {**signs, "data.minisig": b"older"}, {"data.minisig": is_signature}),
+        Task("changed key", ("-CW", "-s", "a.key"), key_files, {"a.key": expect_secret}),
+        Task("recreated public key", ("-R", *names), key_files, {"a.pub": expect_public}),
+        Task("new signature", signing, signs, {"data.minisig": expect_signature}),
+        Task("replaced signature", signing, {**signs, "data.minisig": b"older"}, {"data.minisig": expect_signature}),
         Task("three replaced signatures", ("-Sm", *several, "-s", "a.key"),
              {**signs, **dict.fromkeys(several, b"data"), **{f"{name}.minisig": b"older" for name in several}},
-             {f"{name}.minisig": is_signature for name in several},
+             {f"{name}.minisig": expect_signature for name in several},
              # If a write for the last file fails, the signatures of all others may be new.
              before_failing=len(several) - 1),
     ]
@@ -166,7 +166,7 @@ class Breaking(TaskFaultRunner, Programs):
     def into_pipe(self, task):
         ran = self.run(self.new_directory(task.files), [*task.arguments, "-x", "/dev/stdout"])
         expect(ran.status == 0, ran)
-        is_signature(ran.stdout)
+        expect_signature(ran.stdout)
 
     def only_one_succeeds(self, task):
         """Concurrent runs make a new key pair in the same files. Exactly one succeeds, and both files belong to one pair."""

@@ -17,7 +17,7 @@ import subprocess
 import tempfile
 from collections import namedtuple
 
-from command_failures import is_public, is_secret, is_signature
+from command_failures import expect_public, expect_secret, expect_signature
 from command_running import (ENCRYPTED_KEY, PARENT_MODE, PASSWORD, PLAIN_KEY, PUBLIC_KEY, Programs, case, expect_end,
                              expect_prompt, put_files)
 from faults import mounted_in_memory
@@ -121,11 +121,11 @@ class OtherUsers(Programs):
         super().__init__(programs, scratch, keys)
         own = ("-s", "own/k.key")
         self.commands = [
-            Command("a new secret key", ("-GWf", "-p", "own/a.pub", "-s", OUTPUT), is_secret, True),
-            Command("a new public key", ("-GWf", "-p", OUTPUT, "-s", "own/a.key"), is_public),
-            Command("a signature", ("-Sm", "own/data", "-x", OUTPUT, *own), is_signature),
-            Command("a recreated public key", ("-Rf", "-p", OUTPUT, *own), is_public),
-            Command("a changed key", ("-CW", "-s", OUTPUT), is_secret, True, keys[PLAIN_KEY]),
+            Command("a new secret key", ("-GWf", "-p", "own/a.pub", "-s", OUTPUT), expect_secret, True),
+            Command("a new public key", ("-GWf", "-p", OUTPUT, "-s", "own/a.key"), expect_public),
+            Command("a signature", ("-Sm", "own/data", "-x", OUTPUT, *own), expect_signature),
+            Command("a recreated public key", ("-Rf", "-p", OUTPUT, *own), expect_public),
+            Command("a changed key", ("-CW", "-s", OUTPUT), expect_secret, True, keys[PLAIN_KEY]),
         ]
         self.secret, _, self.signature, *_ = self.commands
 
@@ -237,7 +237,7 @@ class OtherUsers(Programs):
                 written = read(path + ".own" if stat.S_ISFIFO(os.lstat(path).st_mode) else path).replace(OLDER_DATA, b"")
             expect(not any(got), f"another user got {got!r}", ran)
             if ran.status == 0 and written:
-                is_secret(written)
+                expect_secret(written)
             else:
                 expect_rejected(ran, written, "shared/output", SECRET_TO_OTHER_USER)
             if not ran.reached:
@@ -295,7 +295,7 @@ class OtherUsers(Programs):
             return
         expect(ran.status == 0, ran)
         # The key has two lines. Messages follow.
-        is_secret(b"".join(received.splitlines(True)[:2]))
+        expect_secret(b"".join(received.splitlines(True)[:2]))
 
     @case("rejects another user's named pipe as standard output")
     def rejects_named_pipe_as_output(self):
@@ -315,7 +315,7 @@ class OtherUsers(Programs):
             os.remove(path + ".first")
             ran = self.run_as(ROOT, directory, self.signature.writing_to("/dev/stdout"), stdout=writer)
         expect(ran.status == 0, ran)
-        is_signature(read_pending(reader))
+        expect_signature(read_pending(reader))
 
     @case("writes into a directory without a name")
     def writes_into_unnamed_directory(self):
@@ -327,7 +327,7 @@ class OtherUsers(Programs):
         os.mkdir("made", 0o755, dir_fd=opened)
         ran = self.run_as(ROOT, directory, self.signature.writing_to(f"/dev/fd/{opened}/made/output"), pass_fds=[opened])
         expect(ran.status == 0, ran)
-        is_signature(read(f"/proc/self/fd/{opened}/made/output"))
+        expect_signature(read(f"/proc/self/fd/{opened}/made/output"))
         os.close(opened)
 
     @case("copies verified data into another user's file as standard output")
@@ -365,7 +365,7 @@ class OtherUsers(Programs):
         is_expected = (status.st_uid, status.st_gid, stat.S_IMODE(status.st_mode)) == (owner, THIRD_USER, mode & 0o700)
         expect(ran.status == 0 and is_expected and acl_of(path) is None, ran,
                f"it left the owner {status.st_uid}:{status.st_gid} and the mode {status.st_mode:o}")
-        is_secret(read(path))
+        expect_secret(read(path))
 
     # ---- The cases ----
 

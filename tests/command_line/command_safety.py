@@ -18,7 +18,7 @@ import needles
 import needs
 import static_library
 from at_terminal import SECONDS, AtTerminal
-from command_failures import is_signature
+from command_failures import expect_signature
 from command_running import (DATA, ENCRYPTED_KEY, HOME, PASSWORD, PLAIN_KEY, PUBLIC_KEY, Programs, case, expect_end,
                              expect_prompt, sealed)
 from process import run_measured, run_program
@@ -105,7 +105,7 @@ class Safety(Programs):
         wait_until(terminal.is_echoing, "the terminal does not show typed text")
         expect_prompt(terminal)
         expect_end(terminal, 0, b"", PASSWORD + b"\n")
-        is_signature(read(directory, "data.minisig"))
+        expect_signature(read(directory, "data.minisig"))
 
     @case("asks only in the foreground")
     def asks_in_foreground(self):

@@ -32,7 +32,7 @@ sys.path += [os.path.join(HERE, "..", name) for name in ("shared", "verdicts")]
 
 import needs
 import test_script
-from command_failures import TEMPORARY, is_secret
+from command_failures import TEMPORARY, expect_secret
 from command_cases import keys_of
 from command_line import build_program, reset_signals
 from command_running import (DATA, ENCRYPTED_KEY, HOME, OTHER_PUBLIC_KEY, PASSWORD, PLAIN_KEY, PUBLIC_KEY, ProgramPaths,
@@ -53,10 +53,10 @@ REPORTS = (b"Sanitizer", b"runtime error")
 
 # File names in place of the usual ones.
 ANY_NAMES = ["data", "more", "empty", "directory", "none", "none/none", "", "link", "dangling", "/dev/null", "x" * 300,
-         "data/x", ".", "..", "./data", "odd\x1b\u202ename", os.fsdecode(b"caf\xe9"), "end ", "text", "page", "archive", "wide"]
+         "data/x", ".", "..", "./data", "odd\x1b\u202ename", os.fsdecode(b"caf\xe9"), "end ", "text", "page", "archive", "utf-16"]
 # Names to write to. Reading from some of them would wait forever.
 STREAMS = ["/dev/stdout", "/proc/self/fd/1", "/dev/full", "/dev/stderr"]
-SECRETS = [PLAIN_KEY, ENCRYPTED_KEY, "link.key", "cut.key", "turned.key"]
+SECRETS = [PLAIN_KEY, ENCRYPTED_KEY, "link.key", "cut.key", "flipped.key"]
 PUBLICS = [PUBLIC_KEY, OTHER_PUBLIC_KEY, "cut.pub", "link.pub"]
 SIGNATURES = ["data.minisig", "legacy.minisig", "more.minisig", "cut.minisig"]
 COMMENTS = [
@@ -105,11 +105,12 @@ def initial_files(programs):
         "cut.minisig": made["data.minisig"][:150],
         "cut.pub": keys[PUBLIC_KEY][:60],
         "cut.key": keys[PLAIN_KEY][:100],
-        "turned.key": text_of(flip_bit(record_of(keys[PLAIN_KEY]))),
+        # One bit of the key is wrong.
+        "flipped.key": text_of(flip_bit(record_of(keys[PLAIN_KEY]))),
         "text": b"a text\nof\nfour\nlines\n",
         "page": b"<!DOCTYPE html>\n<html>\n",
         "archive": bytes.fromhex("1f8b0800") + bytes(40),
-        "wide": keys[PUBLIC_KEY].decode().encode("utf-16"),
+        "utf-16": keys[PUBLIC_KEY].decode().encode("utf-16"),
         "end ": b"end",
         "odd\x1b\u202ename": b"odd",
         os.fsdecode(b"caf\xe9"): b"latin",
@@ -196,8 +197,10 @@ def check_files(initial, directory, line):
     for name, data in initial.files.items():
         expect(name in after, f"{name!r} was removed")
         expect(after[name][1] == data or os.path.realpath(os.path.join(directory, name)) in outputs, f"{name!r} was changed")
+        # `expect_secret` fails unless the file is still a complete secret key. -G may replace the file that -s names by a new key.
+        # -C may write to any of the secret keys, also by a link.
         if data in initial.secrets and (name == line.value_of("-s") and line.command != "G" or line.command == "C"):
-            is_secret(after[name][1])
+            expect_secret(after[name][1])
     for name, (mode, data) in after.items():
         older = initial.files.get(name)
         expect(not os.path.basename(name).startswith(TEMPORARY), f"it left {name}")
@@ -220,7 +223,7 @@ def check_line(programs, initial, line):
         if line.command == "S" and ran.status == 0 and not line.has("-v", "-p", "-P", "-x") and data not in (None, *line.outputs):
             theirs = run_program([programs.theirs, "-Vm", data, "-P", initial.public_key], directory, seconds=MAX_SECONDS_PER_LINE)
             expect(theirs.status == 0, "Minisign does not verify what was signed", theirs)
-        # The results are compared only if Minisign has all of the flags.
+        # The results are compared only for -V, without a flag that Minisign does not have, or that selects another command.
         if (
             line.command == "V"
             and line.arguments.count("-V") == 1

@@ -25,7 +25,7 @@ def shows_signed_text(directory):
             (EXPIRED, 6, TARGET, EXPIRED_FIELD, OLD_DATA), (REJECTED, 6, "other", "", OLD_DATA),
             (REJECTED, 6, TARGET, "\tsize:x", OLD_DATA)):
         directory.put_installed(installed, b"6" if status == ALREADY_INSTALLED else b"5")
-        directory.offer(number=number, names=name, more=more)
+        directory.offer(number=number, signed_name=name, more=more)
         shown = f"{number}\ntimestamp:{number}\tfile:{name}{more}\tprehashed\n"
         shown = shown.replace("\x1b", "\\u{1b}").replace("\x9b", "\\u{9b}")
         # The second time, the comment differs from the signed one.
@@ -110,7 +110,7 @@ def prepare_documented(directory, *names):
 
 def offer_app(directory, name, data, number, signed=None, more=""):
     """Offers an update under the file names of docs/INSTALLING.md."""
-    directory.offer(name, data, number, signed, label="version", names="app", more=more)
+    directory.offer(name, data, number, signed, label="version", signed_name="app", more=more)
     os.replace(directory.path_of(f"{name}.sig"), directory.path_of(f"{name}.minisig"))
 
 

@@ -153,12 +153,12 @@ command_line_cases.table(*REPORTS)(run_reports)
     ("takes --most as --max-size", ["--most", str(len(NEW_DATA)), *PATHS]),
     ("takes -- before the paths", ["--", *PATHS]),
     ("takes -- between the paths", [PK, "--first", "new", "--", "new.sig", TARGET]),
-    ("takes a name that begins with a dash", ["--", *PATHS[:3], "--first"], dict(name="--first", names="--first")),
-    ("takes a file name other than the signed one", [*PATHS[:3], "app", "--name", "app-1.2"], dict(name="app", names="app-1.2")),
+    ("takes a name that begins with a dash", ["--", *PATHS[:3], "--first"], dict(name="--first", signed_name="--first")),
+    ("takes a file name other than the signed one", [*PATHS[:3], "app", "--name", "app-1.2"], dict(name="app", signed_name="app-1.2")),
 )
-def takes_arguments(directory, arguments, mode=0o751, name=TARGET, names=TARGET):
-    """Installs an update with these arguments. `name` is the target, and `names` the file name in the trusted comment."""
-    directory.offer(names=names)
+def takes_arguments(directory, arguments, mode=0o751, name=TARGET, signed_name=TARGET):
+    """Installs an update with these arguments. `name` is the target, and `signed_name` the file name in the trusted comment."""
+    directory.offer(signed_name=signed_name)
     for old_name, new_name in ((TARGET, name), (RECORD, f".{name}.number")):
         os.rename(directory.path_of(old_name), directory.path_of(new_name))
     directory.expect_run(arguments, 0)

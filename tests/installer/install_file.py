@@ -437,7 +437,7 @@ def installs_listed(directory, words, phases, listed=NEW_LIST, **offered):
 )
 def rejects_list(directory, error, text, number, listed, **offered):
     """A list is rejected before any data is read."""
-    directory.offer(**{"signed": listed, "names": LIST, **offered})
+    directory.offer(**{"signed": listed, "signed_name": LIST, **offered})
     directory.put(LIST, listed)
     message = [(ERROR, LIST, text, 0, *number)]
     for words in (["data=new"], ["read=fails", "max=1"], ["check"]):
@@ -455,7 +455,7 @@ def rejects_list_name(directory):
 
 @one_call_cases.table("rejects a list of another name")
 def rejects_other_list(directory):
-    offer_list(directory, names="other")
+    offer_list(directory, signed_name="other")
     message = [(ERROR, SIGNATURE, "the trusted comment does not name the list", 0)]
     call(directory, ["data=new", f"list={LIST}"], REJECTED, "OTHER_LIST", messages=message, shown=6)
     expect_old(directory)

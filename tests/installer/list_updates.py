@@ -92,7 +92,7 @@ class ListUpdate(Update):
 
     def __post_init__(self):
         super().__post_init__()
-        self.offered = {"signed": self.listed, "names": LIST, **self.offered}
+        self.offered = {"signed": self.listed, "signed_name": LIST, **self.offered}
         self.arguments += ["--list", self.list_path]
         number, label = self.offered.get("number", 6), self.offered.get("label", "timestamp")
         self.new_record = self.new_record or self.directory.signer.version_record(self.listed, number, label)
@@ -170,7 +170,7 @@ LIST_TABLE = (
     ("file of a list, and no installed file", 0, dict(options=FIRST, record=None, installed=None)),
     *((f"file of a list {what}", 0, dict(listed=listed, options=options)) for what, listed, options in GOOD_LISTS),
     ("file of a list in another directory", 0, dict(list_path=f"./{LIST}")),
-    ("file of a list that has another name", 0, dict(list_path="sums.txt", list_file="sums.txt", names="sums.txt")),
+    ("file of a list that has another name", 0, dict(list_path="sums.txt", list_file="sums.txt", signed_name="sums.txt")),
     (
         "file of a list under a path, with --name",
         0,
@@ -186,6 +186,7 @@ LIST_TABLE = (
       for size in (len(NEW_LIST), len(NEW_DATA) - 1, len(NEW_DATA) + 1, 0)),
     *(
         (f"file of a list, with keys {' and '.join(keys)}", 0, dict(keys=keys))
+        # (`twin` is another key with the same key ID.)
         for keys in (["own"], ["other", "own"], ["twin", "own"])
     ),
     # The data.
@@ -199,7 +200,7 @@ LIST_TABLE = (
     ("list in place of its file", REJECTED, DIGEST_ERROR, dict(data=NEW_LIST, check_status=0)),
     # The name.
     ("name that is not listed", REJECTED, other_name(NOT_LISTED), dict(listed=line(NEW_DATA, "other"))),
-    ("name in other letters", REJECTED, other_name(NOT_LISTED), dict(listed=line(NEW_DATA, TARGET.upper()))),
+    ("name in upper case", REJECTED, other_name(NOT_LISTED), dict(listed=line(NEW_DATA, TARGET.upper()))),
     ("name with a directory in the list", REJECTED, other_name(NOT_LISTED), dict(listed=line(NEW_DATA, f"bin/{TARGET}"))),
     ("name with escapes in the list", REJECTED, other_name(NOT_LISTED), dict(listed=b"\\" + line(NEW_DATA, f"{TARGET}\\n"))),
     ("list without entries", REJECTED, other_name(NOT_LISTED), dict(listed=b"# nothing\n")),
@@ -235,15 +236,15 @@ LIST_TABLE = (
     ("list that is not signed, without the name", REJECTED, UNSIGNED_ERROR, dict(listed=b"", signed=NEW_LIST)),
     ("signature of the data in place of the list", REJECTED, UNSIGNED_ERROR, dict(signed=NEW_DATA)),
     ("list with a byte more than was signed", REJECTED, UNSIGNED_ERROR, dict(listed=NEW_LIST + b"\n", signed=NEW_LIST)),
-    ("list that is signed under the name of the file", REJECTED, LIST_NAME_ERROR, dict(names=TARGET)),
-    ("list that is signed under another name", REJECTED, LIST_NAME_ERROR, dict(names="SHA512SUMS")),
-    ("list that is signed under a path", REJECTED, LIST_NAME_ERROR, dict(names=f"./{LIST}", list_path=f"./{LIST}")),
+    ("list that is signed under the name of the file", REJECTED, LIST_NAME_ERROR, dict(signed_name=TARGET)),
+    ("list that is signed under another name", REJECTED, LIST_NAME_ERROR, dict(signed_name="SHA512SUMS")),
+    ("list that is signed under a path", REJECTED, LIST_NAME_ERROR, dict(signed_name=f"./{LIST}", list_path=f"./{LIST}")),
     ("renamed list", REJECTED, LIST_NAME_ERROR, dict(list_path="renamed", list_file="renamed")),
     (
         "list that is signed under another name, with --name",
         REJECTED,
         LIST_NAME_ERROR,
-        dict(names=TARGET, options=("--name", LIST)),
+        dict(signed_name=TARGET, options=("--name", LIST)),
     ),
     ("legacy signature of a list", REJECTED, LEGACY_ERROR, dict(legacy=True)),
     ("changed timestamp in the trusted comment of a list", REJECTED,
@@ -251,7 +252,7 @@ LIST_TABLE = (
      dict(number=4, forge=lambda text: text.replace(b"timestamp:4", b"timestamp:9"))),
     ("changed name of the list in the trusted comment", REJECTED,
      error_text("new.sig", "Comment signature verification failed", DOWNLOAD_LIST_AGAIN),
-     dict(names="other", forge=lambda text: text.replace(b"file:other", f"file:{LIST}".encode()))),
+     dict(signed_name="other", forge=lambda text: text.replace(b"file:other", f"file:{LIST}".encode()))),
     # The fields of the trusted comment are checked before the list.
     ("expired list", EXPIRED, EXPIRED_ERROR, dict(more=EXPIRED_FIELD)),
     ("expired list that is malformed", EXPIRED, EXPIRED_ERROR, dict(more=EXPIRED_FIELD, listed=b"text\n")),
@@ -262,7 +263,7 @@ LIST_TABLE = (
     ("older list that is not signed", OLDER_VERSION, OLDER_ERROR, dict(number=4, signed=EXTENDED_LIST)),
     ("older list with --first", OLDER_VERSION, OLDER_ERROR, dict(options=FIRST, number=4)),
     ("list, and no version record", UNRECORDED, NO_RECORD_ERROR, dict(record=None)),
-    ("version of a list over a timestamp", UNRECORDED, HOLDS_TIMESTAMP_ERROR,
+    ("version of a list, but the record holds a timestamp", UNRECORDED, HOLDS_TIMESTAMP_ERROR,
      dict(options=BY_VERSION, record=recorded(OLD_DATA, 5), label="version")),
     # The recorded version.
     ("same list", ALREADY_INSTALLED, LIST_IS_INSTALLED),
@@ -313,7 +314,7 @@ list_cases.table(
     ("rejects the signature of a list without --list", REJECTED, error_text("new", "Signature verification failed",
                                                                            "download the file and its signature again"),
      dict(signed=NEW_LIST, check_status=0)),
-    ("rejects the trusted comment of a list without --list", REJECTED, FILE_NAME_ERROR, dict(signed=NEW_LIST, names=LIST)),
+    ("rejects the trusted comment of a list without --list", REJECTED, FILE_NAME_ERROR, dict(signed=NEW_LIST, signed_name=LIST)),
     ("keeps a file of a list that is then signed by itself", ALREADY_INSTALLED,
      dict(installed=NEW_DATA, record=recorded(NEW_LIST, 6))),
     ("rejects other data that is signed by itself under the version of a list", SAME_VERSION, OTHER_DATA_ERROR,
@@ -332,7 +333,7 @@ def list_arguments(name, *options, path=LIST):
 
 def offer_list(directory, listed=NEW_LIST, path=LIST, **offered):
     """Offers NEW_DATA with this list, and puts the list there."""
-    directory.offer(signed=listed, **{"names": LIST, **offered})
+    directory.offer(signed=listed, **{"signed_name": LIST, **offered})
     directory.put(path, listed)
 
 
@@ -372,7 +373,7 @@ def keeps_rolled_back_list(directory):
     for name, data, number in (("bad", LATER_DATA, 7), ("next", OLD_DATA, 8), ("new", NEW_DATA, 6)):
         listed = line(data)
         directory.put(f"{name}.list", listed)
-        directory.offer(name, data, number, signed=listed, names=f"{name}.list")
+        directory.offer(name, data, number, signed=listed, signed_name=f"{name}.list")
 
     def install(name, status, *options):
         ran = directory.run([*options, "--list", f"{name}.list", PK, name, f"{name}.sig", TARGET])
@@ -401,7 +402,7 @@ def shows_comment_of_list(directory):
     for listed, signed, status in ((NEW_LIST, None, 0), (b"text\n", None, REJECTED), (NEW_LIST, b"", REJECTED)):
         offer_list(directory, listed)
         if signed is not None:
-            directory.offer(signed=signed, names=LIST)
+            directory.offer(signed=signed, signed_name=LIST)
         ran = directory.run(["--list", LIST, *CHECK_ARGUMENTS])
         expect((ran.status, ran.stdout) == (status, f"6\n{comment}".encode()), ran, f"expected status {status} and {comment!r}")
 
@@ -451,7 +452,7 @@ def reads_no_more_with_list(directory, listed, count, **offered):
         count,
         ("--list", LIST, "--max-size", "1000"),
         REJECTED,
-        **{"signed": listed, "names": LIST, **offered},
+        **{"signed": listed, "signed_name": LIST, **offered},
     )
 
 
@@ -510,6 +511,8 @@ def recovers_with_list(directory, data, record):
         fresh.expect_installed_with_record(NEW_DATA, fresh.signer.version_record(NEW_LIST, 6))
 
     break_each_call(directory, check, prepare, options=("--list", LIST))
+    # A kill leaves the old file and the old record, the old file and the new record, or the new file and the new record. If
+    # the record or the file was new from the beginning, some of these states are the same.
     expect(len(remaining) == (3 if record else 1 if data == NEW_DATA else 2), f"the kills left {len(remaining)} different states")
 
 

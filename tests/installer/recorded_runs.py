@@ -1,10 +1,12 @@
 #!/usr/bin/env python3
-"""Checks with the program `trace_reader` that recorded runs of `minisign-install` and of the Python package follow the rules of
-minisign_install.
+"""Checks with the program `trace_reader` that recorded runs of `minisign-install` and of the Python package are lawful: the
+program performs the operations that the state machine of minisign_install.h asks for, and reports what happened.
 
     tests/installer/recorded_runs.py [WORD ..]
 
-WORD selects the cases and mutants whose name contains it. recording.py records the runs. In the cases:
+WORD selects the cases and mutants whose name contains it. recording.py records the runs: it writes a trace, a list of items, which
+are the effects of the program, its reports to the state machine, and the changes by other processes. `trace_reader` names the first
+item that is not allowed: the offence. The head of crates/trace_reader/src/main.rt has the rules. In the cases:
 
   * the updates of updates.py are checked, and installed from a file and from a pipe;
   * each system call in turn fails, with or without an effect, is interrupted, or handles only half of its bytes;
@@ -12,12 +14,12 @@ WORD selects the cases and mutants whose name contains it. recording.py records 
   * the clock moves during a run, fails, or shows a time before 1970;
   * two or three runs make their calls in many orders, some with a failing call or a kill;
   * another process replaces or removes the installed file, or removes the lock file, before each call in turn;
-  * another process breaks the rules, because it replaces the record while a run holds the lock. The rules do not bind this run any
-    more, and `trace_reader` has to name the item of the other process.
+  * another process breaks the rules, because it replaces the record while a run holds the lock. Then nothing is required of this
+    run any more, and `trace_reader` has to name the item of the other process.
 
 recording.py itself compares the options, the file name, the time and the exit status of a run with the expected ones.
-The mutants in recorded_mutants break the code that performs operations. For each mutant, a run of its case must have an
-offence.
+The mutants in recorded_mutants break the code that performs operations. For each mutant, one of the recorded runs of its case
+must have an offence.
 
 Needs the program `trace_reader`, as `rt ci` or `rt run` built it, Python 3.9 or later, Debian's Python with setuptools and wheel,
 make, a C compiler, libsodium with its header, minisign and git. Prints a line for each case that failed; the last line is
@@ -97,11 +99,11 @@ class RecordedDirectory(Directory):
         self.put_installed()
         os.chmod(self.path_of(TARGET), 0o751)
 
-    def make_offer(self, name="new", data=NEW_DATA, number=6, signed=None, legacy=False, names=TARGET, label="timestamp", more="",
-                   forge=bytes):
+    def make_offer(self, name="new", data=NEW_DATA, number=6, signed=None, legacy=False, signed_name=TARGET, label="timestamp",
+                   more="", forge=bytes):
         """Offers an update, as `Directory.offer` does. `forge` changes the signature file. Returns the signature file,
         the data, and the signatures that Ed25519 accepts, as tuples of message, key and signature."""
-        comment = f"{label}:{number}\tfile:{names}{more}".encode()
+        comment = f"{label}:{number}\tfile:{signed_name}{more}".encode()
         signed = data if signed is None else signed
         text = self.signer.sign(signed, comment.decode(), legacy)
         lines = text.split(b"\n")
@@ -117,6 +119,7 @@ class RecordedDirectory(Directory):
         text, data, accepted = offered
         source = source or name
         letters = "".join(letter for option, letter in OPTION_LETTERS.items() if option in options)
+        # T: the version number is the field "timestamp:", which is the default of --numbering.
         letters += "" if "version" in options else "T"
         values = {option: options[at + 1] for at, option in enumerate(options[:-1])}
         limits = [int(values["--max-size"])] if "--max-size" in values else []
@@ -178,6 +181,7 @@ def runs_of_update(directory, status, error_output=b"", **given):
         yield ends, directory.record(command, events=[Events(clock=clock)])
 
 
+# The Python package runs only every fifth row, because it calls the same C code.
 for row_number, (row, row_status, *row_given) in enumerate(updates.UPDATE_TABLE):
     row_given = row_given[1:] if row_given and isinstance(row_given[0], bytes) else row_given
     case(f"{updates.OUTCOMES.get(row_status, 'rejects')}: {row}", row_number % 5 == 0)(
@@ -262,7 +266,8 @@ def limited_data(directory):
 
 @case("a clock that moves")
 def moving_clock(directory):
-    """Each machine of a run reads the clock once. A run with a pipe has two machines, the first one for a check."""
+    """A run reads the clock once for each of its state machines. A run with a pipe has two: the first one only checks the update
+    before the data is read."""
     for clock in ([999], [1000], [999, 1000], [1000, 999], [-1], [999, -1], [-errno.EIO], [999, -errno.EIO], [0], [2 ** 40, 5]):
         for options in ((), ("--must-expire",), ("--check",)):
             for source in (None, STANDARD_INPUT):
@@ -338,7 +343,7 @@ def runs_at_once_with_faults(directory, orders=40):
 
 
 def in_order(randomness):
-    """Returns a function that chooses the run to continue. Usually it chooses the same run for several calls in a row."""
+    """Returns a function that chooses at random which run continues. Usually it chooses the same run for several calls in a row."""
     last = None
 
     def choose(waiting):
@@ -367,8 +372,8 @@ def remove(directory, name):
         os.remove(directory.path_of(name))
 
 
-# Changes by another process: a name, a function, and the situations. A lawful process changes the record only while it
-# holds the lock, so only a check, which does not take the lock, can find that the record was changed.
+# Changes by another process: a name, a function, and the situations. A process that follows the rules changes the record only
+# while it holds the lock, so only a check, which does not take the lock, can find that the record was changed.
 CHANGES = (
     ("another file is put at the target", lambda directory: put_at_target(directory, b"other"),
      ("a newer update", "the same update", "a check")),
@@ -495,7 +500,8 @@ class Forked:
 
 
 def load_package(scratch):
-    """Builds the Python package with recorded_calls.c and imports it. Returns a function like `program_starter`'s."""
+    """Builds the Python package with recorded_calls.c and imports it. Returns a function of the kind that `program_starter`
+    returns."""
     calls = compile_object(f"{HERE}/recorded_calls.c", scratch, "recorded_calls_shared.o", "-fPIC")
     arguments = ["-q", "build", "--build-base", f"{scratch}/base", "--build-lib", f"{scratch}/package"]
     static_library.run_or_fail([python(), "setup.py", *arguments], f"{proved.ROOT}/bindings/python", CC=needs.c_compiler(),

@@ -101,11 +101,12 @@ class Directory:
             os.remove(self.path_of(name))
         make(*arguments, self.path_of(name))
 
-    def offer(self, name="new", data=NEW_DATA, number=6, signed=None, legacy=False, names=TARGET, label="timestamp", more=""):
+    def offer(self, name="new", data=NEW_DATA, number=6, signed=None, legacy=False, signed_name=TARGET, label="timestamp",
+              more=""):
         """Offers an update: writes its data and its signature file. If `signed` is given, these bytes are signed instead of the
-        data. The trusted comment holds the version number in the field `label`, the file name `names`, and the fields `more`."""
+        data. The trusted comment holds the version number in the field `label`, the file name `signed_name`, and the fields `more`."""
         self.put(name, data)
-        comment = f"{label}:{number}\tfile:{names}{more}\tprehashed"
+        comment = f"{label}:{number}\tfile:{signed_name}{more}\tprehashed"
         self.put(name + ".sig", self.signer.sign(data if signed is None else signed, comment, legacy))
 
     def change_owner(self, *names, to=(NOBODY, NOBODY)):

@@ -246,7 +246,7 @@ UPDATE_TABLE = (
      dict(options=(*FIRST, *BY_VERSION), record=recorded(OLD_DATA, 1700000000), label="version", number=2)),
     ("--first with a timestamp, over a version", 0,
      dict(options=FIRST, record=recorded(NEW_DATA, 2 ** 64 - 1, "version"), data=LATER_DATA)),
-    ("--name", 0, dict(options=("--name", "app"), names="app")),
+    ("--name", 0, dict(options=("--name", "app"), signed_name="app")),
     ("update that expires later", 0, dict(more=UNEXPIRED_FIELD)),
     ("recorded version without a digest, and no installed file", 0, dict(number=5, installed=None)),
     ("recorded version, and no installed file", 0, dict(record=recorded(NEW_DATA, 6), installed=None)),
@@ -289,8 +289,8 @@ UPDATE_TABLE = (
      dict(options=BY_VERSION, record=recorded(OLD_DATA, 1700000000), label="version")),
     ("other data than was signed", REJECTED, WRONG_SIGNATURE_ERROR, dict(signed=LATER_DATA, check_status=0)),
     ("empty data in place of the signed data", REJECTED, WRONG_SIGNATURE_ERROR, dict(data=b"", signed=LATER_DATA, check_status=0)),
-    ("update that is signed for another file", REJECTED, FILE_NAME_ERROR, dict(names="other")),
-    ("same update, signed for another file", REJECTED, FILE_NAME_ERROR, dict(NEW_IS_INSTALLED, names="other")),
+    ("update that is signed for another file", REJECTED, FILE_NAME_ERROR, dict(signed_name="other")),
+    ("same update, signed for another file", REJECTED, FILE_NAME_ERROR, dict(NEW_IS_INSTALLED, signed_name="other")),
     ("no timestamp", REJECTED, NO_TIMESTAMP_ERROR, dict(label="version")),
     *(
         (f"timestamp {number!r}", REJECTED, NO_TIMESTAMP_ERROR, dict(number=number))
@@ -303,7 +303,7 @@ UPDATE_TABLE = (
     ("changed timestamp in the trusted comment", REJECTED, COMMENT_ERROR,
      dict(number=4, forge=lambda text: text.replace(b"timestamp:4", b"timestamp:9"))),
     ("changed file name in the trusted comment", REJECTED, COMMENT_ERROR,
-     dict(names="other", forge=lambda text: text.replace(b"file:other", f"file:{TARGET}".encode()))),
+     dict(signed_name="other", forge=lambda text: text.replace(b"file:other", f"file:{TARGET}".encode()))),
     (
         "signature file of two lines",
         REJECTED,

@@ -58,8 +58,8 @@ def check_wrong_files(person):
                                ("alone.pub", bare, "only the key", f" {line} (alone.pub)")):
         person.choose_key(person.put(name, data))
         person.says("key-message", f"{words[0]}, as the key's file", name, *words)
-    # Wrong files that are dropped as downloads are reported with the files. (For a file with only the line of a key, no
-    # key is shown.)
+    # Wrong files that are dropped as downloads are reported below the files. A file with only the line of a key is reported
+    # as a wrong key, but the key itself is not shown.
     person.open()
     for part, name, data, words in (
             *(("key-message", name, bare, f"Paste it into the field: ({name})") for name in ("alone.pub", "alone.txt")),

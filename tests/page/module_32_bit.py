@@ -57,7 +57,7 @@ def check_modules(person, page):
       return answersOf(Library, ...arguments).catch(why => [String(why)]);"""
     person.go("about:blank")
     narrow, wide = (person.run(script, base64.b64encode(module).decode(), cases)
-                    for module in (build.taken_from(page)[0], build.proved_module()))
+                    for module in (build.module_of_page(page)[0], build.proved_module()))
     for answers in (narrow, wide):
         person.same(len(answers), len(cases) + 1, f"the number of results, of which the first is {answers[0]:.300}")
     for at, (narrow_result, wide_result) in enumerate(zip(narrow, wide)):

@@ -329,7 +329,7 @@ def check_page_without_signatures(person, release):
     """A page with a built-in key and no signatures explains what a signature is, does not mention keys, and accepts no
     other key."""
     what, address = "a page with only a key", release.build_own()
-    again = build.page(*build.taken_from(person.page), release.line, TITLE)
+    again = build.page(*build.module_of_page(person.page), release.line, TITLE)
     person.check(read(release.out).decode() == again, f"{what}: building it again gives other bytes")
     for link in ("", f"#{person.second.line}"):
         person.open(address + link)
@@ -359,7 +359,7 @@ def check_hostile_comment(person, release):
     release.drop("x", b"x", "a hostile comment that is built in", release.build_own(person.put("x.minisig", text)), verdict="good",
                  comment=comment.replace("\u2028", "U+2028"))
     person.same(person.see("titles"), [TITLE, TITLE], "the titles of a page with a hostile comment")
-    person.same(build.taken_from(release.out), build.taken_from(person.page), "the module of a page with a hostile comment")
+    person.same(build.module_of_page(release.out), build.module_of_page(person.page), "the module of a page with a hostile comment")
 
 
 def check_slow_processor(person, release):

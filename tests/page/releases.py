@@ -99,7 +99,7 @@ def check_pages_without_names(person):
 def check_hostile_release(person):
     """Names, versions, file names and links of a page that was not made by build.py are shown as text, and links that
     are not safe are left out."""
-    module = build.taken_from(person.page)
+    module = build.module_of_page(person.page)
     for at, (name, shown) in enumerate(HOSTILE.items()):
         link = UNSAFE_LINKS[at]
         signature = f"{name.replace('/', '_')}.minisig", person.sign(b"x", trusted=f"file:{name}").decode()

@@ -4,14 +4,14 @@ import os
 import subprocess
 from dataclasses import dataclass
 
-# The default time limit, in seconds.
+# The default time limit of `run` and `run_with_stderr`, in seconds.
 SECONDS = 1800
 
 
 @dataclass(frozen=True)
 class RunResult:
-    """The result of running a program. `reached` is true if the program made the system call that the test expected
-    to break."""
+    """The result of running a program. `reached` is true if the program made the system call in which the test injects a
+    fault."""
 
     status: int
     stdout: bytes
@@ -59,7 +59,7 @@ def run_measured(command, directory, typed=b"", **how):
 def with_report_pipe(run):
     """Calls `run` with the write end of a pipe, which `run` passes to a program. Returns the result of `run`, and
     the bytes that were written to the pipe. The preloaded library `faulty_calls.c` writes a byte when the program
-    makes the call to break."""
+    makes the system call that is to fail."""
     reader, writer = os.pipe()
     try:
         result = run(writer)

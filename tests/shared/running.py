@@ -73,9 +73,9 @@ Pieces = namedtuple("Pieces", "pieces")
 # Standard input: a regular file.
 FromFile = namedtuple("FromFile", "data")
 # Standard input and output: a terminal. Whenever the output ends with a colon and a space, which is the end of a
-# prompt, the next piece is typed. If `shows` is true, the terminal has its usual settings. Otherwise it neither
+# prompt, the next piece is typed. If `echoes` is true, the terminal has its usual settings. Otherwise it neither
 # echoes input nor changes output, so that it shows exactly the bytes that the program writes.
-TypedInput = namedtuple("TypedInput", "pieces shows", defaults=(False,))
+TypedInput = namedtuple("TypedInput", "pieces echoes", defaults=(False,))
 # Standard output: a pipe. It is not read until the program has written to standard error `writes` times; then the
 # function `change` is called with the directory of the run, and the pipe is read. A program that writes more than
 # the pipe's capacity waits meanwhile.
@@ -350,7 +350,7 @@ class Terminal:
     def __init__(self, typed):
         self.pieces, self.shown = list(typed.pieces), b""
         self.user_end, self.program_end = pty.openpty()
-        if not typed.shows:
+        if not typed.echoes:
             settings = termios.tcgetattr(self.program_end)
             settings[1] &= ~termios.OPOST
             settings[3] &= ~termios.ECHO
@@ -568,7 +568,8 @@ def files_in(directory):
 
 
 def set_access_list(path, entries):
-    """Sets entries of a file's access control list. The mask of the list must change the group bits of the mode."""
+    """Sets entries of a file's access control list. Fails unless this changes the mode of the file, whose group bits then
+    have the mask of the list, because only such a list tests what the caller wants to test."""
     old_mode = os.stat(path).st_mode
     subprocess.run([needs.program("setfacl", "acl"), "-m", entries, path], check=True, timeout=SECONDS)
     expect(os.stat(path).st_mode != old_mode, f"the list of {path} has no mask")

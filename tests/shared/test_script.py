@@ -19,7 +19,7 @@ def run_checks(name, run, *exceptions):
     `expect`, a time limit, an error of the operating system, and the given exceptions end `run` and count as one
     failure. `name` is the prefix of the directory's name."""
     checks = Checks()
-    # Replaces the check functions of the script that the words do not select.
+    # Replaces each check function of the script that the words do not select by a function that does nothing.
     case_selection.select_checks(sys.modules["__main__"])
     with tempfile.TemporaryDirectory(prefix=f"{name}-") as directory:
         try:
@@ -33,7 +33,8 @@ def run_checks(name, run, *exceptions):
 
 def run_cases(name, run, *exceptions):
     """Like `run_checks`, for a function that gets only the directory and returns its results: the failures, the
-    number of cases, and optionally a dictionary with the number of cases that show each intended difference."""
+    number of cases, and optionally a dictionary with the number of cases that show each intended difference from
+    Minisign."""
 
     def record_results(checks, directory):
         checks.failures, count, *differences = run(directory)

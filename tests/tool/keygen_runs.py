@@ -178,7 +178,7 @@ CASES = [
     generated("at a terminal", typed=AT_TERMINAL),
     generated(
         "at a terminal that shows what is typed",
-        typed=TypedInput((b"p\n", b"p\n"), shows=True),
+        typed=TypedInput((b"p\n", b"p\n"), echoes=True),
         output=b"".join(
             part.replace(b"\n", b"\r\n")
             for part in (FIRST_PROMPT, b"p\n", BOTH_PROMPTS[len(FIRST_PROMPT) :], b"p\n", DERIVING)

@@ -1,4 +1,5 @@
-// A program that also signs, which javascript.py bundles. It makes and verifies a signature, and prints the trusted comment.
+// A program that signs and verifies, which javascript.py bundles. It makes and verifies a signature, and prints the trusted
+// comment.
 
 import {generateSecretKey, sign, verify, writePublicKey} from "minisign-proved";
 

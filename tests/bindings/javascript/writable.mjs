@@ -1,5 +1,5 @@
-// Checks the writable streams of verifiers and signers, and the fields of trusted comments, in Node. javascript.py copies this
-// program into a user's directory, beside `node_modules`.
+// Checks, in Node, the writable streams of verifiers and signers, the fields of trusted comments, the codes of errors, and that calls
+// of `sign` share a WebAssembly instance. javascript.py copies this program beside a directory `node_modules` with the package.
 //
 //     node writable.mjs CHECK KEY DATA SIGNATURE    runs one of CHECKS with files that verify
 //
@@ -53,6 +53,7 @@ async function streams() {
   const verifier = await createVerifier(signature, key), [first, second] = streamOf(data).tee();
   const [, stored] = await Promise.all([first.pipeTo(verifier.writable), new Response(second).text()]);
   rows.push([`${COMMENT} test`, `${(await verifier.end()).trustedComment} ${stored}`], [COMMENT, await outcome(verifier.end())]);
+  // The error NOT_BEGUN also means that the verifier has already ended.
   rows.push(["NOT_BEGUN", await outcome((async () => verifier.update(data))())]);
   rows.push([true, verifier.writable === verifier.writable]);
   const aborted = await createVerifier(signature, key), gone = Object.assign(new Error(), {code: "GONE"});

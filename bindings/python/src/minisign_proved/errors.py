@@ -9,7 +9,10 @@ class MinisignError(Exception):
     """Base class of all errors of the library. `number` is the error code in
     include/minisign.h, and `str(error)` is the message of the library. For
     MalformedLine and ListedTwice, `line` is the number of the line at fault in the
-    list. For all other errors it is 0."""
+    list. For all other errors it is 0.
+
+    The docstrings of the errors are the comments of the C header. They name calls
+    and parameters of the library for C, which this package calls."""
 
     number = 0
     line = 0
@@ -166,8 +169,8 @@ class MissingCommentSignature(MinisignError):
 
 
 class UntrustedCommentPrefix(MinisignError):
-    """The first line of the signature file does not begin with "untrusted comment:
-    "."""
+    """The first line of the signature file does not begin with
+    "untrusted comment: "."""
 
     number = 25
 
