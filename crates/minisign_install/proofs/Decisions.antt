@@ -69,7 +69,7 @@ reads_number text n is =
     rw (sym same) (is_number_text text number)
 
 pub number_reads : (text : List ℕ) (n : ℕ) → IsNumberText text n → number_in text ≡ Some n
-number_reads text n is = rw (is_a_number text n is, is.is) refl
+number_reads text n is = rw (is_a_number text n is, is.value_is) refl
 
 value_read : (value : Option (List ℕ)) (n : ℕ) → number_of value ≡ Some n
     → (text : List ℕ) × (value ≡ Some text) × IsNumberText text n
