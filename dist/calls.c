@@ -253,11 +253,12 @@ static const u8 data107[91] = {
     108, 95, 100, 117, 101, 32, 114, 101, 116, 117, 114, 110, 115, 32, 116, 104, 101, 32, 115, 116, 101, 112, 32, 116,
     104, 97, 116, 32, 105, 115, 32, 101, 120, 112, 101, 99, 116, 101, 100, 32, 110, 111, 119,
 };
-/* every option of an installation except 'numbering' must be 0 or 1 */
-static const u8 data108[65] = {
-    101, 118, 101, 114, 121, 32, 111, 112, 116, 105, 111, 110, 32, 111, 102, 32, 97, 110, 32, 105, 110, 115, 116, 97,
-    108, 108, 97, 116, 105, 111, 110, 32, 101, 120, 99, 101, 112, 116, 32, 39, 110, 117, 109, 98, 101, 114, 105, 110,
-    103, 39, 32, 109, 117, 115, 116, 32, 98, 101, 32, 48, 32, 111, 114, 32, 49,
+/* an option of the installation is not valid, or must not be combined with another option */
+static const u8 data108[87] = {
+    97, 110, 32, 111, 112, 116, 105, 111, 110, 32, 111, 102, 32, 116, 104, 101, 32, 105, 110, 115, 116, 97, 108, 108,
+    97, 116, 105, 111, 110, 32, 105, 115, 32, 110, 111, 116, 32, 118, 97, 108, 105, 100, 44, 32, 111, 114, 32, 109,
+    117, 115, 116, 32, 110, 111, 116, 32, 98, 101, 32, 99, 111, 109, 98, 105, 110, 101, 100, 32, 119, 105, 116, 104,
+    32, 97, 110, 111, 116, 104, 101, 114, 32, 111, 112, 116, 105, 111, 110,
 };
 /* 'numbering' must be MINISIGN_NUMBERING_TIMESTAMP or MINISIGN_NUMBERING_VERSION */
 static const u8 data109[78] = {
@@ -348,11 +349,78 @@ static ALIGNED(4) const u8 data126[68] = {
     9, 0, 0, 0, 10, 0, 0, 0, 11, 0, 0, 0, 12, 0, 0, 0, 13, 0, 0, 0, 14, 0, 0, 0,
     15, 0, 0, 0, 63, 0, 0, 0, 62, 0, 0, 0, 61, 0, 0, 0, 82, 0, 0, 0,
 };
-static ALIGNED(8) const u8 data129[184] = {
+static ALIGNED(8) const u8 data127[392] = {
+    1, 0, 0, 0, 0, 0, 0, 0, 2, 0, 0, 0, 0, 0, 0, 0, 3, 0, 0, 0, 0, 0, 0, 0,
+    4, 0, 0, 0, 0, 0, 0, 0, 5, 0, 0, 0, 0, 0, 0, 0, 6, 0, 0, 0, 0, 0, 0, 0,
+    7, 0, 0, 0, 0, 0, 0, 0, 8, 0, 0, 0, 0, 0, 0, 0, 9, 0, 0, 0, 0, 0, 0, 0,
+    10, 0, 0, 0, 0, 0, 0, 0, 11, 0, 0, 0, 0, 0, 0, 0, 12, 0, 0, 0, 0, 0, 0, 0,
+    13, 0, 0, 0, 0, 0, 0, 0, 14, 0, 0, 0, 0, 0, 0, 0, 15, 0, 0, 0, 0, 0, 0, 0,
+    0, 0, 0, 0, 0, 0, 0, 0, 0, 0, 0, 0, 0, 0, 0, 0, 0, 0, 0, 0, 0, 0, 0, 0,
+    0, 0, 0, 0, 0, 0, 0, 0, 0, 0, 0, 0, 0, 0, 0, 0, 0, 0, 0, 0, 0, 0, 0, 0,
+    0, 0, 0, 0, 0, 0, 0, 0, 0, 0, 0, 0, 0, 0, 0, 0, 0, 0, 0, 0, 0, 0, 0, 0,
+    0, 0, 0, 0, 0, 0, 0, 0, 0, 0, 0, 0, 0, 0, 0, 0, 0, 0, 0, 0, 0, 0, 0, 0,
+    0, 0, 0, 0, 0, 0, 0, 0, 0, 0, 0, 0, 0, 0, 0, 0, 0, 0, 0, 0, 0, 0, 0, 0,
+    0, 0, 0, 0, 0, 0, 0, 0, 0, 0, 0, 0, 0, 0, 0, 0, 0, 0, 0, 0, 0, 0, 0, 0,
+    0, 0, 0, 0, 0, 0, 0, 0, 0, 0, 0, 0, 0, 0, 0, 0, 0, 0, 0, 0, 0, 0, 0, 0,
+    0, 0, 0, 0, 0, 0, 0, 0, 0, 0, 0, 0, 0, 0, 0, 0, 0, 0, 0, 0, 0, 0, 0, 0,
+    0, 0, 0, 0, 0, 0, 0, 0, 0, 0, 0, 0, 0, 0, 0, 0, 0, 0, 0, 0, 0, 0, 0, 0,
+    0, 0, 0, 0, 0, 0, 0, 0, 0, 0, 0, 0, 0, 0, 0, 0, 16, 0, 0, 0, 0, 0, 0, 0,
+    17, 0, 0, 0, 0, 0, 0, 0, 18, 0, 0, 0, 0, 0, 0, 0, 19, 0, 0, 0, 0, 0, 0, 0,
+    20, 0, 0, 0, 0, 0, 0, 0,
+};
+static ALIGNED(4) const u8 data128[12] = {
+    25, 205, 224, 91, 0, 0, 0, 0, 0, 0, 0, 0,
+};
+static ALIGNED(4) const u8 data129[12] = {
+    171, 217, 131, 31, 0, 0, 0, 0, 0, 0, 0, 0,
+};
+static ALIGNED(4) const u8 data130[12] = {
+    140, 104, 5, 155, 0, 0, 0, 0, 0, 0, 0, 0,
+};
+static ALIGNED(4) const u8 data131[12] = {
+    127, 82, 14, 81, 0, 0, 0, 0, 0, 0, 0, 0,
+};
+static ALIGNED(4) const u8 data132[12] = {
+    58, 245, 79, 165, 0, 0, 0, 0, 0, 0, 0, 0,
+};
+static ALIGNED(4) const u8 data133[12] = {
+    114, 243, 110, 60, 0, 0, 0, 0, 0, 0, 0, 0,
+};
+static ALIGNED(4) const u8 data134[12] = {
+    133, 174, 103, 187, 0, 0, 0, 0, 0, 0, 0, 0,
+};
+static ALIGNED(4) const u8 data135[12] = {
+    103, 230, 9, 106, 0, 0, 0, 0, 0, 0, 0, 0,
+};
+static ALIGNED(8) const u8 data136[24] = {
+    0, 0, 0, 0, 0, 0, 0, 0, 8, 201, 188, 243, 103, 230, 9, 106, 72, 201, 189, 242, 103, 230, 9, 106,
+};
+static ALIGNED(8) const u8 data137[24] = {
+    0, 0, 0, 0, 0, 0, 0, 0, 59, 167, 202, 132, 133, 174, 103, 187, 59, 167, 202, 132, 133, 174, 103, 187,
+};
+static ALIGNED(8) const u8 data138[24] = {
+    0, 0, 0, 0, 0, 0, 0, 0, 43, 248, 148, 254, 114, 243, 110, 60, 43, 248, 148, 254, 114, 243, 110, 60,
+};
+static ALIGNED(8) const u8 data139[24] = {
+    0, 0, 0, 0, 0, 0, 0, 0, 241, 54, 29, 95, 58, 245, 79, 165, 241, 54, 29, 95, 58, 245, 79, 165,
+};
+static ALIGNED(8) const u8 data140[24] = {
+    0, 0, 0, 0, 0, 0, 0, 0, 209, 130, 230, 173, 127, 82, 14, 81, 209, 130, 230, 173, 127, 82, 14, 81,
+};
+static ALIGNED(8) const u8 data141[24] = {
+    0, 0, 0, 0, 0, 0, 0, 0, 31, 108, 62, 43, 140, 104, 5, 155, 31, 108, 62, 43, 140, 104, 5, 155,
+};
+static ALIGNED(8) const u8 data142[24] = {
+    0, 0, 0, 0, 0, 0, 0, 0, 107, 189, 65, 251, 171, 217, 131, 31, 107, 189, 65, 251, 171, 217, 131, 31,
+};
+static ALIGNED(8) const u8 data143[24] = {
+    0, 0, 0, 0, 0, 0, 0, 0, 121, 33, 126, 19, 25, 205, 224, 91, 121, 33, 126, 19, 25, 205, 224, 91,
+};
+static ALIGNED(8) const u8 data146[184] = {
     91, 0, 0, 0, 0, 0, 0, 0, 91, 0, 0, 0, 0, 0, 0, 0, 71, 0, 0, 0, 0, 0, 0, 0,
     80, 0, 0, 0, 0, 0, 0, 0, 35, 0, 0, 0, 0, 0, 0, 0, 43, 0, 0, 0, 0, 0, 0, 0,
     87, 0, 0, 0, 0, 0, 0, 0, 47, 0, 0, 0, 0, 0, 0, 0, 80, 0, 0, 0, 0, 0, 0, 0,
-    91, 0, 0, 0, 0, 0, 0, 0, 65, 0, 0, 0, 0, 0, 0, 0, 78, 0, 0, 0, 0, 0, 0, 0,
+    91, 0, 0, 0, 0, 0, 0, 0, 87, 0, 0, 0, 0, 0, 0, 0, 78, 0, 0, 0, 0, 0, 0, 0,
     93, 0, 0, 0, 0, 0, 0, 0, 59, 0, 0, 0, 0, 0, 0, 0, 80, 0, 0, 0, 0, 0, 0, 0,
     82, 0, 0, 0, 0, 0, 0, 0, 59, 0, 0, 0, 0, 0, 0, 0, 30, 0, 0, 0, 0, 0, 0, 0,
     68, 0, 0, 0, 0, 0, 0, 0, 30, 0, 0, 0, 0, 0, 0, 0, 42, 0, 0, 0, 0, 0, 0, 0,
@@ -387,11 +455,11 @@ static const u8 table_bytes[5832] = {
     208, 26, 0, 0, 0, 0, 0, 0, 43, 27, 0, 0, 0, 0, 0, 0, 134, 27, 0, 0, 0, 0, 0, 0,
     205, 27, 0, 0, 0, 0, 0, 0, 29, 28, 0, 0, 0, 0, 0, 0, 64, 28, 0, 0, 0, 0, 0, 0,
     107, 28, 0, 0, 0, 0, 0, 0, 194, 28, 0, 0, 0, 0, 0, 0, 241, 28, 0, 0, 0, 0, 0, 0,
-    65, 29, 0, 0, 0, 0, 0, 0, 156, 29, 0, 0, 0, 0, 0, 0, 221, 29, 0, 0, 0, 0, 0, 0,
-    43, 30, 0, 0, 0, 0, 0, 0, 136, 30, 0, 0, 0, 0, 0, 0, 195, 30, 0, 0, 0, 0, 0, 0,
-    19, 31, 0, 0, 0, 0, 0, 0, 101, 31, 0, 0, 0, 0, 0, 0, 160, 31, 0, 0, 0, 0, 0, 0,
-    190, 31, 0, 0, 0, 0, 0, 0, 2, 32, 0, 0, 0, 0, 0, 0, 32, 32, 0, 0, 0, 0, 0, 0,
-    74, 32, 0, 0, 0, 0, 0, 0, 140, 32, 0, 0, 0, 0, 0, 0, 0, 0, 0, 0, 0, 0, 0, 0,
+    65, 29, 0, 0, 0, 0, 0, 0, 156, 29, 0, 0, 0, 0, 0, 0, 243, 29, 0, 0, 0, 0, 0, 0,
+    65, 30, 0, 0, 0, 0, 0, 0, 158, 30, 0, 0, 0, 0, 0, 0, 217, 30, 0, 0, 0, 0, 0, 0,
+    41, 31, 0, 0, 0, 0, 0, 0, 123, 31, 0, 0, 0, 0, 0, 0, 182, 31, 0, 0, 0, 0, 0, 0,
+    212, 31, 0, 0, 0, 0, 0, 0, 24, 32, 0, 0, 0, 0, 0, 0, 54, 32, 0, 0, 0, 0, 0, 0,
+    96, 32, 0, 0, 0, 0, 0, 0, 162, 32, 0, 0, 0, 0, 0, 0, 0, 0, 0, 0, 0, 0, 0, 0,
     8, 0, 0, 0, 3, 0, 0, 0, 40, 1, 0, 0, 0, 0, 0, 0, 34, 0, 0, 0, 0, 0, 0, 0,
     115, 116, 114, 101, 97, 109, 32, 100, 105, 100, 32, 110, 111, 116, 32, 99, 111, 110, 116, 97, 105, 110, 32, 118,
     97, 108, 105, 100, 32, 85, 84, 70, 45, 56, 0, 0, 0, 0, 0, 0, 7, 0, 0, 0, 10, 0, 0, 0,
@@ -583,26 +651,26 @@ static const u8 table_bytes[5832] = {
     58, 0, 0, 0, 0, 0, 0, 0, 116, 104, 101, 32, 115, 105, 122, 101, 32, 111, 102, 32, 116, 104, 101, 32,
     100, 97, 116, 97, 32, 105, 115, 32, 110, 111, 116, 32, 116, 104, 101, 32, 111, 110, 101, 32, 105, 110, 32, 116,
     104, 101, 32, 116, 114, 117, 115, 116, 101, 100, 32, 99, 111, 109, 109, 101, 110, 116, 0, 0, 0, 0, 0, 0,
-    0, 0, 0, 0, 0, 0, 0, 0, 89, 0, 0, 0, 2, 0, 0, 0, 152, 11, 0, 0, 0, 0, 0, 0,
-    42, 0, 0, 0, 0, 0, 0, 0, 116, 104, 101, 32, 116, 114, 117, 115, 116, 101, 100, 32, 99, 111, 109, 109,
-    101, 110, 116, 32, 100, 111, 101, 115, 32, 110, 111, 116, 32, 110, 97, 109, 101, 32, 116, 104, 101, 32, 108, 105,
-    115, 116, 0, 0, 0, 0, 0, 0, 0, 0, 0, 0, 0, 0, 0, 0, 90, 0, 0, 0, 4, 0, 0, 0,
-    224, 11, 0, 0, 0, 0, 0, 0, 71, 0, 0, 0, 0, 0, 0, 0, 97, 32, 108, 105, 115, 116, 32, 99,
-    97, 110, 32, 111, 110, 108, 121, 32, 99, 111, 110, 116, 97, 105, 110, 32, 114, 101, 108, 97, 116, 105, 118, 101,
-    32, 112, 97, 116, 104, 115, 32, 119, 105, 116, 104, 111, 117, 116, 32, 46, 46, 32, 111, 114, 32, 115, 112, 101,
-    99, 105, 97, 108, 32, 99, 104, 97, 114, 97, 99, 116, 101, 114, 115, 0, 91, 0, 0, 0, 4, 0, 0, 0,
-    64, 12, 0, 0, 0, 0, 0, 0, 31, 0, 0, 0, 0, 0, 0, 0, 97, 32, 108, 105, 110, 101, 32, 111,
-    102, 32, 116, 104, 101, 32, 108, 105, 115, 116, 32, 105, 115, 32, 109, 97, 108, 102, 111, 114, 109, 101, 100, 0,
-    0, 0, 0, 0, 0, 0, 0, 0, 92, 0, 0, 0, 2, 0, 0, 0, 120, 12, 0, 0, 0, 0, 0, 0,
-    35, 0, 0, 0, 0, 0, 0, 0, 116, 104, 101, 32, 108, 105, 115, 116, 32, 100, 111, 101, 115, 32, 110, 111,
-    116, 32, 99, 111, 110, 116, 97, 105, 110, 32, 116, 104, 105, 115, 32, 110, 97, 109, 101, 0, 0, 0, 0, 0,
-    93, 0, 0, 0, 2, 0, 0, 0, 184, 12, 0, 0, 0, 0, 0, 0, 33, 0, 0, 0, 0, 0, 0, 0,
-    116, 104, 101, 32, 108, 105, 115, 116, 32, 99, 111, 110, 116, 97, 105, 110, 115, 32, 116, 104, 105, 115, 32, 110,
-    97, 109, 101, 32, 116, 119, 105, 99, 101, 0, 0, 0, 0, 0, 0, 0, 94, 0, 0, 0, 2, 0, 0, 0,
-    248, 12, 0, 0, 0, 0, 0, 0, 49, 0, 0, 0, 0, 0, 0, 0, 116, 104, 101, 32, 100, 105, 103, 101,
-    115, 116, 32, 111, 102, 32, 116, 104, 101, 32, 100, 97, 116, 97, 32, 105, 115, 32, 110, 111, 116, 32, 116, 104,
-    101, 32, 111, 110, 101, 32, 105, 110, 32, 116, 104, 101, 32, 108, 105, 115, 116, 0, 0, 0, 0, 0, 0, 0,
-    237, 21, 0, 0, 0, 0, 0, 0, 245, 21, 0, 0, 0, 0, 0, 0, 253, 21, 0, 0, 0, 0, 0, 0,
+    0, 0, 0, 0, 0, 0, 0, 0, 90, 0, 0, 0, 4, 0, 0, 0, 224, 11, 0, 0, 0, 0, 0, 0,
+    71, 0, 0, 0, 0, 0, 0, 0, 97, 32, 108, 105, 115, 116, 32, 99, 97, 110, 32, 111, 110, 108, 121, 32,
+    99, 111, 110, 116, 97, 105, 110, 32, 114, 101, 108, 97, 116, 105, 118, 101, 32, 112, 97, 116, 104, 115, 32, 119,
+    105, 116, 104, 111, 117, 116, 32, 46, 46, 32, 111, 114, 32, 115, 112, 101, 99, 105, 97, 108, 32, 99, 104, 97,
+    114, 97, 99, 116, 101, 114, 115, 0, 91, 0, 0, 0, 4, 0, 0, 0, 64, 12, 0, 0, 0, 0, 0, 0,
+    31, 0, 0, 0, 0, 0, 0, 0, 97, 32, 108, 105, 110, 101, 32, 111, 102, 32, 116, 104, 101, 32, 108, 105,
+    115, 116, 32, 105, 115, 32, 109, 97, 108, 102, 111, 114, 109, 101, 100, 0, 0, 0, 0, 0, 0, 0, 0, 0,
+    92, 0, 0, 0, 2, 0, 0, 0, 120, 12, 0, 0, 0, 0, 0, 0, 35, 0, 0, 0, 0, 0, 0, 0,
+    116, 104, 101, 32, 108, 105, 115, 116, 32, 100, 111, 101, 115, 32, 110, 111, 116, 32, 99, 111, 110, 116, 97, 105,
+    110, 32, 116, 104, 105, 115, 32, 110, 97, 109, 101, 0, 0, 0, 0, 0, 93, 0, 0, 0, 2, 0, 0, 0,
+    184, 12, 0, 0, 0, 0, 0, 0, 33, 0, 0, 0, 0, 0, 0, 0, 116, 104, 101, 32, 108, 105, 115, 116,
+    32, 99, 111, 110, 116, 97, 105, 110, 115, 32, 116, 104, 105, 115, 32, 110, 97, 109, 101, 32, 116, 119, 105, 99,
+    101, 0, 0, 0, 0, 0, 0, 0, 94, 0, 0, 0, 2, 0, 0, 0, 248, 12, 0, 0, 0, 0, 0, 0,
+    49, 0, 0, 0, 0, 0, 0, 0, 116, 104, 101, 32, 100, 105, 103, 101, 115, 116, 32, 111, 102, 32, 116, 104,
+    101, 32, 100, 97, 116, 97, 32, 105, 115, 32, 110, 111, 116, 32, 116, 104, 101, 32, 111, 110, 101, 32, 105, 110,
+    32, 116, 104, 101, 32, 108, 105, 115, 116, 0, 0, 0, 0, 0, 0, 0, 237, 21, 0, 0, 0, 0, 0, 0,
+    245, 21, 0, 0, 0, 0, 0, 0, 253, 21, 0, 0, 0, 0, 0, 0, 0, 0, 0, 0, 0, 0, 0, 0,
+    89, 0, 0, 0, 2, 0, 0, 0, 152, 11, 0, 0, 0, 0, 0, 0, 42, 0, 0, 0, 0, 0, 0, 0,
+    116, 104, 101, 32, 116, 114, 117, 115, 116, 101, 100, 32, 99, 111, 109, 109, 101, 110, 116, 32, 100, 111, 101, 115,
+    32, 110, 111, 116, 32, 110, 97, 109, 101, 32, 116, 104, 101, 32, 108, 105, 115, 116, 0, 0, 0, 0, 0, 0,
 };
 
 static void write_table(u64 table)
@@ -657,12 +725,12 @@ static void write_table(u64 table)
     store64(table + 3976, table + 3992);
     store64(table + 4024, table + 4040);
     store64(table + 4104, table + 4120);
+    store64(table + 5768, table + 5784);
     store64(table + 5368, table + 5384);
-    store64(table + 5448, table + 5464);
-    store64(table + 5544, table + 5560);
-    store64(table + 5608, table + 5624);
-    store64(table + 5672, table + 5688);
-    store64(table + 5736, table + 5752);
+    store64(table + 5464, table + 5480);
+    store64(table + 5528, table + 5544);
+    store64(table + 5592, table + 5608);
+    store64(table + 5656, table + 5672);
     store64(table + 4152, table + 4168);
     store64(table + 4232, table + 4248);
     store64(table + 4296, table + 4312);
@@ -678,9 +746,9 @@ static void write_table(u64 table)
     store64(table + 5096, table + 5112);
     store64(table + 5176, table + 5192);
     store64(table + 5272, table + 5288);
-    store64(table + 5808, address(data83));
-    store64(table + 5816, address(data84));
-    store64(table + 5824, address(data85));
+    store64(table + 5728, address(data83));
+    store64(table + 5736, address(data84));
+    store64(table + 5744, address(data85));
     store64(table + 1840, table + 768);
     store64(table + 1848, table + 2256);
     store64(table + 1856, table + 2304);
@@ -709,12 +777,12 @@ static void write_table(u64 table)
     store64(table + 2040, table + 1392);
     store64(table + 2048, table + 1440);
     store64(table + 2056, table + 1776);
-    store64(table + 0, table + 5360);
-    store64(table + 8, table + 5440);
-    store64(table + 16, table + 5536);
-    store64(table + 24, table + 5600);
-    store64(table + 32, table + 5664);
-    store64(table + 40, table + 5728);
+    store64(table + 0, table + 5760);
+    store64(table + 8, table + 5360);
+    store64(table + 16, table + 5456);
+    store64(table + 24, table + 5520);
+    store64(table + 32, table + 5584);
+    store64(table + 40, table + 5648);
     store64(table + 48, table + 4144);
     store64(table + 56, table + 4224);
     store64(table + 64, table + 4288);
@@ -855,6 +923,7 @@ static void do_minisign_external_numbers_fault_of(u64 table, u64 l0, u32 l1)
 
 static u64 do_minisign_error_text(u64 sp, u64 table, u32 l0, u64 l1, u64 l2)
 {
+    u32 l13 = 0;
     u64 l3 = 0, l4 = 0, l5 = 0, l6 = 0, l7 = 0, l8 = 0, l9 = 0, l10 = 0, l11 = 0, l12 = 0;
     l3 = sp - UINT64_C(32);
     sp = l3;
@@ -916,8 +985,9 @@ static u64 do_minisign_error_text(u64 sp, u64 table, u32 l0, u64 l1, u64 l2)
         after2:;
         {
             {
-                if ((l0 + 0xffffffd2u) > 14u) { goto after9; }
-                l6 = load64((((u64) ((l0 + 210u) & 255u)) << 3) + (table + 48));
+                l13 = l0 + 0xffffffd2u;
+                if (l13 > 14u) { goto after9; }
+                l6 = load64((((u64) l13) << 3) + (table + 48));
                 l9 = load64(l6 + UINT64_C(8));
                 l7 = load64(l6 + UINT64_C(16));
                 goto after8;
@@ -1092,7 +1162,7 @@ static u64 do_minisign_error_text(u64 sp, u64 table, u32 l0, u64 l1, u64 l2)
             after10:;
             l6 = l6 << 3;
             l9 = load64(l6 + (table + 576));
-            l7 = load64(l6 + address(data129));
+            l7 = load64(l6 + address(data146));
         }
         after8:;
         if (l2 == 0) { goto after1; }
@@ -13248,13 +13318,14 @@ static u32 do_minisign_encode_public_key(u64 sp, u64 table, u64 l0, u64 l1, u64 
 
 static u32 do_minisign_install_init(u64 sp, u64 l0, u64 l1, u64 l2, u64 l3)
 {
-    u32 l5 = 0, l6 = 0, l8 = 0, l9 = 0, l10 = 0, l11 = 0, l12 = 0, l13 = 0, l14 = 0, l15 = 0;
-    u64 l4 = 0, l7 = 0, l16 = 0, l17 = 0, l18 = 0, l19 = 0, l20 = 0, l21 = 0, l22 = 0;
-    l4 = sp - UINT64_C(480);
+    u32 l5 = 0, l6 = 0, l8 = 0, l9 = 0, l10 = 0, l11 = 0, l12 = 0, l13 = 0, l14 = 0, l15 = 0, l16 = 0, l17 = 0, l18 = 0, l19 = 0, l20 = 0, l21 = 0;
+    u32 l22 = 0, l23 = 0, l24 = 0, l25 = 0, l26 = 0;
+    u64 l4 = 0, l7 = 0, l27 = 0, l28 = 0, l29 = 0, l30 = 0, l31 = 0, l32 = 0, l33 = 0;
+    l4 = sp - UINT64_C(656);
     sp = l4;
     l5 = 0u;
-    fill(l4 + UINT64_C(288), 0u, UINT64_C(96));
-    fill(l4 + UINT64_C(8), 0u, UINT64_C(280));
+    fill(l4 + UINT64_C(464), 0u, UINT64_C(96));
+    fill(l4 + UINT64_C(8), 0u, UINT64_C(456));
     l6 = 10u;
     l7 = UINT64_C(0);
     {
@@ -13276,6 +13347,9 @@ static u32 do_minisign_install_init(u64 sp, u64 l0, u64 l1, u64 l2, u64 l3)
             l5 = 0u;
             l13 = load32(l3 + UINT64_C(24));
             if (l13 > 1u) { goto after2; }
+            l5 = 0u;
+            l14 = load32(l3 + UINT64_C(28));
+            if (l14 > 1u) { goto after2; }
             {
                 if (l8 != 1u) { goto after3; }
                 l5 = 0u;
@@ -13284,57 +13358,91 @@ static u32 do_minisign_install_init(u64 sp, u64 l0, u64 l1, u64 l2, u64 l3)
             }
             after3:;
             {
-                l14 = load32(l3);
-                if (l14 <= 1u) { goto after4; }
+                l15 = load32(l3);
+                if (l15 <= 1u) { goto after4; }
                 l6 = 11u;
                 l5 = 0u;
                 goto after2;
             }
             after4:;
-            store64(l4 + 424, load64(l1 + 40));
-            store64(l4 + 416, load64(l1 + 32));
-            store64(l4 + 408, load64(l1 + 24));
-            store64(l4 + 400, load64(l1 + 16));
-            store64(l4 + 392, load64(l1 + 8));
-            store64(l4 + 384, load64(l1));
-            store64(l4 + 432, load64(l2));
-            store64(l4 + 440, load64(l2 + 8));
-            store64(l4 + 448, load64(l2 + 16));
-            store64(l4 + 456, load64(l2 + 24));
-            store64(l4 + 464, load64(l2 + 32));
-            store64(l4 + 472, load64(l2 + 40));
-            copy(l4 + UINT64_C(288), l4 + UINT64_C(384), UINT64_C(96));
-            l5 = 1u;
-            l15 = l10 == 1u ? 2u : 1u;
-            l16 = UINT64_C(0x6c6c6174736e696d);
+            l6 = 21u;
+            l5 = 0u;
+            l16 = load32(l3 + UINT64_C(32));
+            if (l16 > 3u) { goto after2; }
+            l17 = 0u;
+            l18 = 0u;
+            l19 = 0u;
+            l20 = 0u;
+            l21 = 0u;
+            l22 = 0u;
+            l23 = 0u;
+            l24 = 0u;
+            l25 = 0u;
+            l26 = 0u;
+            l3 = UINT64_C(0);
+            l27 = UINT64_C(0);
+            l28 = UINT64_C(0);
+            l29 = UINT64_C(0);
+            l30 = UINT64_C(0);
+            l31 = UINT64_C(0);
+            l32 = UINT64_C(0);
+            l33 = UINT64_C(0);
+            if (l16 == 1u) { goto after1; }
+            store64(l4 + 600, load64(l1 + 40));
+            store64(l4 + 592, load64(l1 + 32));
+            store64(l4 + 584, load64(l1 + 24));
+            store64(l4 + 576, load64(l1 + 16));
+            store64(l4 + 568, load64(l1 + 8));
+            store64(l4 + 560, load64(l1));
+            store64(l4 + 608, load64(l2));
+            store64(l4 + 616, load64(l2 + 8));
+            store64(l4 + 624, load64(l2 + 16));
+            store64(l4 + 632, load64(l2 + 24));
+            store64(l4 + 640, load64(l2 + 32));
+            store64(l4 + 648, load64(l2 + 40));
+            copy(l4 + UINT64_C(464), l4 + UINT64_C(560), UINT64_C(96));
+            l17 = l10 == 1u ? 2u : 1u;
+            l33 = UINT64_C(0x6c6c6174736e696d);
             l6 = 0u;
-            l17 = UINT64_C(0x5be0cd19137e2179);
-            l18 = UINT64_C(0x1f83d9abfb41bd6b);
-            l19 = UINT64_C(0x9b05688c2b3e6c1f);
-            l20 = UINT64_C(0x510e527fade682d1);
-            l21 = UINT64_C(0xa54ff53a5f1d36f1);
-            l22 = UINT64_C(0x3c6ef372fe94f82b);
+            l32 = UINT64_C(0x5be0cd19137e2179);
+            l31 = UINT64_C(0x1f83d9abfb41bd6b);
+            l30 = UINT64_C(0x9b05688c2b3e6c1f);
+            l29 = UINT64_C(0x510e527fade682d1);
+            l28 = UINT64_C(0xa54ff53a5f1d36f1);
+            l27 = UINT64_C(0x3c6ef372fe94f82b);
             l3 = UINT64_C(0xbb67ae8584caa73b);
             l7 = UINT64_C(0x6a09e667f2bdc948);
+            l5 = 1u;
+            l18 = l15;
+            l19 = l8;
+            l20 = l9;
+            l21 = l10;
+            l22 = l11;
+            l23 = l12;
+            l24 = l13;
+            l25 = l14;
+            l26 = l16;
             goto after1;
         }
         after2:;
-        l15 = 0u;
-        l14 = 0u;
-        l8 = 0u;
-        l9 = 0u;
-        l10 = 0u;
-        l11 = 0u;
-        l12 = 0u;
-        l13 = 0u;
+        l17 = 0u;
+        l18 = 0u;
+        l19 = 0u;
+        l20 = 0u;
+        l21 = 0u;
+        l22 = 0u;
+        l23 = 0u;
+        l24 = 0u;
+        l25 = 0u;
+        l26 = 0u;
         l3 = UINT64_C(0);
-        l22 = UINT64_C(0);
-        l21 = UINT64_C(0);
-        l20 = UINT64_C(0);
-        l19 = UINT64_C(0);
-        l18 = UINT64_C(0);
-        l17 = UINT64_C(0);
-        l16 = UINT64_C(0);
+        l27 = UINT64_C(0);
+        l28 = UINT64_C(0);
+        l29 = UINT64_C(0);
+        l30 = UINT64_C(0);
+        l31 = UINT64_C(0);
+        l32 = UINT64_C(0);
+        l33 = UINT64_C(0);
     }
     after1:;
     {
@@ -13345,27 +13453,33 @@ static u32 do_minisign_install_init(u64 sp, u64 l0, u64 l1, u64 l2, u64 l3)
             if (load64(l2) != UINT64_C(0x62757073696e696d)) { goto after5; }
             l5 = 0u;
             store32(l0 + 12, 0u);
-            store32(l0 + 8, l15);
-            store64(l0, l16);
-            copy(l0 + UINT64_C(16), l4 + UINT64_C(288), UINT64_C(96));
-            store32(l0 + 136, l13);
-            store32(l0 + 132, l12);
-            store32(l0 + 128, l11);
-            store32(l0 + 124, l10);
-            store32(l0 + 120, l9);
-            store32(l0 + 116, l8);
-            store32(l0 + 112, l14);
-            fill(l0 + UINT64_C(140), 0u, UINT64_C(316));
-            store64(l0 + 512, l17);
-            store64(l0 + 504, l18);
-            store64(l0 + 496, l19);
-            store64(l0 + 488, l20);
-            store64(l0 + 480, l21);
-            store64(l0 + 472, l22);
-            store64(l0 + 464, l3);
-            store64(l0 + 456, l7);
-            copy(l0 + UINT64_C(520), l4 + UINT64_C(8), UINT64_C(280));
-            fill(l0 + UINT64_C(800), 0u, UINT64_C(224));
+            store32(l0 + 8, l17);
+            store64(l0, l33);
+            copy(l0 + UINT64_C(16), l4 + UINT64_C(464), UINT64_C(96));
+            store32(l0 + 144, l26);
+            store32(l0 + 140, l25);
+            store32(l0 + 136, l24);
+            store32(l0 + 132, l23);
+            store32(l0 + 128, l22);
+            store32(l0 + 124, l21);
+            store32(l0 + 120, l20);
+            store32(l0 + 116, l19);
+            store32(l0 + 112, l18);
+            fill(l0 + UINT64_C(148), 0u, UINT64_C(316));
+            store64(l0 + 520, l32);
+            store64(l0 + 512, l31);
+            store64(l0 + 504, l30);
+            store64(l0 + 496, l29);
+            store64(l0 + 488, l28);
+            store64(l0 + 480, l27);
+            store64(l0 + 472, l3);
+            store64(l0 + 464, l7);
+            copy(l0 + UINT64_C(528), l4 + UINT64_C(8), UINT64_C(456));
+            store64(l0 + 1016, UINT64_C(0));
+            store64(l0 + 1008, UINT64_C(0));
+            store64(l0 + 1000, UINT64_C(0));
+            store64(l0 + 992, UINT64_C(0));
+            store64(l0 + 984, UINT64_C(0));
             goto after5;
         }
         after6:;
@@ -13373,23 +13487,38 @@ static u32 do_minisign_install_init(u64 sp, u64 l0, u64 l1, u64 l2, u64 l3)
         {
             {
                 {
-                    switch (l6) {
-                    case 1: goto after8;
-                    case 2: goto after8;
-                    case 3: goto after8;
-                    case 4: goto after8;
-                    case 5: goto after8;
-                    case 6: goto after8;
-                    case 7: goto after8;
-                    case 8: goto after8;
-                    case 9: goto after8;
-                    case 10: goto after7;
-                    case 11: goto after9;
-                    default: goto after5;
+                    {
+                        switch (l6) {
+                        case 1: goto after8;
+                        case 2: goto after8;
+                        case 3: goto after8;
+                        case 4: goto after8;
+                        case 5: goto after8;
+                        case 6: goto after8;
+                        case 7: goto after8;
+                        case 8: goto after8;
+                        case 9: goto after8;
+                        case 10: goto after7;
+                        case 11: goto after10;
+                        case 12: goto after8;
+                        case 13: goto after8;
+                        case 14: goto after8;
+                        case 15: goto after8;
+                        case 16: goto after8;
+                        case 17: goto after8;
+                        case 18: goto after8;
+                        case 19: goto after8;
+                        case 20: goto after8;
+                        case 21: goto after9;
+                        default: goto after5;
+                        }
                     }
+                    after10:;
+                    l5 = 14u;
+                    goto after5;
                 }
                 after9:;
-                l5 = 14u;
+                l5 = 87u;
                 goto after5;
             }
             after8:;
@@ -13399,7 +13528,7 @@ static u32 do_minisign_install_init(u64 sp, u64 l0, u64 l1, u64 l2, u64 l3)
         l5 = 13u;
     }
     after5:;
-    sp = l4 + UINT64_C(480);
+    sp = l4 + UINT64_C(656);
     return l5;
 }
 
@@ -13410,7 +13539,7 @@ static u32 do_minisign_install_due(u64 l0)
     {
         if (load64(l0) != UINT64_C(0x6c6c6174736e696d)) { goto after1; }
         l1 = load32(l0 + UINT64_C(8));
-        l1 = l1 > 28u ? 0u : l1;
+        l1 = l1 > 30u ? 0u : l1;
     }
     after1:;
     return l1;
@@ -13441,66 +13570,91 @@ static u32 do_minisign_external_state_Refusal_number_740bc7f2a85702bc(u64 table,
                                                         {
                                                             {
                                                                 {
-                                                                    switch ((u32) ((u64) load8(l0 + UINT64_C(8)))) {
-                                                                    case 1: goto after3;
-                                                                    case 2: goto after17;
-                                                                    case 3: goto after16;
-                                                                    case 4: goto after15;
-                                                                    case 5: goto after14;
-                                                                    case 6: goto after13;
-                                                                    case 7: goto after12;
-                                                                    case 8: goto after11;
-                                                                    case 9: goto after10;
-                                                                    case 10: goto after9;
-                                                                    case 11: goto after8;
-                                                                    case 12: goto after7;
-                                                                    case 13: goto after6;
-                                                                    case 14: goto after5;
-                                                                    case 15: goto after4;
-                                                                    default: goto after2;
+                                                                    {
+                                                                        {
+                                                                            {
+                                                                                {
+                                                                                    {
+                                                                                        switch ((u32) ((u64) load8(l0 + UINT64_C(8)))) {
+                                                                                        case 1: goto after3;
+                                                                                        case 2: goto after22;
+                                                                                        case 3: goto after21;
+                                                                                        case 4: goto after20;
+                                                                                        case 5: goto after19;
+                                                                                        case 6: goto after18;
+                                                                                        case 7: goto after17;
+                                                                                        case 8: goto after16;
+                                                                                        case 9: goto after15;
+                                                                                        case 10: goto after14;
+                                                                                        case 11: goto after13;
+                                                                                        case 12: goto after12;
+                                                                                        case 13: goto after11;
+                                                                                        case 14: goto after10;
+                                                                                        case 15: goto after9;
+                                                                                        case 16: goto after8;
+                                                                                        case 17: goto after7;
+                                                                                        case 18: goto after6;
+                                                                                        case 19: goto after5;
+                                                                                        case 20: goto after4;
+                                                                                        default: goto after2;
+                                                                                        }
+                                                                                    }
+                                                                                    after22:;
+                                                                                    return load32(table + 4224);
+                                                                                }
+                                                                                after21:;
+                                                                                return load32(table + 4288);
+                                                                            }
+                                                                            after20:;
+                                                                            return load32(table + 4352);
+                                                                        }
+                                                                        after19:;
+                                                                        return load32(table + 4432);
                                                                     }
+                                                                    after18:;
+                                                                    return load32(table + 4512);
                                                                 }
                                                                 after17:;
-                                                                return load32(table + 4224);
+                                                                return load32(table + 4592);
                                                             }
                                                             after16:;
-                                                            return load32(table + 4288);
+                                                            return load32(table + 4688);
                                                         }
                                                         after15:;
-                                                        return load32(table + 4352);
+                                                        return load32(table + 4768);
                                                     }
                                                     after14:;
-                                                    return load32(table + 4432);
+                                                    return load32(table + 4848);
                                                 }
                                                 after13:;
-                                                return load32(table + 4512);
+                                                return load32(table + 4896);
                                             }
                                             after12:;
-                                            return load32(table + 4592);
+                                            return load32(table + 4992);
                                         }
                                         after11:;
-                                        return load32(table + 4688);
+                                        return load32(table + 5088);
                                     }
                                     after10:;
-                                    return load32(table + 4768);
+                                    return load32(table + 5168);
                                 }
                                 after9:;
-                                return load32(table + 4848);
+                                return load32(table + 5264);
                             }
                             after8:;
-                            return load32(table + 4896);
+                            return load32(table + 5360);
                         }
                         after7:;
-                        return load32(table + 4992);
+                        return load32(table + 5456);
                     }
                     after6:;
-                    return load32(table + 5088);
+                    return load32(table + 5520);
                 }
                 after5:;
-                return load32(table + 5168);
+                return load32(table + 5584);
             }
             after4:;
-            l1 = table + 5264;
+            l1 = table + 5648;
         }
         after3:;
         return load32(l1);
@@ -13550,79 +13704,109 @@ static void do_minisign_install_installation_progress_Progress_reject(u64 sp, u6
                                                             {
                                                                 {
                                                                     {
-                                                                        switch ((u32) l2) {
-                                                                        case 1: goto after3;
-                                                                        case 2: goto after17;
-                                                                        case 3: goto after16;
-                                                                        case 4: goto after15;
-                                                                        case 5: goto after14;
-                                                                        case 6: goto after13;
-                                                                        case 7: goto after12;
-                                                                        case 8: goto after11;
-                                                                        case 9: goto after10;
-                                                                        case 10: goto after9;
-                                                                        case 11: goto after8;
-                                                                        case 12: goto after7;
-                                                                        case 13: goto after6;
-                                                                        case 14: goto after5;
-                                                                        case 15: goto after4;
-                                                                        default: goto after2;
+                                                                        {
+                                                                            {
+                                                                                {
+                                                                                    {
+                                                                                        {
+                                                                                            switch ((u32) l2) {
+                                                                                            case 1: goto after3;
+                                                                                            case 2: goto after22;
+                                                                                            case 3: goto after21;
+                                                                                            case 4: goto after20;
+                                                                                            case 5: goto after19;
+                                                                                            case 6: goto after18;
+                                                                                            case 7: goto after17;
+                                                                                            case 8: goto after16;
+                                                                                            case 9: goto after15;
+                                                                                            case 10: goto after14;
+                                                                                            case 11: goto after13;
+                                                                                            case 12: goto after12;
+                                                                                            case 13: goto after11;
+                                                                                            case 14: goto after10;
+                                                                                            case 15: goto after9;
+                                                                                            case 16: goto after8;
+                                                                                            case 17: goto after7;
+                                                                                            case 18: goto after6;
+                                                                                            case 19: goto after5;
+                                                                                            case 20: goto after4;
+                                                                                            default: goto after2;
+                                                                                            }
+                                                                                        }
+                                                                                        after22:;
+                                                                                        l9 = load32(table + 4224);
+                                                                                        goto after1;
+                                                                                    }
+                                                                                    after21:;
+                                                                                    l9 = load32(table + 4288);
+                                                                                    goto after1;
+                                                                                }
+                                                                                after20:;
+                                                                                l9 = load32(table + 4352);
+                                                                                goto after1;
+                                                                            }
+                                                                            after19:;
+                                                                            l9 = load32(table + 4432);
+                                                                            goto after1;
                                                                         }
+                                                                        after18:;
+                                                                        l9 = load32(table + 4512);
+                                                                        goto after1;
                                                                     }
                                                                     after17:;
-                                                                    l9 = load32(table + 4224);
+                                                                    l9 = load32(table + 4592);
                                                                     goto after1;
                                                                 }
                                                                 after16:;
-                                                                l9 = load32(table + 4288);
+                                                                l9 = load32(table + 4688);
                                                                 goto after1;
                                                             }
                                                             after15:;
-                                                            l9 = load32(table + 4352);
+                                                            l9 = load32(table + 4768);
                                                             goto after1;
                                                         }
                                                         after14:;
-                                                        l9 = load32(table + 4432);
+                                                        l9 = load32(table + 4848);
                                                         goto after1;
                                                     }
                                                     after13:;
-                                                    l9 = load32(table + 4512);
+                                                    l9 = load32(table + 4896);
                                                     goto after1;
                                                 }
                                                 after12:;
-                                                l9 = load32(table + 4592);
+                                                l9 = load32(table + 4992);
                                                 goto after1;
                                             }
                                             after11:;
-                                            l9 = load32(table + 4688);
+                                            l9 = load32(table + 5088);
                                             goto after1;
                                         }
                                         after10:;
-                                        l9 = load32(table + 4768);
+                                        l9 = load32(table + 5168);
                                         goto after1;
                                     }
                                     after9:;
-                                    l9 = load32(table + 4848);
+                                    l9 = load32(table + 5264);
                                     goto after1;
                                 }
                                 after8:;
-                                l9 = load32(table + 4896);
+                                l9 = load32(table + 5360);
                                 goto after1;
                             }
                             after7:;
-                            l9 = load32(table + 4992);
+                            l9 = load32(table + 5456);
                             goto after1;
                         }
                         after6:;
-                        l9 = load32(table + 5088);
+                        l9 = load32(table + 5520);
                         goto after1;
                     }
                     after5:;
-                    l9 = load32(table + 5168);
+                    l9 = load32(table + 5584);
                     goto after1;
                 }
                 after4:;
-                l8 = table + 5264;
+                l8 = table + 5648;
             }
             after3:;
             l9 = load32(l8);
@@ -13635,32 +13819,32 @@ static void do_minisign_install_installation_progress_Progress_reject(u64 sp, u6
     after1:;
     store32(l1 + UINT64_C(4), l9);
     l9 = load32(l1);
-    store32(l1, l9 < 29u ? (((l9 + 0xfffffff4u) & 255u) < 11u ? 24u : 28u) : 28u);
+    store32(l1, l9 < 31u ? (((l9 + 0xfffffff2u) & 255u) < 11u ? 26u : 30u) : 30u);
     {
         {
-            if (l7 != 0) { goto after19; }
+            if (l7 != 0) { goto after24; }
             l1 = (l3 + UINT64_C(40)) + UINT64_C(10);
             store64(l3 + 30, load64(l1 + 22));
             store64(l3 + 24, load64(l1 + 16));
             store64(l3 + 16, load64(l1 + 8));
             store64(l3 + 8, load64(l1));
             l7 = 1u;
-            goto after18;
+            goto after23;
         }
-        after19:;
+        after24:;
         l2 = UINT64_C(0);
         l7 = 0u;
         {
-            if ((l6 & 255u) != 0) { goto after20; }
-            if ((l5 & 255u) != 2u) { goto after20; }
-            if (load64(l3 + 72) == 0) { goto after20; }
+            if ((l6 & 255u) != 0) { goto after25; }
+            if ((l5 & 255u) != 2u) { goto after25; }
+            if (load64(l3 + 72) == 0) { goto after25; }
             machine_rattle_dealloc(load64(l3 + 56));
         }
-        after20:;
+        after25:;
         l5 = 0u;
         l4 = 0u;
     }
-    after18:;
+    after23:;
     store8(l0, l7);
     store8(l0 + UINT64_C(25), l4);
     store8(l0 + UINT64_C(24), l5);
@@ -13713,25 +13897,25 @@ static void do_minisign_install_installation_progress_Progress_done(u64 sp, u64 
                                                                             {
                                                                                 {
                                                                                     l11 = load32(l1);
-                                                                                    switch ((u32) (((u64) (l11 > 28u ? 0u : l11)) & UINT64_C(255))) {
+                                                                                    switch ((u32) (((u64) (l11 > 30u ? 0u : l11)) & UINT64_C(255))) {
                                                                                     case 1: goto after3;
-                                                                                    case 6: goto after19;
-                                                                                    case 8: goto after18;
-                                                                                    case 9: goto after17;
-                                                                                    case 10: goto after16;
-                                                                                    case 11: goto after15;
-                                                                                    case 12: goto after20;
-                                                                                    case 13: goto after14;
-                                                                                    case 15: goto after13;
-                                                                                    case 16: goto after12;
-                                                                                    case 17: goto after11;
-                                                                                    case 18: goto after10;
-                                                                                    case 19: goto after9;
-                                                                                    case 20: goto after8;
-                                                                                    case 21: goto after7;
-                                                                                    case 22: goto after6;
-                                                                                    case 23: goto after5;
-                                                                                    case 24: goto after4;
+                                                                                    case 8: goto after19;
+                                                                                    case 10: goto after18;
+                                                                                    case 11: goto after17;
+                                                                                    case 12: goto after16;
+                                                                                    case 13: goto after15;
+                                                                                    case 14: goto after20;
+                                                                                    case 15: goto after14;
+                                                                                    case 17: goto after13;
+                                                                                    case 18: goto after12;
+                                                                                    case 19: goto after11;
+                                                                                    case 20: goto after10;
+                                                                                    case 21: goto after9;
+                                                                                    case 22: goto after8;
+                                                                                    case 23: goto after7;
+                                                                                    case 24: goto after6;
+                                                                                    case 25: goto after5;
+                                                                                    case 26: goto after4;
                                                                                     default: goto after1;
                                                                                     }
                                                                                 }
@@ -13749,8 +13933,8 @@ static void do_minisign_install_installation_progress_Progress_done(u64 sp, u64 
                                                                                 store64(l2 + 88, UINT64_C(0));
                                                                                 store64(l2 + 96, UINT64_C(0));
                                                                                 {
-                                                                                    if (load32(l1 + UINT64_C(440)) != 1u) { goto after21; }
-                                                                                    if (load64(l1 + UINT64_C(432)) == 0) { goto after21; }
+                                                                                    if (load32(l1 + UINT64_C(448)) != 1u) { goto after21; }
+                                                                                    if (load64(l1 + UINT64_C(440)) == 0) { goto after21; }
                                                                                     store64(l2 + 64, UINT64_C(15));
                                                                                     do_minisign_install_installation_progress_Progress_reject(sp, table, l2 + UINT64_C(104), l1, l2 + UINT64_C(64));
                                                                                     store64(l2 + 32, load64(l2 + 130));
@@ -13767,7 +13951,7 @@ static void do_minisign_install_installation_progress_Progress_done(u64 sp, u64 
                                                                                     goto after1;
                                                                                 }
                                                                                 after21:;
-                                                                                store32(l1, 13u);
+                                                                                store32(l1, 15u);
                                                                                 store64(l2 + 32, UINT64_C(0));
                                                                                 store64(l2 + 40, UINT64_C(0));
                                                                                 store64(l2 + 48, UINT64_C(0));
@@ -13777,67 +13961,67 @@ static void do_minisign_install_installation_progress_Progress_done(u64 sp, u64 
                                                                                 goto after2;
                                                                             }
                                                                             after19:;
-                                                                            l8 = 7u;
+                                                                            l8 = 9u;
                                                                             goto after3;
                                                                         }
                                                                         after18:;
-                                                                        l8 = 9u;
+                                                                        l8 = 11u;
                                                                         goto after3;
                                                                     }
                                                                     after17:;
-                                                                    l8 = 26u;
+                                                                    l8 = 28u;
                                                                     goto after3;
                                                                 }
                                                                 after16:;
-                                                                l8 = 11u;
+                                                                l8 = 13u;
                                                                 goto after3;
                                                             }
                                                             after15:;
-                                                            l8 = 12u;
+                                                            l8 = 14u;
                                                             goto after3;
                                                         }
                                                         after14:;
-                                                        l8 = 14u;
+                                                        l8 = 16u;
                                                         goto after3;
                                                     }
                                                     after13:;
-                                                    l8 = 16u;
+                                                    l8 = 18u;
                                                     goto after3;
                                                 }
                                                 after12:;
-                                                l8 = 17u;
+                                                l8 = 19u;
                                                 goto after3;
                                             }
                                             after11:;
-                                            l8 = 18u;
+                                            l8 = 20u;
                                             goto after3;
                                         }
                                         after10:;
-                                        l8 = 19u;
+                                        l8 = 21u;
                                         goto after3;
                                     }
                                     after9:;
-                                    l8 = 20u;
+                                    l8 = 22u;
                                     goto after3;
                                 }
                                 after8:;
-                                l8 = 21u;
+                                l8 = 23u;
                                 goto after3;
                             }
                             after7:;
-                            l8 = 22u;
+                            l8 = 24u;
                             goto after3;
                         }
                         after6:;
-                        l8 = 23u;
+                        l8 = 25u;
                         goto after3;
                     }
                     after5:;
-                    l8 = 25u;
+                    l8 = 27u;
                     goto after3;
                 }
                 after4:;
-                l8 = 28u;
+                l8 = 30u;
             }
             after3:;
             store32(l1, l8);
@@ -13945,7 +14129,7 @@ static u32 do_minisign_install_copied(u64 sp, u64 table, u64 l0, u64 l1)
                     {
                         if (load64(l0) != UINT64_C(0x6c6c6174736e696d)) { goto after5; }
                         l3 = l0 + UINT64_C(8);
-                        if (load32(l3) != 12u) { goto after5; }
+                        if (load32(l3) != 14u) { goto after5; }
                         store64(l2 + 104, UINT64_C(0));
                         store64(l2 + 112, UINT64_C(0));
                         store64(l2 + 120, UINT64_C(0));
@@ -13957,8 +14141,8 @@ static u32 do_minisign_install_copied(u64 sp, u64 table, u64 l0, u64 l1)
                         store64(l2 + 80, UINT64_C(0));
                         store64(l2 + 88, UINT64_C(0));
                         store64(l2 + 96, UINT64_C(0));
-                        if (load32(l0 + UINT64_C(448)) != 1u) { goto after2; }
-                        l0 = l0 + UINT64_C(440);
+                        if (load32(l0 + UINT64_C(456)) != 1u) { goto after2; }
+                        l0 = l0 + UINT64_C(448);
                         l4 = load64(l0);
                         if (l4 >= l1) { goto after3; }
                         store64(l2 + 64, UINT64_C(15));
@@ -14156,15 +14340,15 @@ static u32 do_minisign_install_failed(u64 sp, u64 table, u64 l0, u32 l1)
                 l1 = 0u;
                 l0 = l0 + UINT64_C(8);
                 l3 = load32(l0);
-                l3 = l3 > 28u ? 0u : l3;
-                if (((l3 + 0xffffffe7u) & 255u) <= 231u) { goto after11; }
+                l3 = l3 > 30u ? 0u : l3;
+                if (((l3 + 0xffffffe5u) & 255u) <= 229u) { goto after11; }
                 l8 = UINT64_C(7);
                 {
                     {
                         l3 = 1u << ((l3 & 255u) & 31);
-                        if ((l3 & 0x7ffcfeu) != 0) { goto after13; }
-                        if ((l3 & 0x800300u) != 0) { goto after12; }
-                        store32(l0, 28u);
+                        if ((l3 & 0x1fff3feu) != 0) { goto after13; }
+                        if ((l3 & 0x2000c00u) != 0) { goto after12; }
+                        store32(l0, 30u);
                         l3 = 0u;
                         goto after1;
                     }
@@ -14852,26 +15036,26 @@ static u32 do_minisign_install_record(u64 sp, u64 table, u64 l0, u64 l1, u64 l2)
             store64(l3 + 88, l2);
         }
         after2:;
-        store8(l0 + UINT64_C(153), l11);
-        store8(l0 + UINT64_C(152), l10);
-        store64(l0 + UINT64_C(144), l6);
-        store64(l0 + UINT64_C(154), load64(l3 + 432));
-        store64(l0 + UINT64_C(162), load64(l3 + 440));
-        store64(l0 + UINT64_C(170), load64(l3 + 448));
-        store64(l0 + UINT64_C(176), load64(l3 + 454));
-        store64(l0 + UINT64_C(184), load64(l3 + 32));
-        store64(l0 + UINT64_C(192), load64(l3 + 40));
-        store64(l0 + UINT64_C(200), load64(l3 + 48));
-        store64(l0 + UINT64_C(208), load64(l3 + 56));
-        store64(l0 + UINT64_C(216), load64(l3 + 64));
-        store64(l0 + UINT64_C(224), load64(l3 + 72));
-        store64(l0 + UINT64_C(232), load64(l3 + 80));
-        store64(l0 + UINT64_C(240), load64(l3 + 88));
+        store8(l0 + UINT64_C(161), l11);
+        store8(l0 + UINT64_C(160), l10);
+        store64(l0 + UINT64_C(152), l6);
+        store64(l0 + UINT64_C(162), load64(l3 + 432));
+        store64(l0 + UINT64_C(170), load64(l3 + 440));
+        store64(l0 + UINT64_C(178), load64(l3 + 448));
+        store64(l0 + UINT64_C(184), load64(l3 + 454));
+        store64(l0 + UINT64_C(192), load64(l3 + 32));
+        store64(l0 + UINT64_C(200), load64(l3 + 40));
+        store64(l0 + UINT64_C(208), load64(l3 + 48));
+        store64(l0 + UINT64_C(216), load64(l3 + 56));
+        store64(l0 + UINT64_C(224), load64(l3 + 64));
+        store64(l0 + UINT64_C(232), load64(l3 + 72));
+        store64(l0 + UINT64_C(240), load64(l3 + 80));
+        store64(l0 + UINT64_C(248), load64(l3 + 88));
         l11 = 0u;
-        store32(l0 + UINT64_C(260), 0u);
-        store32(l0 + UINT64_C(256), l14);
-        store32(l0 + UINT64_C(252), l13);
-        store32(l0 + UINT64_C(248), l12);
+        store32(l0 + UINT64_C(268), 0u);
+        store32(l0 + UINT64_C(264), l14);
+        store32(l0 + UINT64_C(260), l13);
+        store32(l0 + UINT64_C(256), l12);
         store32(l0 + UINT64_C(8), 3u);
     }
     after1:;
@@ -14902,7 +15086,7 @@ static u32 do_minisign_install_no_record(u64 sp, u64 table, u64 l0)
                 {
                     if (l3 != 1u) { goto after4; }
                     l4 = 0u;
-                    fill(l0 + UINT64_C(144), 0u, UINT64_C(120));
+                    fill(l0 + UINT64_C(152), 0u, UINT64_C(120));
                     store32(l0 + UINT64_C(8), 3u);
                     goto after1;
                 }
@@ -14965,11 +15149,813 @@ static u32 do_minisign_install_no_record(u64 sp, u64 table, u64 l0)
     return l4;
 }
 
+static void do_minisign_sha2_block256_compress(u64 l0, u64 l1)
+{
+    u32 l2 = 0, l3 = 0, l4 = 0, l5 = 0, l6 = 0, l7 = 0, l8 = 0, l9 = 0, l10 = 0, l11 = 0, l12 = 0, l13 = 0, l14 = 0, l15 = 0, l16 = 0, l17 = 0;
+    u32 l18 = 0, l19 = 0, l20 = 0, l21 = 0, l22 = 0, l23 = 0, l24 = 0, l25 = 0, l26 = 0, l27 = 0, l28 = 0, l29 = 0, l30 = 0, l31 = 0, l32 = 0, l33 = 0;
+    u32 l34 = 0, l35 = 0, l36 = 0, l37 = 0;
+    l2 = load32(l0);
+    l3 = load32(l0 + 8);
+    l4 = load32(l0 + 4);
+    l5 = l4 ^ l2;
+    l6 = load32(l0 + 28);
+    l7 = load32(l1);
+    l7 = rotr32(l7 & 0xff00ffu, 8u) | (rotr32(l7, 24u) & 0xff00ffu);
+    l8 = load32(l0 + 16);
+    l9 = load32(l0 + 24);
+    l10 = load32(l0 + 20);
+    l11 = (((l6 + l7) + rotl32(rotl32(rotl32(l8, 18u) ^ l8, 27u) ^ l8, 26u)) + (((l9 ^ l10) & l8) ^ l9)) + 0x428a2f98u;
+    l12 = (rotl32(rotl32(rotl32(l2, 23u) ^ l2, 21u) ^ l2, 30u) + (((l3 ^ l4) & l5) ^ l4)) + l11;
+    l13 = l12 ^ l2;
+    const u32 t1 = rotl32(rotl32(rotl32(l12, 23u) ^ l12, 21u) ^ l12, 30u) + ((l13 & l5) ^ l2);
+    l5 = load32(l1 + 4);
+    l14 = rotr32(l5 & 0xff00ffu, 8u) | (rotr32(l5, 24u) & 0xff00ffu);
+    l15 = load32(l0 + 12);
+    l5 = l11 + l15;
+    l16 = (((l9 + l14) + ((l5 & (l10 ^ l8)) ^ l10)) + rotl32(rotl32(rotl32(l5, 18u) ^ l5, 27u) ^ l5, 26u)) + 0x71374491u;
+    l17 = t1 + l16;
+    l18 = l17 ^ l12;
+    l11 = load32(l1 + 8);
+    l11 = rotr32(l11 & 0xff00ffu, 8u) | (rotr32(l11, 24u) & 0xff00ffu);
+    l19 = l16 + l3;
+    l16 = (((l10 + l11) + ((l19 & (l5 ^ l8)) ^ l8)) + rotl32(rotl32(rotl32(l19, 18u) ^ l19, 27u) ^ l19, 26u)) + 0xb5c0fbcfu;
+    l20 = (rotl32(rotl32(rotl32(l17, 23u) ^ l17, 21u) ^ l17, 30u) + ((l18 & l13) ^ l12)) + l16;
+    l21 = l20 ^ l17;
+    l13 = load32(l1 + 12);
+    l13 = rotr32(l13 & 0xff00ffu, 8u) | (rotr32(l13, 24u) & 0xff00ffu);
+    l22 = l16 + l4;
+    const u32 t2 = rotl32(rotl32(rotl32(l20, 23u) ^ l20, 21u) ^ l20, 30u) + ((l21 & l18) ^ l17);
+    l18 = (((l8 + l13) + ((l22 & (l19 ^ l5)) ^ l5)) + rotl32(rotl32(rotl32(l22, 18u) ^ l22, 27u) ^ l22, 26u)) + 0xe9b5dba5u;
+    l23 = t2 + l18;
+    l24 = l23 ^ l20;
+    l16 = load32(l1 + 16);
+    l16 = rotr32(l16 & 0xff00ffu, 8u) | (rotr32(l16, 24u) & 0xff00ffu);
+    const u32 t3 = l16 + l5;
+    l5 = l18 + l2;
+    const u32 t4 = rotl32(rotl32(rotl32(l23, 23u) ^ l23, 21u) ^ l23, 30u) + ((l24 & l21) ^ l20);
+    l21 = ((t3 + ((l5 & (l22 ^ l19)) ^ l19)) + rotl32(rotl32(rotl32(l5, 18u) ^ l5, 27u) ^ l5, 26u)) + 0x3956c25bu;
+    l25 = t4 + l21;
+    l26 = l25 ^ l23;
+    l18 = load32(l1 + 20);
+    l18 = rotr32(l18 & 0xff00ffu, 8u) | (rotr32(l18, 24u) & 0xff00ffu);
+    l21 = l21 + l12;
+    l12 = (((l18 + l19) + ((l21 & (l5 ^ l22)) ^ l22)) + rotl32(rotl32(rotl32(l21, 18u) ^ l21, 27u) ^ l21, 26u)) + 0x59f111f1u;
+    l24 = (rotl32(rotl32(rotl32(l25, 23u) ^ l25, 21u) ^ l25, 30u) + ((l26 & l24) ^ l23)) + l12;
+    l27 = l24 ^ l25;
+    l19 = load32(l1 + 24);
+    l19 = rotr32(l19 & 0xff00ffu, 8u) | (rotr32(l19, 24u) & 0xff00ffu);
+    l17 = l12 + l17;
+    l12 = (((l19 + l22) + ((l17 & (l21 ^ l5)) ^ l5)) + rotl32(rotl32(rotl32(l17, 18u) ^ l17, 27u) ^ l17, 26u)) + 0x923f82a4u;
+    l26 = (rotl32(rotl32(rotl32(l24, 23u) ^ l24, 21u) ^ l24, 30u) + ((l27 & l26) ^ l25)) + l12;
+    l28 = l26 ^ l24;
+    l22 = load32(l1 + 28);
+    l22 = rotr32(l22 & 0xff00ffu, 8u) | (rotr32(l22, 24u) & 0xff00ffu);
+    const u32 t5 = l22 + l5;
+    l5 = l12 + l20;
+    l20 = ((t5 + ((l5 & (l17 ^ l21)) ^ l21)) + rotl32(rotl32(rotl32(l5, 18u) ^ l5, 27u) ^ l5, 26u)) + 0xab1c5ed5u;
+    l27 = (rotl32(rotl32(rotl32(l26, 23u) ^ l26, 21u) ^ l26, 30u) + ((l28 & l27) ^ l24)) + l20;
+    l29 = l27 ^ l26;
+    l12 = load32(l1 + 32);
+    l12 = rotr32(l12 & 0xff00ffu, 8u) | (rotr32(l12, 24u) & 0xff00ffu);
+    l23 = l20 + l23;
+    l20 = (((l12 + l21) + ((l23 & (l5 ^ l17)) ^ l17)) + rotl32(rotl32(rotl32(l23, 18u) ^ l23, 27u) ^ l23, 26u)) + 0xd807aa98u;
+    l28 = (rotl32(rotl32(rotl32(l27, 23u) ^ l27, 21u) ^ l27, 30u) + ((l29 & l28) ^ l26)) + l20;
+    l30 = l28 ^ l27;
+    l21 = load32(l1 + 36);
+    l21 = rotr32(l21 & 0xff00ffu, 8u) | (rotr32(l21, 24u) & 0xff00ffu);
+    l25 = l20 + l25;
+    l20 = (((l21 + l17) + ((l25 & (l23 ^ l5)) ^ l5)) + rotl32(rotl32(rotl32(l25, 18u) ^ l25, 27u) ^ l25, 26u)) + 0x12835b01u;
+    l29 = (rotl32(rotl32(rotl32(l28, 23u) ^ l28, 21u) ^ l28, 30u) + ((l30 & l29) ^ l27)) + l20;
+    l31 = l29 ^ l28;
+    l17 = load32(l1 + 40);
+    l17 = rotr32(l17 & 0xff00ffu, 8u) | (rotr32(l17, 24u) & 0xff00ffu);
+    const u32 t6 = l17 + l5;
+    l5 = l20 + l24;
+    l24 = ((t6 + ((l5 & (l25 ^ l23)) ^ l23)) + rotl32(rotl32(rotl32(l5, 18u) ^ l5, 27u) ^ l5, 26u)) + 0x243185beu;
+    l32 = (rotl32(rotl32(rotl32(l29, 23u) ^ l29, 21u) ^ l29, 30u) + ((l31 & l30) ^ l28)) + l24;
+    l30 = l32 ^ l29;
+    l20 = load32(l1 + 44);
+    l20 = rotr32(l20 & 0xff00ffu, 8u) | (rotr32(l20, 24u) & 0xff00ffu);
+    l26 = l24 + l26;
+    l24 = (((l20 + l23) + ((l26 & (l5 ^ l25)) ^ l25)) + rotl32(rotl32(rotl32(l26, 18u) ^ l26, 27u) ^ l26, 26u)) + 0x550c7dc3u;
+    l33 = (rotl32(rotl32(rotl32(l32, 23u) ^ l32, 21u) ^ l32, 30u) + ((l30 & l31) ^ l29)) + l24;
+    l34 = l33 ^ l32;
+    l23 = load32(l1 + 48);
+    l23 = rotr32(l23 & 0xff00ffu, 8u) | (rotr32(l23, 24u) & 0xff00ffu);
+    l31 = l24 + l27;
+    l24 = (((l23 + l25) + ((l31 & (l26 ^ l5)) ^ l5)) + rotl32(rotl32(rotl32(l31, 18u) ^ l31, 27u) ^ l31, 26u)) + 0x72be5d74u;
+    l35 = (rotl32(rotl32(rotl32(l33, 23u) ^ l33, 21u) ^ l33, 30u) + ((l34 & l30) ^ l32)) + l24;
+    l30 = l35 ^ l33;
+    l25 = load32(l1 + 52);
+    l25 = rotr32(l25 & 0xff00ffu, 8u) | (rotr32(l25, 24u) & 0xff00ffu);
+    l27 = l24 + l28;
+    l5 = (((l25 + l5) + ((l27 & (l31 ^ l26)) ^ l26)) + rotl32(rotl32(rotl32(l27, 18u) ^ l27, 27u) ^ l27, 26u)) + 0x80deb1feu;
+    l28 = (rotl32(rotl32(rotl32(l35, 23u) ^ l35, 21u) ^ l35, 30u) + ((l30 & l34) ^ l33)) + l5;
+    l34 = l28 ^ l35;
+    l24 = load32(l1 + 56);
+    l24 = rotr32(l24 & 0xff00ffu, 8u) | (rotr32(l24, 24u) & 0xff00ffu);
+    l29 = l5 + l29;
+    l5 = (((l24 + l26) + ((l29 & (l27 ^ l31)) ^ l31)) + rotl32(rotl32(rotl32(l29, 18u) ^ l29, 27u) ^ l29, 26u)) + 0x9bdc06a7u;
+    l30 = (rotl32(rotl32(rotl32(l28, 23u) ^ l28, 21u) ^ l28, 30u) + ((l34 & l30) ^ l35)) + l5;
+    l26 = load32(l1 + 60);
+    l26 = rotr32(l26 & 0xff00ffu, 8u) | (rotr32(l26, 24u) & 0xff00ffu);
+    const u32 t7 = l26 + l31;
+    l31 = l5 + l32;
+    l5 = ((t7 + ((l31 & (l29 ^ l27)) ^ l27)) + rotl32(rotl32(rotl32(l31, 18u) ^ l31, 27u) ^ l31, 26u)) + 0xc19bf174u;
+    l32 = (rotl32(rotl32(rotl32(l30, 23u) ^ l30, 21u) ^ l30, 30u) + (((l30 ^ l28) & l34) ^ l28)) + l5;
+    l5 = l5 + l33;
+    l1 = UINT64_C(0);
+    again1:;
+    {
+        l34 = l30 ^ l32;
+        l7 = ((l7 + l21) + (rotl32(rotl32(l24, 30u) ^ l24, 15u) ^ (l24 >> 10))) + (rotl32(rotl32(l14, 21u) ^ l14, 25u) ^ (l14 >> 3));
+        l27 = (((rotl32(rotl32(rotl32(l5, 18u) ^ l5, 27u) ^ l5, 26u) + l27) + (((l29 ^ l31) & l5) ^ l29)) + load32(l1 + (address(data87) + 64))) + l7;
+        l33 = (rotl32(rotl32(rotl32(l32, 23u) ^ l32, 21u) ^ l32, 30u) + (((l28 ^ l30) & l34) ^ l30)) + l27;
+        l36 = l33 ^ l32;
+        l27 = l27 + l35;
+        const u32 t8 = rotl32(rotl32(rotl32(l33, 23u) ^ l33, 21u) ^ l33, 30u) + ((l36 & l34) ^ l32);
+        l34 = ((l17 + l14) + (rotl32(rotl32(l26, 30u) ^ l26, 15u) ^ (l26 >> 10))) + (rotl32(rotl32(l11, 21u) ^ l11, 25u) ^ (l11 >> 3));
+        l35 = (((load32(l1 + (address(data87) + 68)) + l29) + ((l27 & (l31 ^ l5)) ^ l31)) + l34) + rotl32(rotl32(rotl32(l27, 18u) ^ l27, 27u) ^ l27, 26u);
+        l29 = t8 + l35;
+        l14 = l29 ^ l33;
+        l11 = ((l20 + l11) + (rotl32(rotl32(l7, 30u) ^ l7, 15u) ^ (l7 >> 10))) + (rotl32(rotl32(l13, 21u) ^ l13, 25u) ^ (l13 >> 3));
+        l28 = l35 + l28;
+        l35 = (((load32(l1 + (address(data87) + 72)) + l31) + l11) + ((l28 & (l27 ^ l5)) ^ l5)) + rotl32(rotl32(rotl32(l28, 18u) ^ l28, 27u) ^ l28, 26u);
+        l31 = (rotl32(rotl32(rotl32(l29, 23u) ^ l29, 21u) ^ l29, 30u) + ((l14 & l36) ^ l33)) + l35;
+        l36 = l31 ^ l29;
+        l13 = ((l23 + l13) + (rotl32(rotl32(l34, 30u) ^ l34, 15u) ^ (l34 >> 10))) + (rotl32(rotl32(l16, 21u) ^ l16, 25u) ^ (l16 >> 3));
+        const u32 t9 = (load32(l1 + (address(data87) + 76)) + l5) + l13;
+        l5 = l35 + l30;
+        l35 = (t9 + ((l5 & (l28 ^ l27)) ^ l27)) + rotl32(rotl32(rotl32(l5, 18u) ^ l5, 27u) ^ l5, 26u);
+        l30 = (rotl32(rotl32(rotl32(l31, 23u) ^ l31, 21u) ^ l31, 30u) + ((l36 & l14) ^ l29)) + l35;
+        l14 = l30 ^ l31;
+        l16 = ((l25 + l16) + (rotl32(rotl32(l11, 30u) ^ l11, 15u) ^ (l11 >> 10))) + (rotl32(rotl32(l18, 21u) ^ l18, 25u) ^ (l18 >> 3));
+        const u32 t10 = (load32(l1 + (address(data87) + 80)) + l27) + l16;
+        l27 = l35 + l32;
+        l35 = (t10 + ((l27 & (l5 ^ l28)) ^ l28)) + rotl32(rotl32(rotl32(l27, 18u) ^ l27, 27u) ^ l27, 26u);
+        l32 = (rotl32(rotl32(rotl32(l30, 23u) ^ l30, 21u) ^ l30, 30u) + ((l14 & l36) ^ l31)) + l35;
+        l36 = l32 ^ l30;
+        l18 = ((l18 + l24) + (rotl32(rotl32(l13, 30u) ^ l13, 15u) ^ (l13 >> 10))) + (rotl32(rotl32(l19, 21u) ^ l19, 25u) ^ (l19 >> 3));
+        const u32 t11 = (load32(l1 + (address(data87) + 84)) + l28) + l18;
+        l28 = l35 + l33;
+        l33 = (t11 + ((l28 & (l27 ^ l5)) ^ l5)) + rotl32(rotl32(rotl32(l28, 18u) ^ l28, 27u) ^ l28, 26u);
+        l35 = (rotl32(rotl32(rotl32(l32, 23u) ^ l32, 21u) ^ l32, 30u) + ((l36 & l14) ^ l30)) + l33;
+        l14 = l35 ^ l32;
+        l19 = ((l19 + l26) + (rotl32(rotl32(l16, 30u) ^ l16, 15u) ^ (l16 >> 10))) + (rotl32(rotl32(l22, 21u) ^ l22, 25u) ^ (l22 >> 3));
+        const u32 t12 = (l5 + load32(l1 + (address(data87) + 88))) + l19;
+        l5 = l33 + l29;
+        l33 = (t12 + ((l5 & (l28 ^ l27)) ^ l27)) + rotl32(rotl32(rotl32(l5, 18u) ^ l5, 27u) ^ l5, 26u);
+        l29 = (rotl32(rotl32(rotl32(l35, 23u) ^ l35, 21u) ^ l35, 30u) + ((l14 & l36) ^ l32)) + l33;
+        l36 = l29 ^ l35;
+        l22 = ((l22 + l7) + (rotl32(rotl32(l18, 30u) ^ l18, 15u) ^ (l18 >> 10))) + (rotl32(rotl32(l12, 21u) ^ l12, 25u) ^ (l12 >> 3));
+        const u32 t13 = (l22 + load32(l1 + (address(data87) + 92))) + l27;
+        l27 = l33 + l31;
+        l33 = (t13 + ((l27 & (l5 ^ l28)) ^ l28)) + rotl32(rotl32(rotl32(l27, 18u) ^ l27, 27u) ^ l27, 26u);
+        l31 = (rotl32(rotl32(rotl32(l29, 23u) ^ l29, 21u) ^ l29, 30u) + ((l36 & l14) ^ l35)) + l33;
+        l14 = l31 ^ l29;
+        l12 = ((l34 + (rotl32(rotl32(l21, 21u) ^ l21, 25u) ^ (l21 >> 3))) + l12) + (rotl32(rotl32(l19, 30u) ^ l19, 15u) ^ (l19 >> 10));
+        const u32 t14 = (l12 + load32(l1 + (address(data87) + 96))) + l28;
+        l28 = l33 + l30;
+        l33 = (t14 + ((l28 & (l27 ^ l5)) ^ l5)) + rotl32(rotl32(rotl32(l28, 18u) ^ l28, 27u) ^ l28, 26u);
+        l30 = (rotl32(rotl32(rotl32(l31, 23u) ^ l31, 21u) ^ l31, 30u) + ((l14 & l36) ^ l29)) + l33;
+        l36 = l30 ^ l31;
+        l21 = (((rotl32(rotl32(l17, 21u) ^ l17, 25u) ^ (l17 >> 3)) + l21) + l11) + (rotl32(rotl32(l22, 30u) ^ l22, 15u) ^ (l22 >> 10));
+        const u32 t15 = (l21 + load32(l1 + (address(data87) + 100))) + l5;
+        l5 = l33 + l32;
+        l33 = (t15 + ((l5 & (l28 ^ l27)) ^ l27)) + rotl32(rotl32(rotl32(l5, 18u) ^ l5, 27u) ^ l5, 26u);
+        l32 = (rotl32(rotl32(rotl32(l30, 23u) ^ l30, 21u) ^ l30, 30u) + ((l36 & l14) ^ l31)) + l33;
+        l14 = l32 ^ l30;
+        l17 = (((rotl32(rotl32(l20, 21u) ^ l20, 25u) ^ (l20 >> 3)) + l17) + l13) + (rotl32(rotl32(l12, 30u) ^ l12, 15u) ^ (l12 >> 10));
+        const u32 t16 = (l17 + load32(l1 + (address(data87) + 104))) + l27;
+        l27 = l33 + l35;
+        l35 = (t16 + ((l27 & (l5 ^ l28)) ^ l28)) + rotl32(rotl32(rotl32(l27, 18u) ^ l27, 27u) ^ l27, 26u);
+        l33 = (rotl32(rotl32(rotl32(l32, 23u) ^ l32, 21u) ^ l32, 30u) + ((l14 & l36) ^ l30)) + l35;
+        l36 = l33 ^ l32;
+        l20 = (((rotl32(rotl32(l23, 21u) ^ l23, 25u) ^ (l23 >> 3)) + l20) + l16) + (rotl32(rotl32(l21, 30u) ^ l21, 15u) ^ (l21 >> 10));
+        l29 = l35 + l29;
+        l28 = (((l20 + load32(l1 + (address(data87) + 108))) + l28) + ((l29 & (l27 ^ l5)) ^ l5)) + rotl32(rotl32(rotl32(l29, 18u) ^ l29, 27u) ^ l29, 26u);
+        l14 = (rotl32(rotl32(rotl32(l33, 23u) ^ l33, 21u) ^ l33, 30u) + ((l36 & l14) ^ l32)) + l28;
+        l37 = l14 ^ l33;
+        l23 = (((rotl32(rotl32(l25, 21u) ^ l25, 25u) ^ (l25 >> 3)) + l23) + l18) + (rotl32(rotl32(l17, 30u) ^ l17, 15u) ^ (l17 >> 10));
+        const u32 t17 = (l23 + load32(l1 + (address(data87) + 112))) + l5;
+        l5 = l28 + l31;
+        l28 = (t17 + ((l5 & (l29 ^ l27)) ^ l27)) + rotl32(rotl32(rotl32(l5, 18u) ^ l5, 27u) ^ l5, 26u);
+        l35 = (rotl32(rotl32(rotl32(l14, 23u) ^ l14, 21u) ^ l14, 30u) + ((l37 & l36) ^ l33)) + l28;
+        l31 = l35 ^ l14;
+        l25 = ((l25 + (rotl32(rotl32(l24, 21u) ^ l24, 25u) ^ (l24 >> 3))) + l19) + (rotl32(rotl32(l20, 30u) ^ l20, 15u) ^ (l20 >> 10));
+        const u32 t18 = (l25 + load32(l1 + (address(data87) + 116))) + l27;
+        l27 = l28 + l30;
+        l30 = (t18 + ((l27 & (l5 ^ l29)) ^ l29)) + rotl32(rotl32(rotl32(l27, 18u) ^ l27, 27u) ^ l27, 26u);
+        l28 = (rotl32(rotl32(rotl32(l35, 23u) ^ l35, 21u) ^ l35, 30u) + ((l31 & l37) ^ l14)) + l30;
+        l36 = l28 ^ l35;
+        l24 = (((rotl32(rotl32(l26, 21u) ^ l26, 25u) ^ (l26 >> 3)) + l24) + l22) + (rotl32(rotl32(l23, 30u) ^ l23, 15u) ^ (l23 >> 10));
+        const u32 t19 = (l24 + load32(l1 + (address(data87) + 120))) + l29;
+        l29 = l30 + l32;
+        const u32 t20 = rotl32(rotl32(rotl32(l28, 23u) ^ l28, 21u) ^ l28, 30u) + ((l36 & l31) ^ l35);
+        l31 = (t19 + ((l29 & (l27 ^ l5)) ^ l5)) + rotl32(rotl32(rotl32(l29, 18u) ^ l29, 27u) ^ l29, 26u);
+        l30 = t20 + l31;
+        l26 = (((rotl32(rotl32(l7, 21u) ^ l7, 25u) ^ (l7 >> 3)) + l26) + l12) + (rotl32(rotl32(l25, 30u) ^ l25, 15u) ^ (l25 >> 10));
+        l31 = l31 + l33;
+        l5 = (((l26 + load32(l1 + (address(data87) + 124))) + l5) + ((l31 & (l29 ^ l27)) ^ l27)) + rotl32(rotl32(rotl32(l31, 18u) ^ l31, 27u) ^ l31, 26u);
+        l32 = (rotl32(rotl32(rotl32(l30, 23u) ^ l30, 21u) ^ l30, 30u) + (((l30 ^ l28) & l36) ^ l28)) + l5;
+        l5 = l5 + l14;
+        l14 = l34;
+        l1 = l1 + UINT64_C(64);
+        if (l1 != UINT64_C(192)) { goto again1; }
+    }
+    store32(l0 + 28, l27 + l6);
+    store32(l0 + 24, l29 + l9);
+    store32(l0 + 20, l31 + l10);
+    store32(l0 + 16, l5 + l8);
+    store32(l0 + 12, l35 + l15);
+    store32(l0 + 8, l28 + l3);
+    store32(l0 + 4, l30 + l4);
+    store32(l0, l32 + l2);
+}
+
+static void do_minisign_sha2_block256_Core256_update(u64 l0, u64 l1, u64 l2)
+{
+    u64 l3 = 0, l4 = 0, l5 = 0, l6 = 0, l7 = 0, l8 = 0, l9 = 0, l10 = 0, l11 = 0;
+    l3 = l0 + UINT64_C(96);
+    const u64 t1 = l3;
+    l3 = load64(l3);
+    store64(t1, l3 + l2);
+    {
+        {
+            {
+                {
+                    {
+                        {
+                            l4 = l3 & UINT64_C(63);
+                            if (!(l4 == 0)) { goto after6; }
+                            l5 = UINT64_C(0);
+                            goto after5;
+                        }
+                        after6:;
+                        l6 = l0 + UINT64_C(32);
+                        l7 = l6 + l4;
+                        l3 = l7 - l1;
+                        l5 = UINT64_C(64) - l4;
+                        if (l2 < l5) { goto after4; }
+                        {
+                            {
+                                if (l3 >= l5) { goto after8; }
+                                l8 = l5 & UINT64_C(3);
+                                l7 = UINT64_C(0);
+                                {
+                                    if ((l4 ^ UINT64_C(63)) < UINT64_C(3)) { goto after9; }
+                                    l9 = l0 + l4;
+                                    l10 = l5 & UINT64_C(124);
+                                    l7 = UINT64_C(0);
+                                    again10:;
+                                    {
+                                        l3 = l9 + l7;
+                                        l11 = l1 + l7;
+                                        store8(l3 + UINT64_C(32), load8(l11));
+                                        store8(l3 + UINT64_C(33), load8(l11 + UINT64_C(1)));
+                                        store8(l3 + UINT64_C(34), load8(l11 + UINT64_C(2)));
+                                        store8(l3 + UINT64_C(35), load8(l11 + UINT64_C(3)));
+                                        l7 = l7 + UINT64_C(4);
+                                        if (l10 != l7) { goto again10; }
+                                    }
+                                    if (l8 == 0) { goto after7; }
+                                }
+                                after9:;
+                                l3 = l1 + l7;
+                                l7 = ((l7 + l4) + l0) + UINT64_C(32);
+                                again11:;
+                                {
+                                    store8(l7, load8(l3));
+                                    l7 = l7 + UINT64_C(1);
+                                    l3 = l3 + UINT64_C(1);
+                                    l8 = l8 + UINT64_C(0xffffffffffffffff);
+                                    if (l8 != UINT64_C(0)) { goto again11; }
+                                    goto after7;
+                                }
+                            }
+                            after8:;
+                            if (l5 == 0) { goto after7; }
+                            copy(l7, l1, l5);
+                        }
+                        after7:;
+                        do_minisign_sha2_block256_compress(l0, l6);
+                    }
+                    after5:;
+                    {
+                        l11 = l2 - l5;
+                        l7 = l11 >> 6;
+                        if (l7 == 0) { goto after12; }
+                        l3 = l1 + l5;
+                        again13:;
+                        {
+                            do_minisign_sha2_block256_compress(l0, l3);
+                            l3 = l3 + UINT64_C(64);
+                            l7 = l7 + UINT64_C(0xffffffffffffffff);
+                            if (l7 != UINT64_C(0)) { goto again13; }
+                        }
+                    }
+                    after12:;
+                    {
+                        l7 = l0 + UINT64_C(32);
+                        l9 = l11 & UINT64_C(0xffffffffffffffc0);
+                        l3 = l9 + l5;
+                        l4 = l1 + l3;
+                        l3 = l2 - l3;
+                        if ((l7 - l4) >= l3) { goto after14; }
+                        l8 = l3 & UINT64_C(3);
+                        l7 = UINT64_C(0);
+                        if (((l5 - l2) + l9) > UINT64_C(0xfffffffffffffffc)) { goto after2; }
+                        l2 = l3 & UINT64_C(0xfffffffffffffffc);
+                        l7 = UINT64_C(0);
+                        again15:;
+                        {
+                            l3 = l0 + l7;
+                            l11 = l4 + l7;
+                            store8(l3 + UINT64_C(32), load8(l11));
+                            store8(l3 + UINT64_C(33), load8(l11 + UINT64_C(1)));
+                            store8(l3 + UINT64_C(34), load8(l11 + UINT64_C(2)));
+                            store8(l3 + UINT64_C(35), load8(l11 + UINT64_C(3)));
+                            l7 = l7 + UINT64_C(4);
+                            if (l2 != l7) { goto again15; }
+                            goto after3;
+                        }
+                    }
+                    after14:;
+                    if (l3 == 0) { goto after1; }
+                    copy(l7, l4, l3);
+                    return;
+                }
+                after4:;
+                {
+                    {
+                        {
+                            if (l3 >= l2) { goto after18; }
+                            l8 = l2 & UINT64_C(3);
+                            l7 = UINT64_C(0);
+                            if (l2 < UINT64_C(4)) { goto after16; }
+                            l5 = l0 + l4;
+                            l2 = l2 & UINT64_C(0xfffffffffffffffc);
+                            l7 = UINT64_C(0);
+                            again19:;
+                            {
+                                l3 = l5 + l7;
+                                l11 = l1 + l7;
+                                store8(l3 + UINT64_C(32), load8(l11));
+                                store8(l3 + UINT64_C(33), load8(l11 + UINT64_C(1)));
+                                store8(l3 + UINT64_C(34), load8(l11 + UINT64_C(2)));
+                                store8(l3 + UINT64_C(35), load8(l11 + UINT64_C(3)));
+                                l7 = l7 + UINT64_C(4);
+                                if (l2 != l7) { goto again19; }
+                                goto after17;
+                            }
+                        }
+                        after18:;
+                        if (l2 == 0) { goto after1; }
+                        copy(l7, l1, l2);
+                        return;
+                    }
+                    after17:;
+                    if (l8 == 0) { goto after1; }
+                }
+                after16:;
+                l3 = l1 + l7;
+                l7 = ((l7 + l4) + l0) + UINT64_C(32);
+                again20:;
+                {
+                    store8(l7, load8(l3));
+                    l7 = l7 + UINT64_C(1);
+                    l3 = l3 + UINT64_C(1);
+                    l8 = l8 + UINT64_C(0xffffffffffffffff);
+                    if (l8 != UINT64_C(0)) { goto again20; }
+                    goto after1;
+                }
+            }
+            after3:;
+            if (l8 == 0) { goto after1; }
+        }
+        after2:;
+        l3 = (l7 + l0) + UINT64_C(32);
+        l7 = l1 + ((l5 + l7) + l9);
+        again21:;
+        {
+            store8(l3, load8(l7));
+            l3 = l3 + UINT64_C(1);
+            l7 = l7 + UINT64_C(1);
+            l8 = l8 + UINT64_C(0xffffffffffffffff);
+            if (!(l8 == 0)) { goto again21; }
+        }
+    }
+    after1:;
+}
+
+static void do_minisign_sha2_block512_compress(u64 l0, u64 l1)
+{
+    u64 l2 = 0, l3 = 0, l4 = 0, l5 = 0, l6 = 0, l7 = 0, l8 = 0, l9 = 0, l10 = 0, l11 = 0, l12 = 0, l13 = 0, l14 = 0, l15 = 0, l16 = 0, l17 = 0;
+    u64 l18 = 0, l19 = 0, l20 = 0, l21 = 0, l22 = 0, l23 = 0, l24 = 0, l25 = 0, l26 = 0, l27 = 0, l28 = 0, l29 = 0, l30 = 0, l31 = 0, l32 = 0, l33 = 0;
+    u64 l34 = 0, l35 = 0, l36 = 0, l37 = 0;
+    l2 = load64(l0);
+    l3 = load64(l0 + 16);
+    l4 = load64(l0 + 8);
+    l5 = l4 ^ l2;
+    l6 = load64(l0 + 56);
+    l7 = load64(l1);
+    l8 = (((l7 << 56) | ((l7 & UINT64_C(65280)) << 40)) | (((l7 & UINT64_C(0xff0000)) << 24) | ((l7 & UINT64_C(0xff000000)) << 8))) | ((((l7 >> 8) & UINT64_C(0xff000000)) | ((l7 >> 24) & UINT64_C(0xff0000))) | (((l7 >> 40) & UINT64_C(65280)) | (l7 >> 56)));
+    l9 = load64(l0 + 32);
+    l10 = load64(l0 + 48);
+    l11 = load64(l0 + 40);
+    l12 = (((l6 + l8) + rotl64(rotl64(rotl64(l9, UINT64_C(41)) ^ l9, UINT64_C(60)) ^ l9, UINT64_C(50))) + (((l10 ^ l11) & l9) ^ l10)) + UINT64_C(0x428a2f98d728ae22);
+    l13 = (rotl64(rotl64(rotl64(l2, UINT64_C(59)) ^ l2, UINT64_C(58)) ^ l2, UINT64_C(36)) + (((l3 ^ l4) & l5) ^ l4)) + l12;
+    l14 = l13 ^ l2;
+    l7 = load64(l1 + 8);
+    l15 = (((l7 << 56) | ((l7 & UINT64_C(65280)) << 40)) | (((l7 & UINT64_C(0xff0000)) << 24) | ((l7 & UINT64_C(0xff000000)) << 8))) | ((((l7 >> 8) & UINT64_C(0xff000000)) | ((l7 >> 24) & UINT64_C(0xff0000))) | (((l7 >> 40) & UINT64_C(65280)) | (l7 >> 56)));
+    l16 = load64(l0 + 24);
+    l7 = l12 + l16;
+    l12 = (((l10 + l15) + ((l7 & (l11 ^ l9)) ^ l11)) + rotl64(rotl64(rotl64(l7, UINT64_C(41)) ^ l7, UINT64_C(60)) ^ l7, UINT64_C(50))) + UINT64_C(0x7137449123ef65cd);
+    l17 = (rotl64(rotl64(rotl64(l13, UINT64_C(59)) ^ l13, UINT64_C(58)) ^ l13, UINT64_C(36)) + ((l14 & l5) ^ l2)) + l12;
+    l18 = l17 ^ l13;
+    l5 = load64(l1 + 16);
+    l5 = (((l5 << 56) | ((l5 & UINT64_C(65280)) << 40)) | (((l5 & UINT64_C(0xff0000)) << 24) | ((l5 & UINT64_C(0xff000000)) << 8))) | ((((l5 >> 8) & UINT64_C(0xff000000)) | ((l5 >> 24) & UINT64_C(0xff0000))) | (((l5 >> 40) & UINT64_C(65280)) | (l5 >> 56)));
+    l19 = l12 + l3;
+    const u64 t1 = rotl64(rotl64(rotl64(l17, UINT64_C(59)) ^ l17, UINT64_C(58)) ^ l17, UINT64_C(36)) + ((l18 & l14) ^ l13);
+    l14 = (((l11 + l5) + ((l19 & (l7 ^ l9)) ^ l9)) + rotl64(rotl64(rotl64(l19, UINT64_C(41)) ^ l19, UINT64_C(60)) ^ l19, UINT64_C(50))) + UINT64_C(0xb5c0fbcfec4d3b2f);
+    l20 = t1 + l14;
+    l21 = l20 ^ l17;
+    l12 = load64(l1 + 24);
+    l12 = (((l12 << 56) | ((l12 & UINT64_C(65280)) << 40)) | (((l12 & UINT64_C(0xff0000)) << 24) | ((l12 & UINT64_C(0xff000000)) << 8))) | ((((l12 >> 8) & UINT64_C(0xff000000)) | ((l12 >> 24) & UINT64_C(0xff0000))) | (((l12 >> 40) & UINT64_C(65280)) | (l12 >> 56)));
+    l22 = l14 + l4;
+    const u64 t2 = rotl64(rotl64(rotl64(l20, UINT64_C(59)) ^ l20, UINT64_C(58)) ^ l20, UINT64_C(36)) + ((l21 & l18) ^ l17);
+    l18 = (((l9 + l12) + ((l22 & (l19 ^ l7)) ^ l7)) + rotl64(rotl64(rotl64(l22, UINT64_C(41)) ^ l22, UINT64_C(60)) ^ l22, UINT64_C(50))) + UINT64_C(0xe9b5dba58189dbbc);
+    l23 = t2 + l18;
+    l24 = l23 ^ l20;
+    l14 = load64(l1 + 32);
+    l14 = (((l14 << 56) | ((l14 & UINT64_C(65280)) << 40)) | (((l14 & UINT64_C(0xff0000)) << 24) | ((l14 & UINT64_C(0xff000000)) << 8))) | ((((l14 >> 8) & UINT64_C(0xff000000)) | ((l14 >> 24) & UINT64_C(0xff0000))) | (((l14 >> 40) & UINT64_C(65280)) | (l14 >> 56)));
+    const u64 t3 = l14 + l7;
+    l7 = l18 + l2;
+    const u64 t4 = rotl64(rotl64(rotl64(l23, UINT64_C(59)) ^ l23, UINT64_C(58)) ^ l23, UINT64_C(36)) + ((l24 & l21) ^ l20);
+    l21 = ((t3 + ((l7 & (l22 ^ l19)) ^ l19)) + rotl64(rotl64(rotl64(l7, UINT64_C(41)) ^ l7, UINT64_C(60)) ^ l7, UINT64_C(50))) + UINT64_C(0x3956c25bf348b538);
+    l25 = t4 + l21;
+    l26 = l25 ^ l23;
+    l18 = load64(l1 + 40);
+    l18 = (((l18 << 56) | ((l18 & UINT64_C(65280)) << 40)) | (((l18 & UINT64_C(0xff0000)) << 24) | ((l18 & UINT64_C(0xff000000)) << 8))) | ((((l18 >> 8) & UINT64_C(0xff000000)) | ((l18 >> 24) & UINT64_C(0xff0000))) | (((l18 >> 40) & UINT64_C(65280)) | (l18 >> 56)));
+    l21 = l21 + l13;
+    l13 = (((l18 + l19) + ((l21 & (l7 ^ l22)) ^ l22)) + rotl64(rotl64(rotl64(l21, UINT64_C(41)) ^ l21, UINT64_C(60)) ^ l21, UINT64_C(50))) + UINT64_C(0x59f111f1b605d019);
+    l24 = (rotl64(rotl64(rotl64(l25, UINT64_C(59)) ^ l25, UINT64_C(58)) ^ l25, UINT64_C(36)) + ((l26 & l24) ^ l23)) + l13;
+    l27 = l24 ^ l25;
+    l19 = load64(l1 + 48);
+    l19 = (((l19 << 56) | ((l19 & UINT64_C(65280)) << 40)) | (((l19 & UINT64_C(0xff0000)) << 24) | ((l19 & UINT64_C(0xff000000)) << 8))) | ((((l19 >> 8) & UINT64_C(0xff000000)) | ((l19 >> 24) & UINT64_C(0xff0000))) | (((l19 >> 40) & UINT64_C(65280)) | (l19 >> 56)));
+    l17 = l13 + l17;
+    l13 = (((l19 + l22) + ((l17 & (l21 ^ l7)) ^ l7)) + rotl64(rotl64(rotl64(l17, UINT64_C(41)) ^ l17, UINT64_C(60)) ^ l17, UINT64_C(50))) + UINT64_C(0x923f82a4af194f9b);
+    l26 = (rotl64(rotl64(rotl64(l24, UINT64_C(59)) ^ l24, UINT64_C(58)) ^ l24, UINT64_C(36)) + ((l27 & l26) ^ l25)) + l13;
+    l28 = l26 ^ l24;
+    l22 = load64(l1 + 56);
+    l22 = (((l22 << 56) | ((l22 & UINT64_C(65280)) << 40)) | (((l22 & UINT64_C(0xff0000)) << 24) | ((l22 & UINT64_C(0xff000000)) << 8))) | ((((l22 >> 8) & UINT64_C(0xff000000)) | ((l22 >> 24) & UINT64_C(0xff0000))) | (((l22 >> 40) & UINT64_C(65280)) | (l22 >> 56)));
+    const u64 t5 = l22 + l7;
+    l7 = l13 + l20;
+    l20 = ((t5 + ((l7 & (l17 ^ l21)) ^ l21)) + rotl64(rotl64(rotl64(l7, UINT64_C(41)) ^ l7, UINT64_C(60)) ^ l7, UINT64_C(50))) + UINT64_C(0xab1c5ed5da6d8118);
+    l27 = (rotl64(rotl64(rotl64(l26, UINT64_C(59)) ^ l26, UINT64_C(58)) ^ l26, UINT64_C(36)) + ((l28 & l27) ^ l24)) + l20;
+    l29 = l27 ^ l26;
+    l13 = load64(l1 + 64);
+    l13 = (((l13 << 56) | ((l13 & UINT64_C(65280)) << 40)) | (((l13 & UINT64_C(0xff0000)) << 24) | ((l13 & UINT64_C(0xff000000)) << 8))) | ((((l13 >> 8) & UINT64_C(0xff000000)) | ((l13 >> 24) & UINT64_C(0xff0000))) | (((l13 >> 40) & UINT64_C(65280)) | (l13 >> 56)));
+    l23 = l20 + l23;
+    l20 = (((l13 + l21) + ((l23 & (l7 ^ l17)) ^ l17)) + rotl64(rotl64(rotl64(l23, UINT64_C(41)) ^ l23, UINT64_C(60)) ^ l23, UINT64_C(50))) + UINT64_C(0xd807aa98a3030242);
+    l28 = (rotl64(rotl64(rotl64(l27, UINT64_C(59)) ^ l27, UINT64_C(58)) ^ l27, UINT64_C(36)) + ((l29 & l28) ^ l26)) + l20;
+    l30 = l28 ^ l27;
+    l21 = load64(l1 + 72);
+    l21 = (((l21 << 56) | ((l21 & UINT64_C(65280)) << 40)) | (((l21 & UINT64_C(0xff0000)) << 24) | ((l21 & UINT64_C(0xff000000)) << 8))) | ((((l21 >> 8) & UINT64_C(0xff000000)) | ((l21 >> 24) & UINT64_C(0xff0000))) | (((l21 >> 40) & UINT64_C(65280)) | (l21 >> 56)));
+    l25 = l20 + l25;
+    l20 = (((l21 + l17) + ((l25 & (l23 ^ l7)) ^ l7)) + rotl64(rotl64(rotl64(l25, UINT64_C(41)) ^ l25, UINT64_C(60)) ^ l25, UINT64_C(50))) + UINT64_C(0x12835b0145706fbe);
+    l29 = (rotl64(rotl64(rotl64(l28, UINT64_C(59)) ^ l28, UINT64_C(58)) ^ l28, UINT64_C(36)) + ((l30 & l29) ^ l27)) + l20;
+    l31 = l29 ^ l28;
+    l17 = load64(l1 + 80);
+    l17 = (((l17 << 56) | ((l17 & UINT64_C(65280)) << 40)) | (((l17 & UINT64_C(0xff0000)) << 24) | ((l17 & UINT64_C(0xff000000)) << 8))) | ((((l17 >> 8) & UINT64_C(0xff000000)) | ((l17 >> 24) & UINT64_C(0xff0000))) | (((l17 >> 40) & UINT64_C(65280)) | (l17 >> 56)));
+    const u64 t6 = l17 + l7;
+    l7 = l20 + l24;
+    l24 = ((t6 + ((l7 & (l25 ^ l23)) ^ l23)) + rotl64(rotl64(rotl64(l7, UINT64_C(41)) ^ l7, UINT64_C(60)) ^ l7, UINT64_C(50))) + UINT64_C(0x243185be4ee4b28c);
+    l32 = (rotl64(rotl64(rotl64(l29, UINT64_C(59)) ^ l29, UINT64_C(58)) ^ l29, UINT64_C(36)) + ((l31 & l30) ^ l28)) + l24;
+    l30 = l32 ^ l29;
+    l20 = load64(l1 + 88);
+    l20 = (((l20 << 56) | ((l20 & UINT64_C(65280)) << 40)) | (((l20 & UINT64_C(0xff0000)) << 24) | ((l20 & UINT64_C(0xff000000)) << 8))) | ((((l20 >> 8) & UINT64_C(0xff000000)) | ((l20 >> 24) & UINT64_C(0xff0000))) | (((l20 >> 40) & UINT64_C(65280)) | (l20 >> 56)));
+    l26 = l24 + l26;
+    l24 = (((l20 + l23) + ((l26 & (l7 ^ l25)) ^ l25)) + rotl64(rotl64(rotl64(l26, UINT64_C(41)) ^ l26, UINT64_C(60)) ^ l26, UINT64_C(50))) + UINT64_C(0x550c7dc3d5ffb4e2);
+    l33 = (rotl64(rotl64(rotl64(l32, UINT64_C(59)) ^ l32, UINT64_C(58)) ^ l32, UINT64_C(36)) + ((l30 & l31) ^ l29)) + l24;
+    l34 = l33 ^ l32;
+    l23 = load64(l1 + 96);
+    l23 = (((l23 << 56) | ((l23 & UINT64_C(65280)) << 40)) | (((l23 & UINT64_C(0xff0000)) << 24) | ((l23 & UINT64_C(0xff000000)) << 8))) | ((((l23 >> 8) & UINT64_C(0xff000000)) | ((l23 >> 24) & UINT64_C(0xff0000))) | (((l23 >> 40) & UINT64_C(65280)) | (l23 >> 56)));
+    l31 = l24 + l27;
+    l24 = (((l23 + l25) + ((l31 & (l26 ^ l7)) ^ l7)) + rotl64(rotl64(rotl64(l31, UINT64_C(41)) ^ l31, UINT64_C(60)) ^ l31, UINT64_C(50))) + UINT64_C(0x72be5d74f27b896f);
+    l35 = (rotl64(rotl64(rotl64(l33, UINT64_C(59)) ^ l33, UINT64_C(58)) ^ l33, UINT64_C(36)) + ((l34 & l30) ^ l32)) + l24;
+    l30 = l35 ^ l33;
+    l25 = load64(l1 + 104);
+    l25 = (((l25 << 56) | ((l25 & UINT64_C(65280)) << 40)) | (((l25 & UINT64_C(0xff0000)) << 24) | ((l25 & UINT64_C(0xff000000)) << 8))) | ((((l25 >> 8) & UINT64_C(0xff000000)) | ((l25 >> 24) & UINT64_C(0xff0000))) | (((l25 >> 40) & UINT64_C(65280)) | (l25 >> 56)));
+    l27 = l24 + l28;
+    const u64 t7 = rotl64(rotl64(rotl64(l35, UINT64_C(59)) ^ l35, UINT64_C(58)) ^ l35, UINT64_C(36)) + ((l30 & l34) ^ l33);
+    l34 = (((l25 + l7) + ((l27 & (l31 ^ l26)) ^ l26)) + rotl64(rotl64(rotl64(l27, UINT64_C(41)) ^ l27, UINT64_C(60)) ^ l27, UINT64_C(50))) + UINT64_C(0x80deb1fe3b1696b1);
+    l28 = t7 + l34;
+    l36 = l28 ^ l35;
+    l7 = load64(l1 + 112);
+    l24 = (((l7 << 56) | ((l7 & UINT64_C(65280)) << 40)) | (((l7 & UINT64_C(0xff0000)) << 24) | ((l7 & UINT64_C(0xff000000)) << 8))) | ((((l7 >> 8) & UINT64_C(0xff000000)) | ((l7 >> 24) & UINT64_C(0xff0000))) | (((l7 >> 40) & UINT64_C(65280)) | (l7 >> 56)));
+    l29 = l34 + l29;
+    l7 = (((l24 + l26) + ((l29 & (l27 ^ l31)) ^ l31)) + rotl64(rotl64(rotl64(l29, UINT64_C(41)) ^ l29, UINT64_C(60)) ^ l29, UINT64_C(50))) + UINT64_C(0x9bdc06a725c71235);
+    l30 = (rotl64(rotl64(rotl64(l28, UINT64_C(59)) ^ l28, UINT64_C(58)) ^ l28, UINT64_C(36)) + ((l36 & l30) ^ l35)) + l7;
+    l1 = load64(l1 + 120);
+    l26 = (((l1 << 56) | ((l1 & UINT64_C(65280)) << 40)) | (((l1 & UINT64_C(0xff0000)) << 24) | ((l1 & UINT64_C(0xff000000)) << 8))) | ((((l1 >> 8) & UINT64_C(0xff000000)) | ((l1 >> 24) & UINT64_C(0xff0000))) | (((l1 >> 40) & UINT64_C(65280)) | (l1 >> 56)));
+    const u64 t8 = l26 + l31;
+    l31 = l7 + l32;
+    l1 = ((t8 + ((l31 & (l29 ^ l27)) ^ l27)) + rotl64(rotl64(rotl64(l31, UINT64_C(41)) ^ l31, UINT64_C(60)) ^ l31, UINT64_C(50))) + UINT64_C(0xc19bf174cf692694);
+    l32 = (rotl64(rotl64(rotl64(l30, UINT64_C(59)) ^ l30, UINT64_C(58)) ^ l30, UINT64_C(36)) + (((l30 ^ l28) & l36) ^ l28)) + l1;
+    l7 = l1 + l33;
+    l1 = UINT64_C(0);
+    again1:;
+    {
+        l34 = l30 ^ l32;
+        l8 = ((l8 + l21) + (rotl64(rotl64(l24, UINT64_C(22)) ^ l24, UINT64_C(45)) ^ (l24 >> 6))) + (rotl64(rotl64(l15, UINT64_C(57)) ^ l15, UINT64_C(63)) ^ (l15 >> 7));
+        l27 = (((rotl64(rotl64(rotl64(l7, UINT64_C(41)) ^ l7, UINT64_C(60)) ^ l7, UINT64_C(50)) + l27) + (((l29 ^ l31) & l7) ^ l29)) + load64(l1 + (address(data89) + 128))) + l8;
+        l33 = (rotl64(rotl64(rotl64(l32, UINT64_C(59)) ^ l32, UINT64_C(58)) ^ l32, UINT64_C(36)) + (((l28 ^ l30) & l34) ^ l30)) + l27;
+        l36 = l33 ^ l32;
+        l27 = l27 + l35;
+        const u64 t9 = rotl64(rotl64(rotl64(l33, UINT64_C(59)) ^ l33, UINT64_C(58)) ^ l33, UINT64_C(36)) + ((l36 & l34) ^ l32);
+        l34 = ((l17 + l15) + (rotl64(rotl64(l26, UINT64_C(22)) ^ l26, UINT64_C(45)) ^ (l26 >> 6))) + (rotl64(rotl64(l5, UINT64_C(57)) ^ l5, UINT64_C(63)) ^ (l5 >> 7));
+        l35 = (((load64(l1 + (address(data89) + 136)) + l29) + ((l27 & (l31 ^ l7)) ^ l31)) + l34) + rotl64(rotl64(rotl64(l27, UINT64_C(41)) ^ l27, UINT64_C(60)) ^ l27, UINT64_C(50));
+        l29 = t9 + l35;
+        l15 = l29 ^ l33;
+        l5 = ((l20 + l5) + (rotl64(rotl64(l8, UINT64_C(22)) ^ l8, UINT64_C(45)) ^ (l8 >> 6))) + (rotl64(rotl64(l12, UINT64_C(57)) ^ l12, UINT64_C(63)) ^ (l12 >> 7));
+        l28 = l35 + l28;
+        l35 = (((load64(l1 + (address(data89) + 144)) + l31) + l5) + ((l28 & (l27 ^ l7)) ^ l7)) + rotl64(rotl64(rotl64(l28, UINT64_C(41)) ^ l28, UINT64_C(60)) ^ l28, UINT64_C(50));
+        l31 = (rotl64(rotl64(rotl64(l29, UINT64_C(59)) ^ l29, UINT64_C(58)) ^ l29, UINT64_C(36)) + ((l15 & l36) ^ l33)) + l35;
+        l36 = l31 ^ l29;
+        l12 = ((l23 + l12) + (rotl64(rotl64(l34, UINT64_C(22)) ^ l34, UINT64_C(45)) ^ (l34 >> 6))) + (rotl64(rotl64(l14, UINT64_C(57)) ^ l14, UINT64_C(63)) ^ (l14 >> 7));
+        const u64 t10 = (load64(l1 + (address(data89) + 152)) + l7) + l12;
+        l7 = l35 + l30;
+        l35 = (t10 + ((l7 & (l28 ^ l27)) ^ l27)) + rotl64(rotl64(rotl64(l7, UINT64_C(41)) ^ l7, UINT64_C(60)) ^ l7, UINT64_C(50));
+        l30 = (rotl64(rotl64(rotl64(l31, UINT64_C(59)) ^ l31, UINT64_C(58)) ^ l31, UINT64_C(36)) + ((l36 & l15) ^ l29)) + l35;
+        l15 = l30 ^ l31;
+        l14 = ((l25 + l14) + (rotl64(rotl64(l5, UINT64_C(22)) ^ l5, UINT64_C(45)) ^ (l5 >> 6))) + (rotl64(rotl64(l18, UINT64_C(57)) ^ l18, UINT64_C(63)) ^ (l18 >> 7));
+        const u64 t11 = (load64(l1 + (address(data89) + 160)) + l27) + l14;
+        l27 = l35 + l32;
+        l35 = (t11 + ((l27 & (l7 ^ l28)) ^ l28)) + rotl64(rotl64(rotl64(l27, UINT64_C(41)) ^ l27, UINT64_C(60)) ^ l27, UINT64_C(50));
+        l32 = (rotl64(rotl64(rotl64(l30, UINT64_C(59)) ^ l30, UINT64_C(58)) ^ l30, UINT64_C(36)) + ((l15 & l36) ^ l31)) + l35;
+        l36 = l32 ^ l30;
+        l18 = ((l18 + l24) + (rotl64(rotl64(l12, UINT64_C(22)) ^ l12, UINT64_C(45)) ^ (l12 >> 6))) + (rotl64(rotl64(l19, UINT64_C(57)) ^ l19, UINT64_C(63)) ^ (l19 >> 7));
+        const u64 t12 = (load64(l1 + (address(data89) + 168)) + l28) + l18;
+        l28 = l35 + l33;
+        l33 = (t12 + ((l28 & (l27 ^ l7)) ^ l7)) + rotl64(rotl64(rotl64(l28, UINT64_C(41)) ^ l28, UINT64_C(60)) ^ l28, UINT64_C(50));
+        l35 = (rotl64(rotl64(rotl64(l32, UINT64_C(59)) ^ l32, UINT64_C(58)) ^ l32, UINT64_C(36)) + ((l36 & l15) ^ l30)) + l33;
+        l15 = l35 ^ l32;
+        l19 = ((l19 + l26) + (rotl64(rotl64(l14, UINT64_C(22)) ^ l14, UINT64_C(45)) ^ (l14 >> 6))) + (rotl64(rotl64(l22, UINT64_C(57)) ^ l22, UINT64_C(63)) ^ (l22 >> 7));
+        const u64 t13 = (l7 + load64(l1 + (address(data89) + 176))) + l19;
+        l7 = l33 + l29;
+        l33 = (t13 + ((l7 & (l28 ^ l27)) ^ l27)) + rotl64(rotl64(rotl64(l7, UINT64_C(41)) ^ l7, UINT64_C(60)) ^ l7, UINT64_C(50));
+        l29 = (rotl64(rotl64(rotl64(l35, UINT64_C(59)) ^ l35, UINT64_C(58)) ^ l35, UINT64_C(36)) + ((l15 & l36) ^ l32)) + l33;
+        l36 = l29 ^ l35;
+        l22 = ((l22 + l8) + (rotl64(rotl64(l18, UINT64_C(22)) ^ l18, UINT64_C(45)) ^ (l18 >> 6))) + (rotl64(rotl64(l13, UINT64_C(57)) ^ l13, UINT64_C(63)) ^ (l13 >> 7));
+        const u64 t14 = (l22 + load64(l1 + (address(data89) + 184))) + l27;
+        l27 = l33 + l31;
+        l33 = (t14 + ((l27 & (l7 ^ l28)) ^ l28)) + rotl64(rotl64(rotl64(l27, UINT64_C(41)) ^ l27, UINT64_C(60)) ^ l27, UINT64_C(50));
+        l31 = (rotl64(rotl64(rotl64(l29, UINT64_C(59)) ^ l29, UINT64_C(58)) ^ l29, UINT64_C(36)) + ((l36 & l15) ^ l35)) + l33;
+        l15 = l31 ^ l29;
+        l13 = ((l34 + (rotl64(rotl64(l21, UINT64_C(57)) ^ l21, UINT64_C(63)) ^ (l21 >> 7))) + l13) + (rotl64(rotl64(l19, UINT64_C(22)) ^ l19, UINT64_C(45)) ^ (l19 >> 6));
+        const u64 t15 = (l13 + load64(l1 + (address(data89) + 192))) + l28;
+        l28 = l33 + l30;
+        l33 = (t15 + ((l28 & (l27 ^ l7)) ^ l7)) + rotl64(rotl64(rotl64(l28, UINT64_C(41)) ^ l28, UINT64_C(60)) ^ l28, UINT64_C(50));
+        l30 = (rotl64(rotl64(rotl64(l31, UINT64_C(59)) ^ l31, UINT64_C(58)) ^ l31, UINT64_C(36)) + ((l15 & l36) ^ l29)) + l33;
+        l36 = l30 ^ l31;
+        l21 = (((rotl64(rotl64(l17, UINT64_C(57)) ^ l17, UINT64_C(63)) ^ (l17 >> 7)) + l21) + l5) + (rotl64(rotl64(l22, UINT64_C(22)) ^ l22, UINT64_C(45)) ^ (l22 >> 6));
+        const u64 t16 = (l21 + load64(l1 + (address(data89) + 200))) + l7;
+        l7 = l33 + l32;
+        l33 = (t16 + ((l7 & (l28 ^ l27)) ^ l27)) + rotl64(rotl64(rotl64(l7, UINT64_C(41)) ^ l7, UINT64_C(60)) ^ l7, UINT64_C(50));
+        l32 = (rotl64(rotl64(rotl64(l30, UINT64_C(59)) ^ l30, UINT64_C(58)) ^ l30, UINT64_C(36)) + ((l36 & l15) ^ l31)) + l33;
+        l15 = l32 ^ l30;
+        l17 = (((rotl64(rotl64(l20, UINT64_C(57)) ^ l20, UINT64_C(63)) ^ (l20 >> 7)) + l17) + l12) + (rotl64(rotl64(l13, UINT64_C(22)) ^ l13, UINT64_C(45)) ^ (l13 >> 6));
+        const u64 t17 = (l17 + load64(l1 + (address(data89) + 208))) + l27;
+        l27 = l33 + l35;
+        l35 = (t17 + ((l27 & (l7 ^ l28)) ^ l28)) + rotl64(rotl64(rotl64(l27, UINT64_C(41)) ^ l27, UINT64_C(60)) ^ l27, UINT64_C(50));
+        l33 = (rotl64(rotl64(rotl64(l32, UINT64_C(59)) ^ l32, UINT64_C(58)) ^ l32, UINT64_C(36)) + ((l15 & l36) ^ l30)) + l35;
+        l36 = l33 ^ l32;
+        l20 = (((rotl64(rotl64(l23, UINT64_C(57)) ^ l23, UINT64_C(63)) ^ (l23 >> 7)) + l20) + l14) + (rotl64(rotl64(l21, UINT64_C(22)) ^ l21, UINT64_C(45)) ^ (l21 >> 6));
+        l29 = l35 + l29;
+        l28 = (((l20 + load64(l1 + (address(data89) + 216))) + l28) + ((l29 & (l27 ^ l7)) ^ l7)) + rotl64(rotl64(rotl64(l29, UINT64_C(41)) ^ l29, UINT64_C(60)) ^ l29, UINT64_C(50));
+        l15 = (rotl64(rotl64(rotl64(l33, UINT64_C(59)) ^ l33, UINT64_C(58)) ^ l33, UINT64_C(36)) + ((l36 & l15) ^ l32)) + l28;
+        l37 = l15 ^ l33;
+        l23 = (((rotl64(rotl64(l25, UINT64_C(57)) ^ l25, UINT64_C(63)) ^ (l25 >> 7)) + l23) + l18) + (rotl64(rotl64(l17, UINT64_C(22)) ^ l17, UINT64_C(45)) ^ (l17 >> 6));
+        const u64 t18 = (l23 + load64(l1 + (address(data89) + 224))) + l7;
+        l7 = l28 + l31;
+        l28 = (t18 + ((l7 & (l29 ^ l27)) ^ l27)) + rotl64(rotl64(rotl64(l7, UINT64_C(41)) ^ l7, UINT64_C(60)) ^ l7, UINT64_C(50));
+        l35 = (rotl64(rotl64(rotl64(l15, UINT64_C(59)) ^ l15, UINT64_C(58)) ^ l15, UINT64_C(36)) + ((l37 & l36) ^ l33)) + l28;
+        l31 = l35 ^ l15;
+        l25 = ((l25 + (rotl64(rotl64(l24, UINT64_C(57)) ^ l24, UINT64_C(63)) ^ (l24 >> 7))) + l19) + (rotl64(rotl64(l20, UINT64_C(22)) ^ l20, UINT64_C(45)) ^ (l20 >> 6));
+        const u64 t19 = (l25 + load64(l1 + (address(data89) + 232))) + l27;
+        l27 = l28 + l30;
+        l30 = (t19 + ((l27 & (l7 ^ l29)) ^ l29)) + rotl64(rotl64(rotl64(l27, UINT64_C(41)) ^ l27, UINT64_C(60)) ^ l27, UINT64_C(50));
+        l28 = (rotl64(rotl64(rotl64(l35, UINT64_C(59)) ^ l35, UINT64_C(58)) ^ l35, UINT64_C(36)) + ((l31 & l37) ^ l15)) + l30;
+        l36 = l28 ^ l35;
+        l24 = (((rotl64(rotl64(l26, UINT64_C(57)) ^ l26, UINT64_C(63)) ^ (l26 >> 7)) + l24) + l22) + (rotl64(rotl64(l23, UINT64_C(22)) ^ l23, UINT64_C(45)) ^ (l23 >> 6));
+        const u64 t20 = (l24 + load64(l1 + (address(data89) + 240))) + l29;
+        l29 = l30 + l32;
+        const u64 t21 = rotl64(rotl64(rotl64(l28, UINT64_C(59)) ^ l28, UINT64_C(58)) ^ l28, UINT64_C(36)) + ((l36 & l31) ^ l35);
+        l31 = (t20 + ((l29 & (l27 ^ l7)) ^ l7)) + rotl64(rotl64(rotl64(l29, UINT64_C(41)) ^ l29, UINT64_C(60)) ^ l29, UINT64_C(50));
+        l30 = t21 + l31;
+        l26 = (((rotl64(rotl64(l8, UINT64_C(57)) ^ l8, UINT64_C(63)) ^ (l8 >> 7)) + l26) + l13) + (rotl64(rotl64(l25, UINT64_C(22)) ^ l25, UINT64_C(45)) ^ (l25 >> 6));
+        l31 = l31 + l33;
+        l7 = (((l26 + load64(l1 + (address(data89) + 248))) + l7) + ((l31 & (l29 ^ l27)) ^ l27)) + rotl64(rotl64(rotl64(l31, UINT64_C(41)) ^ l31, UINT64_C(60)) ^ l31, UINT64_C(50));
+        l32 = (rotl64(rotl64(rotl64(l30, UINT64_C(59)) ^ l30, UINT64_C(58)) ^ l30, UINT64_C(36)) + (((l30 ^ l28) & l36) ^ l28)) + l7;
+        l7 = l7 + l15;
+        l15 = l34;
+        l1 = l1 + UINT64_C(128);
+        if (l1 != UINT64_C(512)) { goto again1; }
+    }
+    store64(l0 + 56, l27 + l6);
+    store64(l0 + 48, l29 + l10);
+    store64(l0 + 40, l31 + l11);
+    store64(l0 + 32, l7 + l9);
+    store64(l0 + 24, l35 + l16);
+    store64(l0 + 16, l28 + l3);
+    store64(l0 + 8, l30 + l4);
+    store64(l0, l32 + l2);
+}
+
+static void do_minisign_sha2_block512_Core512_update(u64 l0, u64 l1, u64 l2)
+{
+    u64 l3 = 0, l4 = 0, l5 = 0, l6 = 0, l7 = 0, l8 = 0, l9 = 0, l10 = 0, l11 = 0;
+    l3 = l0 + UINT64_C(192);
+    const u64 t1 = l3;
+    l3 = load64(l3);
+    l4 = l3 + l2;
+    store64(t1, l4);
+    l5 = l0 + UINT64_C(200);
+    store64(l5, load64(l5) + ((u64) ((u32) (l4 < l3))));
+    {
+        {
+            {
+                {
+                    {
+                        {
+                            l6 = l3 & UINT64_C(127);
+                            if (!(l6 == 0)) { goto after6; }
+                            l7 = UINT64_C(0);
+                            goto after5;
+                        }
+                        after6:;
+                        l8 = l0 + UINT64_C(64);
+                        l4 = l8 + l6;
+                        l3 = l4 - l1;
+                        l7 = UINT64_C(128) - l6;
+                        if (l2 < l7) { goto after4; }
+                        {
+                            {
+                                if (l3 >= l7) { goto after8; }
+                                l9 = l7 & UINT64_C(3);
+                                l4 = UINT64_C(0);
+                                {
+                                    if ((l6 ^ UINT64_C(127)) < UINT64_C(3)) { goto after9; }
+                                    l10 = l0 + l6;
+                                    l11 = l7 & UINT64_C(252);
+                                    l4 = UINT64_C(0);
+                                    again10:;
+                                    {
+                                        l3 = l10 + l4;
+                                        l5 = l1 + l4;
+                                        store8(l3 + UINT64_C(64), load8(l5));
+                                        store8(l3 + UINT64_C(65), load8(l5 + UINT64_C(1)));
+                                        store8(l3 + UINT64_C(66), load8(l5 + UINT64_C(2)));
+                                        store8(l3 + UINT64_C(67), load8(l5 + UINT64_C(3)));
+                                        l4 = l4 + UINT64_C(4);
+                                        if (l11 != l4) { goto again10; }
+                                    }
+                                    if (l9 == 0) { goto after7; }
+                                }
+                                after9:;
+                                l3 = l1 + l4;
+                                l4 = ((l4 + l6) + l0) + UINT64_C(64);
+                                again11:;
+                                {
+                                    store8(l4, load8(l3));
+                                    l4 = l4 + UINT64_C(1);
+                                    l3 = l3 + UINT64_C(1);
+                                    l9 = l9 + UINT64_C(0xffffffffffffffff);
+                                    if (l9 != UINT64_C(0)) { goto again11; }
+                                    goto after7;
+                                }
+                            }
+                            after8:;
+                            if (l7 == 0) { goto after7; }
+                            copy(l4, l1, l7);
+                        }
+                        after7:;
+                        do_minisign_sha2_block512_compress(l0, l8);
+                    }
+                    after5:;
+                    {
+                        l5 = l2 - l7;
+                        l4 = l5 >> 7;
+                        if (l4 == 0) { goto after12; }
+                        l3 = l1 + l7;
+                        again13:;
+                        {
+                            do_minisign_sha2_block512_compress(l0, l3);
+                            l3 = l3 + UINT64_C(128);
+                            l4 = l4 + UINT64_C(0xffffffffffffffff);
+                            if (l4 != UINT64_C(0)) { goto again13; }
+                        }
+                    }
+                    after12:;
+                    {
+                        l4 = l0 + UINT64_C(64);
+                        l10 = l5 & UINT64_C(0xffffffffffffff80);
+                        l3 = l10 + l7;
+                        l6 = l1 + l3;
+                        l3 = l2 - l3;
+                        if ((l4 - l6) >= l3) { goto after14; }
+                        l9 = l3 & UINT64_C(3);
+                        l4 = UINT64_C(0);
+                        if (((l7 - l2) + l10) > UINT64_C(0xfffffffffffffffc)) { goto after2; }
+                        l2 = l3 & UINT64_C(0xfffffffffffffffc);
+                        l4 = UINT64_C(0);
+                        again15:;
+                        {
+                            l3 = l0 + l4;
+                            l5 = l6 + l4;
+                            store8(l3 + UINT64_C(64), load8(l5));
+                            store8(l3 + UINT64_C(65), load8(l5 + UINT64_C(1)));
+                            store8(l3 + UINT64_C(66), load8(l5 + UINT64_C(2)));
+                            store8(l3 + UINT64_C(67), load8(l5 + UINT64_C(3)));
+                            l4 = l4 + UINT64_C(4);
+                            if (l2 != l4) { goto again15; }
+                            goto after3;
+                        }
+                    }
+                    after14:;
+                    if (l3 == 0) { goto after1; }
+                    copy(l4, l6, l3);
+                    return;
+                }
+                after4:;
+                {
+                    {
+                        {
+                            if (l3 >= l2) { goto after18; }
+                            l9 = l2 & UINT64_C(3);
+                            l4 = UINT64_C(0);
+                            if (l2 < UINT64_C(4)) { goto after16; }
+                            l7 = l0 + l6;
+                            l2 = l2 & UINT64_C(0xfffffffffffffffc);
+                            l4 = UINT64_C(0);
+                            again19:;
+                            {
+                                l3 = l7 + l4;
+                                l5 = l1 + l4;
+                                store8(l3 + UINT64_C(64), load8(l5));
+                                store8(l3 + UINT64_C(65), load8(l5 + UINT64_C(1)));
+                                store8(l3 + UINT64_C(66), load8(l5 + UINT64_C(2)));
+                                store8(l3 + UINT64_C(67), load8(l5 + UINT64_C(3)));
+                                l4 = l4 + UINT64_C(4);
+                                if (l2 != l4) { goto again19; }
+                                goto after17;
+                            }
+                        }
+                        after18:;
+                        if (l2 == 0) { goto after1; }
+                        copy(l4, l1, l2);
+                        return;
+                    }
+                    after17:;
+                    if (l9 == 0) { goto after1; }
+                }
+                after16:;
+                l3 = l1 + l4;
+                l4 = ((l4 + l6) + l0) + UINT64_C(64);
+                again20:;
+                {
+                    store8(l4, load8(l3));
+                    l4 = l4 + UINT64_C(1);
+                    l3 = l3 + UINT64_C(1);
+                    l9 = l9 + UINT64_C(0xffffffffffffffff);
+                    if (l9 != UINT64_C(0)) { goto again20; }
+                    goto after1;
+                }
+            }
+            after3:;
+            if (l9 == 0) { goto after1; }
+        }
+        after2:;
+        l3 = (l4 + l0) + UINT64_C(64);
+        l4 = l1 + ((l7 + l4) + l10);
+        again21:;
+        {
+            store8(l3, load8(l4));
+            l3 = l3 + UINT64_C(1);
+            l4 = l4 + UINT64_C(1);
+            l9 = l9 + UINT64_C(0xffffffffffffffff);
+            if (!(l9 == 0)) { goto again21; }
+        }
+    }
+    after1:;
+}
+
 static u32 do_minisign_install_piece(u64 sp, u64 table, u64 l0, u64 l1, u64 l2)
 {
     u32 l5 = 0, l6 = 0, l7 = 0, l10 = 0, l11 = 0, l12 = 0;
     u64 l3 = 0, l4 = 0, l8 = 0, l9 = 0;
-    l3 = sp - UINT64_C(720);
+    l3 = sp - UINT64_C(944);
     sp = l3;
     {
         {
@@ -14981,16 +15967,16 @@ static u32 do_minisign_install_piece(u64 sp, u64 table, u64 l0, u64 l1, u64 l2)
                         {
                             {
                                 if (l2 != UINT64_C(0)) { goto after7; }
-                                store64(l3 + 400, UINT64_C(0));
-                                store64(l3 + 392, UINT64_C(0));
-                                store64(l3 + 384, UINT64_C(0));
-                                store64(l3 + 376, UINT64_C(0));
-                                store64(l3 + 368, UINT64_C(0));
-                                store64(l3 + 360, UINT64_C(0));
-                                store64(l3 + 352, UINT64_C(0));
+                                store64(l3 + 624, UINT64_C(0));
+                                store64(l3 + 616, UINT64_C(0));
+                                store64(l3 + 608, UINT64_C(0));
+                                store64(l3 + 600, UINT64_C(0));
+                                store64(l3 + 592, UINT64_C(0));
+                                store64(l3 + 584, UINT64_C(0));
+                                store64(l3 + 576, UINT64_C(0));
                                 l5 = 1u;
                                 l6 = load32(l4);
-                                if (((1u << (((l6 > 28u ? 0u : l6) & 255u) & 31)) & 0x1fffdfbfu) == 0) { goto after5; }
+                                if (((1u << (((l6 > 30u ? 0u : l6) & 255u) & 31)) & 0x7fff7effu) == 0) { goto after5; }
                                 store64(l3 + 22, UINT64_C(0));
                                 store64(l3 + 16, UINT64_C(0));
                                 store64(l3 + 8, UINT64_C(0));
@@ -14999,75 +15985,236 @@ static u32 do_minisign_install_piece(u64 sp, u64 table, u64 l0, u64 l1, u64 l2)
                                 goto after6;
                             }
                             after7:;
-                            l8 = l1 + (l1 == 0 ? UINT64_C(4096) : UINT64_C(0));
+                            l1 = l1 + (l1 == 0 ? UINT64_C(4096) : UINT64_C(0));
                             l7 = 9u;
                             l5 = 1u;
                             {
                                 l6 = load32(l4);
-                                if (((1u << (((l6 > 28u ? 0u : l6) & 255u) & 31)) & 0x1fffdfbfu) != 0) { goto after8; }
-                                l1 = l0 + UINT64_C(456);
+                                if (((1u << (((l6 > 30u ? 0u : l6) & 255u) & 31)) & 0x7fff7effu) != 0) { goto after8; }
+                                l4 = l0 + UINT64_C(464);
                                 {
                                     {
-                                        l4 = load64(l0 + UINT64_C(536));
-                                        if (l4 > UINT64_C(256)) { goto after10; }
-                                        store64(l3 + 352, load64(l1));
-                                        store64(l3 + 360, load64(l1 + 8));
-                                        store64(l3 + 368, load64(l1 + 16));
-                                        store64(l3 + 376, load64(l1 + 24));
-                                        store64(l3 + 384, load64(l1 + 32));
-                                        store64(l3 + 392, load64(l1 + 40));
-                                        store64(l3 + 400, load64(l1 + 48));
-                                        store64(l3 + 408, load64(l1 + 56));
-                                        l9 = load64(l0 + UINT64_C(520));
-                                        store64(l3 + 424, load64(l0 + UINT64_C(528)));
-                                        store64(l3 + 416, l9);
-                                        l9 = l3 + UINT64_C(432);
-                                        copy(l9, l0 + UINT64_C(544), UINT64_C(256));
-                                        store64(l3 + 704, UINT64_C(0));
-                                        store64(l3 + 696, UINT64_C(64));
-                                        store64(l3 + 688, l4);
-                                        store64(l3 + 712, UINT64_C(0));
-                                        do_minisign_hash_blake2b_Blake2b_update(sp, l3 + UINT64_C(352), l8, l2);
-                                        l2 = load64(l3 + 424);
-                                        l8 = load64(l3 + 416);
-                                        l4 = load64(l3 + 688);
-                                        copy(l3 + UINT64_C(32), l9, UINT64_C(256));
-                                        store64(l3 + 344, load64(l3 + 408));
-                                        store64(l3 + 336, load64(l3 + 400));
-                                        store64(l3 + 328, load64(l3 + 392));
-                                        store64(l3 + 320, load64(l3 + 384));
-                                        store64(l3 + 312, load64(l3 + 376));
-                                        store64(l3 + 304, load64(l3 + 368));
-                                        store64(l3 + 296, load64(l3 + 360));
-                                        store64(l3 + 288, load64(l3 + 352));
+                                        if (load32(l0 + UINT64_C(140)) != 1u) { goto after10; }
+                                        {
+                                            {
+                                                {
+                                                    switch (load32(l0 + UINT64_C(976)) + 0xffffffffu) {
+                                                    case 0: goto after13;
+                                                    case 1: goto after12;
+                                                    case 2: goto after11;
+                                                    default: goto after10;
+                                                    }
+                                                }
+                                                after13:;
+                                                store64(l3 + 32, load64(l0 + UINT64_C(808)));
+                                                store64(l3 + 40, load64(l0 + UINT64_C(816)));
+                                                store64(l3 + 48, load64(l0 + UINT64_C(824)));
+                                                store64(l3 + 56, load64(l0 + UINT64_C(832)));
+                                                store64(l3 + 64, load64(l0 + UINT64_C(552)));
+                                                store64(l3 + 72, load64(l0 + UINT64_C(560)));
+                                                store64(l3 + 80, load64(l0 + UINT64_C(568)));
+                                                store64(l3 + 88, load64(l0 + UINT64_C(576)));
+                                                store64(l3 + 96, load64(l0 + UINT64_C(584)));
+                                                store64(l3 + 104, load64(l0 + UINT64_C(592)));
+                                                store64(l3 + 112, load64(l0 + UINT64_C(600)));
+                                                store64(l3 + 120, load64(l0 + UINT64_C(608)));
+                                                l8 = load64(l0 + UINT64_C(528));
+                                                copy(l3 + UINT64_C(576), l3 + UINT64_C(32), UINT64_C(96));
+                                                store64(l3 + 672, l8);
+                                                do_minisign_sha2_block256_Core256_update(l3 + UINT64_C(576), l1, l2);
+                                                l1 = load64(l3 + 672);
+                                                fill(l3 + UINT64_C(320), 0u, UINT64_C(192));
+                                                l2 = UINT64_C(0);
+                                                store64(l3 + 512, UINT64_C(0));
+                                                store64(l3 + 520, UINT64_C(0));
+                                                store64(l3 + 528, UINT64_C(0));
+                                                store64(l3 + 536, UINT64_C(0));
+                                                store64(l3 + 544, UINT64_C(0));
+                                                store64(l3 + 552, UINT64_C(0));
+                                                store64(l3 + 560, UINT64_C(0));
+                                                store64(l3 + 568, UINT64_C(0));
+                                                store64(l3 + 312, load64(l3 + 664));
+                                                store64(l3 + 304, load64(l3 + 656));
+                                                store64(l3 + 296, load64(l3 + 648));
+                                                store64(l3 + 288, load64(l3 + 640));
+                                                store64(l3 + 280, load64(l3 + 632));
+                                                store64(l3 + 272, load64(l3 + 624));
+                                                store64(l3 + 264, load64(l3 + 616));
+                                                store64(l3 + 256, load64(l3 + 608));
+                                                store64(l3 + 248, load64(l3 + 600));
+                                                store64(l3 + 240, load64(l3 + 592));
+                                                store64(l3 + 232, load64(l3 + 584));
+                                                store64(l3 + 224, load64(l3 + 576));
+                                                l8 = UINT64_C(0);
+                                                goto after9;
+                                            }
+                                            after12:;
+                                            store64(l3 + 32, load64(l4));
+                                            store64(l3 + 40, load64(l4 + 8));
+                                            store64(l3 + 48, load64(l4 + 16));
+                                            store64(l3 + 56, load64(l4 + 24));
+                                            store64(l3 + 64, load64(l4 + 32));
+                                            store64(l3 + 72, load64(l4 + 40));
+                                            store64(l3 + 80, load64(l4 + 48));
+                                            store64(l3 + 88, load64(l4 + 56));
+                                            l8 = load64(l0 + UINT64_C(528));
+                                            l9 = load64(l0 + UINT64_C(536));
+                                            copy((l3 + UINT64_C(32)) + UINT64_C(64), l0 + UINT64_C(552), UINT64_C(128));
+                                            copy(l3 + UINT64_C(576), l3 + UINT64_C(32), UINT64_C(192));
+                                            store64(l3 + 776, l9);
+                                            store64(l3 + 768, l8);
+                                            do_minisign_sha2_block512_Core512_update(l3 + UINT64_C(576), l1, l2);
+                                            l2 = load64(l3 + 776);
+                                            l1 = load64(l3 + 768);
+                                            fill((l3 + UINT64_C(256)) + UINT64_C(128), 0u, UINT64_C(128));
+                                            copy(l3 + UINT64_C(256), (l3 + UINT64_C(576)) + UINT64_C(64), UINT64_C(128));
+                                            l8 = UINT64_C(0);
+                                            store64(l3 + 224, UINT64_C(0));
+                                            store64(l3 + 232, UINT64_C(0));
+                                            store64(l3 + 240, UINT64_C(0));
+                                            store64(l3 + 248, UINT64_C(0));
+                                            store64(l3 + 568, load64(l3 + 632));
+                                            store64(l3 + 560, load64(l3 + 624));
+                                            store64(l3 + 552, load64(l3 + 616));
+                                            store64(l3 + 544, load64(l3 + 608));
+                                            store64(l3 + 536, load64(l3 + 600));
+                                            store64(l3 + 528, load64(l3 + 592));
+                                            store64(l3 + 520, load64(l3 + 584));
+                                            store64(l3 + 512, load64(l3 + 576));
+                                            goto after9;
+                                        }
+                                        after11:;
+                                        {
+                                            l8 = load64(l0 + UINT64_C(544));
+                                            if (l8 > UINT64_C(256)) { goto after14; }
+                                            store64(l3 + 576, load64(l4));
+                                            store64(l3 + 584, load64(l4 + 8));
+                                            store64(l3 + 592, load64(l4 + 16));
+                                            store64(l3 + 600, load64(l4 + 24));
+                                            store64(l3 + 608, load64(l4 + 32));
+                                            store64(l3 + 616, load64(l4 + 40));
+                                            store64(l3 + 624, load64(l4 + 48));
+                                            store64(l3 + 632, load64(l4 + 56));
+                                            l9 = load64(l0 + UINT64_C(528));
+                                            store64(l3 + 648, load64(l0 + UINT64_C(536)));
+                                            store64(l3 + 640, l9);
+                                            l9 = l3 + UINT64_C(656);
+                                            copy(l9, l0 + UINT64_C(552), UINT64_C(256));
+                                            store64(l3 + 928, UINT64_C(0));
+                                            store64(l3 + 920, UINT64_C(64));
+                                            store64(l3 + 912, l8);
+                                            store64(l3 + 936, UINT64_C(0));
+                                            do_minisign_hash_blake2b_Blake2b_update(sp, l3 + UINT64_C(576), l1, l2);
+                                            store64(l3 + 512, load64(l3 + 576));
+                                            store64(l3 + 520, load64(l3 + 584));
+                                            store64(l3 + 528, load64(l3 + 592));
+                                            store64(l3 + 536, load64(l3 + 600));
+                                            store64(l3 + 544, load64(l3 + 608));
+                                            store64(l3 + 552, load64(l3 + 616));
+                                            store64(l3 + 560, load64(l3 + 624));
+                                            store64(l3 + 568, load64(l3 + 632));
+                                            l2 = load64(l3 + 648);
+                                            l1 = load64(l3 + 640);
+                                            l8 = load64(l3 + 912);
+                                            copy(l3 + UINT64_C(256), l9, UINT64_C(256));
+                                            store64(l3 + 248, UINT64_C(0));
+                                            store64(l3 + 240, UINT64_C(0));
+                                            store64(l3 + 232, UINT64_C(0));
+                                            store64(l3 + 224, UINT64_C(0));
+                                            goto after9;
+                                        }
+                                        after14:;
+                                        store64(l3 + 568, load64(l4 + 56));
+                                        store64(l3 + 560, load64(l4 + 48));
+                                        store64(l3 + 552, load64(l4 + 40));
+                                        store64(l3 + 544, load64(l4 + 32));
+                                        store64(l3 + 536, load64(l4 + 24));
+                                        store64(l3 + 528, load64(l4 + 16));
+                                        store64(l3 + 520, load64(l4 + 8));
+                                        store64(l3 + 512, load64(l4));
+                                        l1 = load64(l0 + UINT64_C(528));
+                                        l2 = load64(l0 + UINT64_C(536));
+                                        copy(l3 + UINT64_C(256), l0 + UINT64_C(552), UINT64_C(256));
+                                        store64(l3 + 248, load64(l0 + UINT64_C(832)));
+                                        store64(l3 + 240, load64(l0 + UINT64_C(824)));
+                                        store64(l3 + 232, load64(l0 + UINT64_C(816)));
+                                        store64(l3 + 224, load64(l0 + UINT64_C(808)));
                                         goto after9;
                                     }
                                     after10:;
-                                    store64(l3 + 344, load64(l1 + 56));
-                                    store64(l3 + 336, load64(l1 + 48));
-                                    store64(l3 + 328, load64(l1 + 40));
-                                    store64(l3 + 320, load64(l1 + 32));
-                                    store64(l3 + 312, load64(l1 + 24));
-                                    store64(l3 + 304, load64(l1 + 16));
-                                    store64(l3 + 296, load64(l1 + 8));
-                                    store64(l3 + 288, load64(l1));
-                                    l8 = load64(l0 + UINT64_C(520));
-                                    l2 = load64(l0 + UINT64_C(528));
-                                    copy(l3 + UINT64_C(32), l0 + UINT64_C(544), UINT64_C(256));
+                                    {
+                                        l8 = load64(l0 + UINT64_C(544));
+                                        if (l8 > UINT64_C(256)) { goto after15; }
+                                        store64(l3 + 576, load64(l4));
+                                        store64(l3 + 584, load64(l4 + 8));
+                                        store64(l3 + 592, load64(l4 + 16));
+                                        store64(l3 + 600, load64(l4 + 24));
+                                        store64(l3 + 608, load64(l4 + 32));
+                                        store64(l3 + 616, load64(l4 + 40));
+                                        store64(l3 + 624, load64(l4 + 48));
+                                        store64(l3 + 632, load64(l4 + 56));
+                                        l9 = load64(l0 + UINT64_C(528));
+                                        store64(l3 + 648, load64(l0 + UINT64_C(536)));
+                                        store64(l3 + 640, l9);
+                                        l9 = l3 + UINT64_C(656);
+                                        copy(l9, l0 + UINT64_C(552), UINT64_C(256));
+                                        store64(l3 + 928, UINT64_C(0));
+                                        store64(l3 + 920, UINT64_C(64));
+                                        store64(l3 + 912, l8);
+                                        store64(l3 + 936, UINT64_C(0));
+                                        do_minisign_hash_blake2b_Blake2b_update(sp, l3 + UINT64_C(576), l1, l2);
+                                        store64(l3 + 512, load64(l3 + 576));
+                                        store64(l3 + 520, load64(l3 + 584));
+                                        store64(l3 + 528, load64(l3 + 592));
+                                        store64(l3 + 536, load64(l3 + 600));
+                                        store64(l3 + 544, load64(l3 + 608));
+                                        store64(l3 + 552, load64(l3 + 616));
+                                        store64(l3 + 560, load64(l3 + 624));
+                                        store64(l3 + 568, load64(l3 + 632));
+                                        l2 = load64(l3 + 648);
+                                        l1 = load64(l3 + 640);
+                                        l8 = load64(l3 + 912);
+                                        copy(l3 + UINT64_C(256), l9, UINT64_C(256));
+                                        store64(l3 + 248, UINT64_C(0));
+                                        store64(l3 + 240, UINT64_C(0));
+                                        store64(l3 + 232, UINT64_C(0));
+                                        store64(l3 + 224, UINT64_C(0));
+                                        goto after9;
+                                    }
+                                    after15:;
+                                    store64(l3 + 568, load64(l4 + 56));
+                                    store64(l3 + 560, load64(l4 + 48));
+                                    store64(l3 + 552, load64(l4 + 40));
+                                    store64(l3 + 544, load64(l4 + 32));
+                                    store64(l3 + 536, load64(l4 + 24));
+                                    store64(l3 + 528, load64(l4 + 16));
+                                    store64(l3 + 520, load64(l4 + 8));
+                                    store64(l3 + 512, load64(l4));
+                                    l1 = load64(l0 + UINT64_C(528));
+                                    l2 = load64(l0 + UINT64_C(536));
+                                    copy(l3 + UINT64_C(256), l0 + UINT64_C(552), UINT64_C(256));
+                                    store64(l3 + 248, load64(l0 + UINT64_C(832)));
+                                    store64(l3 + 240, load64(l0 + UINT64_C(824)));
+                                    store64(l3 + 232, load64(l0 + UINT64_C(816)));
+                                    store64(l3 + 224, load64(l0 + UINT64_C(808)));
                                 }
                                 after9:;
-                                store64(l1 + 56, load64(l3 + 344));
-                                store64(l1 + 48, load64(l3 + 336));
-                                store64(l1 + 40, load64(l3 + 328));
-                                store64(l1 + 32, load64(l3 + 320));
-                                store64(l1 + 24, load64(l3 + 312));
-                                store64(l1 + 16, load64(l3 + 304));
-                                store64(l1 + 8, load64(l3 + 296));
-                                store64(l1, load64(l3 + 288));
-                                store64(l0 + UINT64_C(536), l4);
-                                store64(l0 + UINT64_C(528), l2);
-                                store64(l0 + UINT64_C(520), l8);
-                                copy(l0 + UINT64_C(544), l3 + UINT64_C(32), UINT64_C(256));
+                                store64(l4 + 56, load64(l3 + 568));
+                                store64(l4 + 48, load64(l3 + 560));
+                                store64(l4 + 40, load64(l3 + 552));
+                                store64(l4 + 32, load64(l3 + 544));
+                                store64(l4 + 24, load64(l3 + 536));
+                                store64(l4 + 16, load64(l3 + 528));
+                                store64(l4 + 8, load64(l3 + 520));
+                                store64(l4, load64(l3 + 512));
+                                store64(l0 + UINT64_C(544), l8);
+                                store64(l0 + UINT64_C(536), l2);
+                                store64(l0 + UINT64_C(528), l1);
+                                copy(l0 + UINT64_C(552), l3 + UINT64_C(256), UINT64_C(256));
+                                store64(l0 + UINT64_C(832), load64(l3 + 248));
+                                store64(l0 + UINT64_C(824), load64(l3 + 240));
+                                store64(l0 + UINT64_C(816), load64(l3 + 232));
+                                store64(l0 + UINT64_C(808), load64(l3 + 224));
                                 l5 = 0u;
                                 l7 = 0u;
                             }
@@ -15085,20 +16232,20 @@ static u32 do_minisign_install_piece(u64 sp, u64 table, u64 l0, u64 l1, u64 l2)
                         goto after4;
                     }
                     after5:;
-                    do_minisign_install_installation_progress_Progress_done(sp, table, l3 + UINT64_C(352), l4);
-                    store64(l3, load64(l3 + 378));
-                    store64(l3 + 8, load64(l3 + 386));
-                    store64(l3 + 16, load64(l3 + 394));
-                    store64(l3 + 22, load64(l3 + 400));
-                    l12 = load8(l3 + 377);
-                    l11 = load8(l3 + 376);
-                    l10 = load8(l3 + 368);
-                    l7 = load8(l3 + 361);
-                    l6 = load8(l3 + 360);
-                    l5 = load8(l3 + 352);
+                    do_minisign_install_installation_progress_Progress_done(sp, table, l3 + UINT64_C(576), l4);
+                    store64(l3, load64(l3 + 602));
+                    store64(l3 + 8, load64(l3 + 610));
+                    store64(l3 + 16, load64(l3 + 618));
+                    store64(l3 + 22, load64(l3 + 624));
+                    l12 = load8(l3 + 601);
+                    l11 = load8(l3 + 600);
+                    l10 = load8(l3 + 592);
+                    l7 = load8(l3 + 585);
+                    l6 = load8(l3 + 584);
+                    l5 = load8(l3 + 576);
                 }
                 after4:;
-                store64(l3 + 352, UINT64_C(0));
+                store64(l3 + 576, UINT64_C(0));
                 if ((l5 & 255u) != 0) { goto after2; }
                 l7 = 0u;
                 goto after1;
@@ -15108,7 +16255,7 @@ static u32 do_minisign_install_piece(u64 sp, u64 table, u64 l0, u64 l1, u64 l2)
             store64(l3 + 16, UINT64_C(0));
             store64(l3 + 8, UINT64_C(0));
             store64(l3, UINT64_C(0));
-            store64(l3 + 352, UINT64_C(0));
+            store64(l3 + 576, UINT64_C(0));
             l7 = 9u;
             l10 = 0u;
             l12 = 0u;
@@ -15116,50 +16263,110 @@ static u32 do_minisign_install_piece(u64 sp, u64 table, u64 l0, u64 l1, u64 l2)
             l6 = 0u;
         }
         after2:;
-        store8(l3 + 369, l12);
-        store8(l3 + 368, l11);
-        store8(l3 + 353, l7);
-        store64(l3 + 370, load64(l3));
-        store64(l3 + 378, load64(l3 + 8));
-        store64(l3 + 386, load64(l3 + 16));
-        store64(l3 + 392, load64(l3 + 22));
-        store64(l3 + 360, ((u64) l10) & UINT64_C(255));
-        store8(l3 + 352, l6);
-        const u32 t1 = do_minisign_external_state_Refusal_number_740bc7f2a85702bc(table, l3 + UINT64_C(352));
+        store8(l3 + 593, l12);
+        store8(l3 + 592, l11);
+        store8(l3 + 577, l7);
+        store64(l3 + 594, load64(l3));
+        store64(l3 + 602, load64(l3 + 8));
+        store64(l3 + 610, load64(l3 + 16));
+        store64(l3 + 616, load64(l3 + 22));
+        store64(l3 + 584, ((u64) l10) & UINT64_C(255));
+        store8(l3 + 576, l6);
+        const u32 t1 = do_minisign_external_state_Refusal_number_740bc7f2a85702bc(table, l3 + UINT64_C(576));
         l7 = t1;
         if ((l6 & 255u) != 1u) { goto after1; }
         if ((l10 & 255u) != 0) { goto after1; }
         if ((l11 & 255u) != 2u) { goto after1; }
-        if (load64(l3 + 392) == 0) { goto after1; }
-        machine_rattle_dealloc(load64(l3 + 376));
+        if (load64(l3 + 616) == 0) { goto after1; }
+        machine_rattle_dealloc(load64(l3 + 600));
     }
     after1:;
-    sp = l3 + UINT64_C(720);
+    sp = l3 + UINT64_C(944);
     return l7;
 }
 
 static u32 do_minisign_install_no_target(u64 sp, u64 table, u64 l0)
 {
-    u32 l3 = 0;
-    u64 l1 = 0, l2 = 0;
+    u32 l10 = 0, l11 = 0, l12 = 0, l13 = 0, l14 = 0, l15 = 0, l16 = 0, l17 = 0, l18 = 0, l19 = 0;
+    u64 l1 = 0, l2 = 0, l3 = 0, l4 = 0, l5 = 0, l6 = 0, l7 = 0, l8 = 0, l9 = 0, l20 = 0;
     l1 = sp - UINT64_C(48);
     sp = l1;
     {
         {
             if (load64(l0) != UINT64_C(0x6c6c6174736e696d)) { goto after2; }
-            l2 = l0 + UINT64_C(8);
-            if (load32(l2) != 6u) { goto after2; }
-            store64(l0 + UINT64_C(512), UINT64_C(0x5be0cd19137e2179));
-            store64(l0 + UINT64_C(504), UINT64_C(0x1f83d9abfb41bd6b));
-            store64(l0 + UINT64_C(496), UINT64_C(0x9b05688c2b3e6c1f));
-            store64(l0 + UINT64_C(488), UINT64_C(0x510e527fade682d1));
-            store64(l0 + UINT64_C(480), UINT64_C(0xa54ff53a5f1d36f1));
-            store64(l0 + UINT64_C(472), UINT64_C(0x3c6ef372fe94f82b));
-            store64(l0 + UINT64_C(464), UINT64_C(0xbb67ae8584caa73b));
-            store64(l0 + UINT64_C(456), UINT64_C(0x6a09e667f2bdc948));
-            l3 = 0u;
-            fill(l0 + UINT64_C(520), 0u, UINT64_C(280));
-            store32(l2, load32(l0 + UINT64_C(124)) == 1u ? 27u : 10u);
+            if (load32(l0 + UINT64_C(8)) != 8u) { goto after2; }
+            l2 = UINT64_C(0x5be0cd19137e2179);
+            l3 = UINT64_C(0x1f83d9abfb41bd6b);
+            l4 = UINT64_C(0x9b05688c2b3e6c1f);
+            l5 = UINT64_C(0x510e527fade682d1);
+            l6 = UINT64_C(0xa54ff53a5f1d36f1);
+            l7 = UINT64_C(0x3c6ef372fe94f82b);
+            l8 = UINT64_C(0xbb67ae8584caa73b);
+            l9 = UINT64_C(0x6a09e667f2bdc948);
+            l10 = 0u;
+            {
+                {
+                    if (load32(l0 + UINT64_C(140)) == 1u) { goto after4; }
+                    l11 = 0u;
+                    l12 = 0u;
+                    l13 = 0u;
+                    l14 = 0u;
+                    l15 = 0u;
+                    l16 = 0u;
+                    l17 = 0u;
+                    l18 = 0u;
+                    goto after3;
+                }
+                after4:;
+                l11 = 0u;
+                l12 = 0u;
+                l13 = 0u;
+                l14 = 0u;
+                l15 = 0u;
+                l16 = 0u;
+                l17 = 0u;
+                l18 = 0u;
+                l19 = load32(l0 + UINT64_C(976)) + 0xffffffffu;
+                if (l19 > 2u) { goto after3; }
+                l20 = (u64) l19;
+                l9 = l20 << 3;
+                l2 = load64(l9 + address(data143));
+                l3 = load64(l9 + address(data142));
+                l4 = load64(l9 + address(data141));
+                l5 = load64(l9 + address(data140));
+                l6 = load64(l9 + address(data139));
+                l7 = load64(l9 + address(data138));
+                l8 = load64(l9 + address(data137));
+                l9 = load64(l9 + address(data136));
+                l20 = l20 << 2;
+                l18 = load32(l20 + address(data135));
+                l17 = load32(l20 + address(data134));
+                l16 = load32(l20 + address(data133));
+                l15 = load32(l20 + address(data132));
+                l14 = load32(l20 + address(data131));
+                l13 = load32(l20 + address(data130));
+                l12 = load32(l20 + address(data129));
+                l11 = load32(l20 + address(data128));
+            }
+            after3:;
+            store64(l0 + UINT64_C(520), l2);
+            store64(l0 + UINT64_C(512), l3);
+            store64(l0 + UINT64_C(504), l4);
+            store64(l0 + UINT64_C(496), l5);
+            store64(l0 + UINT64_C(488), l6);
+            store64(l0 + UINT64_C(480), l7);
+            store64(l0 + UINT64_C(472), l8);
+            store64(l0 + UINT64_C(464), l9);
+            fill(l0 + UINT64_C(528), 0u, UINT64_C(280));
+            store32(l0 + UINT64_C(836), l11);
+            store32(l0 + UINT64_C(832), l12);
+            store32(l0 + UINT64_C(828), l13);
+            store32(l0 + UINT64_C(824), l14);
+            store32(l0 + UINT64_C(820), l15);
+            store32(l0 + UINT64_C(816), l16);
+            store32(l0 + UINT64_C(812), l17);
+            store32(l0 + UINT64_C(808), l18);
+            store32(l0 + UINT64_C(8), load32(l0 + UINT64_C(124)) == 1u ? 29u : 12u);
             goto after1;
         }
         after2:;
@@ -15170,11 +16377,11 @@ static u32 do_minisign_install_no_target(u64 sp, u64 table, u64 l0)
         store64(l1 + 32, UINT64_C(0));
         store64(l1 + 40, UINT64_C(0));
         const u32 t1 = do_minisign_external_state_Refusal_number_740bc7f2a85702bc(table, l1);
-        l3 = t1;
+        l10 = t1;
     }
     after1:;
     sp = l1 + UINT64_C(48);
-    return l3;
+    return l10;
 }
 
 static void do_minisign_install_comments_first_expiry(u64 sp, u64 l0, u64 l1, u64 l2, u32 l3)
@@ -15822,6 +17029,7 @@ static u32 do_minisign_install_signature(u64 sp, u64 table, u64 l0, u64 l1, u64 
                                                                     copy(l3, l2, l16);
                                                                 }
                                                                 after21:;
+                                                                l6 = UINT64_C(0);
                                                                 store64(l9 + 832, UINT64_C(0));
                                                                 store64(l9 + 840, UINT64_C(0));
                                                                 store64(l9 + 848, UINT64_C(0));
@@ -15835,18 +17043,23 @@ static u32 do_minisign_install_signature(u64 sp, u64 table, u64 l0, u64 l1, u64 
                                                                 store64(l9 + 784, UINT64_C(0));
                                                                 store64(l9 + 792, UINT64_C(0));
                                                                 store64(l9 + 800, UINT64_C(0));
-                                                                l12 = 0u;
+                                                                l22 = 0u;
                                                                 store8(l9 + 808, 0u);
+                                                                l31 = 0u;
                                                                 l32 = UINT64_C(0);
                                                                 {
-                                                                    if (load32(l0 + UINT64_C(248)) != 1u) { goto after26; }
-                                                                    l32 = load64(l0 + UINT64_C(144));
-                                                                    l12 = 1u;
+                                                                    if (load32(l0 + UINT64_C(256)) != 1u) { goto after26; }
+                                                                    l32 = load64(l0 + UINT64_C(152));
+                                                                    l31 = 1u;
                                                                 }
                                                                 after26:;
-                                                                do_minisign_install_installation_judging_size_in(sp, l9 + UINT64_C(80), l2, l16);
-                                                                l6 = load64(l9 + 88);
-                                                                l31 = load8(l9 + 80);
+                                                                {
+                                                                    if (load32(l0 + UINT64_C(140)) == 1u) { goto after27; }
+                                                                    do_minisign_install_installation_judging_size_in(sp, l9 + UINT64_C(80), l2, l16);
+                                                                    l22 = (u32) (load8(l9 + 80) == 1u);
+                                                                    l6 = load64(l9 + 88);
+                                                                }
+                                                                after27:;
                                                                 do_minisign_install_installation_judging_version_in(sp, l9 + UINT64_C(64), l2, l16, (u32) (load32(l0 + UINT64_C(112)) == 1u));
                                                                 store64(l9 + 528, load64(l9 + 440));
                                                                 store64(l9 + 536, load64(l9 + 448));
@@ -15857,7 +17070,7 @@ static u32 do_minisign_install_signature(u64 sp, u64 table, u64 l0, u64 l1, u64 
                                                                 store64(l9 + 576, load64(l9 + 488));
                                                                 store64(l9 + 584, load64(l9 + 496));
                                                                 l11 = load64(l9 + 72);
-                                                                l22 = load8(l9 + 64);
+                                                                l12 = load8(l9 + 64);
                                                                 store64(l9 + 934, load64(l9 + 310));
                                                                 store64(l9 + 928, load64(l9 + 304));
                                                                 store64(l9 + 896, load64(l9 + 272));
@@ -15880,26 +17093,26 @@ static u32 do_minisign_install_signature(u64 sp, u64 table, u64 l0, u64 l1, u64 
                                                                 l3 = l16;
                                                                 l10 = l2;
                                                                 {
-                                                                    again28:;
+                                                                    again29:;
                                                                     {
                                                                         do_core_iter_words_find_ascii(sp, l9 + UINT64_C(48), l10, l3, 9u);
                                                                         l1 = load64(l9 + 56);
                                                                         {
                                                                             l4 = load64(l9 + 48);
                                                                             l7 = l4 < l3 ? l4 : l3;
-                                                                            if (l7 < UINT64_C(5)) { goto after29; }
-                                                                            if (((((u64) load32(l10 + 1)) << 32) | ((u64) load32(l10))) == UINT64_C(0x3a656c69656c6966)) { goto after27; }
+                                                                            if (l7 < UINT64_C(5)) { goto after30; }
+                                                                            if (((((u64) load32(l10 + 1)) << 32) | ((u64) load32(l10))) == UINT64_C(0x3a656c69656c6966)) { goto after28; }
                                                                         }
-                                                                        after29:;
+                                                                        after30:;
                                                                         l15 = (u32) (l4 >= l3);
                                                                         if (l15 != 0) { goto after8; }
                                                                         l10 = l15 != 0 ? address(data53) : (l10 + l1);
                                                                         l3 = l3 - l1;
-                                                                        if (!(l3 == 0)) { goto again28; }
+                                                                        if (!(l3 == 0)) { goto again29; }
                                                                         goto after8;
                                                                     }
                                                                 }
-                                                                after27:;
+                                                                after28:;
                                                                 const u32 t1 = do_core_cmp_bytes_equal(l10 + UINT64_C(5), l7 + UINT64_C(0xfffffffffffffffb), l14, l13);
                                                                 l33 = t1;
                                                                 l15 = l33 != 0 ? 5u : 4u;
@@ -15908,39 +17121,39 @@ static u32 do_minisign_install_signature(u64 sp, u64 table, u64 l0, u64 l1, u64 
                                                                 l35 = 0u;
                                                                 {
                                                                     {
-                                                                        if (l33 != 0) { goto after31; }
+                                                                        if (l33 != 0) { goto after32; }
                                                                         l10 = UINT64_C(0);
-                                                                        goto after30;
+                                                                        goto after31;
                                                                     }
-                                                                    after31:;
+                                                                    after32:;
                                                                     l10 = UINT64_C(0);
-                                                                    if ((l22 & 255u) != 1u) { goto after30; }
+                                                                    if ((l12 & 255u) != 1u) { goto after31; }
                                                                     do_minisign_install_installation_judging_expiry_fault(sp, l9 + UINT64_C(976), l2, l16, (u32) (load32(l0 + UINT64_C(128)) == 1u), l17, l5);
                                                                     {
                                                                         {
-                                                                            if (load8(l9 + 976) == 1u) { goto after33; }
+                                                                            if (load8(l9 + 976) == 1u) { goto after34; }
                                                                             l3 = l16;
                                                                             l10 = l2;
                                                                             {
-                                                                                again35:;
+                                                                                again36:;
                                                                                 {
                                                                                     do_core_iter_words_find_ascii(sp, l9 + UINT64_C(32), l10, l3, 9u);
                                                                                     l1 = load64(l9 + 40);
                                                                                     {
                                                                                         l4 = load64(l9 + 32);
-                                                                                        if ((l4 < l3 ? l4 : l3) < UINT64_C(5)) { goto after36; }
-                                                                                        if (((((u64) load32(l10 + 1)) << 32) | ((u64) load32(l10))) == UINT64_C(0x3a657a69657a6973)) { goto after34; }
+                                                                                        if ((l4 < l3 ? l4 : l3) < UINT64_C(5)) { goto after37; }
+                                                                                        if (((((u64) load32(l10 + 1)) << 32) | ((u64) load32(l10))) == UINT64_C(0x3a657a69657a6973)) { goto after35; }
                                                                                     }
-                                                                                    after36:;
+                                                                                    after37:;
                                                                                     l15 = (u32) (l4 >= l3);
                                                                                     if (l15 != 0) { goto after10; }
                                                                                     l10 = l15 != 0 ? address(data53) : (l10 + l1);
                                                                                     l3 = l3 - l1;
-                                                                                    if (!(l3 == 0)) { goto again35; }
+                                                                                    if (!(l3 == 0)) { goto again36; }
                                                                                     goto after10;
                                                                                 }
                                                                             }
-                                                                            after34:;
+                                                                            after35:;
                                                                             do_minisign_install_installation_judging_size_in(sp, l9 + UINT64_C(16), l2, l16);
                                                                             if (load8(l9 + 16) == 1u) { goto after10; }
                                                                             l3 = UINT64_C(0);
@@ -15951,19 +17164,19 @@ static u32 do_minisign_install_signature(u64 sp, u64 table, u64 l0, u64 l1, u64 
                                                                             l35 = 0u;
                                                                             l15 = 14u;
                                                                             l4 = l9 + UINT64_C(944);
-                                                                            goto after32;
+                                                                            goto after33;
                                                                         }
-                                                                        after33:;
+                                                                        after34:;
                                                                         l4 = l9 + UINT64_C(994);
                                                                         l3 = (u64) load8(l9 + 993);
                                                                         l35 = load8(l9 + 992);
                                                                         l15 = load8(l9 + 984);
                                                                     }
-                                                                    after32:;
+                                                                    after33:;
                                                                     l10 = load64(l4 + 6);
                                                                     l34 = (u32) (load64(l4 + 22) == 0);
                                                                 }
-                                                                after30:;
+                                                                after31:;
                                                                 l4 = table + 4144;
                                                                 {
                                                                     {
@@ -15979,86 +17192,116 @@ static u32 do_minisign_install_signature(u64 sp, u64 table, u64 l0, u64 l1, u64 
                                                                                                             {
                                                                                                                 {
                                                                                                                     {
-                                                                                                                        switch ((u32) (((u64) l15) & UINT64_C(255))) {
-                                                                                                                        case 1: goto after38;
-                                                                                                                        case 2: goto after50;
-                                                                                                                        case 3: goto after49;
-                                                                                                                        case 4: goto after8;
-                                                                                                                        case 5: goto after48;
-                                                                                                                        case 6: goto after9;
-                                                                                                                        case 7: goto after47;
-                                                                                                                        case 8: goto after46;
-                                                                                                                        case 9: goto after45;
-                                                                                                                        case 10: goto after44;
-                                                                                                                        case 11: goto after43;
-                                                                                                                        case 12: goto after42;
-                                                                                                                        case 13: goto after41;
-                                                                                                                        case 14: goto after40;
-                                                                                                                        case 15: goto after39;
-                                                                                                                        default: goto after37;
+                                                                                                                        {
+                                                                                                                            {
+                                                                                                                                {
+                                                                                                                                    {
+                                                                                                                                        {
+                                                                                                                                            switch ((u32) (((u64) l15) & UINT64_C(255))) {
+                                                                                                                                            case 1: goto after39;
+                                                                                                                                            case 2: goto after56;
+                                                                                                                                            case 3: goto after55;
+                                                                                                                                            case 4: goto after8;
+                                                                                                                                            case 5: goto after54;
+                                                                                                                                            case 6: goto after9;
+                                                                                                                                            case 7: goto after53;
+                                                                                                                                            case 8: goto after52;
+                                                                                                                                            case 9: goto after51;
+                                                                                                                                            case 10: goto after50;
+                                                                                                                                            case 11: goto after49;
+                                                                                                                                            case 12: goto after48;
+                                                                                                                                            case 13: goto after47;
+                                                                                                                                            case 14: goto after46;
+                                                                                                                                            case 15: goto after45;
+                                                                                                                                            case 16: goto after44;
+                                                                                                                                            case 17: goto after43;
+                                                                                                                                            case 18: goto after42;
+                                                                                                                                            case 19: goto after41;
+                                                                                                                                            case 20: goto after40;
+                                                                                                                                            default: goto after38;
+                                                                                                                                            }
+                                                                                                                                        }
+                                                                                                                                        after56:;
+                                                                                                                                        l15 = load32(table + 4224);
+                                                                                                                                        goto after7;
+                                                                                                                                    }
+                                                                                                                                    after55:;
+                                                                                                                                    l15 = load32(table + 4288);
+                                                                                                                                    goto after7;
+                                                                                                                                }
+                                                                                                                                after54:;
+                                                                                                                                l15 = load32(table + 4432);
+                                                                                                                                goto after7;
+                                                                                                                            }
+                                                                                                                            after53:;
+                                                                                                                            l15 = load32(table + 4592);
+                                                                                                                            goto after7;
                                                                                                                         }
+                                                                                                                        after52:;
+                                                                                                                        l15 = load32(table + 4688);
+                                                                                                                        goto after7;
                                                                                                                     }
-                                                                                                                    after50:;
-                                                                                                                    l12 = load32(table + 4224);
+                                                                                                                    after51:;
+                                                                                                                    l15 = load32(table + 4768);
                                                                                                                     goto after7;
                                                                                                                 }
-                                                                                                                after49:;
-                                                                                                                l12 = load32(table + 4288);
+                                                                                                                after50:;
+                                                                                                                l15 = load32(table + 4848);
                                                                                                                 goto after7;
                                                                                                             }
-                                                                                                            after48:;
-                                                                                                            l12 = load32(table + 4432);
+                                                                                                            after49:;
+                                                                                                            l15 = load32(table + 4896);
                                                                                                             goto after7;
                                                                                                         }
-                                                                                                        after47:;
-                                                                                                        l12 = load32(table + 4592);
+                                                                                                        after48:;
+                                                                                                        l15 = load32(table + 4992);
                                                                                                         goto after7;
                                                                                                     }
-                                                                                                    after46:;
-                                                                                                    l12 = load32(table + 4688);
+                                                                                                    after47:;
+                                                                                                    l15 = load32(table + 5088);
                                                                                                     goto after7;
                                                                                                 }
-                                                                                                after45:;
-                                                                                                l12 = load32(table + 4768);
+                                                                                                after46:;
+                                                                                                l15 = load32(table + 5168);
                                                                                                 goto after7;
                                                                                             }
-                                                                                            after44:;
-                                                                                            l12 = load32(table + 4848);
+                                                                                            after45:;
+                                                                                            l15 = load32(table + 5264);
                                                                                             goto after7;
                                                                                         }
-                                                                                        after43:;
-                                                                                        l12 = load32(table + 4896);
+                                                                                        after44:;
+                                                                                        l15 = load32(table + 5360);
                                                                                         goto after7;
                                                                                     }
-                                                                                    after42:;
-                                                                                    l12 = load32(table + 4992);
+                                                                                    after43:;
+                                                                                    l15 = load32(table + 5456);
                                                                                     goto after7;
                                                                                 }
-                                                                                after41:;
-                                                                                l12 = load32(table + 5088);
+                                                                                after42:;
+                                                                                l15 = load32(table + 5520);
                                                                                 goto after7;
                                                                             }
-                                                                            after40:;
-                                                                            l12 = load32(table + 5168);
+                                                                            after41:;
+                                                                            l15 = load32(table + 5584);
                                                                             goto after7;
                                                                         }
-                                                                        after39:;
-                                                                        l4 = table + 5264;
+                                                                        after40:;
+                                                                        l4 = table + 5648;
                                                                     }
-                                                                    after38:;
-                                                                    l12 = load32(l4);
+                                                                    after39:;
+                                                                    l15 = load32(l4);
                                                                     goto after7;
                                                                 }
-                                                                after37:;
-                                                                l12 = 255u;
+                                                                after38:;
+                                                                l15 = 255u;
                                                                 {
-                                                                    l15 = l35 & 255u;
-                                                                    if (l15 != 0) { goto after51; }
-                                                                    l12 = load32(load64((l3 << 3) + (table + 176)));
+                                                                    l31 = l35 & 255u;
+                                                                    if (l31 != 0) { goto after57; }
+                                                                    l15 = load32(load64((l3 << 3) + (table + 176)));
                                                                     goto after7;
                                                                 }
-                                                                after51:;
-                                                                if (((((u32) (l15 != 2u)) | l34) & 1u) != 0) { goto after7; }
+                                                                after57:;
+                                                                if (((((u32) (l31 != 2u)) | l34) & 1u) != 0) { goto after7; }
                                                                 machine_rattle_dealloc(l10);
                                                                 goto after7;
                                                             }
@@ -16092,7 +17335,7 @@ static u32 do_minisign_install_signature(u64 sp, u64 table, u64 l0, u64 l1, u64 
                                                         l22 = 0u;
                                                         {
                                                             l31 = load8(l9 + 528);
-                                                            if (l31 == 0) { goto after52; }
+                                                            if (l31 == 0) { goto after58; }
                                                             store64(l9 + 976, load64(l9 + 554));
                                                             store64(l9 + 984, load64(l9 + 562));
                                                             store64(l9 + 992, load64(l9 + 570));
@@ -16102,7 +17345,7 @@ static u32 do_minisign_install_signature(u64 sp, u64 table, u64 l0, u64 l1, u64 
                                                             l15 = load8(l9 + 552);
                                                             l12 = load8(l9 + 544);
                                                         }
-                                                        after52:;
+                                                        after58:;
                                                         store64(l9 + 742, load64(l9 + 998));
                                                         store64(l9 + 736, load64(l9 + 992));
                                                         store64(l9 + 728, load64(l9 + 984));
@@ -16133,13 +17376,13 @@ static u32 do_minisign_install_signature(u64 sp, u64 table, u64 l0, u64 l1, u64 
                                                     {
                                                         {
                                                             l31 = load8(l9 + 528);
-                                                            if (l31 != 0) { goto after54; }
+                                                            if (l31 != 0) { goto after60; }
                                                             l12 = 0u;
                                                             l15 = 0u;
                                                             l22 = 0u;
-                                                            goto after53;
+                                                            goto after59;
                                                         }
-                                                        after54:;
+                                                        after60:;
                                                         store64(l9 + 976, load64(l9 + 554));
                                                         store64(l9 + 984, load64(l9 + 562));
                                                         store64(l9 + 992, load64(l9 + 570));
@@ -16149,7 +17392,7 @@ static u32 do_minisign_install_signature(u64 sp, u64 table, u64 l0, u64 l1, u64 
                                                         l15 = load8(l9 + 552);
                                                         l12 = load8(l9 + 544);
                                                     }
-                                                    after53:;
+                                                    after59:;
                                                     store64(l9 + 262, load64(l9 + 998));
                                                     store64(l9 + 256, load64(l9 + 992));
                                                     store64(l9 + 248, load64(l9 + 984));
@@ -16181,7 +17424,7 @@ static u32 do_minisign_install_signature(u64 sp, u64 table, u64 l0, u64 l1, u64 
                                                 l22 = 0u;
                                                 {
                                                     l31 = load8(l9 + 528);
-                                                    if (l31 == 0) { goto after55; }
+                                                    if (l31 == 0) { goto after61; }
                                                     store64(l9 + 320, load64(l9 + 554));
                                                     store64(l9 + 328, load64(l9 + 562));
                                                     store64(l9 + 336, load64(l9 + 570));
@@ -16191,7 +17434,7 @@ static u32 do_minisign_install_signature(u64 sp, u64 table, u64 l0, u64 l1, u64 
                                                     l15 = load8(l9 + 552);
                                                     l12 = load8(l9 + 544);
                                                 }
-                                                after55:;
+                                                after61:;
                                                 store64(l9 + 430, load64(l9 + 342));
                                                 store64(l9 + 424, load64(l9 + 336));
                                                 store64(l9 + 416, load64(l9 + 328));
@@ -16212,23 +17455,23 @@ static u32 do_minisign_install_signature(u64 sp, u64 table, u64 l0, u64 l1, u64 
                                         do_minisign_install_installation_judging_version_in(sp, l9, l2, l16, (u32) (load32(l0 + UINT64_C(112)) == 1u));
                                         {
                                             {
-                                                if ((load8(l9) & l12) == 0) { goto after57; }
-                                                if (load64(l9 + 8) < l32) { goto after56; }
+                                                if ((load8(l9) & l31) == 0) { goto after63; }
+                                                if (load64(l9 + 8) < l32) { goto after62; }
                                             }
-                                            after57:;
-                                            l12 = 0u;
+                                            after63:;
+                                            l15 = 0u;
                                             goto after7;
                                         }
-                                        after56:;
-                                        l12 = 0u;
+                                        after62:;
+                                        l15 = 0u;
                                         if (load32(l0 + UINT64_C(136)) == 1u) { goto after7; }
                                     }
                                     after9:;
-                                    l12 = load32(table + 4512);
+                                    l15 = load32(table + 4512);
                                     goto after7;
                                 }
                                 after8:;
-                                l12 = load32(table + 4352);
+                                l15 = load32(table + 4352);
                             }
                             after7:;
                             l3 = l16 + UINT64_C(64);
@@ -16246,35 +17489,34 @@ static u32 do_minisign_install_signature(u64 sp, u64 table, u64 l0, u64 l1, u64 
                             store64(l9 + 800, load64(l9 + 912));
                             store64(l9 + 792, load64(l9 + 904));
                             store64(l9 + 784, load64(l9 + 896));
-                            l15 = (u32) ((l31 & 255u) == 1u);
-                            l10 = l15 != 0 ? l6 : UINT64_C(0);
-                            store64(l0 + UINT64_C(272), l10);
-                            store64(l0 + UINT64_C(264), (l22 & 255u) == 1u ? l11 : UINT64_C(0));
-                            store64(l0 + UINT64_C(280), load64(l9 + 832));
-                            store64(l0 + UINT64_C(288), load64(l9 + 840));
-                            store64(l0 + UINT64_C(296), load64(l9 + 848));
-                            store64(l0 + UINT64_C(304), load64(l9 + 856));
-                            store64(l0 + UINT64_C(312), load64(l9 + 864));
-                            store64(l0 + UINT64_C(320), load64(l9 + 872));
-                            store64(l0 + UINT64_C(328), load64(l9 + 880));
-                            store64(l0 + UINT64_C(336), load64(l9 + 888));
-                            store64(l0 + UINT64_C(361), l18);
-                            store64(l0 + UINT64_C(353), l19);
-                            store8(l0 + UINT64_C(352), l20);
-                            store64(l0 + UINT64_C(344), l21);
-                            store32(l0 + UINT64_C(408), 1u);
-                            store32(l0 + UINT64_C(412), l15);
-                            store32(l0 + UINT64_C(416), l12);
+                            l10 = l22 != 0 ? l6 : UINT64_C(0);
+                            store64(l0 + UINT64_C(280), l10);
+                            store64(l0 + UINT64_C(272), (l12 & 255u) == 1u ? l11 : UINT64_C(0));
+                            store64(l0 + UINT64_C(288), load64(l9 + 832));
+                            store64(l0 + UINT64_C(296), load64(l9 + 840));
+                            store64(l0 + UINT64_C(304), load64(l9 + 848));
+                            store64(l0 + UINT64_C(312), load64(l9 + 856));
+                            store64(l0 + UINT64_C(320), load64(l9 + 864));
+                            store64(l0 + UINT64_C(328), load64(l9 + 872));
+                            store64(l0 + UINT64_C(336), load64(l9 + 880));
+                            store64(l0 + UINT64_C(344), load64(l9 + 888));
+                            store64(l0 + UINT64_C(369), l18);
+                            store64(l0 + UINT64_C(361), l19);
+                            store8(l0 + UINT64_C(360), l20);
+                            store64(l0 + UINT64_C(352), l21);
+                            store32(l0 + UINT64_C(416), 1u);
+                            store32(l0 + UINT64_C(420), l22);
+                            store32(l0 + UINT64_C(424), l15);
                             l31 = 0u;
-                            store32(l0 + UINT64_C(420), 0u);
-                            store64(l0 + UINT64_C(440), l10);
-                            store32(l0 + UINT64_C(448), l15);
-                            store64(l0 + UINT64_C(375), load64(l9 + 822));
-                            store64(l0 + UINT64_C(369), load64(l9 + 816));
-                            store64(l0 + UINT64_C(383), load64(l9 + 784));
-                            store64(l0 + UINT64_C(391), load64(l9 + 792));
-                            store64(l0 + UINT64_C(399), load64(l9 + 800));
-                            store8(l0 + UINT64_C(407), load8(l9 + 808));
+                            store32(l0 + UINT64_C(428), 0u);
+                            store64(l0 + UINT64_C(448), l10);
+                            store32(l0 + UINT64_C(456), l22);
+                            store64(l0 + UINT64_C(383), load64(l9 + 822));
+                            store64(l0 + UINT64_C(377), load64(l9 + 816));
+                            store64(l0 + UINT64_C(391), load64(l9 + 784));
+                            store64(l0 + UINT64_C(399), load64(l9 + 792));
+                            store64(l0 + UINT64_C(407), load64(l9 + 800));
+                            store8(l0 + UINT64_C(415), load8(l9 + 808));
                             l15 = l30 & 255u;
                             l22 = l29 & 255u;
                             l12 = l28 & 255u;
@@ -16282,8 +17524,8 @@ static u32 do_minisign_install_signature(u64 sp, u64 table, u64 l0, u64 l1, u64 
                             l29 = l26 & 255u;
                             l28 = l25 & 255u;
                             l27 = l24 & 255u;
-                            store32(l0 + UINT64_C(424), (((((u32) (load8(l0 + UINT64_C(56)) == l15)) & ((u32) (load8(l0 + UINT64_C(57)) == l22))) & ((u32) (load8(l0 + UINT64_C(58)) == l12))) & ((u32) (load8(l0 + UINT64_C(59)) == l17))) & (((((u32) (load8(l0 + UINT64_C(60)) == l29)) & ((u32) (load8(l0 + UINT64_C(61)) == l28))) & ((u32) (load8(l0 + UINT64_C(62)) == l27))) & ((u32) (load8(l0 + UINT64_C(63)) == l23))));
-                            store32(l0 + UINT64_C(428), (((((u32) (load8(l0 + UINT64_C(104)) == l15)) & ((u32) (load8(l0 + UINT64_C(105)) == l22))) & ((u32) (load8(l0 + UINT64_C(106)) == l12))) & ((u32) (load8(l0 + UINT64_C(107)) == l17))) & (((((u32) (load8(l0 + UINT64_C(108)) == l29)) & ((u32) (load8(l0 + UINT64_C(109)) == l28))) & ((u32) (load8(l0 + UINT64_C(110)) == l27))) & ((u32) (load8(l0 + UINT64_C(111)) == l23))));
+                            store32(l0 + UINT64_C(432), (((((u32) (load8(l0 + UINT64_C(56)) == l15)) & ((u32) (load8(l0 + UINT64_C(57)) == l22))) & ((u32) (load8(l0 + UINT64_C(58)) == l12))) & ((u32) (load8(l0 + UINT64_C(59)) == l17))) & (((((u32) (load8(l0 + UINT64_C(60)) == l29)) & ((u32) (load8(l0 + UINT64_C(61)) == l28))) & ((u32) (load8(l0 + UINT64_C(62)) == l27))) & ((u32) (load8(l0 + UINT64_C(63)) == l23))));
+                            store32(l0 + UINT64_C(436), (((((u32) (load8(l0 + UINT64_C(104)) == l15)) & ((u32) (load8(l0 + UINT64_C(105)) == l22))) & ((u32) (load8(l0 + UINT64_C(106)) == l12))) & ((u32) (load8(l0 + UINT64_C(107)) == l17))) & (((((u32) (load8(l0 + UINT64_C(108)) == l29)) & ((u32) (load8(l0 + UINT64_C(109)) == l28))) & ((u32) (load8(l0 + UINT64_C(110)) == l27))) & ((u32) (load8(l0 + UINT64_C(111)) == l23))));
                             store32(l0 + UINT64_C(8), 4u);
                         }
                         after6:;
@@ -16319,11 +17561,11 @@ static u32 do_minisign_install_signature(u64 sp, u64 table, u64 l0, u64 l1, u64 
             store64(l9 + 104, load64(l9 + 184));
             store64(l9 + 96, load64(l9 + 176));
             {
-                if (l31 == 0) { goto after58; }
+                if (l31 == 0) { goto after64; }
                 l10 = ((u64) l12) & UINT64_C(255);
                 goto after2;
             }
-            after58:;
+            after64:;
             store64(l8, l3);
             l22 = 0u;
             goto after1;
@@ -16350,1171 +17592,6 @@ static u32 do_minisign_install_signature(u64 sp, u64 table, u64 l0, u64 l1, u64 
     after1:;
     sp = l9 + UINT64_C(1024);
     return l22;
-}
-
-static void do_minisign_install_installation_progress_Progress_digest(u64 sp, u64 l0, u64 l1)
-{
-    u64 l2 = 0, l3 = 0, l4 = 0, l5 = 0, l6 = 0, l7 = 0, l8 = 0, l9 = 0, l10 = 0, l11 = 0, l12 = 0, l13 = 0, l14 = 0;
-    l2 = sp - UINT64_C(688);
-    sp = l2;
-    l3 = UINT64_C(0);
-    l4 = UINT64_C(0);
-    l5 = UINT64_C(0);
-    l6 = UINT64_C(0);
-    l7 = UINT64_C(0);
-    l8 = UINT64_C(0);
-    l9 = UINT64_C(0);
-    l10 = UINT64_C(0);
-    {
-        l11 = load64(l1 + UINT64_C(528));
-        if (l11 > UINT64_C(256)) { goto after1; }
-        l6 = l1 + UINT64_C(448);
-        store64(l2, load64(l6));
-        l7 = l1 + UINT64_C(456);
-        store64(l2 + 8, load64(l7));
-        l8 = l1 + UINT64_C(464);
-        store64(l2 + 16, load64(l8));
-        l9 = l1 + UINT64_C(472);
-        store64(l2 + 24, load64(l9));
-        l10 = l1 + UINT64_C(480);
-        store64(l2 + 32, load64(l10));
-        l12 = l1 + UINT64_C(488);
-        store64(l2 + 40, load64(l12));
-        l13 = l1 + UINT64_C(496);
-        store64(l2 + 48, load64(l13));
-        l14 = l1 + UINT64_C(504);
-        store64(l2 + 56, load64(l14));
-        l3 = load64(l1 + UINT64_C(512));
-        l4 = load64(l1 + UINT64_C(520));
-        store64(l2 + 72, l4);
-        store64(l2 + 64, l3);
-        l5 = l2 + UINT64_C(80);
-        copy(l5, l1 + UINT64_C(536), UINT64_C(256));
-        store64(l2 + 352, UINT64_C(0));
-        store64(l2 + 344, UINT64_C(64));
-        store64(l2 + 360, UINT64_C(0));
-        store64(l2 + 336, l11);
-        store64(l2 + 496, UINT64_C(0));
-        store64(l2 + 504, UINT64_C(0));
-        store64(l2 + 512, UINT64_C(0));
-        store64(l2 + 520, UINT64_C(0));
-        store64(l2 + 528, UINT64_C(0));
-        store64(l2 + 536, UINT64_C(0));
-        store64(l2 + 544, UINT64_C(0));
-        store64(l2 + 552, UINT64_C(0));
-        store64(l2 + 432, UINT64_C(0));
-        store64(l2 + 440, UINT64_C(0));
-        store64(l2 + 448, UINT64_C(0));
-        store64(l2 + 456, UINT64_C(0));
-        store64(l2 + 464, UINT64_C(0));
-        store64(l2 + 472, UINT64_C(0));
-        store64(l2 + 480, UINT64_C(0));
-        store64(l2 + 488, UINT64_C(0));
-        store64(l2 + 368, load64(l6));
-        store64(l2 + 376, load64(l7));
-        store64(l2 + 384, load64(l8));
-        store64(l2 + 392, load64(l9));
-        store64(l2 + 400, load64(l10));
-        store64(l2 + 408, load64(l12));
-        store64(l2 + 416, load64(l13));
-        store64(l2 + 424, load64(l14));
-        l1 = (l11 - ((u64) ((u32) (l11 != UINT64_C(0))))) & UINT64_C(384);
-        do_minisign_hash_blake2b_after_blocks(l2 + UINT64_C(432), l2 + UINT64_C(368), l3, l4, l5, l1, UINT64_C(128), UINT64_C(0), 0u);
-        fill(l2 + UINT64_C(560), 0u, UINT64_C(128));
-        {
-            l11 = l11 - l1;
-            if (l11 == 0) { goto after2; }
-            copy(l2 + UINT64_C(560), l5 + l1, l11);
-        }
-        after2:;
-        l1 = l3 + l1;
-        do_minisign_hash_blake2b_after_blocks(l2 + UINT64_C(496), l2 + UINT64_C(432), l1, l4 + ((u64) ((u32) (l1 < l3))), l2 + UINT64_C(560), UINT64_C(128), l11, UINT64_C(0), 1u);
-        l10 = load64(l2 + 552);
-        l9 = load64(l2 + 544);
-        l8 = load64(l2 + 536);
-        l7 = load64(l2 + 528);
-        l6 = load64(l2 + 520);
-        l5 = load64(l2 + 512);
-        l4 = load64(l2 + 504);
-        l3 = load64(l2 + 496);
-    }
-    after1:;
-    store64(l0 + 56, l10);
-    store64(l0 + 48, l9);
-    store64(l0 + 40, l8);
-    store64(l0 + 32, l7);
-    store64(l0 + 24, l6);
-    store64(l0 + 16, l5);
-    store64(l0 + 8, l4);
-    store64(l0, l3);
-    sp = l2 + UINT64_C(688);
-}
-
-static u32 do_minisign_install_question(u64 sp, u64 l0, u64 l1, u64 l2, u64 l3)
-{
-    u32 l6 = 0;
-    u64 l4 = 0, l5 = 0;
-    l4 = sp - UINT64_C(992);
-    sp = l4;
-    {
-        {
-            if (load64(l0) != UINT64_C(0x6c6c6174736e696d)) { goto after2; }
-            if (load32(l0 + UINT64_C(408)) != 1u) { goto after2; }
-            store64(l4 + 536, UINT64_C(0));
-            store64(l4 + 528, UINT64_C(0));
-            store64(l4 + 520, UINT64_C(0));
-            store64(l4 + 512, UINT64_C(0));
-            {
-                {
-                    if (load32(l0 + UINT64_C(424)) != 1u) { goto after4; }
-                    l5 = l0 + UINT64_C(24);
-                    goto after3;
-                }
-                after4:;
-                if (load32(l0 + UINT64_C(428)) != 1u) { goto after2; }
-                store64(l4 + 536, load64(l0 + UINT64_C(96)));
-                store64(l4 + 528, load64(l0 + UINT64_C(88)));
-                store64(l4 + 520, load64(l0 + UINT64_C(80)));
-                store64(l4 + 512, load64(l0 + UINT64_C(72)));
-                l5 = l4 + UINT64_C(512);
-            }
-            after3:;
-            store64(l4 + 184, load64(l5 + 24));
-            store64(l4 + 176, load64(l5 + 16));
-            store64(l4 + 168, load64(l5 + 8));
-            store64(l4 + 160, load64(l5));
-            {
-                {
-                    {
-                        {
-                            {
-                                {
-                                    {
-                                        l5 = l0 + UINT64_C(8);
-                                        l6 = load32(l5);
-                                        switch ((u32) (((u64) (l6 > 28u ? 0u : l6)) & UINT64_C(255))) {
-                                        case 4: goto after8;
-                                        case 5: goto after11;
-                                        case 7: goto after10;
-                                        case 14: goto after9;
-                                        default: goto after2;
-                                        }
-                                    }
-                                    after11:;
-                                    fill(l4 + UINT64_C(352), 0u, UINT64_C(160));
-                                    if (load32(l0 + UINT64_C(256)) != 1u) { goto after5; }
-                                    store64(l4 + 536, load64(l4 + 184));
-                                    store64(l4 + 528, load64(l4 + 176));
-                                    store64(l4 + 520, load64(l4 + 168));
-                                    store64(l4 + 512, load64(l4 + 160));
-                                    store64(l4 + 608, load64(l0 + UINT64_C(184)));
-                                    store64(l4 + 616, load64(l0 + UINT64_C(192)));
-                                    store64(l4 + 624, load64(l0 + UINT64_C(200)));
-                                    store64(l4 + 632, load64(l0 + UINT64_C(208)));
-                                    store64(l4 + 640, load64(l0 + UINT64_C(216)));
-                                    store64(l4 + 648, load64(l0 + UINT64_C(224)));
-                                    store64(l4 + 656, load64(l0 + UINT64_C(232)));
-                                    store64(l4 + 664, load64(l0 + UINT64_C(240)));
-                                    store64(l4 + 600, load64(l0 + UINT64_C(336)));
-                                    store64(l4 + 592, load64(l0 + UINT64_C(328)));
-                                    store64(l4 + 584, load64(l0 + UINT64_C(320)));
-                                    store64(l4 + 576, load64(l0 + UINT64_C(312)));
-                                    store64(l4 + 568, load64(l0 + UINT64_C(304)));
-                                    store64(l4 + 560, load64(l0 + UINT64_C(296)));
-                                    store64(l4 + 552, load64(l0 + UINT64_C(288)));
-                                    store64(l4 + 544, load64(l0 + UINT64_C(280)));
-                                    copy(l4 + UINT64_C(352), l4 + UINT64_C(512), UINT64_C(160));
-                                    l0 = l4 + UINT64_C(352);
-                                    goto after6;
-                                }
-                                after10:;
-                                store64(l4 + 696, load64(l4 + 184));
-                                store64(l4 + 688, load64(l4 + 176));
-                                store64(l4 + 680, load64(l4 + 168));
-                                store64(l4 + 672, load64(l4 + 160));
-                                do_minisign_install_installation_progress_Progress_digest(sp, l4 + UINT64_C(768), l5);
-                                store64(l4 + 760, load64(l0 + UINT64_C(336)));
-                                store64(l4 + 752, load64(l0 + UINT64_C(328)));
-                                store64(l4 + 744, load64(l0 + UINT64_C(320)));
-                                store64(l4 + 736, load64(l0 + UINT64_C(312)));
-                                store64(l4 + 728, load64(l0 + UINT64_C(304)));
-                                store64(l4 + 720, load64(l0 + UINT64_C(296)));
-                                store64(l4 + 712, load64(l0 + UINT64_C(288)));
-                                store64(l4 + 704, load64(l0 + UINT64_C(280)));
-                                l0 = l4 + UINT64_C(672);
-                                goto after7;
-                            }
-                            after9:;
-                            store64(l4 + 856, load64(l4 + 184));
-                            store64(l4 + 848, load64(l4 + 176));
-                            store64(l4 + 840, load64(l4 + 168));
-                            store64(l4 + 832, load64(l4 + 160));
-                            do_minisign_install_installation_progress_Progress_digest(sp, l4 + UINT64_C(928), l5);
-                            store64(l4 + 920, load64(l0 + UINT64_C(336)));
-                            store64(l4 + 912, load64(l0 + UINT64_C(328)));
-                            store64(l4 + 904, load64(l0 + UINT64_C(320)));
-                            store64(l4 + 896, load64(l0 + UINT64_C(312)));
-                            store64(l4 + 888, load64(l0 + UINT64_C(304)));
-                            store64(l4 + 880, load64(l0 + UINT64_C(296)));
-                            store64(l4 + 872, load64(l0 + UINT64_C(288)));
-                            store64(l4 + 864, load64(l0 + UINT64_C(280)));
-                            l0 = l4 + UINT64_C(832);
-                            goto after7;
-                        }
-                        after8:;
-                        store64(l4 + 216, load64(l4 + 184));
-                        store64(l4 + 208, load64(l4 + 176));
-                        store64(l4 + 200, load64(l4 + 168));
-                        store64(l4 + 192, load64(l4 + 160));
-                        store64(l4 + 224, load64(l0 + UINT64_C(344)));
-                        store64(l4 + 232, load64(l0 + UINT64_C(352)));
-                        store64(l4 + 240, load64(l0 + UINT64_C(360)));
-                        store64(l4 + 248, load64(l0 + UINT64_C(368)));
-                        store64(l4 + 256, load64(l0 + UINT64_C(376)));
-                        store64(l4 + 264, load64(l0 + UINT64_C(384)));
-                        store64(l4 + 272, load64(l0 + UINT64_C(392)));
-                        store64(l4 + 280, load64(l0 + UINT64_C(400)));
-                        store64(l4 + 344, UINT64_C(0));
-                        store64(l4 + 336, UINT64_C(0));
-                        store64(l4 + 328, UINT64_C(0));
-                        store64(l4 + 320, UINT64_C(0));
-                        store64(l4 + 312, UINT64_C(0));
-                        store64(l4 + 304, UINT64_C(0));
-                        store64(l4 + 296, UINT64_C(0));
-                        store64(l4 + 288, UINT64_C(0));
-                        l0 = l4 + UINT64_C(192);
-                    }
-                    after7:;
-                    copy(l4, l0, UINT64_C(160));
-                    l0 = l4;
-                }
-                after6:;
-                copy(l4 + UINT64_C(832), l0, UINT64_C(160));
-                store64(l1 + 24, load64(l4 + 856));
-                store64(l1 + 16, load64(l4 + 848));
-                store64(l1 + 8, load64(l4 + 840));
-                store64(l1, load64(l4 + 832));
-                store64(l2 + 56, load64(l4 + 920));
-                store64(l2 + 48, load64(l4 + 912));
-                store64(l2 + 40, load64(l4 + 904));
-                store64(l2 + 32, load64(l4 + 896));
-                store64(l2 + 24, load64(l4 + 888));
-                store64(l2 + 16, load64(l4 + 880));
-                store64(l2 + 8, load64(l4 + 872));
-                store64(l2, load64(l4 + 864));
-                store64(l3 + 56, load64(l4 + 984));
-                store64(l3 + 48, load64(l4 + 976));
-                store64(l3 + 40, load64(l4 + 968));
-                store64(l3 + 32, load64(l4 + 960));
-                store64(l3 + 24, load64(l4 + 952));
-                store64(l3 + 16, load64(l4 + 944));
-                store64(l3 + 8, load64(l4 + 936));
-                store64(l3, load64(l4 + 928));
-                l6 = 0u;
-                goto after1;
-            }
-            after5:;
-            copy(l4 + UINT64_C(832), l4 + UINT64_C(352), UINT64_C(160));
-        }
-        after2:;
-        l6 = 12u;
-    }
-    after1:;
-    sp = l4 + UINT64_C(992);
-    return l6;
-}
-
-static u32 do_minisign_install_answer(u64 sp, u64 table, u64 l0, u32 l1)
-{
-    u32 l3 = 0, l4 = 0, l5 = 0, l6 = 0, l7 = 0, l8 = 0, l9 = 0, l11 = 0;
-    u64 l2 = 0, l10 = 0, l12 = 0, l13 = 0;
-    l2 = sp - UINT64_C(160);
-    sp = l2;
-    {
-        {
-            {
-                {
-                    {
-                        if (l1 == 0x796573u) { goto after5; }
-                        if (l1 == 28271u) { goto after5; }
-                        l3 = 3u;
-                        goto after4;
-                    }
-                    after5:;
-                    if (load64(l0) == UINT64_C(0x6c6c6174736e696d)) { goto after3; }
-                    l3 = 9u;
-                }
-                after4:;
-                store64(l2 + 86, UINT64_C(0));
-                store64(l2 + 80, UINT64_C(0));
-                store64(l2 + 72, UINT64_C(0));
-                store64(l2 + 64, UINT64_C(0));
-                store64(l2 + 104, UINT64_C(0));
-                l4 = 0u;
-                l5 = 0u;
-                l6 = 0u;
-                l7 = 0u;
-                goto after2;
-            }
-            after3:;
-            store64(l2 + 22, UINT64_C(0));
-            store64(l2 + 16, UINT64_C(0));
-            store64(l2 + 8, UINT64_C(0));
-            store64(l2, UINT64_C(0));
-            l8 = 0u;
-            l3 = 9u;
-            l9 = 1u;
-            l7 = 0u;
-            l4 = 0u;
-            l6 = 0u;
-            l5 = 0u;
-            {
-                {
-                    {
-                        {
-                            {
-                                {
-                                    {
-                                        l10 = l0 + UINT64_C(8);
-                                        l11 = load32(l10);
-                                        switch ((u32) (((u64) (l11 > 28u ? 0u : l11)) & UINT64_C(255))) {
-                                        case 4: goto after12;
-                                        case 5: goto after11;
-                                        case 7: goto after10;
-                                        case 14: goto after9;
-                                        default: goto after6;
-                                        }
-                                    }
-                                    after12:;
-                                    {
-                                        {
-                                            if (l1 != 0x796573u) { goto after14; }
-                                            store32(l0 + UINT64_C(432), 1u);
-                                            store64(l2 + 104, UINT64_C(0));
-                                            store64(l2 + 112, UINT64_C(0));
-                                            store64(l2 + 120, UINT64_C(0));
-                                            store64(l2 + 128, UINT64_C(0));
-                                            store64(l2 + 136, UINT64_C(0));
-                                            store64(l2 + 144, UINT64_C(0));
-                                            store64(l2 + 152, UINT64_C(0));
-                                            {
-                                                {
-                                                    l7 = load32(l0 + UINT64_C(416));
-                                                    if ((l7 + 0xffffffd2u) > 14u) { goto after16; }
-                                                    store64(l2 + 72, UINT64_C(0));
-                                                    store64(l2 + 80, UINT64_C(0));
-                                                    store64(l2 + 88, UINT64_C(0));
-                                                    store64(l2 + 96, UINT64_C(0));
-                                                    store64(l2 + 64, (u64) ((l7 + 211u) & 255u));
-                                                    do_minisign_install_installation_progress_Progress_reject(sp, table, l2 + UINT64_C(104), l10, l2 + UINT64_C(64));
-                                                    l5 = load8(l2 + 129);
-                                                    l6 = load8(l2 + 128);
-                                                    l4 = load8(l2 + 120);
-                                                    l3 = load8(l2 + 113);
-                                                    l7 = load8(l2 + 112);
-                                                    l9 = load8(l2 + 104);
-                                                    goto after15;
-                                                }
-                                                after16:;
-                                                {
-                                                    {
-                                                        if (load32(l0 + UINT64_C(248)) != 1u) { goto after18; }
-                                                        l12 = load64(l0 + UINT64_C(144));
-                                                        l13 = load64(l0 + UINT64_C(264));
-                                                        if (l12 < l13) { goto after18; }
-                                                        {
-                                                            if (load32(l0 + UINT64_C(256)) != 1u) { goto after19; }
-                                                            l7 = 5u;
-                                                            goto after17;
-                                                        }
-                                                        after19:;
-                                                        if (l13 < l12) { goto after18; }
-                                                        l7 = 6u;
-                                                        goto after17;
-                                                    }
-                                                    after18:;
-                                                    store64(l0 + UINT64_C(512), UINT64_C(0x5be0cd19137e2179));
-                                                    store64(l0 + UINT64_C(504), UINT64_C(0x1f83d9abfb41bd6b));
-                                                    store64(l0 + UINT64_C(496), UINT64_C(0x9b05688c2b3e6c1f));
-                                                    store64(l0 + UINT64_C(488), UINT64_C(0x510e527fade682d1));
-                                                    store64(l0 + UINT64_C(480), UINT64_C(0xa54ff53a5f1d36f1));
-                                                    store64(l0 + UINT64_C(472), UINT64_C(0x3c6ef372fe94f82b));
-                                                    store64(l0 + UINT64_C(464), UINT64_C(0xbb67ae8584caa73b));
-                                                    store64(l0 + UINT64_C(456), UINT64_C(0x6a09e667f2bdc948));
-                                                    fill(l0 + UINT64_C(520), 0u, UINT64_C(280));
-                                                    l7 = load32(l0 + UINT64_C(124)) == 1u ? 27u : 10u;
-                                                }
-                                                after17:;
-                                                store32(l10, l7);
-                                                l5 = 0u;
-                                                l6 = 0u;
-                                                l4 = 0u;
-                                                l3 = 0u;
-                                                l7 = 0u;
-                                                l9 = 0u;
-                                            }
-                                            after15:;
-                                            store64(l2 + 54, load64(l2 + 152));
-                                            store64(l2 + 48, load64(l2 + 146));
-                                            store64(l2 + 40, load64(l2 + 138));
-                                            store64(l2 + 32, load64(l2 + 130));
-                                            goto after13;
-                                        }
-                                        after14:;
-                                        store64(l2 + 104, UINT64_C(0));
-                                        store64(l2 + 112, UINT64_C(0));
-                                        store64(l2 + 120, UINT64_C(0));
-                                        store64(l2 + 128, UINT64_C(0));
-                                        store64(l2 + 136, UINT64_C(0));
-                                        store64(l2 + 144, UINT64_C(0));
-                                        store64(l2 + 152, UINT64_C(0));
-                                        {
-                                            if (load32(l0 + UINT64_C(424)) != 1u) { goto after20; }
-                                            if (load32(l0 + UINT64_C(428)) != 1u) { goto after20; }
-                                            l9 = 0u;
-                                            store32(l0 + UINT64_C(424), 0u);
-                                            store64(l2 + 32, UINT64_C(0));
-                                            store64(l2 + 40, UINT64_C(0));
-                                            store64(l2 + 48, UINT64_C(0));
-                                            store64(l2 + 54, UINT64_C(0));
-                                            l7 = 0u;
-                                            l3 = 0u;
-                                            l4 = 0u;
-                                            l6 = 0u;
-                                            l5 = 0u;
-                                            goto after13;
-                                        }
-                                        after20:;
-                                        store64(l2 + 74, UINT64_C(0));
-                                        store16(l2 + 72, 10240u);
-                                        store64(l2 + 64, UINT64_C(0));
-                                        store64(l2 + 82, UINT64_C(0));
-                                        store64(l2 + 90, UINT64_C(0));
-                                        store64(l2 + 96, UINT64_C(0));
-                                        do_minisign_install_installation_progress_Progress_reject(sp, table, l2 + UINT64_C(104), l10, l2 + UINT64_C(64));
-                                        store64(l2 + 32, load64(l2 + 130));
-                                        store64(l2 + 40, load64(l2 + 138));
-                                        store64(l2 + 48, load64(l2 + 146));
-                                        store64(l2 + 54, load64(l2 + 152));
-                                        l5 = load8(l2 + 129);
-                                        l6 = load8(l2 + 128);
-                                        l4 = load8(l2 + 120);
-                                        l3 = load8(l2 + 113);
-                                        l7 = load8(l2 + 112);
-                                        l9 = load8(l2 + 104);
-                                    }
-                                    after13:;
-                                    store64(l2 + 22, load64(l2 + 54));
-                                    store64(l2 + 16, load64(l2 + 48));
-                                    store64(l2 + 8, load64(l2 + 40));
-                                    store64(l2, load64(l2 + 32));
-                                    goto after6;
-                                }
-                                after11:;
-                                {
-                                    {
-                                        {
-                                            if (l1 != 0x796573u) { goto after23; }
-                                            store32(l0 + UINT64_C(436), 1u);
-                                            goto after22;
-                                        }
-                                        after23:;
-                                        {
-                                            if (load32(l0 + UINT64_C(248)) != 1u) { goto after24; }
-                                            if (load64(l0 + UINT64_C(264)) >= load64(l0 + UINT64_C(144))) { goto after24; }
-                                            store64(l0 + UINT64_C(512), UINT64_C(0x5be0cd19137e2179));
-                                            store64(l0 + UINT64_C(504), UINT64_C(0x1f83d9abfb41bd6b));
-                                            store64(l0 + UINT64_C(496), UINT64_C(0x9b05688c2b3e6c1f));
-                                            store64(l0 + UINT64_C(488), UINT64_C(0x510e527fade682d1));
-                                            store64(l0 + UINT64_C(480), UINT64_C(0xa54ff53a5f1d36f1));
-                                            store64(l0 + UINT64_C(472), UINT64_C(0x3c6ef372fe94f82b));
-                                            store64(l0 + UINT64_C(464), UINT64_C(0xbb67ae8584caa73b));
-                                            store64(l0 + UINT64_C(456), UINT64_C(0x6a09e667f2bdc948));
-                                            fill(l0 + UINT64_C(520), 0u, UINT64_C(280));
-                                            l7 = load32(l0 + UINT64_C(124)) == 1u ? 27u : 10u;
-                                            goto after21;
-                                        }
-                                        after24:;
-                                        store32(l0 + UINT64_C(436), 0u);
-                                    }
-                                    after22:;
-                                    l7 = 6u;
-                                }
-                                after21:;
-                                store32(l10, l7);
-                                l9 = 0u;
-                                l7 = 0u;
-                                l3 = 0u;
-                                l4 = 0u;
-                                l6 = 0u;
-                                l5 = 0u;
-                                goto after6;
-                            }
-                            after10:;
-                            store64(l2 + 54, UINT64_C(0));
-                            store64(l2 + 48, UINT64_C(0));
-                            store64(l2 + 40, UINT64_C(0));
-                            store64(l2 + 32, UINT64_C(0));
-                            {
-                                if (l1 != 0x796573u) { goto after25; }
-                                store32(l0 + UINT64_C(8), load32(l0 + UINT64_C(124)) == 1u ? 26u : 8u);
-                                l9 = 0u;
-                                goto after8;
-                            }
-                            after25:;
-                            store64(l2 + 104, UINT64_C(0));
-                            store64(l2 + 112, UINT64_C(0));
-                            store64(l2 + 120, UINT64_C(0));
-                            store64(l2 + 128, UINT64_C(0));
-                            store64(l2 + 136, UINT64_C(0));
-                            store64(l2 + 144, UINT64_C(0));
-                            store64(l2 + 152, UINT64_C(0));
-                            store64(l2 + 72, UINT64_C(0));
-                            store64(l2 + 80, UINT64_C(0));
-                            store64(l2 + 88, UINT64_C(0));
-                            store64(l2 + 96, UINT64_C(0));
-                            {
-                                {
-                                    if (load32(l0 + UINT64_C(436)) == 1u) { goto after27; }
-                                    if (load32(l0 + UINT64_C(120)) != 1u) { goto after26; }
-                                }
-                                after27:;
-                                store64(l0 + UINT64_C(512), UINT64_C(0x5be0cd19137e2179));
-                                store64(l0 + UINT64_C(504), UINT64_C(0x1f83d9abfb41bd6b));
-                                store64(l0 + UINT64_C(496), UINT64_C(0x9b05688c2b3e6c1f));
-                                store64(l0 + UINT64_C(488), UINT64_C(0x510e527fade682d1));
-                                store64(l0 + UINT64_C(480), UINT64_C(0xa54ff53a5f1d36f1));
-                                store64(l0 + UINT64_C(472), UINT64_C(0x3c6ef372fe94f82b));
-                                store64(l0 + UINT64_C(464), UINT64_C(0xbb67ae8584caa73b));
-                                store64(l0 + UINT64_C(456), UINT64_C(0x6a09e667f2bdc948));
-                                l9 = 0u;
-                                fill(l0 + UINT64_C(520), 0u, UINT64_C(280));
-                                store32(l0 + UINT64_C(8), load32(l0 + UINT64_C(124)) == 1u ? 27u : 10u);
-                                store64(l2 + 32, UINT64_C(0));
-                                store64(l2 + 40, UINT64_C(0));
-                                store64(l2 + 48, UINT64_C(0));
-                                store64(l2 + 54, UINT64_C(0));
-                                goto after8;
-                            }
-                            after26:;
-                            store64(l2 + 64, UINT64_C(12));
-                            do_minisign_install_installation_progress_Progress_reject(sp, table, l2 + UINT64_C(104), l10, l2 + UINT64_C(64));
-                            store64(l2 + 32, load64(l2 + 130));
-                            store64(l2 + 40, load64(l2 + 138));
-                            store64(l2 + 48, load64(l2 + 146));
-                            store64(l2 + 54, load64(l2 + 152));
-                            l5 = load8(l2 + 129);
-                            l6 = load8(l2 + 128);
-                            l4 = load8(l2 + 120);
-                            l3 = load8(l2 + 113);
-                            l7 = load8(l2 + 112);
-                            l9 = load8(l2 + 104);
-                            goto after7;
-                        }
-                        after9:;
-                        store64(l2 + 104, UINT64_C(0));
-                        store64(l2 + 112, UINT64_C(0));
-                        store64(l2 + 120, UINT64_C(0));
-                        store64(l2 + 128, UINT64_C(0));
-                        store64(l2 + 136, UINT64_C(0));
-                        store64(l2 + 144, UINT64_C(0));
-                        store64(l2 + 152, UINT64_C(0));
-                        {
-                            {
-                                if (l1 != 0x796573u) { goto after29; }
-                                store32(l10, 15u);
-                                l5 = 0u;
-                                l6 = 0u;
-                                l4 = 0u;
-                                l3 = 0u;
-                                l7 = 0u;
-                                l9 = 0u;
-                                goto after28;
-                            }
-                            after29:;
-                            store64(l2 + 74, UINT64_C(0));
-                            store16(l2 + 72, 9984u);
-                            store64(l2 + 64, UINT64_C(0));
-                            store64(l2 + 82, UINT64_C(0));
-                            store64(l2 + 90, UINT64_C(0));
-                            store64(l2 + 96, UINT64_C(0));
-                            do_minisign_install_installation_progress_Progress_reject(sp, table, l2 + UINT64_C(104), l10, l2 + UINT64_C(64));
-                            l5 = load8(l2 + 129);
-                            l6 = load8(l2 + 128);
-                            l4 = load8(l2 + 120);
-                            l3 = load8(l2 + 113);
-                            l7 = load8(l2 + 112);
-                            l9 = load8(l2 + 104);
-                        }
-                        after28:;
-                        store64(l2 + 22, load64(l2 + 152));
-                        store64(l2 + 16, load64(l2 + 146));
-                        store64(l2 + 8, load64(l2 + 138));
-                        store64(l2, load64(l2 + 130));
-                        goto after6;
-                    }
-                    after8:;
-                    l7 = 0u;
-                    l3 = 0u;
-                    l4 = 0u;
-                    l6 = 0u;
-                    l5 = 0u;
-                }
-                after7:;
-                store64(l2 + 22, load64(l2 + 54));
-                store64(l2 + 16, load64(l2 + 48));
-                store64(l2 + 8, load64(l2 + 40));
-                store64(l2, load64(l2 + 32));
-            }
-            after6:;
-            store64(l2 + 86, load64(l2 + 22));
-            store64(l2 + 80, load64(l2 + 16));
-            store64(l2 + 72, load64(l2 + 8));
-            store64(l2 + 64, load64(l2));
-            store64(l2 + 104, UINT64_C(0));
-            if ((l9 & 255u) == 0) { goto after1; }
-        }
-        after2:;
-        store8(l2 + 121, l5);
-        store8(l2 + 120, l6);
-        store8(l2 + 105, l3);
-        store64(l2 + 122, load64(l2 + 64));
-        store64(l2 + 130, load64(l2 + 72));
-        store64(l2 + 138, load64(l2 + 80));
-        store64(l2 + 144, load64(l2 + 86));
-        store64(l2 + 112, ((u64) l4) & UINT64_C(255));
-        store8(l2 + 104, l7);
-        const u32 t1 = do_minisign_external_state_Refusal_number_740bc7f2a85702bc(table, l2 + UINT64_C(104));
-        l8 = t1;
-        if ((l7 & 255u) != 1u) { goto after1; }
-        if ((l4 & 255u) != 0) { goto after1; }
-        if ((l6 & 255u) != 2u) { goto after1; }
-        if (load64(l2 + 144) == 0) { goto after1; }
-        machine_rattle_dealloc(load64(l2 + 128));
-    }
-    after1:;
-    sp = l2 + UINT64_C(160);
-    return l8;
-}
-
-static u32 do_minisign_install_is_signed(u64 l0)
-{
-    u32 l1 = 0;
-    l1 = 0u;
-    {
-        if (load64(l0) != UINT64_C(0x6c6c6174736e696d)) { goto after1; }
-        l1 = (u32) (load32(l0 + UINT64_C(432)) == 1u);
-    }
-    after1:;
-    return l1;
-}
-
-static u64 do_minisign_install_version(u64 l0)
-{
-    u64 l1 = 0;
-    l1 = UINT64_C(0);
-    {
-        if (load64(l0) != UINT64_C(0x6c6c6174736e696d)) { goto after1; }
-        if (load32(l0 + UINT64_C(432)) != 1u) { goto after1; }
-        l1 = load64(l0 + UINT64_C(264));
-    }
-    after1:;
-    return l1;
-}
-
-static u32 do_minisign_install_size(u64 l0, u64 l1)
-{
-    u32 l2 = 0;
-    l2 = 0u;
-    {
-        if (load64(l0) != UINT64_C(0x6c6c6174736e696d)) { goto after1; }
-        if (load32(l0 + UINT64_C(432)) != 1u) { goto after1; }
-        if (load32(l0 + UINT64_C(412)) != 1u) { goto after1; }
-        store64(l1, load64(l0 + UINT64_C(272)));
-        l2 = 1u;
-    }
-    after1:;
-    return l2;
-}
-
-static u64 do_minisign_install_record_text(u64 sp, u64 l0, u64 l1, u64 l2)
-{
-    u32 l9 = 0, l10 = 0, l11 = 0;
-    u64 l3 = 0, l4 = 0, l5 = 0, l6 = 0, l7 = 0, l8 = 0, l12 = 0, l13 = 0, l14 = 0, l15 = 0;
-    l3 = sp - UINT64_C(176);
-    sp = l3;
-    {
-        {
-            if (load64(l0) == UINT64_C(0x6c6c6174736e696d)) { goto after2; }
-            l0 = UINT64_C(0);
-            goto after1;
-        }
-        after2:;
-        {
-            l4 = l0 + UINT64_C(8);
-            if (load32(l4) == 18u) { goto after3; }
-            l0 = UINT64_C(0);
-            goto after1;
-        }
-        after3:;
-        store64(l3 + 64, UINT64_C(0));
-        store64(l3 + 56, UINT64_C(0));
-        store64(l3 + 48, UINT64_C(0));
-        store64(l3 + 40, UINT64_C(0));
-        {
-            {
-                {
-                    if (load32(l0 + UINT64_C(424)) != 1u) { goto after6; }
-                    l5 = l0 + UINT64_C(24);
-                    goto after5;
-                }
-                after6:;
-                if (load32(l0 + UINT64_C(428)) != 1u) { goto after4; }
-                store64(l3 + 64, load64(l0 + UINT64_C(96)));
-                store64(l3 + 56, load64(l0 + UINT64_C(88)));
-                store64(l3 + 48, load64(l0 + UINT64_C(80)));
-                store64(l3 + 40, load64(l0 + UINT64_C(72)));
-                l5 = l3 + UINT64_C(40);
-            }
-            after5:;
-            store64(l3 + 32, load64(l5 + 24));
-            store64(l3 + 24, load64(l5 + 16));
-            store64(l3 + 16, load64(l5 + 8));
-            store64(l3 + 8, load64(l5));
-            {
-                {
-                    if (load32(l0 + UINT64_C(248)) == 1u) { goto after8; }
-                    l6 = load64(l0 + UINT64_C(264));
-                    l5 = l3 + UINT64_C(8);
-                    goto after7;
-                }
-                after8:;
-                l7 = load64(l0 + UINT64_C(264));
-                l8 = load64(l0 + UINT64_C(144));
-                l6 = load64(l4 + (l7 < l8 ? UINT64_C(136) : UINT64_C(256)));
-                store64(l3 + 160, load64(l3 + 32));
-                store64(l3 + 152, load64(l3 + 24));
-                store64(l3 + 144, load64(l3 + 16));
-                store64(l3 + 136, load64(l3 + 8));
-                l5 = l3 + UINT64_C(8);
-                if (l7 >= l8) { goto after7; }
-                l5 = load32(l0 + UINT64_C(252)) == 1u ? (l0 + UINT64_C(152)) : (l3 + UINT64_C(136));
-            }
-            after7:;
-            store64(l3 + 64, load64(l5 + 24));
-            store64(l3 + 56, load64(l5 + 16));
-            store64(l3 + 48, load64(l5 + 8));
-            store64(l3 + 40, load64(l5));
-            l7 = l3 + UINT64_C(72);
-            do_minisign_install_installation_progress_Progress_digest(sp, l7, l4);
-            l9 = load32(l0 + UINT64_C(112));
-            store64(l3 + 168, UINT64_C(0));
-            store64(l3 + 160, UINT64_C(0));
-            store64(l3 + 152, UINT64_C(0));
-            store64(l3 + 144, UINT64_C(0));
-            store64(l3 + 136, UINT64_C(0));
-            l0 = UINT64_C(40);
-            {
-                if (l6 < UINT64_C(10000)) { goto after9; }
-                l0 = UINT64_C(40);
-                again10:;
-                {
-                    l4 = (l3 + UINT64_C(136)) + l0;
-                    l5 = l6;
-                    const u64 t1 = div_u64(l5, UINT64_C(10000));
-                    l6 = t1;
-                    l10 = (u32) (l5 - (l6 * UINT64_C(10000)));
-                    const u32 t2 = div_u32(l10 & 65535u, 100u);
-                    l11 = t2;
-                    store16(l4 + UINT64_C(0xfffffffffffffffc), load16((((u64) l11) << 1) + address(data61)));
-                    store16(l4 + UINT64_C(0xfffffffffffffffe), load16(((((u64) (l10 - (l11 * 100u))) & UINT64_C(65535)) << 1) + address(data61)));
-                    l0 = l0 + UINT64_C(0xfffffffffffffffc);
-                    if (l5 > UINT64_C(0x5f5e0ff)) { goto again10; }
-                }
-            }
-            after9:;
-            {
-                {
-                    if (l6 > UINT64_C(99)) { goto after12; }
-                    {
-                        if (l6 > UINT64_C(9)) { goto after13; }
-                        l12 = l0 + UINT64_C(0xffffffffffffffff);
-                        store8((l3 + UINT64_C(136)) + l12, ((u32) l6) | 48u);
-                        goto after11;
-                    }
-                    after13:;
-                    l12 = l0 + UINT64_C(0xfffffffffffffffe);
-                    store16((l3 + UINT64_C(136)) + l12, load16((l6 << 1) + address(data61)));
-                    goto after11;
-                }
-                after12:;
-                l10 = (u32) l6;
-                const u32 t3 = div_u32(l10 & 65535u, 100u);
-                const u32 t4 = l10;
-                l10 = t3;
-                store16(((l3 + UINT64_C(136)) + l0) + UINT64_C(0xfffffffffffffffe), load16(((((u64) (t4 - (l10 * 100u))) & UINT64_C(65535)) << 1) + address(data61)));
-                {
-                    if (l6 > UINT64_C(999)) { goto after14; }
-                    l12 = l0 + UINT64_C(0xfffffffffffffffd);
-                    store8((l3 + UINT64_C(136)) + l12, l10 | 48u);
-                    goto after11;
-                }
-                after14:;
-                l12 = l0 + UINT64_C(0xfffffffffffffffc);
-                store16((l3 + UINT64_C(136)) + l12, load16((((u64) l10) << 1) + address(data61)));
-            }
-            after11:;
-            l0 = UINT64_C(0);
-            l13 = UINT64_C(40) - l12;
-            l10 = (u32) (l9 == 1u);
-            l8 = l10 != 0 ? UINT64_C(8) : UINT64_C(10);
-            l14 = l13 + l8;
-            l15 = l14 + UINT64_C(194);
-            if (l2 < l15) { goto after1; }
-            {
-                {
-                    l2 = l1 == 0 ? UINT64_C(4096) : UINT64_C(0);
-                    l5 = l1 + l2;
-                    l6 = l10 != 0 ? address(data63) : address(data62);
-                    if ((l5 - l6) >= l8) { goto after16; }
-                    l4 = l8 & UINT64_C(2);
-                    l0 = UINT64_C(0xfffffffffffffff8);
-                    again17:;
-                    {
-                        store32((l5 + l0) + UINT64_C(8), load32((l6 + l0) + UINT64_C(8)));
-                        l0 = l0 + UINT64_C(4);
-                        if (l0 != UINT64_C(0)) { goto again17; }
-                    }
-                    if (l4 == 0) { goto after15; }
-                    l6 = l6 + l0;
-                    l4 = l5 + l0;
-                    l0 = UINT64_C(0);
-                    again18:;
-                    {
-                        store8((l4 + l0) + UINT64_C(8), load8((l6 + l0) + UINT64_C(8)));
-                        l0 = l0 + UINT64_C(1);
-                        if (l0 != UINT64_C(2)) { goto again18; }
-                        goto after15;
-                    }
-                }
-                after16:;
-                if (l8 == 0) { goto after15; }
-                copy(l5, l6, l8);
-            }
-            after15:;
-            l4 = l5 + l14;
-            {
-                if (l13 == 0) { goto after19; }
-                copy(l5 + l8, (l3 + UINT64_C(136)) + l12, l13);
-            }
-            after19:;
-            store8(l4, 10u);
-            l1 = ((l2 + l8) - l12) + l1;
-            l0 = l1 + UINT64_C(42);
-            l5 = UINT64_C(0);
-            again20:;
-            {
-                l6 = (u64) load8((l3 + UINT64_C(40)) + l5);
-                store8(l0, load8((l6 & UINT64_C(15)) + address(data64)));
-                store8(l0 + UINT64_C(0xffffffffffffffff), load8((l6 >> 4) + address(data64)));
-                l0 = l0 + UINT64_C(2);
-                l5 = l5 + UINT64_C(1);
-                if (l5 != UINT64_C(32)) { goto again20; }
-            }
-            store8(l4 + UINT64_C(65), 10u);
-            l0 = l1 + UINT64_C(107);
-            l5 = UINT64_C(0);
-            again21:;
-            {
-                l6 = (u64) load8(l7 + l5);
-                store8(l0, load8((l6 & UINT64_C(15)) + address(data64)));
-                store8(l0 + UINT64_C(0xffffffffffffffff), load8((l6 >> 4) + address(data64)));
-                l0 = l0 + UINT64_C(2);
-                l5 = l5 + UINT64_C(1);
-                if (l5 != UINT64_C(64)) { goto again21; }
-            }
-            l0 = l15;
-            goto after1;
-        }
-        after4:;
-        l0 = UINT64_C(0);
-    }
-    after1:;
-    sp = l3 + UINT64_C(176);
-    return l0;
-}
-
-static u32 do_minisign_install_error(u64 l0)
-{
-    u32 l1 = 0;
-    l1 = 0u;
-    {
-        if (load64(l0) != UINT64_C(0x6c6c6174736e696d)) { goto after1; }
-        l1 = load32(l0 + UINT64_C(12));
-    }
-    after1:;
-    return l1;
-}
-
-static u32 do_minisign_judge_comment(u64 sp, u64 table, u64 l0, u64 l1, u64 l2, u64 l3, u32 l4, u64 l5, u64 l6, u64 l7)
-{
-    u32 l9 = 0, l10 = 0, l17 = 0;
-    u64 l8 = 0, l11 = 0, l12 = 0, l13 = 0, l14 = 0, l15 = 0, l16 = 0, l18 = 0, l19 = 0;
-    l8 = sp - UINT64_C(256);
-    sp = l8;
-    store64(l8 + 72, UINT64_C(0));
-    store64(l8 + 80, UINT64_C(0));
-    store64(l8 + 88, UINT64_C(0));
-    store64(l8 + 96, UINT64_C(0));
-    store64(l8 + 104, UINT64_C(0));
-    store64(l8 + 56, UINT64_C(0));
-    store64(l8 + 62, UINT64_C(0));
-    l9 = 0u;
-    l10 = 14u;
-    {
-        {
-            {
-                switch (l4) {
-                case 0: goto after2;
-                case 1: goto after3;
-                default: goto after1;
-                }
-            }
-            after3:;
-            l9 = 1u;
-        }
-        after2:;
-        store64(l8 + 118, UINT64_C(0));
-        store64(l8 + 112, UINT64_C(0));
-        store64(l8 + 160, UINT64_C(0));
-        store64(l8 + 152, UINT64_C(0));
-        store64(l8 + 144, UINT64_C(0));
-        do_core_str_utf8_from_utf8(sp, l8 + UINT64_C(144), l0 + (l0 == 0 ? UINT64_C(4096) : UINT64_C(0)), l1);
-        {
-            {
-                {
-                    {
-                        {
-                            {
-                                {
-                                    {
-                                        {
-                                            {
-                                                {
-                                                    {
-                                                        {
-                                                            {
-                                                                {
-                                                                    if (load8(l8 + 144) != 0) { goto after18; }
-                                                                    l11 = load64(l8 + 160);
-                                                                    l12 = load64(l8 + 152);
-                                                                    l13 = UINT64_C(0);
-                                                                    store64(l8 + 160, UINT64_C(0));
-                                                                    store64(l8 + 152, UINT64_C(0));
-                                                                    store64(l8 + 144, UINT64_C(0));
-                                                                    do_core_str_utf8_from_utf8(sp, l8 + UINT64_C(144), l2 + (l2 == 0 ? UINT64_C(4096) : UINT64_C(0)), l3);
-                                                                    if (load8(l8 + 144) != 0) { goto after18; }
-                                                                    l14 = (l8 + UINT64_C(224)) + UINT64_C(16);
-                                                                    l15 = load64(l8 + 160);
-                                                                    l16 = load64(l8 + 152);
-                                                                    store64(l8 + 134, UINT64_C(0));
-                                                                    store64(l8 + 128, UINT64_C(0));
-                                                                    store64(l8 + 224, UINT64_C(0));
-                                                                    store64(l8 + 232, UINT64_C(0));
-                                                                    store64(l8 + 240, UINT64_C(0));
-                                                                    store64(l8 + 246, UINT64_C(0));
-                                                                    store64(l8 + 192, UINT64_C(0));
-                                                                    store64(l8 + 200, UINT64_C(0));
-                                                                    store64(l8 + 208, UINT64_C(0));
-                                                                    store64(l8 + 214, UINT64_C(0));
-                                                                    store64(l8 + 144, UINT64_C(0));
-                                                                    store64(l8 + 152, UINT64_C(0));
-                                                                    store64(l8 + 160, UINT64_C(0));
-                                                                    store64(l8 + 168, UINT64_C(0));
-                                                                    store64(l8 + 176, UINT64_C(0));
-                                                                    store64(l8 + 184, UINT64_C(0));
-                                                                    l17 = 0u;
-                                                                    if (l11 == 0) { goto after17; }
-                                                                    l18 = (l8 + UINT64_C(192)) + UINT64_C(16);
-                                                                    l0 = l11;
-                                                                    l1 = l12;
-                                                                    {
-                                                                        again20:;
-                                                                        {
-                                                                            do_core_iter_words_find_ascii(sp, l8 + UINT64_C(40), l1, l0, 9u);
-                                                                            l3 = load64(l8 + 48);
-                                                                            {
-                                                                                l2 = load64(l8 + 40);
-                                                                                l19 = l2 < l0 ? l2 : l0;
-                                                                                if (l19 < UINT64_C(5)) { goto after21; }
-                                                                                if (((((u64) load32(l1 + 1)) << 32) | ((u64) load32(l1))) == UINT64_C(0x3a656c69656c6966)) { goto after19; }
-                                                                            }
-                                                                            after21:;
-                                                                            l10 = (u32) (l2 >= l0);
-                                                                            if (l10 != 0) { goto after17; }
-                                                                            l1 = l10 != 0 ? address(data53) : (l1 + l3);
-                                                                            l0 = l0 - l3;
-                                                                            if (l0 == 0) { goto after17; }
-                                                                            goto again20;
-                                                                        }
-                                                                    }
-                                                                    after19:;
-                                                                    l2 = UINT64_C(5);
-                                                                    const u32 t1 = do_core_cmp_bytes_equal(l1 + UINT64_C(5), l19 + UINT64_C(0xfffffffffffffffb), l16, l15);
-                                                                    if (t1 == 0) { goto after17; }
-                                                                    do_minisign_install_installation_judging_version_in(sp, l8 + UINT64_C(24), l12, l11, l9);
-                                                                    l0 = UINT64_C(0);
-                                                                    l4 = 0u;
-                                                                    if (load8(l8 + 24) != 1u) { goto after16; }
-                                                                    do_minisign_install_installation_judging_expiry_fault(sp, l8 + UINT64_C(144), l12, l11, 0u, 1u, l5);
-                                                                    {
-                                                                        if (load8(l8 + 144) != 1u) { goto after22; }
-                                                                        l18 = l8 + UINT64_C(178);
-                                                                        l2 = (u64) load8(l8 + 152);
-                                                                        l13 = load64(l8 + 170);
-                                                                        l0 = load64(l8 + 162);
-                                                                        l17 = load8(l8 + 161);
-                                                                        l4 = load8(l8 + 160);
-                                                                        goto after16;
-                                                                    }
-                                                                    after22:;
-                                                                    do_minisign_install_installation_judging_version_in(sp, l8 + UINT64_C(8), l12, l11, l9);
-                                                                    l0 = load64(l8 + 16);
-                                                                    {
-                                                                        l10 = load8(l8 + 8);
-                                                                        if ((l10 & 1u) == 0) { goto after23; }
-                                                                        if (l0 < l6) { goto after15; }
-                                                                    }
-                                                                    after23:;
-                                                                    store64(l7, l10 == 1u ? l0 : UINT64_C(0));
-                                                                    l10 = 0u;
-                                                                    goto after1;
-                                                                }
-                                                                after18:;
-                                                                store64(l8 + 82, UINT64_C(0));
-                                                                store16(l8 + 80, 1536u);
-                                                                store64(l8 + 72, UINT64_C(0));
-                                                                store64(l8 + 90, UINT64_C(0));
-                                                                store64(l8 + 98, UINT64_C(0));
-                                                                store64(l8 + 104, UINT64_C(0));
-                                                                l0 = l8 + UINT64_C(80);
-                                                                l4 = 0u;
-                                                                goto after4;
-                                                            }
-                                                            after17:;
-                                                            l18 = l14;
-                                                            l0 = UINT64_C(0);
-                                                            l4 = 0u;
-                                                            l2 = UINT64_C(4);
-                                                        }
-                                                        after16:;
-                                                        store64(l8 + 134, load64(l18 + 6));
-                                                        store64(l8 + 128, load64(l18));
-                                                        store64(l8 + 118, load64(l8 + 134));
-                                                        store64(l8 + 112, load64(l8 + 128));
-                                                        store64(l8 + 56, load64(l8 + 112));
-                                                        store64(l8 + 62, load64(l8 + 118));
-                                                        store64(l8 + 90, l13);
-                                                        store64(l8 + 82, l0);
-                                                        store8(l8 + 81, l17);
-                                                        store8(l8 + 80, l4);
-                                                        store64(l8 + 72, l2);
-                                                        store64(l8 + 104, load64(l8 + 62));
-                                                        store64(l8 + 98, load64(l8 + 56));
-                                                        l0 = l8 + UINT64_C(80);
-                                                        l1 = table + 4144;
-                                                        {
-                                                            {
-                                                                {
-                                                                    {
-                                                                        switch ((u32) l2) {
-                                                                        case 1: goto after5;
-                                                                        case 2: goto after27;
-                                                                        case 3: goto after26;
-                                                                        case 4: goto after25;
-                                                                        case 5: goto after24;
-                                                                        case 6: goto after15;
-                                                                        case 7: goto after14;
-                                                                        case 8: goto after13;
-                                                                        case 9: goto after12;
-                                                                        case 10: goto after11;
-                                                                        case 11: goto after10;
-                                                                        case 12: goto after9;
-                                                                        case 13: goto after8;
-                                                                        case 14: goto after7;
-                                                                        case 15: goto after6;
-                                                                        default: goto after4;
-                                                                        }
-                                                                    }
-                                                                    after27:;
-                                                                    l10 = load32(table + 4224);
-                                                                    goto after1;
-                                                                }
-                                                                after26:;
-                                                                l10 = load32(table + 4288);
-                                                                goto after1;
-                                                            }
-                                                            after25:;
-                                                            l10 = load32(table + 4352);
-                                                            goto after1;
-                                                        }
-                                                        after24:;
-                                                        l10 = load32(table + 4432);
-                                                        goto after1;
-                                                    }
-                                                    after15:;
-                                                    l10 = load32(table + 4512);
-                                                    goto after1;
-                                                }
-                                                after14:;
-                                                l10 = load32(table + 4592);
-                                                goto after1;
-                                            }
-                                            after13:;
-                                            l10 = load32(table + 4688);
-                                            goto after1;
-                                        }
-                                        after12:;
-                                        l10 = load32(table + 4768);
-                                        goto after1;
-                                    }
-                                    after11:;
-                                    l10 = load32(table + 4848);
-                                    goto after1;
-                                }
-                                after10:;
-                                l10 = load32(table + 4896);
-                                goto after1;
-                            }
-                            after9:;
-                            l10 = load32(table + 4992);
-                            goto after1;
-                        }
-                        after8:;
-                        l10 = load32(table + 5088);
-                        goto after1;
-                    }
-                    after7:;
-                    l10 = load32(table + 5168);
-                    goto after1;
-                }
-                after6:;
-                l1 = table + 5264;
-            }
-            after5:;
-            l10 = load32(l1);
-            goto after1;
-        }
-        after4:;
-        const u32 t2 = do_minisign_external_numbers_PErrorNumbered_number(table, l0);
-        l10 = t2;
-        if ((l4 & 255u) != 2u) { goto after1; }
-        if (load64(l8 + 104) == 0) { goto after1; }
-        machine_rattle_dealloc(load64(l8 + 88));
-    }
-    after1:;
-    sp = l8 + UINT64_C(256);
-    return l10;
 }
 
 static u32 do_core_cmp_slices_groups_equal_i8_31_core_cmp_numbers_U8PartialEq(u64 l0, u64 l1, u64 l2)
@@ -17613,426 +17690,6 @@ static u32 do_core_cmp_slices_groups_equal_i8_31_core_cmp_numbers_U8PartialEq(u6
     }
     after1:;
     return (l4 ^ 0xffffffffu) & 1u;
-}
-
-static void do_minisign_lists_values_digest_of(u64 sp, u64 l0, u64 l1, u64 l2)
-{
-    u64 l3 = 0, l4 = 0, l5 = 0, l6 = 0;
-    l3 = sp - UINT64_C(752);
-    sp = l3;
-    store64(l3 + 56, UINT64_C(0));
-    store64(l3 + 48, UINT64_C(0));
-    store64(l3 + 40, UINT64_C(0));
-    store64(l3 + 32, UINT64_C(0));
-    store64(l3 + 24, UINT64_C(0));
-    store64(l3 + 16, UINT64_C(0));
-    store64(l3 + 8, UINT64_C(0));
-    store64(l3, UINT64_C(0));
-    store64(l3 + 120, UINT64_C(0x5be0cd19137e2179));
-    store64(l3 + 112, UINT64_C(0x1f83d9abfb41bd6b));
-    store64(l3 + 104, UINT64_C(0x9b05688c2b3e6c1f));
-    store64(l3 + 96, UINT64_C(0x510e527fade682d1));
-    store64(l3 + 88, UINT64_C(0xa54ff53a5f1d36f1));
-    store64(l3 + 80, UINT64_C(0x3c6ef372fe94f82b));
-    store64(l3 + 72, UINT64_C(0xbb67ae8584caa73b));
-    store64(l3 + 64, UINT64_C(0x6a09e667f2bdc948));
-    fill((l3 + UINT64_C(64)) + UINT64_C(64), 0u, UINT64_C(280));
-    store64(l3 + 416, UINT64_C(0));
-    store64(l3 + 408, UINT64_C(64));
-    store64(l3 + 424, UINT64_C(0));
-    do_minisign_hash_blake2b_Blake2b_update(sp, l3 + UINT64_C(64), l1, l2);
-    store64(l3 + 560, UINT64_C(0));
-    store64(l3 + 568, UINT64_C(0));
-    store64(l3 + 576, UINT64_C(0));
-    store64(l3 + 584, UINT64_C(0));
-    store64(l3 + 592, UINT64_C(0));
-    store64(l3 + 600, UINT64_C(0));
-    store64(l3 + 608, UINT64_C(0));
-    store64(l3 + 616, UINT64_C(0));
-    store64(l3 + 496, UINT64_C(0));
-    store64(l3 + 504, UINT64_C(0));
-    store64(l3 + 512, UINT64_C(0));
-    store64(l3 + 520, UINT64_C(0));
-    store64(l3 + 528, UINT64_C(0));
-    store64(l3 + 536, UINT64_C(0));
-    store64(l3 + 544, UINT64_C(0));
-    store64(l3 + 552, UINT64_C(0));
-    l1 = load64(l3 + 128);
-    l4 = load64(l3 + 136);
-    l5 = l3 + UINT64_C(144);
-    l6 = load64(l3 + 400);
-    l2 = (l6 - ((u64) ((u32) (l6 != UINT64_C(0))))) & UINT64_C(0xffffffffffffff80);
-    do_minisign_hash_blake2b_after_blocks(l3 + UINT64_C(496), l3 + UINT64_C(64), l1, l4, l5, l2, UINT64_C(128), UINT64_C(0), 0u);
-    fill(l3 + UINT64_C(624), 0u, UINT64_C(128));
-    {
-        l6 = l6 - l2;
-        if (l6 == 0) { goto after1; }
-        copy(l3 + UINT64_C(624), l5 + l2, l6);
-    }
-    after1:;
-    l2 = l1 + l2;
-    do_minisign_hash_blake2b_after_blocks(l3 + UINT64_C(560), l3 + UINT64_C(496), l2, l4 + ((u64) ((u32) (l2 < l1))), l3 + UINT64_C(624), UINT64_C(128), l6, UINT64_C(0), 1u);
-    store64(l3 + 488, load64(l3 + 616));
-    store64(l3 + 480, load64(l3 + 608));
-    store64(l3 + 472, load64(l3 + 600));
-    store64(l3 + 464, load64(l3 + 592));
-    store64(l3 + 456, load64(l3 + 584));
-    store64(l3 + 448, load64(l3 + 576));
-    store64(l3 + 440, load64(l3 + 568));
-    store64(l3 + 432, load64(l3 + 560));
-    {
-        l2 = load64(l3 + 408);
-        if (l2 == 0) { goto after2; }
-        copy(l3, l3 + UINT64_C(432), l2);
-    }
-    after2:;
-    store64(l0 + 56, load64(l3 + 56));
-    store64(l0 + 48, load64(l3 + 48));
-    store64(l0 + 40, load64(l3 + 40));
-    store64(l0 + 32, load64(l3 + 32));
-    store64(l0 + 24, load64(l3 + 24));
-    store64(l0 + 16, load64(l3 + 16));
-    store64(l0 + 8, load64(l3 + 8));
-    store64(l0, load64(l3));
-    sp = l3 + UINT64_C(752);
-}
-
-static void do_minisign_lists_values_ListValue_ask(u64 sp, u64 l0, u64 l1, u64 l2, u64 l3, u64 l4, u64 l5, u64 l6, u64 l7, u64 l8, u64 l9, u64 l10, u64 l11)
-{
-    u32 l15 = 0, l16 = 0, l17 = 0, l18 = 0, l19 = 0, l20 = 0;
-    u64 l12 = 0, l13 = 0, l14 = 0;
-    l12 = sp - UINT64_C(688);
-    sp = l12;
-    store64(l12 + 64, UINT64_C(0));
-    store64(l12 + 72, UINT64_C(0));
-    store64(l12 + 80, UINT64_C(0));
-    store64(l12 + 88, UINT64_C(0));
-    store64(l12 + 96, UINT64_C(0));
-    store64(l12 + 104, UINT64_C(0));
-    store64(l12 + 112, UINT64_C(0));
-    store64(l12 + 120, UINT64_C(0));
-    store64(l12, UINT64_C(0));
-    store64(l12 + 8, UINT64_C(0));
-    store64(l12 + 16, UINT64_C(0));
-    store64(l12 + 22, UINT64_C(0));
-    l13 = load64(l6 + UINT64_C(16));
-    l14 = load64(l6 + UINT64_C(8));
-    l15 = load8(l6);
-    store64(l12 + 640, UINT64_C(0));
-    store64(l12 + 648, UINT64_C(0));
-    store64(l12 + 656, UINT64_C(0));
-    store64(l12 + 664, UINT64_C(0));
-    store64(l12 + 672, UINT64_C(0));
-    store64(l12 + 680, UINT64_C(0));
-    l16 = 0u;
-    fill(l12 + UINT64_C(200), 0u, UINT64_C(440));
-    store64(l12 + 192, UINT64_C(0x5be0cd19137e2179));
-    store64(l12 + 184, UINT64_C(0x1f83d9abfb41bd6b));
-    store64(l12 + 176, UINT64_C(0x9b05688c2b3e6c1f));
-    store64(l12 + 168, UINT64_C(0x510e527fade682d1));
-    store64(l12 + 160, UINT64_C(0xa54ff53a5f1d36f1));
-    store64(l12 + 152, UINT64_C(0x3c6ef372fe94f82b));
-    store64(l12 + 144, UINT64_C(0xbb67ae8584caa73b));
-    store64(l12 + 136, UINT64_C(0x6a09e667f2bdc948));
-    store64(l12 + 128, UINT64_C(0x6e676973696e696d));
-    do_minisign_external_state_State_ask_strictly(sp, l12 + UINT64_C(640), l12 + UINT64_C(128), l2, l3, l4, l5, 0u, l9, l10, l11);
-    store64(l12 + 32, load64(l12 + 658));
-    store64(l12 + 40, load64(l12 + 666));
-    store64(l12 + 48, load64(l12 + 674));
-    store64(l12 + 54, load64(l12 + 680));
-    {
-        {
-            {
-                {
-                    {
-                        {
-                            l17 = load8(l12 + 640);
-                            if (l17 != 0) { goto after6; }
-                            l18 = 0u;
-                            {
-                                if ((load8(l12 + 641) & 1u) != 0) { goto after7; }
-                                l16 = 0u;
-                                goto after2;
-                            }
-                            after7:;
-                            do_minisign_lists_values_digest_of(sp, l12 + UINT64_C(64), l7, l8);
-                            store64(l9 + UINT64_C(88), load64(l12 + 120));
-                            store64(l9 + UINT64_C(80), load64(l12 + 112));
-                            store64(l9 + UINT64_C(72), load64(l12 + 104));
-                            store64(l9 + UINT64_C(64), load64(l12 + 96));
-                            store64(l9 + UINT64_C(56), load64(l12 + 88));
-                            store64(l9 + UINT64_C(48), load64(l12 + 80));
-                            store64(l9 + UINT64_C(40), load64(l12 + 72));
-                            store64(l9 + UINT64_C(32), load64(l12 + 64));
-                            l19 = load8(l3 + UINT64_C(195));
-                            l11 = load64(l2 + UINT64_C(40));
-                            if ((l15 & 255u) != 1u) { goto after4; }
-                            l16 = 0u;
-                            l3 = load64(l3 + UINT64_C(152));
-                            if (l3 == 0) { goto after3; }
-                            l9 = l10 + UINT64_C(64);
-                            again8:;
-                            {
-                                l6 = UINT64_C(0);
-                                {
-                                    again10:;
-                                    {
-                                        l2 = l9 + l6;
-                                        if (load8(l2) == 9u) { goto after9; }
-                                        l6 = l6 + UINT64_C(1);
-                                        if (l3 != l6) { goto again10; }
-                                    }
-                                    if (l3 < UINT64_C(5)) { goto after3; }
-                                    if (load8(l9) != 102u) { goto after3; }
-                                    if ((load8(l9 + UINT64_C(3)) & 255u) != 101u) { goto after3; }
-                                    if ((load8(l9 + UINT64_C(1)) & 255u) != 105u) { goto after3; }
-                                    if ((load8(l9 + UINT64_C(2)) & 255u) != 108u) { goto after3; }
-                                    if ((load8(l9 + UINT64_C(4)) & 255u) != 58u) { goto after3; }
-                                    goto after5;
-                                }
-                                after9:;
-                                {
-                                    if (l6 < UINT64_C(5)) { goto after11; }
-                                    if (load8(l9) != 102u) { goto after11; }
-                                    if ((load8(l9 + UINT64_C(3)) & 255u) != 101u) { goto after11; }
-                                    if ((load8(l9 + UINT64_C(1)) & 255u) != 105u) { goto after11; }
-                                    if ((load8(l9 + UINT64_C(2)) & 255u) != 108u) { goto after11; }
-                                    if ((load8(l9 + UINT64_C(4)) & 255u) != 58u) { goto after11; }
-                                    l3 = l6;
-                                    goto after5;
-                                }
-                                after11:;
-                                l10 = l3 + UINT64_C(0xffffffffffffffff);
-                                l3 = (l6 ^ UINT64_C(0xffffffffffffffff)) + l3;
-                                l9 = l2 + UINT64_C(1);
-                                if (l10 != l6) { goto again8; }
-                                goto after3;
-                            }
-                        }
-                        after6:;
-                        l20 = load8(l12 + 657);
-                        l18 = load8(l12 + 656);
-                        l19 = load8(l12 + 649);
-                        l15 = load8(l12 + 648);
-                        store64(l12 + 22, load64(l12 + 54));
-                        store64(l12 + 16, load64(l12 + 48));
-                        store64(l12 + 8, load64(l12 + 40));
-                        store64(l12, load64(l12 + 32));
-                        goto after1;
-                    }
-                    after5:;
-                    if ((l3 + UINT64_C(0xfffffffffffffffb)) != l13) { goto after3; }
-                    l6 = l9 + UINT64_C(5);
-                    {
-                        if (l13 < UINT64_C(4)) { goto after12; }
-                        if (load8(l9 + UINT64_C(5)) != load8(l14)) { goto after3; }
-                        if ((load8(l9 + UINT64_C(6)) & 255u) != (load8(l14 + UINT64_C(1)) & 255u)) { goto after3; }
-                        if ((load8(l9 + UINT64_C(7)) & 255u) != (load8(l14 + UINT64_C(2)) & 255u)) { goto after3; }
-                        if ((load8(l9 + UINT64_C(8)) & 255u) != (load8(l14 + UINT64_C(3)) & 255u)) { goto after3; }
-                        const u32 t1 = do_core_cmp_slices_groups_equal_i8_31_core_cmp_numbers_U8PartialEq(l6, l13, l14);
-                        if (t1 != 0) { goto after4; }
-                        goto after3;
-                    }
-                    after12:;
-                    if (l13 == 0) { goto after4; }
-                    l3 = UINT64_C(0);
-                    {
-                        if (load8(l6) != load8(l14)) { goto after13; }
-                        l3 = UINT64_C(1);
-                        if (l13 == UINT64_C(1)) { goto after4; }
-                        if (load8(l9 + UINT64_C(6)) != load8(l14 + UINT64_C(1))) { goto after13; }
-                        l3 = UINT64_C(2);
-                        if (l13 == UINT64_C(2)) { goto after4; }
-                        if (load8(l9 + UINT64_C(7)) == load8(l14 + UINT64_C(2))) { goto after4; }
-                    }
-                    after13:;
-                    if (l3 < l13) { goto after3; }
-                }
-                after4:;
-                l16 = 1u;
-            }
-            after3:;
-            store64(l1, UINT64_C(0x6b73616c696e696d));
-            store64(l1 + 8, load64(l12 + 64));
-            store64(l1 + 16, load64(l12 + 72));
-            store64(l1 + 24, load64(l12 + 80));
-            store64(l1 + 32, load64(l12 + 88));
-            store64(l1 + 40, load64(l12 + 96));
-            store64(l1 + 48, load64(l12 + 104));
-            store64(l1 + 56, load64(l12 + 112));
-            store64(l1 + 64, load64(l12 + 120));
-            store32(l1 + 84, l16);
-            store32(l1 + 80, l19);
-            store64(l1 + 72, l11);
-            l16 = 1u;
-        }
-        after2:;
-        l15 = 0u;
-        l19 = 0u;
-        l20 = 0u;
-    }
-    after1:;
-    store8(l0, l17);
-    store8(l0 + UINT64_C(17), l20);
-    store8(l0 + UINT64_C(16), l18);
-    store8(l0 + UINT64_C(9), l19);
-    store8(l0 + UINT64_C(8), l15);
-    store8(l0 + UINT64_C(1), l16);
-    store64(l0 + UINT64_C(18), load64(l12));
-    store64(l0 + UINT64_C(26), load64(l12 + 8));
-    store64(l0 + UINT64_C(34), load64(l12 + 16));
-    store64(l0 + UINT64_C(40), load64(l12 + 22));
-    sp = l12 + UINT64_C(688);
-}
-
-static u32 do_minisign_c_asked_number(u64 sp, u64 table, u64 l0)
-{
-    u32 l2 = 0, l3 = 0, l4 = 0, l5 = 0;
-    u64 l1 = 0;
-    l1 = sp - UINT64_C(48);
-    sp = l1;
-    store64(l1 + 8, UINT64_C(0));
-    {
-        {
-            if (load8(l0) != 0) { goto after2; }
-            l2 = (load8(l0 + UINT64_C(1)) & 1u) != 0 ? 0u : 81u;
-            goto after1;
-        }
-        after2:;
-        l3 = load8(l0 + UINT64_C(9));
-        l4 = load8(l0 + UINT64_C(16));
-        l2 = load8(l0 + UINT64_C(8));
-        store8(l1 + 17, load8(l0 + UINT64_C(17)));
-        store8(l1 + 16, l4);
-        store8(l1 + 9, l3);
-        store64(l1 + 18, load64(l0 + UINT64_C(18)));
-        store64(l1 + 26, load64(l0 + UINT64_C(26)));
-        store64(l1 + 34, load64(l0 + UINT64_C(34)));
-        store64(l1 + 40, load64(l0 + UINT64_C(40)));
-        store8(l1 + 8, l2);
-        {
-            l5 = l2 & 255u;
-            if (l5 == 0) { goto after3; }
-            const u32 t1 = do_minisign_external_numbers_PErrorNumbered_number(table, (l1 + UINT64_C(8)) + UINT64_C(8));
-            l2 = t1;
-            if (l5 != 1u) { goto after1; }
-            if ((l4 & 255u) != 2u) { goto after1; }
-            if (load64(l1 + 40) == 0) { goto after1; }
-            machine_rattle_dealloc(load64(l1 + 24));
-            goto after1;
-        }
-        after3:;
-        l2 = load32(((((u64) l3) & UINT64_C(255)) << 2) + address(data124));
-    }
-    after1:;
-    sp = l1 + UINT64_C(48);
-    return l2;
-}
-
-static u32 do_minisign_list_ask(u64 sp, u64 table, u64 l0, u64 l1, u64 l2, u64 l3, u64 l4, u64 l5, u64 l6, u64 l7, u64 l8, u64 l9, u64 l10, u64 l11)
-{
-    u32 l13 = 0;
-    u64 l12 = 0;
-    l12 = sp - UINT64_C(80);
-    sp = l12;
-    store64(l12 + 32, UINT64_C(0));
-    store64(l12 + 40, UINT64_C(0));
-    store64(l12 + 48, UINT64_C(0));
-    store64(l12 + 56, UINT64_C(0));
-    store64(l12 + 64, UINT64_C(0));
-    store64(l12 + 72, UINT64_C(0));
-    store64(l12 + 24, l6);
-    store64(l12 + 8, UINT64_C(1));
-    store64(l12 + 16, l5 + (l5 == 0 ? UINT64_C(4096) : UINT64_C(0)));
-    do_minisign_lists_values_ListValue_ask(sp, l12 + UINT64_C(32), l0, l1, l2, l3 + (l3 == 0 ? UINT64_C(4096) : UINT64_C(0)), l4, l12 + UINT64_C(8), l7 + (l7 == 0 ? UINT64_C(4096) : UINT64_C(0)), l8, l9, l10 + (l10 == 0 ? UINT64_C(4096) : UINT64_C(0)), l11);
-    const u32 t1 = do_minisign_c_asked_number(sp, table, l12 + UINT64_C(32));
-    l13 = t1;
-    sp = l12 + UINT64_C(80);
-    return l13;
-}
-
-static u32 do_minisign_list_ask_any(u64 sp, u64 table, u64 l0, u64 l1, u64 l2, u64 l3, u64 l4, u64 l5, u64 l6, u64 l7, u64 l8, u64 l9)
-{
-    u32 l11 = 0;
-    u64 l10 = 0;
-    l10 = sp - UINT64_C(80);
-    sp = l10;
-    store64(l10 + 32, UINT64_C(0));
-    store64(l10 + 40, UINT64_C(0));
-    store64(l10 + 48, UINT64_C(0));
-    store64(l10 + 56, UINT64_C(0));
-    store64(l10 + 64, UINT64_C(0));
-    store64(l10 + 72, UINT64_C(0));
-    store64(l10 + 8, UINT64_C(0));
-    store64(l10 + 16, UINT64_C(0));
-    store64(l10 + 24, UINT64_C(0));
-    do_minisign_lists_values_ListValue_ask(sp, l10 + UINT64_C(32), l0, l1, l2, l3 + (l3 == 0 ? UINT64_C(4096) : UINT64_C(0)), l4, l10 + UINT64_C(8), l5 + (l5 == 0 ? UINT64_C(4096) : UINT64_C(0)), l6, l7, l8 + (l8 == 0 ? UINT64_C(4096) : UINT64_C(0)), l9);
-    const u32 t1 = do_minisign_c_asked_number(sp, table, l10 + UINT64_C(32));
-    l11 = t1;
-    sp = l10 + UINT64_C(80);
-    return l11;
-}
-
-static u32 do_minisign_list_verdict(u64 table, u64 l0, u32 l1, u32 l2)
-{
-    u32 l3 = 0;
-    l3 = 4u;
-    {
-        {
-            if (l1 == 0x796573u) { goto after2; }
-            if (l1 != 28271u) { goto after1; }
-        }
-        after2:;
-        {
-            if (l2 == 0x796573u) { goto after3; }
-            if (l2 != 28271u) { goto after1; }
-        }
-        after3:;
-        {
-            if (load64(l0) == UINT64_C(0x6b73616c696e696d)) { goto after4; }
-            return 3u;
-        }
-        after4:;
-        store64(l0, UINT64_C(0));
-        l2 = ((u32) (l2 == 0x796573u)) & ((u32) (load32(l0 + UINT64_C(80)) == 1u));
-        {
-            if (l1 != 0x796573u) { goto after5; }
-            if (l2 == 0) { goto after5; }
-            {
-                if (load32(l0 + UINT64_C(84)) == 1u) { goto after6; }
-                return 89u;
-            }
-            after6:;
-            store64(l0, UINT64_C(0x7473696c696e696d));
-            return 0u;
-        }
-        after5:;
-        {
-            {
-                {
-                    {
-                        switch ((l1 == 0x796573u ? (l2 != 0 ? 0u : 40u) : 39u) + 0xffffffd9u) {
-                        case 0: goto after9;
-                        case 1: goto after8;
-                        default: goto after10;
-                        }
-                    }
-                    after10:;
-                    l0 = table + 832;
-                    goto after7;
-                }
-                after9:;
-                l0 = table + 880;
-                goto after7;
-            }
-            after8:;
-            l0 = table + 944;
-        }
-        after7:;
-        l3 = load32(l0);
-    }
-    after1:;
-    return l3;
 }
 
 static void do_minisign_lists_lines_named(u64 sp, u64 l0, u32 l1, u64 l2, u64 l3, u64 l4, u64 l5, u64 l6)
@@ -18376,7 +18033,7 @@ static void do_minisign_lists_lines_tagged_form(u64 sp, u64 table, u64 l0, u32 l
         after2:;
         {
             {
-                l6 = load64(l6 + (table + 5808));
+                l6 = load64(l6 + (table + 5728));
                 if (load8(l2) != load8(l6)) { goto after4; }
                 if ((load8(l2 + UINT64_C(1)) & 255u) != (load8(l6 + UINT64_C(1)) & 255u)) { goto after4; }
                 if ((load8(l2 + UINT64_C(2)) & 255u) != (load8(l6 + UINT64_C(2)) & 255u)) { goto after4; }
@@ -19633,6 +19290,3019 @@ static void do_minisign_lists_finding_find_listed(u64 sp, u64 table, u64 l0, u32
     sp = l6 + UINT64_C(496);
 }
 
+static void do_minisign_install_installation_listing_digest_of(u64 sp, u64 l0, u64 l1, u64 l2)
+{
+    u64 l3 = 0, l4 = 0, l5 = 0, l6 = 0;
+    l3 = sp - UINT64_C(752);
+    sp = l3;
+    store64(l3 + 56, UINT64_C(0));
+    store64(l3 + 48, UINT64_C(0));
+    store64(l3 + 40, UINT64_C(0));
+    store64(l3 + 32, UINT64_C(0));
+    store64(l3 + 24, UINT64_C(0));
+    store64(l3 + 16, UINT64_C(0));
+    store64(l3 + 8, UINT64_C(0));
+    store64(l3, UINT64_C(0));
+    store64(l3 + 120, UINT64_C(0x5be0cd19137e2179));
+    store64(l3 + 112, UINT64_C(0x1f83d9abfb41bd6b));
+    store64(l3 + 104, UINT64_C(0x9b05688c2b3e6c1f));
+    store64(l3 + 96, UINT64_C(0x510e527fade682d1));
+    store64(l3 + 88, UINT64_C(0xa54ff53a5f1d36f1));
+    store64(l3 + 80, UINT64_C(0x3c6ef372fe94f82b));
+    store64(l3 + 72, UINT64_C(0xbb67ae8584caa73b));
+    store64(l3 + 64, UINT64_C(0x6a09e667f2bdc948));
+    fill((l3 + UINT64_C(64)) + UINT64_C(64), 0u, UINT64_C(280));
+    store64(l3 + 416, UINT64_C(0));
+    store64(l3 + 408, UINT64_C(64));
+    store64(l3 + 424, UINT64_C(0));
+    do_minisign_hash_blake2b_Blake2b_update(sp, l3 + UINT64_C(64), l1, l2);
+    store64(l3 + 560, UINT64_C(0));
+    store64(l3 + 568, UINT64_C(0));
+    store64(l3 + 576, UINT64_C(0));
+    store64(l3 + 584, UINT64_C(0));
+    store64(l3 + 592, UINT64_C(0));
+    store64(l3 + 600, UINT64_C(0));
+    store64(l3 + 608, UINT64_C(0));
+    store64(l3 + 616, UINT64_C(0));
+    store64(l3 + 496, UINT64_C(0));
+    store64(l3 + 504, UINT64_C(0));
+    store64(l3 + 512, UINT64_C(0));
+    store64(l3 + 520, UINT64_C(0));
+    store64(l3 + 528, UINT64_C(0));
+    store64(l3 + 536, UINT64_C(0));
+    store64(l3 + 544, UINT64_C(0));
+    store64(l3 + 552, UINT64_C(0));
+    l1 = load64(l3 + 128);
+    l4 = load64(l3 + 136);
+    l5 = l3 + UINT64_C(144);
+    l6 = load64(l3 + 400);
+    l2 = (l6 - ((u64) ((u32) (l6 != UINT64_C(0))))) & UINT64_C(0xffffffffffffff80);
+    do_minisign_hash_blake2b_after_blocks(l3 + UINT64_C(496), l3 + UINT64_C(64), l1, l4, l5, l2, UINT64_C(128), UINT64_C(0), 0u);
+    fill(l3 + UINT64_C(624), 0u, UINT64_C(128));
+    {
+        l6 = l6 - l2;
+        if (l6 == 0) { goto after1; }
+        copy(l3 + UINT64_C(624), l5 + l2, l6);
+    }
+    after1:;
+    l2 = l1 + l2;
+    do_minisign_hash_blake2b_after_blocks(l3 + UINT64_C(560), l3 + UINT64_C(496), l2, l4 + ((u64) ((u32) (l2 < l1))), l3 + UINT64_C(624), UINT64_C(128), l6, UINT64_C(0), 1u);
+    store64(l3 + 488, load64(l3 + 616));
+    store64(l3 + 480, load64(l3 + 608));
+    store64(l3 + 472, load64(l3 + 600));
+    store64(l3 + 464, load64(l3 + 592));
+    store64(l3 + 456, load64(l3 + 584));
+    store64(l3 + 448, load64(l3 + 576));
+    store64(l3 + 440, load64(l3 + 568));
+    store64(l3 + 432, load64(l3 + 560));
+    {
+        l2 = load64(l3 + 408);
+        if (l2 == 0) { goto after2; }
+        copy(l3, l3 + UINT64_C(432), l2);
+    }
+    after2:;
+    store64(l0 + 56, load64(l3 + 56));
+    store64(l0 + 48, load64(l3 + 48));
+    store64(l0 + 40, load64(l3 + 40));
+    store64(l0 + 32, load64(l3 + 32));
+    store64(l0 + 24, load64(l3 + 24));
+    store64(l0 + 16, load64(l3 + 16));
+    store64(l0 + 8, load64(l3 + 8));
+    store64(l0, load64(l3));
+    sp = l3 + UINT64_C(752);
+}
+
+static u32 do_minisign_install_list(u64 sp, u64 table, u64 l0, u64 l1, u64 l2, u64 l3, u64 l4)
+{
+    u32 l7 = 0, l9 = 0, l11 = 0, l12 = 0, l14 = 0, l15 = 0, l16 = 0, l17 = 0, l18 = 0, l19 = 0;
+    u64 l5 = 0, l6 = 0, l8 = 0, l10 = 0, l13 = 0, l20 = 0;
+    l5 = sp - UINT64_C(512);
+    sp = l5;
+    {
+        {
+            if (load64(l0) != UINT64_C(0x6c6c6174736e696d)) { goto after2; }
+            if (load32(l0 + UINT64_C(8)) != 5u) { goto after2; }
+            l6 = l1 + (l1 == 0 ? UINT64_C(4096) : UINT64_C(0));
+            store64(l5 + 40, UINT64_C(0));
+            store64(l5 + 48, UINT64_C(0));
+            store64(l5 + 56, UINT64_C(0));
+            store64(l5 + 64, UINT64_C(0));
+            store64(l5 + 72, UINT64_C(0));
+            store64(l5 + 80, UINT64_C(0));
+            store64(l5 + 88, UINT64_C(0));
+            store64(l5 + 96, UINT64_C(0));
+            store64(l5 + 8, UINT64_C(0));
+            store64(l5 + 16, UINT64_C(0));
+            store64(l5 + 24, UINT64_C(0));
+            store64(l5 + 32, UINT64_C(0));
+            l7 = 0u;
+            {
+                if (load32(l0 + UINT64_C(140)) != 1u) { goto after3; }
+                l7 = load32(l0 + UINT64_C(144));
+                l7 = l7 == 3u ? 2u : ((u32) (l7 == 2u));
+            }
+            after3:;
+            store64(l5 + 264, UINT64_C(0));
+            store64(l5 + 272, UINT64_C(0));
+            store64(l5 + 280, UINT64_C(0));
+            store64(l5 + 288, UINT64_C(0));
+            store64(l5 + 296, UINT64_C(0));
+            store64(l5 + 304, UINT64_C(0));
+            store64(l5 + 312, UINT64_C(0));
+            store64(l5 + 320, UINT64_C(0));
+            store64(l5 + 232, UINT64_C(0));
+            store64(l5 + 240, UINT64_C(0));
+            store64(l5 + 248, UINT64_C(0));
+            store64(l5 + 256, UINT64_C(0));
+            store64(l5 + 104, UINT64_C(0));
+            store64(l5 + 112, UINT64_C(0));
+            store64(l5 + 120, UINT64_C(0));
+            store64(l5 + 128, UINT64_C(0));
+            store64(l5 + 136, UINT64_C(0));
+            store64(l5 + 144, UINT64_C(0));
+            store64(l5 + 152, UINT64_C(0));
+            store64(l5 + 160, UINT64_C(0));
+            fill(l5 + UINT64_C(360), 0u, UINT64_C(120));
+            store64(l5 + 184, UINT64_C(0));
+            store64(l5 + 176, UINT64_C(0));
+            store64(l5 + 168, UINT64_C(0));
+            do_core_str_utf8_from_utf8(sp, l5 + UINT64_C(168), l6, l2);
+            {
+                {
+                    {
+                        {
+                            if (load8(l5 + 168) != 0) { goto after7; }
+                            l1 = load64(l5 + 184);
+                            l8 = load64(l5 + 176);
+                            store64(l5 + 184, UINT64_C(0));
+                            store64(l5 + 176, UINT64_C(0));
+                            store64(l5 + 168, UINT64_C(0));
+                            do_core_str_utf8_from_utf8(sp, l5 + UINT64_C(168), l3 + (l3 == 0 ? UINT64_C(4096) : UINT64_C(0)), l4);
+                            if (load8(l5 + 168) != 0) { goto after7; }
+                            do_minisign_lists_finding_find_listed(sp, table, l5 + UINT64_C(360), l7, l8, l1, load64(l5 + 176), load64(l5 + 184));
+                            store64(l5 + 328, load64(l5 + 409));
+                            store64(l5 + 336, load64(l5 + 417));
+                            store64(l5 + 344, load64(l5 + 425));
+                            store64(l5 + 352, load64(l5 + 433));
+                            l7 = load8(l5 + 377);
+                            l1 = load64(l5 + 400);
+                            l4 = load64(l5 + 386);
+                            l3 = load64(l5 + 378);
+                            l9 = load8(l5 + 376);
+                            {
+                                if (load8(l5 + 360) != 0) { goto after8; }
+                                l8 = ((u64) load16(l5 + UINT64_C(398))) << 32;
+                                l10 = (u64) load32(l5 + 394);
+                                l11 = load8(l5 + 408);
+                                do_minisign_install_installation_listing_digest_of(sp, l5 + UINT64_C(168), l6, l2);
+                                {
+                                    {
+                                        {
+                                            {
+                                                switch (l9) {
+                                                case 1: goto after11;
+                                                case 2: goto after10;
+                                                default: goto after12;
+                                                }
+                                            }
+                                            after12:;
+                                            store64(l5 + 504, UINT64_C(0));
+                                            store64(l5 + 496, UINT64_C(0));
+                                            store64(l5 + 488, UINT64_C(0));
+                                            store64(l5 + 480, UINT64_C(0));
+                                            store64(l5 + 360, load64(l5 + 168));
+                                            store64(l5 + 368, load64(l5 + 176));
+                                            store64(l5 + 376, load64(l5 + 184));
+                                            store64(l5 + 384, load64(l5 + 192));
+                                            store64(l5 + 392, load64(l5 + 200));
+                                            store64(l5 + 400, load64(l5 + 208));
+                                            store64(l5 + 408, load64(l5 + 216));
+                                            store64(l5 + 416, load64(l5 + 224));
+                                            l9 = 1u;
+                                            goto after9;
+                                        }
+                                        after11:;
+                                        store64(l5 + 416, load64(l5 + 224));
+                                        store64(l5 + 408, load64(l5 + 216));
+                                        store64(l5 + 400, load64(l5 + 208));
+                                        store64(l5 + 392, load64(l5 + 200));
+                                        store64(l5 + 384, load64(l5 + 192));
+                                        store64(l5 + 376, load64(l5 + 184));
+                                        store64(l5 + 368, load64(l5 + 176));
+                                        store64(l5 + 360, load64(l5 + 168));
+                                        store64(l5 + 480, load64(l5 + 328));
+                                        store64(l5 + 488, load64(l5 + 336));
+                                        store64(l5 + 496, load64(l5 + 344));
+                                        store64(l5 + 504, load64(l5 + 352));
+                                        l9 = 2u;
+                                        goto after9;
+                                    }
+                                    after10:;
+                                    store64(l5 + 416, load64(l5 + 224));
+                                    store64(l5 + 408, load64(l5 + 216));
+                                    store64(l5 + 400, load64(l5 + 208));
+                                    store64(l5 + 392, load64(l5 + 200));
+                                    store64(l5 + 384, load64(l5 + 192));
+                                    store64(l5 + 376, load64(l5 + 184));
+                                    store64(l5 + 368, load64(l5 + 176));
+                                    store64(l5 + 360, load64(l5 + 168));
+                                    store64(l5 + 480, load64(l5 + 328));
+                                    store64(l5 + 488, load64(l5 + 336));
+                                    store64(l5 + 496, load64(l5 + 344));
+                                    store64(l5 + 504, load64(l5 + 352));
+                                    l9 = 3u;
+                                }
+                                after9:;
+                                l2 = l10 | l8;
+                                store64(l5 + 320, load64(l5 + 416));
+                                store64(l5 + 312, load64(l5 + 408));
+                                store64(l5 + 304, load64(l5 + 400));
+                                store64(l5 + 296, load64(l5 + 392));
+                                store64(l5 + 288, load64(l5 + 384));
+                                store64(l5 + 280, load64(l5 + 376));
+                                store64(l5 + 272, load64(l5 + 368));
+                                store64(l5 + 264, load64(l5 + 360));
+                                store64(l5 + 232, load64(l5 + 480));
+                                store64(l5 + 240, load64(l5 + 488));
+                                store64(l5 + 248, load64(l5 + 496));
+                                store64(l5 + 256, load64(l5 + 504));
+                                l12 = 0u;
+                                l6 = UINT64_C(0);
+                                goto after4;
+                            }
+                            after8:;
+                            l8 = ((u64) l7) & UINT64_C(255);
+                            l7 = load8(l5 + 368);
+                            l10 = (u64) l9;
+                            do_minisign_install_installation_listing_digest_of(sp, l5 + UINT64_C(104), l6, l2);
+                            l2 = (l4 << 16) | (l3 >> 48);
+                            l6 = UINT64_C(0);
+                            {
+                                if (((1u << ((l7 & 255u) & 31)) & 87u) != 0) { goto after13; }
+                                l6 = ((l8 << 8) | l10) | (l3 << 16);
+                            }
+                            after13:;
+                            l3 = table + 5360;
+                            {
+                                {
+                                    {
+                                        {
+                                            switch ((u32) (((u64) l7) & UINT64_C(255))) {
+                                            case 1: goto after16;
+                                            case 2: goto after14;
+                                            case 3: goto after17;
+                                            case 4: goto after16;
+                                            case 5: goto after15;
+                                            case 6: goto after16;
+                                            default: goto after6;
+                                            }
+                                        }
+                                        after17:;
+                                        l3 = table + 5456;
+                                        goto after14;
+                                    }
+                                    after16:;
+                                    l3 = table + 5520;
+                                    goto after14;
+                                }
+                                after15:;
+                                l3 = table + 5584;
+                            }
+                            after14:;
+                            store64(l5 + 416, load64(l5 + 160));
+                            store64(l5 + 408, load64(l5 + 152));
+                            store64(l5 + 400, load64(l5 + 144));
+                            store64(l5 + 392, load64(l5 + 136));
+                            store64(l5 + 384, load64(l5 + 128));
+                            store64(l5 + 376, load64(l5 + 120));
+                            store64(l5 + 368, load64(l5 + 112));
+                            store64(l5 + 360, load64(l5 + 104));
+                            store64(l5 + 168, UINT64_C(0));
+                            store64(l5 + 176, UINT64_C(0));
+                            store64(l5 + 184, UINT64_C(0));
+                            store64(l5 + 192, UINT64_C(0));
+                            l12 = load32(l3);
+                            goto after5;
+                        }
+                        after7:;
+                        do_minisign_install_installation_listing_digest_of(sp, l5 + UINT64_C(104), l6, l2);
+                        l6 = UINT64_C(0);
+                        l9 = 0u;
+                        l1 = UINT64_C(0);
+                        l2 = UINT64_C(0);
+                    }
+                    after6:;
+                    store64(l5 + 416, load64(l5 + 160));
+                    store64(l5 + 408, load64(l5 + 152));
+                    store64(l5 + 400, load64(l5 + 144));
+                    store64(l5 + 392, load64(l5 + 136));
+                    store64(l5 + 384, load64(l5 + 128));
+                    store64(l5 + 376, load64(l5 + 120));
+                    store64(l5 + 368, load64(l5 + 112));
+                    store64(l5 + 360, load64(l5 + 104));
+                    store64(l5 + 168, UINT64_C(0));
+                    store64(l5 + 176, UINT64_C(0));
+                    store64(l5 + 184, UINT64_C(0));
+                    store64(l5 + 192, UINT64_C(0));
+                    l12 = 8u;
+                    if (l9 != 2u) { goto after5; }
+                    if (l1 == 0) { goto after5; }
+                    machine_rattle_dealloc(l2);
+                }
+                after5:;
+                store64(l5 + 320, load64(l5 + 416));
+                store64(l5 + 312, load64(l5 + 408));
+                store64(l5 + 304, load64(l5 + 400));
+                store64(l5 + 296, load64(l5 + 392));
+                store64(l5 + 288, load64(l5 + 384));
+                store64(l5 + 280, load64(l5 + 376));
+                store64(l5 + 272, load64(l5 + 368));
+                store64(l5 + 264, load64(l5 + 360));
+                store64(l5 + 232, load64(l5 + 168));
+                store64(l5 + 240, load64(l5 + 176));
+                store64(l5 + 248, load64(l5 + 184));
+                store64(l5 + 256, load64(l5 + 192));
+                l11 = 0u;
+                l1 = UINT64_C(0);
+                l2 = UINT64_C(0);
+                l4 = UINT64_C(0);
+                l3 = UINT64_C(0);
+                l7 = 0u;
+                l9 = 0u;
+            }
+            after4:;
+            store64(l5 + 96, load64(l5 + 320));
+            store64(l5 + 88, load64(l5 + 312));
+            store64(l5 + 80, load64(l5 + 304));
+            store64(l5 + 72, load64(l5 + 296));
+            store64(l5 + 64, load64(l5 + 288));
+            store64(l5 + 56, load64(l5 + 280));
+            store64(l5 + 48, load64(l5 + 272));
+            store64(l5 + 40, load64(l5 + 264));
+            store64(l5 + 8, load64(l5 + 232));
+            store64(l5 + 16, load64(l5 + 240));
+            store64(l5 + 24, load64(l5 + 248));
+            store64(l5 + 32, load64(l5 + 256));
+            store16(l0 + UINT64_C(925), l2 >> 32);
+            store32(l0 + UINT64_C(921), l2);
+            store64(l0 + UINT64_C(896), load64(l5 + 96));
+            store64(l0 + UINT64_C(888), load64(l5 + 88));
+            store64(l0 + UINT64_C(880), load64(l5 + 80));
+            store64(l0 + UINT64_C(872), load64(l5 + 72));
+            store64(l0 + UINT64_C(864), load64(l5 + 64));
+            store64(l0 + UINT64_C(856), load64(l5 + 56));
+            store64(l0 + UINT64_C(848), load64(l5 + 48));
+            store64(l0 + UINT64_C(840), load64(l5 + 40));
+            store8(l0 + UINT64_C(935), l11);
+            store64(l0 + UINT64_C(927), l1);
+            store64(l0 + UINT64_C(913), l4);
+            store64(l0 + UINT64_C(905), l3);
+            store8(l0 + UINT64_C(904), l7);
+            store64(l0 + UINT64_C(968), l6);
+            store32(l0 + UINT64_C(976), l9);
+            store32(l0 + UINT64_C(980), l12);
+            store64(l0 + UINT64_C(960), load64(l5 + 32));
+            store64(l0 + UINT64_C(952), load64(l5 + 24));
+            store64(l0 + UINT64_C(944), load64(l5 + 16));
+            store64(l0 + UINT64_C(936), load64(l5 + 8));
+            l1 = UINT64_C(0x5be0cd19137e2179);
+            l2 = UINT64_C(0x1f83d9abfb41bd6b);
+            l3 = UINT64_C(0x9b05688c2b3e6c1f);
+            l4 = UINT64_C(0x510e527fade682d1);
+            l6 = UINT64_C(0xa54ff53a5f1d36f1);
+            l8 = UINT64_C(0x3c6ef372fe94f82b);
+            l10 = UINT64_C(0xbb67ae8584caa73b);
+            l13 = UINT64_C(0x6a09e667f2bdc948);
+            l7 = 0u;
+            {
+                {
+                    if (load32(l0 + UINT64_C(140)) == 1u) { goto after19; }
+                    l11 = 0u;
+                    l12 = 0u;
+                    l14 = 0u;
+                    l15 = 0u;
+                    l16 = 0u;
+                    l17 = 0u;
+                    l18 = 0u;
+                    l19 = 0u;
+                    goto after18;
+                }
+                after19:;
+                l11 = 0u;
+                l12 = 0u;
+                l14 = 0u;
+                l15 = 0u;
+                l16 = 0u;
+                l17 = 0u;
+                l18 = 0u;
+                l19 = 0u;
+                l9 = l9 + 0xffffffffu;
+                if (l9 > 2u) { goto after18; }
+                l20 = (u64) l9;
+                l13 = l20 << 3;
+                l1 = load64(l13 + address(data143));
+                l2 = load64(l13 + address(data142));
+                l3 = load64(l13 + address(data141));
+                l4 = load64(l13 + address(data140));
+                l6 = load64(l13 + address(data139));
+                l8 = load64(l13 + address(data138));
+                l10 = load64(l13 + address(data137));
+                l13 = load64(l13 + address(data136));
+                l20 = l20 << 2;
+                l19 = load32(l20 + address(data135));
+                l18 = load32(l20 + address(data134));
+                l17 = load32(l20 + address(data133));
+                l16 = load32(l20 + address(data132));
+                l15 = load32(l20 + address(data131));
+                l14 = load32(l20 + address(data130));
+                l12 = load32(l20 + address(data129));
+                l11 = load32(l20 + address(data128));
+            }
+            after18:;
+            store64(l0 + UINT64_C(520), l1);
+            store64(l0 + UINT64_C(512), l2);
+            store64(l0 + UINT64_C(504), l3);
+            store64(l0 + UINT64_C(496), l4);
+            store64(l0 + UINT64_C(488), l6);
+            store64(l0 + UINT64_C(480), l8);
+            store64(l0 + UINT64_C(472), l10);
+            store64(l0 + UINT64_C(464), l13);
+            fill(l0 + UINT64_C(528), 0u, UINT64_C(280));
+            store32(l0 + UINT64_C(836), l11);
+            store32(l0 + UINT64_C(832), l12);
+            store32(l0 + UINT64_C(828), l14);
+            store32(l0 + UINT64_C(824), l15);
+            store32(l0 + UINT64_C(820), l16);
+            store32(l0 + UINT64_C(816), l17);
+            store32(l0 + UINT64_C(812), l18);
+            store32(l0 + UINT64_C(808), l19);
+            store32(l0 + UINT64_C(8), 6u);
+            goto after1;
+        }
+        after2:;
+        store64(l5 + 400, UINT64_C(0));
+        store64(l5 + 394, UINT64_C(0));
+        store64(l5 + 386, UINT64_C(0));
+        store64(l5 + 378, UINT64_C(0));
+        store16(l5 + 376, 0u);
+        store64(l5 + 368, UINT64_C(0));
+        store64(l5 + 360, UINT64_C(2304));
+        const u32 t1 = do_minisign_external_state_Refusal_number_740bc7f2a85702bc(table, l5 + UINT64_C(360));
+        l7 = t1;
+    }
+    after1:;
+    sp = l5 + UINT64_C(512);
+    return l7;
+}
+
+static void do_minisign_install_installation_reading_Reading_blake2b_digest(u64 sp, u64 l0, u64 l1)
+{
+    u64 l2 = 0, l3 = 0, l4 = 0, l5 = 0, l6 = 0, l7 = 0, l8 = 0, l9 = 0, l10 = 0, l11 = 0;
+    l2 = sp - UINT64_C(688);
+    sp = l2;
+    l3 = UINT64_C(0);
+    l4 = UINT64_C(0);
+    l5 = UINT64_C(0);
+    l6 = UINT64_C(0);
+    l7 = UINT64_C(0);
+    l8 = UINT64_C(0);
+    l9 = UINT64_C(0);
+    l10 = UINT64_C(0);
+    {
+        l11 = load64(l1 + UINT64_C(80));
+        if (l11 > UINT64_C(256)) { goto after1; }
+        store64(l2, load64(l1));
+        store64(l2 + 8, load64(l1 + 8));
+        store64(l2 + 16, load64(l1 + 16));
+        store64(l2 + 24, load64(l1 + 24));
+        store64(l2 + 32, load64(l1 + 32));
+        store64(l2 + 40, load64(l1 + 40));
+        store64(l2 + 48, load64(l1 + 48));
+        store64(l2 + 56, load64(l1 + 56));
+        l3 = load64(l1 + UINT64_C(64));
+        l4 = load64(l1 + UINT64_C(72));
+        store64(l2 + 72, l4);
+        store64(l2 + 64, l3);
+        l5 = l2 + UINT64_C(80);
+        copy(l5, l1 + UINT64_C(88), UINT64_C(256));
+        store64(l2 + 352, UINT64_C(0));
+        store64(l2 + 344, UINT64_C(64));
+        store64(l2 + 360, UINT64_C(0));
+        store64(l2 + 336, l11);
+        store64(l2 + 496, UINT64_C(0));
+        store64(l2 + 504, UINT64_C(0));
+        store64(l2 + 512, UINT64_C(0));
+        store64(l2 + 520, UINT64_C(0));
+        store64(l2 + 528, UINT64_C(0));
+        store64(l2 + 536, UINT64_C(0));
+        store64(l2 + 544, UINT64_C(0));
+        store64(l2 + 552, UINT64_C(0));
+        store64(l2 + 432, UINT64_C(0));
+        store64(l2 + 440, UINT64_C(0));
+        store64(l2 + 448, UINT64_C(0));
+        store64(l2 + 456, UINT64_C(0));
+        store64(l2 + 464, UINT64_C(0));
+        store64(l2 + 472, UINT64_C(0));
+        store64(l2 + 480, UINT64_C(0));
+        store64(l2 + 488, UINT64_C(0));
+        store64(l2 + 368, load64(l1));
+        store64(l2 + 376, load64(l1 + 8));
+        store64(l2 + 384, load64(l1 + 16));
+        store64(l2 + 392, load64(l1 + 24));
+        store64(l2 + 400, load64(l1 + 32));
+        store64(l2 + 408, load64(l1 + 40));
+        store64(l2 + 416, load64(l1 + 48));
+        store64(l2 + 424, load64(l1 + 56));
+        l1 = (l11 - ((u64) ((u32) (l11 != UINT64_C(0))))) & UINT64_C(384);
+        do_minisign_hash_blake2b_after_blocks(l2 + UINT64_C(432), l2 + UINT64_C(368), l3, l4, l5, l1, UINT64_C(128), UINT64_C(0), 0u);
+        fill(l2 + UINT64_C(560), 0u, UINT64_C(128));
+        {
+            l11 = l11 - l1;
+            if (l11 == 0) { goto after2; }
+            copy(l2 + UINT64_C(560), l5 + l1, l11);
+        }
+        after2:;
+        l1 = l3 + l1;
+        do_minisign_hash_blake2b_after_blocks(l2 + UINT64_C(496), l2 + UINT64_C(432), l1, l4 + ((u64) ((u32) (l1 < l3))), l2 + UINT64_C(560), UINT64_C(128), l11, UINT64_C(0), 1u);
+        l10 = load64(l2 + 552);
+        l9 = load64(l2 + 544);
+        l8 = load64(l2 + 536);
+        l7 = load64(l2 + 528);
+        l6 = load64(l2 + 520);
+        l5 = load64(l2 + 512);
+        l4 = load64(l2 + 504);
+        l3 = load64(l2 + 496);
+    }
+    after1:;
+    store64(l0 + 56, l10);
+    store64(l0 + 48, l9);
+    store64(l0 + 40, l8);
+    store64(l0 + 32, l7);
+    store64(l0 + 24, l6);
+    store64(l0 + 16, l5);
+    store64(l0 + 8, l4);
+    store64(l0, l3);
+    sp = l2 + UINT64_C(688);
+}
+
+static u32 do_minisign_install_question(u64 sp, u64 l0, u64 l1, u64 l2, u64 l3)
+{
+    u32 l6 = 0, l7 = 0;
+    u64 l4 = 0, l5 = 0;
+    l4 = sp - UINT64_C(1504);
+    sp = l4;
+    {
+        {
+            {
+                if (load64(l0) != UINT64_C(0x6c6c6174736e696d)) { goto after3; }
+                if (load32(l0 + UINT64_C(416)) != 1u) { goto after3; }
+                store64(l4 + 1368, UINT64_C(0));
+                store64(l4 + 1360, UINT64_C(0));
+                store64(l4 + 1352, UINT64_C(0));
+                store64(l4 + 1344, UINT64_C(0));
+                {
+                    {
+                        if (load32(l0 + UINT64_C(432)) != 1u) { goto after5; }
+                        l5 = l0 + UINT64_C(24);
+                        goto after4;
+                    }
+                    after5:;
+                    if (load32(l0 + UINT64_C(436)) != 1u) { goto after3; }
+                    store64(l4 + 1368, load64(l0 + UINT64_C(96)));
+                    store64(l4 + 1360, load64(l0 + UINT64_C(88)));
+                    store64(l4 + 1352, load64(l0 + UINT64_C(80)));
+                    store64(l4 + 1344, load64(l0 + UINT64_C(72)));
+                    l5 = l4 + UINT64_C(1344);
+                }
+                after4:;
+                store64(l4 + 344, load64(l5 + 24));
+                store64(l4 + 336, load64(l5 + 16));
+                store64(l4 + 328, load64(l5 + 8));
+                store64(l4 + 320, load64(l5));
+                {
+                    {
+                        {
+                            {
+                                {
+                                    {
+                                        l6 = load32(l0 + UINT64_C(8));
+                                        switch ((u32) (((u64) (l6 > 30u ? 0u : l6)) & UINT64_C(255))) {
+                                        case 4: goto after7;
+                                        case 6: goto after11;
+                                        case 7: goto after10;
+                                        case 9: goto after9;
+                                        case 16: goto after8;
+                                        default: goto after3;
+                                        }
+                                    }
+                                    after11:;
+                                    {
+                                        {
+                                            if (load32(l0 + UINT64_C(140)) != 1u) { goto after13; }
+                                            store64(l4 + 568, load64(l0 + UINT64_C(896)));
+                                            store64(l4 + 560, load64(l0 + UINT64_C(888)));
+                                            store64(l4 + 552, load64(l0 + UINT64_C(880)));
+                                            store64(l4 + 544, load64(l0 + UINT64_C(872)));
+                                            store64(l4 + 536, load64(l0 + UINT64_C(864)));
+                                            store64(l4 + 528, load64(l0 + UINT64_C(856)));
+                                            store64(l4 + 520, load64(l0 + UINT64_C(848)));
+                                            store64(l4 + 512, load64(l0 + UINT64_C(840)));
+                                            goto after12;
+                                        }
+                                        after13:;
+                                        do_minisign_install_installation_reading_Reading_blake2b_digest(sp, l4 + UINT64_C(512), l0 + UINT64_C(464));
+                                    }
+                                    after12:;
+                                    store64(l4 + 600, load64(l4 + 344));
+                                    store64(l4 + 592, load64(l4 + 336));
+                                    store64(l4 + 584, load64(l4 + 328));
+                                    store64(l4 + 576, load64(l4 + 320));
+                                    store64(l4 + 672, load64(l4 + 512));
+                                    store64(l4 + 680, load64(l4 + 520));
+                                    store64(l4 + 688, load64(l4 + 528));
+                                    store64(l4 + 696, load64(l4 + 536));
+                                    store64(l4 + 704, load64(l4 + 544));
+                                    store64(l4 + 712, load64(l4 + 552));
+                                    store64(l4 + 720, load64(l4 + 560));
+                                    store64(l4 + 728, load64(l4 + 568));
+                                    store64(l4 + 664, load64(l0 + UINT64_C(344)));
+                                    store64(l4 + 656, load64(l0 + UINT64_C(336)));
+                                    store64(l4 + 648, load64(l0 + UINT64_C(328)));
+                                    store64(l4 + 640, load64(l0 + UINT64_C(320)));
+                                    store64(l4 + 632, load64(l0 + UINT64_C(312)));
+                                    store64(l4 + 624, load64(l0 + UINT64_C(304)));
+                                    store64(l4 + 616, load64(l0 + UINT64_C(296)));
+                                    store64(l4 + 608, load64(l0 + UINT64_C(288)));
+                                    l0 = l4 + UINT64_C(576);
+                                    goto after6;
+                                }
+                                after10:;
+                                fill(l4 + UINT64_C(736), 0u, UINT64_C(160));
+                                {
+                                    l7 = (u32) (load32(l0 + UINT64_C(264)) != 1u);
+                                    if (l7 != 0) { goto after14; }
+                                    store64(l4 + 920, load64(l4 + 344));
+                                    store64(l4 + 912, load64(l4 + 336));
+                                    store64(l4 + 904, load64(l4 + 328));
+                                    store64(l4 + 896, load64(l4 + 320));
+                                    store64(l4 + 992, load64(l0 + UINT64_C(192)));
+                                    store64(l4 + 1000, load64(l0 + UINT64_C(200)));
+                                    store64(l4 + 1008, load64(l0 + UINT64_C(208)));
+                                    store64(l4 + 1016, load64(l0 + UINT64_C(216)));
+                                    store64(l4 + 1024, load64(l0 + UINT64_C(224)));
+                                    store64(l4 + 1032, load64(l0 + UINT64_C(232)));
+                                    store64(l4 + 1040, load64(l0 + UINT64_C(240)));
+                                    store64(l4 + 1048, load64(l0 + UINT64_C(248)));
+                                    store64(l4 + 984, load64(l0 + UINT64_C(344)));
+                                    store64(l4 + 976, load64(l0 + UINT64_C(336)));
+                                    store64(l4 + 968, load64(l0 + UINT64_C(328)));
+                                    store64(l4 + 960, load64(l0 + UINT64_C(320)));
+                                    store64(l4 + 952, load64(l0 + UINT64_C(312)));
+                                    store64(l4 + 944, load64(l0 + UINT64_C(304)));
+                                    store64(l4 + 936, load64(l0 + UINT64_C(296)));
+                                    store64(l4 + 928, load64(l0 + UINT64_C(288)));
+                                    copy(l4 + UINT64_C(736), l4 + UINT64_C(896), UINT64_C(160));
+                                }
+                                after14:;
+                                copy(l4 + UINT64_C(1344), l4 + UINT64_C(736), UINT64_C(160));
+                                l6 = 12u;
+                                if (l7 != 0) { goto after1; }
+                                goto after2;
+                            }
+                            after9:;
+                            {
+                                {
+                                    if (load32(l0 + UINT64_C(140)) != 1u) { goto after16; }
+                                    store64(l4 + 1112, load64(l0 + UINT64_C(896)));
+                                    store64(l4 + 1104, load64(l0 + UINT64_C(888)));
+                                    store64(l4 + 1096, load64(l0 + UINT64_C(880)));
+                                    store64(l4 + 1088, load64(l0 + UINT64_C(872)));
+                                    store64(l4 + 1080, load64(l0 + UINT64_C(864)));
+                                    store64(l4 + 1072, load64(l0 + UINT64_C(856)));
+                                    store64(l4 + 1064, load64(l0 + UINT64_C(848)));
+                                    store64(l4 + 1056, load64(l0 + UINT64_C(840)));
+                                    goto after15;
+                                }
+                                after16:;
+                                do_minisign_install_installation_reading_Reading_blake2b_digest(sp, l4 + UINT64_C(1056), l0 + UINT64_C(464));
+                            }
+                            after15:;
+                            store64(l4 + 1144, load64(l4 + 344));
+                            store64(l4 + 1136, load64(l4 + 336));
+                            store64(l4 + 1128, load64(l4 + 328));
+                            store64(l4 + 1120, load64(l4 + 320));
+                            store64(l4 + 1216, load64(l4 + 1056));
+                            store64(l4 + 1224, load64(l4 + 1064));
+                            store64(l4 + 1232, load64(l4 + 1072));
+                            store64(l4 + 1240, load64(l4 + 1080));
+                            store64(l4 + 1248, load64(l4 + 1088));
+                            store64(l4 + 1256, load64(l4 + 1096));
+                            store64(l4 + 1264, load64(l4 + 1104));
+                            store64(l4 + 1272, load64(l4 + 1112));
+                            store64(l4 + 1208, load64(l0 + UINT64_C(344)));
+                            store64(l4 + 1200, load64(l0 + UINT64_C(336)));
+                            store64(l4 + 1192, load64(l0 + UINT64_C(328)));
+                            store64(l4 + 1184, load64(l0 + UINT64_C(320)));
+                            store64(l4 + 1176, load64(l0 + UINT64_C(312)));
+                            store64(l4 + 1168, load64(l0 + UINT64_C(304)));
+                            store64(l4 + 1160, load64(l0 + UINT64_C(296)));
+                            store64(l4 + 1152, load64(l0 + UINT64_C(288)));
+                            l0 = l4 + UINT64_C(1120);
+                            goto after6;
+                        }
+                        after8:;
+                        {
+                            {
+                                if (load32(l0 + UINT64_C(140)) != 1u) { goto after18; }
+                                store64(l4 + 1336, load64(l0 + UINT64_C(896)));
+                                store64(l4 + 1328, load64(l0 + UINT64_C(888)));
+                                store64(l4 + 1320, load64(l0 + UINT64_C(880)));
+                                store64(l4 + 1312, load64(l0 + UINT64_C(872)));
+                                store64(l4 + 1304, load64(l0 + UINT64_C(864)));
+                                store64(l4 + 1296, load64(l0 + UINT64_C(856)));
+                                store64(l4 + 1288, load64(l0 + UINT64_C(848)));
+                                store64(l4 + 1280, load64(l0 + UINT64_C(840)));
+                                goto after17;
+                            }
+                            after18:;
+                            do_minisign_install_installation_reading_Reading_blake2b_digest(sp, l4 + UINT64_C(1280), l0 + UINT64_C(464));
+                        }
+                        after17:;
+                        store64(l4 + 1368, load64(l4 + 344));
+                        store64(l4 + 1360, load64(l4 + 336));
+                        store64(l4 + 1352, load64(l4 + 328));
+                        store64(l4 + 1344, load64(l4 + 320));
+                        store64(l4 + 1440, load64(l4 + 1280));
+                        store64(l4 + 1448, load64(l4 + 1288));
+                        store64(l4 + 1456, load64(l4 + 1296));
+                        store64(l4 + 1464, load64(l4 + 1304));
+                        store64(l4 + 1472, load64(l4 + 1312));
+                        store64(l4 + 1480, load64(l4 + 1320));
+                        store64(l4 + 1488, load64(l4 + 1328));
+                        store64(l4 + 1496, load64(l4 + 1336));
+                        store64(l4 + 1432, load64(l0 + UINT64_C(344)));
+                        store64(l4 + 1424, load64(l0 + UINT64_C(336)));
+                        store64(l4 + 1416, load64(l0 + UINT64_C(328)));
+                        store64(l4 + 1408, load64(l0 + UINT64_C(320)));
+                        store64(l4 + 1400, load64(l0 + UINT64_C(312)));
+                        store64(l4 + 1392, load64(l0 + UINT64_C(304)));
+                        store64(l4 + 1384, load64(l0 + UINT64_C(296)));
+                        store64(l4 + 1376, load64(l0 + UINT64_C(288)));
+                        l0 = l4 + UINT64_C(1344);
+                        goto after6;
+                    }
+                    after7:;
+                    store64(l4 + 376, load64(l4 + 344));
+                    store64(l4 + 368, load64(l4 + 336));
+                    store64(l4 + 360, load64(l4 + 328));
+                    store64(l4 + 352, load64(l4 + 320));
+                    store64(l4 + 384, load64(l0 + UINT64_C(352)));
+                    store64(l4 + 392, load64(l0 + UINT64_C(360)));
+                    store64(l4 + 400, load64(l0 + UINT64_C(368)));
+                    store64(l4 + 408, load64(l0 + UINT64_C(376)));
+                    store64(l4 + 416, load64(l0 + UINT64_C(384)));
+                    store64(l4 + 424, load64(l0 + UINT64_C(392)));
+                    store64(l4 + 432, load64(l0 + UINT64_C(400)));
+                    store64(l4 + 440, load64(l0 + UINT64_C(408)));
+                    store64(l4 + 504, UINT64_C(0));
+                    store64(l4 + 496, UINT64_C(0));
+                    store64(l4 + 488, UINT64_C(0));
+                    store64(l4 + 480, UINT64_C(0));
+                    store64(l4 + 472, UINT64_C(0));
+                    store64(l4 + 464, UINT64_C(0));
+                    store64(l4 + 456, UINT64_C(0));
+                    store64(l4 + 448, UINT64_C(0));
+                    l0 = l4 + UINT64_C(352);
+                }
+                after6:;
+                copy(l4 + UINT64_C(160), l0, UINT64_C(160));
+                copy(l4, l4 + UINT64_C(160), UINT64_C(160));
+                copy(l4 + UINT64_C(1344), l4, UINT64_C(160));
+                goto after2;
+            }
+            after3:;
+            l6 = 12u;
+            goto after1;
+        }
+        after2:;
+        store64(l1 + 24, load64(l4 + 1368));
+        store64(l1 + 16, load64(l4 + 1360));
+        store64(l1 + 8, load64(l4 + 1352));
+        store64(l1, load64(l4 + 1344));
+        store64(l2 + 56, load64(l4 + 1432));
+        store64(l2 + 48, load64(l4 + 1424));
+        store64(l2 + 40, load64(l4 + 1416));
+        store64(l2 + 32, load64(l4 + 1408));
+        store64(l2 + 24, load64(l4 + 1400));
+        store64(l2 + 16, load64(l4 + 1392));
+        store64(l2 + 8, load64(l4 + 1384));
+        store64(l2, load64(l4 + 1376));
+        store64(l3 + 56, load64(l4 + 1496));
+        store64(l3 + 48, load64(l4 + 1488));
+        store64(l3 + 40, load64(l4 + 1480));
+        store64(l3 + 32, load64(l4 + 1472));
+        store64(l3 + 24, load64(l4 + 1464));
+        store64(l3 + 16, load64(l4 + 1456));
+        store64(l3 + 8, load64(l4 + 1448));
+        store64(l3, load64(l4 + 1440));
+        l6 = 0u;
+    }
+    after1:;
+    sp = l4 + UINT64_C(1504);
+    return l6;
+}
+
+static void do_minisign_install_installation_progress_Progress_compare(u64 l0)
+{
+    u32 l3 = 0, l10 = 0, l11 = 0, l12 = 0, l13 = 0, l14 = 0, l15 = 0, l16 = 0, l17 = 0;
+    u64 l1 = 0, l2 = 0, l4 = 0, l5 = 0, l6 = 0, l7 = 0, l8 = 0, l9 = 0, l18 = 0;
+    {
+        {
+            {
+                {
+                    {
+                        {
+                            if (load32(l0 + UINT64_C(248)) != 1u) { goto after6; }
+                            l1 = load64(l0 + UINT64_C(144));
+                            l2 = load64(l0 + UINT64_C(264));
+                            if (l1 >= l2) { goto after5; }
+                        }
+                        after6:;
+                        l3 = 0u;
+                        l1 = UINT64_C(0x5be0cd19137e2179);
+                        l2 = UINT64_C(0x1f83d9abfb41bd6b);
+                        l4 = UINT64_C(0x9b05688c2b3e6c1f);
+                        l5 = UINT64_C(0x510e527fade682d1);
+                        l6 = UINT64_C(0xa54ff53a5f1d36f1);
+                        l7 = UINT64_C(0x3c6ef372fe94f82b);
+                        l8 = UINT64_C(0xbb67ae8584caa73b);
+                        l9 = UINT64_C(0x6a09e667f2bdc948);
+                        if (load32(l0 + UINT64_C(132)) != 1u) { goto after4; }
+                        l10 = 0u;
+                        l11 = 0u;
+                        l12 = 0u;
+                        l13 = 0u;
+                        l14 = 0u;
+                        l15 = 0u;
+                        l16 = 0u;
+                        l17 = load32(l0 + UINT64_C(968)) + 0xffffffffu;
+                        if (l17 < 3u) { goto after2; }
+                        goto after1;
+                    }
+                    after5:;
+                    {
+                        if (load32(l0 + UINT64_C(256)) != 1u) { goto after7; }
+                        store32(l0, 7u);
+                        return;
+                    }
+                    after7:;
+                    {
+                        if (l2 < l1) { goto after8; }
+                        store32(l0, 8u);
+                        return;
+                    }
+                    after8:;
+                    l3 = 0u;
+                    l1 = UINT64_C(0x5be0cd19137e2179);
+                    l2 = UINT64_C(0x1f83d9abfb41bd6b);
+                    l4 = UINT64_C(0x9b05688c2b3e6c1f);
+                    l5 = UINT64_C(0x510e527fade682d1);
+                    l6 = UINT64_C(0xa54ff53a5f1d36f1);
+                    l7 = UINT64_C(0x3c6ef372fe94f82b);
+                    l8 = UINT64_C(0xbb67ae8584caa73b);
+                    l9 = UINT64_C(0x6a09e667f2bdc948);
+                    if (load32(l0 + UINT64_C(132)) == 1u) { goto after3; }
+                }
+                after4:;
+                l10 = 0u;
+                l11 = 0u;
+                l12 = 0u;
+                l13 = 0u;
+                l14 = 0u;
+                l15 = 0u;
+                l16 = 0u;
+                goto after1;
+            }
+            after3:;
+            l10 = 0u;
+            l11 = 0u;
+            l12 = 0u;
+            l13 = 0u;
+            l14 = 0u;
+            l15 = 0u;
+            l16 = 0u;
+            l17 = load32(l0 + UINT64_C(968)) + 0xffffffffu;
+            if (l17 > 2u) { goto after1; }
+        }
+        after2:;
+        l18 = (u64) l17;
+        l9 = l18 << 3;
+        l1 = load64(l9 + address(data143));
+        l2 = load64(l9 + address(data142));
+        l4 = load64(l9 + address(data141));
+        l5 = load64(l9 + address(data140));
+        l6 = load64(l9 + address(data139));
+        l7 = load64(l9 + address(data138));
+        l8 = load64(l9 + address(data137));
+        l9 = load64(l9 + address(data136));
+        l18 = l18 << 2;
+        l3 = load32(l18 + address(data135));
+        l10 = load32(l18 + address(data134));
+        l11 = load32(l18 + address(data133));
+        l12 = load32(l18 + address(data132));
+        l13 = load32(l18 + address(data131));
+        l14 = load32(l18 + address(data130));
+        l15 = load32(l18 + address(data129));
+        l16 = load32(l18 + address(data128));
+    }
+    after1:;
+    store64(l0 + UINT64_C(512), l1);
+    store64(l0 + UINT64_C(504), l2);
+    store64(l0 + UINT64_C(496), l4);
+    store64(l0 + UINT64_C(488), l5);
+    store64(l0 + UINT64_C(480), l6);
+    store64(l0 + UINT64_C(472), l7);
+    store64(l0 + UINT64_C(464), l8);
+    store64(l0 + UINT64_C(456), l9);
+    fill(l0 + UINT64_C(520), 0u, UINT64_C(280));
+    store32(l0 + UINT64_C(828), l16);
+    store32(l0 + UINT64_C(824), l15);
+    store32(l0 + UINT64_C(820), l14);
+    store32(l0 + UINT64_C(816), l13);
+    store32(l0 + UINT64_C(812), l12);
+    store32(l0 + UINT64_C(808), l11);
+    store32(l0 + UINT64_C(804), l10);
+    store32(l0 + UINT64_C(800), l3);
+    store32(l0, load32(l0 + UINT64_C(116)) == 1u ? 29u : 12u);
+}
+
+static void do_minisign_install_installation_listing_ListingValue_listed(u64 sp, u64 l0, u64 l1)
+{
+    u32 l3 = 0, l6 = 0, l7 = 0, l8 = 0, l9 = 0;
+    u64 l2 = 0, l4 = 0, l5 = 0;
+    l2 = sp - UINT64_C(176);
+    sp = l2;
+    l3 = 0u;
+    store16(l2 + 124, 0u);
+    store32(l2 + 120, 0u);
+    store64(l2 + 64, UINT64_C(0));
+    store64(l2 + 72, UINT64_C(0));
+    store64(l2 + 80, UINT64_C(0));
+    store64(l2 + 48, UINT64_C(0));
+    store64(l2 + 54, UINT64_C(0));
+    {
+        {
+            {
+                {
+                    {
+                        switch (load32(l1 + UINT64_C(136)) + 0xffffffffu) {
+                        case 0: goto after5;
+                        case 1: goto after4;
+                        case 2: goto after3;
+                        default: goto after2;
+                        }
+                    }
+                    after5:;
+                    store64(l2 + 104, load64(l2 + 48));
+                    store64(l2 + 110, load64(l2 + 54));
+                    l4 = load64(l1 + UINT64_C(80));
+                    store64(l2 + 32, l4);
+                    l5 = load64(l1 + UINT64_C(88));
+                    store64(l2 + 40, l5);
+                    store32(l2 + 120, load32(l1 + UINT64_C(64)));
+                    store16(l2 + 124, load16(l1 + UINT64_C(68)));
+                    store64(l2 + 88, l4);
+                    store64(l2 + 96, l5);
+                    l6 = load8(l1 + UINT64_C(79));
+                    l7 = load8(l1 + UINT64_C(78));
+                    l1 = load64(l1 + UINT64_C(70));
+                    l3 = 0u;
+                    store16(l2 + 80, 0u);
+                    store64(l2 + 72, UINT64_C(0));
+                    store64(l2 + 64, UINT64_C(0));
+                    l8 = 0u;
+                    goto after1;
+                }
+                after4:;
+                store32(l2 + 120, load32(l1 + UINT64_C(64)));
+                store16(l2 + 124, load16(l1 + UINT64_C(68)));
+                store64(l2 + 88, load64(l1 + UINT64_C(80)));
+                store64(l2 + 96, load64(l1 + UINT64_C(88)));
+                store64(l2 + 104, load64(l1 + UINT64_C(96)));
+                store64(l2 + 110, load64(l1 + UINT64_C(102)));
+                store64(l2 + 64, load64(l1 + UINT64_C(110)));
+                store64(l2 + 72, load64(l1 + UINT64_C(118)));
+                store16(l2 + 80, load16(l1 + UINT64_C(126)));
+                l6 = load8(l1 + UINT64_C(79));
+                l7 = load8(l1 + UINT64_C(78));
+                l1 = load64(l1 + UINT64_C(70));
+                l8 = 1u;
+                goto after1;
+            }
+            after3:;
+            store32(l2 + 120, load32(l1 + UINT64_C(64)));
+            store16(l2 + 124, load16(l1 + UINT64_C(68)));
+            store64(l2 + 88, load64(l1 + UINT64_C(80)));
+            store64(l2 + 96, load64(l1 + UINT64_C(88)));
+            store64(l2 + 104, load64(l1 + UINT64_C(96)));
+            store64(l2 + 110, load64(l1 + UINT64_C(102)));
+            store64(l2 + 64, load64(l1 + UINT64_C(110)));
+            store64(l2 + 72, load64(l1 + UINT64_C(118)));
+            store16(l2 + 80, load16(l1 + UINT64_C(126)));
+            l6 = load8(l1 + UINT64_C(79));
+            l7 = load8(l1 + UINT64_C(78));
+            l1 = load64(l1 + UINT64_C(70));
+            l8 = 2u;
+            goto after1;
+        }
+        after2:;
+        l7 = load32(l1 + UINT64_C(140));
+        store64(l2 + 160, UINT64_C(0));
+        store64(l2 + 166, UINT64_C(0));
+        store64(l2 + 144, UINT64_C(0));
+        store64(l2 + 150, UINT64_C(0));
+        store64(l2 + 128, UINT64_C(0));
+        store64(l2 + 134, UINT64_C(0));
+        l5 = UINT64_C(19);
+        l4 = UINT64_C(17);
+        l1 = UINT64_C(16);
+        l8 = 0u;
+        l9 = 0u;
+        l3 = 0u;
+        l6 = 0u;
+        {
+            {
+                {
+                    {
+                        {
+                            switch (l7 + 0xffffffa6u) {
+                            case 0: goto after6;
+                            case 1: goto after7;
+                            case 2: goto after9;
+                            case 3: goto after8;
+                            default: goto after10;
+                            }
+                        }
+                        after10:;
+                        if (l7 != 8u) { goto after9; }
+                        l9 = 6u;
+                        l5 = UINT64_C(0);
+                        goto after8;
+                    }
+                    after9:;
+                    l5 = UINT64_C(18);
+                    l9 = 0u;
+                }
+                after8:;
+                store64(l2 + 150, load64(l2 + 134));
+                store64(l2 + 144, load64(l2 + 128));
+                l4 = l5;
+                l3 = l9;
+            }
+            after7:;
+            store64(l2 + 166, load64(l2 + 150));
+            store64(l2 + 160, load64(l2 + 144));
+            l6 = l3;
+            l1 = l4;
+        }
+        after6:;
+        store64(l2 + 22, load64(l2 + 166));
+        store64(l2 + 16, load64(l2 + 160));
+        store64(l2 + 8, UINT64_C(0));
+        store64(l2, UINT64_C(0));
+        store64(l2 + 88, UINT64_C(0));
+        store64(l2 + 96, UINT64_C(0));
+        store64(l2 + 104, load64(l2 + 16));
+        store64(l2 + 110, load64(l2 + 22));
+        l3 = 1u;
+        l7 = 0u;
+    }
+    after1:;
+    store8(l0, l3);
+    store8(l0 + UINT64_C(1), l8);
+    store32(l0 + UINT64_C(2), load32(l2 + 120));
+    store16(l0 + UINT64_C(6), load16(l2 + 124));
+    store8(l0 + UINT64_C(17), l6);
+    store8(l0 + UINT64_C(16), l7);
+    store64(l0 + UINT64_C(8), l1);
+    store64(l0 + UINT64_C(18), load64(l2 + 88));
+    store64(l0 + UINT64_C(26), load64(l2 + 96));
+    store64(l0 + UINT64_C(34), load64(l2 + 104));
+    store64(l0 + UINT64_C(40), load64(l2 + 110));
+    store64(l0 + UINT64_C(48), load64(l2 + 64));
+    store64(l0 + UINT64_C(56), load64(l2 + 72));
+    store16(l0 + UINT64_C(64), load16(l2 + 80));
+    sp = l2 + UINT64_C(176);
+}
+
+static void do_minisign_sha2_Sha512_finalize(u64 sp, u64 l0, u64 l1)
+{
+    u32 l4 = 0;
+    u64 l2 = 0, l3 = 0, l5 = 0, l6 = 0, l7 = 0, l8 = 0, l9 = 0, l10 = 0;
+    l2 = sp - UINT64_C(224);
+    sp = l2;
+    copy(l2 + UINT64_C(16), l1, UINT64_C(208));
+    l3 = load64(l2 + 216);
+    l1 = load64(l2 + 208);
+    do_minisign_sha2_block512_Core512_update(l2 + UINT64_C(16), address(data88), ((UINT64_C(111) - l1) & UINT64_C(127)) + UINT64_C(1));
+    store8(l2 + 15, l1 << 3);
+    l4 = (u32) l1;
+    store8(l2 + 14, l4 >> 5);
+    store8(l2 + 13, l4 >> 13);
+    store8(l2 + 12, l4 >> 21);
+    store8(l2 + 11, l1 >> 29);
+    store8(l2 + 10, l1 >> 37);
+    store8(l2 + 9, l1 >> 45);
+    store8(l2 + 8, l1 >> 53);
+    store8(l2 + 7, (l1 >> 61) | (l3 << 3));
+    l4 = (u32) l3;
+    store8(l2 + 6, l4 >> 5);
+    store8(l2 + 5, l4 >> 13);
+    store8(l2 + 4, l4 >> 21);
+    store8(l2 + 3, l3 >> 29);
+    store8(l2 + 2, l3 >> 37);
+    store8(l2 + 1, l3 >> 45);
+    store8(l2, l3 >> 53);
+    do_minisign_sha2_block512_Core512_update(l2 + UINT64_C(16), l2, UINT64_C(16));
+    l1 = load64(l2 + 16);
+    l3 = load64(l2 + 24);
+    l5 = load64(l2 + 32);
+    l6 = load64(l2 + 40);
+    l7 = load64(l2 + 48);
+    l8 = load64(l2 + 56);
+    l9 = load64(l2 + 64);
+    l10 = load64(l2 + 72);
+    store64(l0 + 56, (((l10 << 56) | ((l10 & UINT64_C(65280)) << 40)) | (((l10 & UINT64_C(0xff0000)) << 24) | ((l10 & UINT64_C(0xff000000)) << 8))) | ((((l10 >> 8) & UINT64_C(0xff000000)) | ((l10 >> 24) & UINT64_C(0xff0000))) | (((l10 >> 40) & UINT64_C(65280)) | (l10 >> 56))));
+    store64(l0 + 48, (((l9 << 56) | ((l9 & UINT64_C(65280)) << 40)) | (((l9 & UINT64_C(0xff0000)) << 24) | ((l9 & UINT64_C(0xff000000)) << 8))) | ((((l9 >> 8) & UINT64_C(0xff000000)) | ((l9 >> 24) & UINT64_C(0xff0000))) | (((l9 >> 40) & UINT64_C(65280)) | (l9 >> 56))));
+    store64(l0 + 40, (((l8 << 56) | ((l8 & UINT64_C(65280)) << 40)) | (((l8 & UINT64_C(0xff0000)) << 24) | ((l8 & UINT64_C(0xff000000)) << 8))) | ((((l8 >> 8) & UINT64_C(0xff000000)) | ((l8 >> 24) & UINT64_C(0xff0000))) | (((l8 >> 40) & UINT64_C(65280)) | (l8 >> 56))));
+    store64(l0 + 32, (((l7 << 56) | ((l7 & UINT64_C(65280)) << 40)) | (((l7 & UINT64_C(0xff0000)) << 24) | ((l7 & UINT64_C(0xff000000)) << 8))) | ((((l7 >> 8) & UINT64_C(0xff000000)) | ((l7 >> 24) & UINT64_C(0xff0000))) | (((l7 >> 40) & UINT64_C(65280)) | (l7 >> 56))));
+    store64(l0 + 24, (((l6 << 56) | ((l6 & UINT64_C(65280)) << 40)) | (((l6 & UINT64_C(0xff0000)) << 24) | ((l6 & UINT64_C(0xff000000)) << 8))) | ((((l6 >> 8) & UINT64_C(0xff000000)) | ((l6 >> 24) & UINT64_C(0xff0000))) | (((l6 >> 40) & UINT64_C(65280)) | (l6 >> 56))));
+    store64(l0 + 16, (((l5 << 56) | ((l5 & UINT64_C(65280)) << 40)) | (((l5 & UINT64_C(0xff0000)) << 24) | ((l5 & UINT64_C(0xff000000)) << 8))) | ((((l5 >> 8) & UINT64_C(0xff000000)) | ((l5 >> 24) & UINT64_C(0xff0000))) | (((l5 >> 40) & UINT64_C(65280)) | (l5 >> 56))));
+    store64(l0 + 8, (((l3 << 56) | ((l3 & UINT64_C(65280)) << 40)) | (((l3 & UINT64_C(0xff0000)) << 24) | ((l3 & UINT64_C(0xff000000)) << 8))) | ((((l3 >> 8) & UINT64_C(0xff000000)) | ((l3 >> 24) & UINT64_C(0xff0000))) | (((l3 >> 40) & UINT64_C(65280)) | (l3 >> 56))));
+    store64(l0, (((l1 << 56) | ((l1 & UINT64_C(65280)) << 40)) | (((l1 & UINT64_C(0xff0000)) << 24) | ((l1 & UINT64_C(0xff000000)) << 8))) | ((((l1 >> 8) & UINT64_C(0xff000000)) | ((l1 >> 24) & UINT64_C(0xff0000))) | (((l1 >> 40) & UINT64_C(65280)) | (l1 >> 56))));
+    sp = l2 + UINT64_C(224);
+}
+
+static u32 do_core_cmp_arrays_ArrayPartialEq_eq_i8_64_31_core_cmp_numbers_U8PartialEq(u64 l0, u64 l1)
+{
+    return (((((((((((((((((((((((((((((((((((u32) (load8(l0) != load8(l1))) | ((u32) (load8(l0 + UINT64_C(1)) != load8(l1 + UINT64_C(1))))) | ((u32) (load8(l0 + UINT64_C(2)) != load8(l1 + UINT64_C(2))))) | ((u32) (load8(l0 + UINT64_C(3)) != load8(l1 + UINT64_C(3))))) | ((u32) (load8(l0 + UINT64_C(4)) != load8(l1 + UINT64_C(4))))) | ((u32) (load8(l0 + UINT64_C(5)) != load8(l1 + UINT64_C(5))))) | ((u32) (load8(l0 + UINT64_C(6)) != load8(l1 + UINT64_C(6))))) | ((u32) (load8(l0 + UINT64_C(7)) != load8(l1 + UINT64_C(7))))) | ((u32) (load8(l0 + UINT64_C(8)) != load8(l1 + UINT64_C(8))))) | ((u32) (load8(l0 + UINT64_C(9)) != load8(l1 + UINT64_C(9))))) | ((u32) (load8(l0 + UINT64_C(10)) != load8(l1 + UINT64_C(10))))) | ((u32) (load8(l0 + UINT64_C(11)) != load8(l1 + UINT64_C(11))))) | ((u32) (load8(l0 + UINT64_C(12)) != load8(l1 + UINT64_C(12))))) | ((u32) (load8(l0 + UINT64_C(13)) != load8(l1 + UINT64_C(13))))) | ((u32) (load8(l0 + UINT64_C(14)) != load8(l1 + UINT64_C(14))))) | ((u32) (load8(l0 + UINT64_C(15)) != load8(l1 + UINT64_C(15))))) | ((u32) (load8(l0 + UINT64_C(16)) != load8(l1 + UINT64_C(16))))) | ((u32) (load8(l0 + UINT64_C(17)) != load8(l1 + UINT64_C(17))))) | ((u32) (load8(l0 + UINT64_C(18)) != load8(l1 + UINT64_C(18))))) | ((u32) (load8(l0 + UINT64_C(19)) != load8(l1 + UINT64_C(19))))) | ((u32) (load8(l0 + UINT64_C(20)) != load8(l1 + UINT64_C(20))))) | ((u32) (load8(l0 + UINT64_C(21)) != load8(l1 + UINT64_C(21))))) | ((u32) (load8(l0 + UINT64_C(22)) != load8(l1 + UINT64_C(22))))) | ((u32) (load8(l0 + UINT64_C(23)) != load8(l1 + UINT64_C(23))))) | ((u32) (load8(l0 + UINT64_C(24)) != load8(l1 + UINT64_C(24))))) | ((u32) (load8(l0 + UINT64_C(25)) != load8(l1 + UINT64_C(25))))) | ((u32) (load8(l0 + UINT64_C(26)) != load8(l1 + UINT64_C(26))))) | ((u32) (load8(l0 + UINT64_C(27)) != load8(l1 + UINT64_C(27))))) | ((u32) (load8(l0 + UINT64_C(28)) != load8(l1 + UINT64_C(28))))) | ((u32) (load8(l0 + UINT64_C(29)) != load8(l1 + UINT64_C(29))))) | ((u32) (load8(l0 + UINT64_C(30)) != load8(l1 + UINT64_C(30))))) | ((u32) (load8(l0 + UINT64_C(31)) != load8(l1 + UINT64_C(31))))) | (((((((((((((((((((((((((((((((((u32) (load8(l0 + UINT64_C(32)) != load8(l1 + UINT64_C(32)))) | ((u32) (load8(l0 + UINT64_C(33)) != load8(l1 + UINT64_C(33))))) | ((u32) (load8(l0 + UINT64_C(34)) != load8(l1 + UINT64_C(34))))) | ((u32) (load8(l0 + UINT64_C(35)) != load8(l1 + UINT64_C(35))))) | ((u32) (load8(l0 + UINT64_C(36)) != load8(l1 + UINT64_C(36))))) | ((u32) (load8(l0 + UINT64_C(37)) != load8(l1 + UINT64_C(37))))) | ((u32) (load8(l0 + UINT64_C(38)) != load8(l1 + UINT64_C(38))))) | ((u32) (load8(l0 + UINT64_C(39)) != load8(l1 + UINT64_C(39))))) | ((u32) (load8(l0 + UINT64_C(40)) != load8(l1 + UINT64_C(40))))) | ((u32) (load8(l0 + UINT64_C(41)) != load8(l1 + UINT64_C(41))))) | ((u32) (load8(l0 + UINT64_C(42)) != load8(l1 + UINT64_C(42))))) | ((u32) (load8(l0 + UINT64_C(43)) != load8(l1 + UINT64_C(43))))) | ((u32) (load8(l0 + UINT64_C(44)) != load8(l1 + UINT64_C(44))))) | ((u32) (load8(l0 + UINT64_C(45)) != load8(l1 + UINT64_C(45))))) | ((u32) (load8(l0 + UINT64_C(46)) != load8(l1 + UINT64_C(46))))) | ((u32) (load8(l0 + UINT64_C(47)) != load8(l1 + UINT64_C(47))))) | ((u32) (load8(l0 + UINT64_C(48)) != load8(l1 + UINT64_C(48))))) | ((u32) (load8(l0 + UINT64_C(49)) != load8(l1 + UINT64_C(49))))) | ((u32) (load8(l0 + UINT64_C(50)) != load8(l1 + UINT64_C(50))))) | ((u32) (load8(l0 + UINT64_C(51)) != load8(l1 + UINT64_C(51))))) | ((u32) (load8(l0 + UINT64_C(52)) != load8(l1 + UINT64_C(52))))) | ((u32) (load8(l0 + UINT64_C(53)) != load8(l1 + UINT64_C(53))))) | ((u32) (load8(l0 + UINT64_C(54)) != load8(l1 + UINT64_C(54))))) | ((u32) (load8(l0 + UINT64_C(55)) != load8(l1 + UINT64_C(55))))) | ((u32) (load8(l0 + UINT64_C(56)) != load8(l1 + UINT64_C(56))))) | ((u32) (load8(l0 + UINT64_C(57)) != load8(l1 + UINT64_C(57))))) | ((u32) (load8(l0 + UINT64_C(58)) != load8(l1 + UINT64_C(58))))) | ((u32) (load8(l0 + UINT64_C(59)) != load8(l1 + UINT64_C(59))))) | ((u32) (load8(l0 + UINT64_C(60)) != load8(l1 + UINT64_C(60))))) | ((u32) (load8(l0 + UINT64_C(61)) != load8(l1 + UINT64_C(61))))) | ((u32) (load8(l0 + UINT64_C(62)) != load8(l1 + UINT64_C(62))))) | ((u32) (load8(l0 + UINT64_C(63)) != load8(l1 + UINT64_C(63)))))) ^ 0xffffffffu) & 1u;
+}
+
+static u32 do_minisign_install_installation_progress_Progress_is_listed(u64 sp, u64 l0)
+{
+    u32 l2 = 0, l3 = 0, l5 = 0, l6 = 0, l7 = 0, l8 = 0, l9 = 0, l10 = 0, l11 = 0, l12 = 0, l13 = 0, l14 = 0, l15 = 0, l16 = 0, l17 = 0, l18 = 0;
+    u32 l19 = 0, l20 = 0, l21 = 0, l22 = 0, l23 = 0, l24 = 0, l25 = 0, l26 = 0, l27 = 0, l28 = 0, l29 = 0, l30 = 0, l31 = 0, l32 = 0, l33 = 0, l34 = 0;
+    u32 l36 = 0;
+    u64 l1 = 0, l4 = 0, l35 = 0, l37 = 0;
+    l1 = sp - UINT64_C(640);
+    sp = l1;
+    store64(l1 + 72, UINT64_C(0));
+    l2 = 1u;
+    {
+        if (load32(l0 + UINT64_C(132)) != 1u) { goto after1; }
+        do_minisign_install_installation_listing_ListingValue_listed(sp, l1 + UINT64_C(8), l0 + UINT64_C(832));
+        l2 = 0u;
+        {
+            l3 = load8(l1 + 8);
+            if (l3 != 0) { goto after2; }
+            l4 = l0 + UINT64_C(456);
+            l2 = load8(l1 + 41);
+            l3 = load8(l1 + 40);
+            l5 = load8(l1 + 39);
+            l6 = load8(l1 + 38);
+            l7 = load8(l1 + 37);
+            l8 = load8(l1 + 36);
+            l9 = load8(l1 + 35);
+            l10 = load8(l1 + 34);
+            l11 = load8(l1 + 33);
+            l12 = load8(l1 + 32);
+            l13 = load8(l1 + 31);
+            l14 = load8(l1 + 30);
+            l15 = load8(l1 + 29);
+            l16 = load8(l1 + 28);
+            l17 = load8(l1 + 27);
+            l18 = load8(l1 + 26);
+            l19 = load8(l1 + 25);
+            l20 = load8(l1 + 24);
+            l21 = load8(l1 + 23);
+            l22 = load8(l1 + 22);
+            l23 = load8(l1 + 21);
+            l24 = load8(l1 + 20);
+            l25 = load8(l1 + 19);
+            l26 = load8(l1 + 18);
+            l27 = load8(l1 + 17);
+            l28 = load8(l1 + 16);
+            l29 = load8(l1 + 15);
+            l30 = load8(l1 + 14);
+            l31 = load8(l1 + 13);
+            l32 = load8(l1 + 12);
+            l33 = load8(l1 + 11);
+            l34 = load8(l1 + 10);
+            l35 = l1 + UINT64_C(42);
+            {
+                {
+                    {
+                        switch ((u32) ((u64) load8(l1 + 9))) {
+                        case 1: goto after4;
+                        case 2: goto after3;
+                        default: goto after5;
+                        }
+                    }
+                    after5:;
+                    store64(l1 + 352, load64(l0 + UINT64_C(800)));
+                    store64(l1 + 360, load64(l0 + UINT64_C(808)));
+                    store64(l1 + 368, load64(l0 + UINT64_C(816)));
+                    store64(l1 + 376, load64(l0 + UINT64_C(824)));
+                    store64(l1 + 384, load64(l0 + UINT64_C(544)));
+                    store64(l1 + 392, load64(l0 + UINT64_C(552)));
+                    store64(l1 + 400, load64(l0 + UINT64_C(560)));
+                    store64(l1 + 408, load64(l0 + UINT64_C(568)));
+                    store64(l1 + 416, load64(l0 + UINT64_C(576)));
+                    store64(l1 + 424, load64(l0 + UINT64_C(584)));
+                    store64(l1 + 432, load64(l0 + UINT64_C(592)));
+                    store64(l1 + 440, load64(l0 + UINT64_C(600)));
+                    l0 = load64(l0 + UINT64_C(520));
+                    copy(l1 + UINT64_C(80), l1 + UINT64_C(352), UINT64_C(96));
+                    store64(l1 + 176, l0);
+                    do_minisign_sha2_block256_Core256_update(l1 + UINT64_C(80), address(data86), ((UINT64_C(55) - l0) & UINT64_C(63)) + UINT64_C(1));
+                    store64(l1 + 448, ((((((((l0 << 43) & UINT64_C(0xff000000000000)) | (l0 << 59)) | ((l0 << 27) & UINT64_C(0xff0000000000))) | ((l0 << 11) & UINT64_C(0xff00000000))) | ((l0 >> 5) & UINT64_C(0xff000000))) | ((l0 >> 21) & UINT64_C(0xff0000))) | ((l0 >> 37) & UINT64_C(65280))) | ((l0 >> 53) & UINT64_C(255)));
+                    do_minisign_sha2_block256_Core256_update(l1 + UINT64_C(80), l1 + UINT64_C(448), UINT64_C(8));
+                    l36 = load32(l1 + 84);
+                    const u32 t1 = l27 & 255u;
+                    l27 = rotr32(l36 & 0xff00ffu, 8u);
+                    const u32 t2 = l28 & 255u;
+                    l28 = rotr32(l36, 24u);
+                    const u32 t3 = (u32) (t2 != ((l28 & 0xff00ffu) >> 16));
+                    const u32 t4 = (u32) ((l30 & 255u) != ((l27 | l28) & 255u));
+                    l28 = load32(l1 + 80);
+                    const u32 t5 = (u32) (t1 != (l27 >> 24));
+                    const u32 t6 = (u32) ((l29 & 255u) != ((l27 >> 8) & 255u));
+                    l27 = rotr32(l28 & 0xff00ffu, 8u);
+                    l28 = rotr32(l28, 24u);
+                    const u32 t7 = t5 | (t3 | (t6 | (t4 | (((u32) ((l31 & 255u) != (l27 >> 24))) | (((u32) ((l32 & 255u) != ((l28 & 0xff00ffu) >> 16))) | (((u32) ((l34 & 255u) != ((l27 | l28) & 255u))) | ((u32) ((l33 & 255u) != ((l27 >> 8) & 255u)))))))));
+                    l27 = load32(l1 + 92);
+                    const u32 t8 = l19 & 255u;
+                    l19 = rotr32(l27 & 0xff00ffu, 8u);
+                    const u32 t9 = l20 & 255u;
+                    l20 = rotr32(l27, 24u);
+                    const u32 t10 = (u32) (t9 != ((l20 & 0xff00ffu) >> 16));
+                    const u32 t11 = (u32) ((l22 & 255u) != ((l19 | l20) & 255u));
+                    l20 = load32(l1 + 88);
+                    const u32 t12 = (u32) (t8 != (l19 >> 24));
+                    const u32 t13 = (u32) ((l21 & 255u) != ((l19 >> 8) & 255u));
+                    l19 = rotr32(l20 & 0xff00ffu, 8u);
+                    l20 = rotr32(l20, 24u);
+                    const u32 t14 = t7 | (t12 | (t10 | (t13 | (t11 | (((u32) ((l23 & 255u) != (l19 >> 24))) | (((u32) ((l24 & 255u) != ((l20 & 0xff00ffu) >> 16))) | (((u32) ((l26 & 255u) != ((l19 | l20) & 255u))) | ((u32) ((l25 & 255u) != ((l19 >> 8) & 255u))))))))));
+                    l19 = load32(l1 + 100);
+                    const u32 t15 = l11 & 255u;
+                    l11 = rotr32(l19 & 0xff00ffu, 8u);
+                    const u32 t16 = l12 & 255u;
+                    l12 = rotr32(l19, 24u);
+                    const u32 t17 = (u32) (t16 != ((l12 & 0xff00ffu) >> 16));
+                    const u32 t18 = (u32) ((l14 & 255u) != ((l11 | l12) & 255u));
+                    l12 = load32(l1 + 96);
+                    const u32 t19 = (u32) (t15 != (l11 >> 24));
+                    const u32 t20 = (u32) ((l13 & 255u) != ((l11 >> 8) & 255u));
+                    l11 = rotr32(l12 & 0xff00ffu, 8u);
+                    l12 = rotr32(l12, 24u);
+                    const u32 t21 = t14 | (t19 | (t17 | (t20 | (t18 | (((u32) ((l15 & 255u) != (l11 >> 24))) | (((u32) ((l16 & 255u) != ((l12 & 0xff00ffu) >> 16))) | (((u32) ((l18 & 255u) != ((l11 | l12) & 255u))) | ((u32) ((l17 & 255u) != ((l11 >> 8) & 255u))))))))));
+                    l11 = load32(l1 + 108);
+                    const u32 t22 = l2 & 255u;
+                    l2 = rotr32(l11 & 0xff00ffu, 8u);
+                    const u32 t23 = l3 & 255u;
+                    l3 = rotr32(l11, 24u);
+                    const u32 t24 = (u32) (t23 != ((l3 & 0xff00ffu) >> 16));
+                    const u32 t25 = (u32) ((l6 & 255u) != ((l2 | l3) & 255u));
+                    l3 = load32(l1 + 104);
+                    const u32 t26 = (u32) (t22 != (l2 >> 24));
+                    const u32 t27 = (u32) ((l5 & 255u) != ((l2 >> 8) & 255u));
+                    l2 = rotr32(l3 & 0xff00ffu, 8u);
+                    l3 = rotr32(l3, 24u);
+                    l2 = (t21 | (t26 | (t24 | (t27 | (t25 | (((u32) ((l7 & 255u) != (l2 >> 24))) | (((u32) ((l8 & 255u) != ((l3 & 0xff00ffu) >> 16))) | (((u32) ((l10 & 255u) != ((l2 | l3) & 255u))) | ((u32) ((l9 & 255u) != ((l2 >> 8) & 255u))))))))))) ^ 1u;
+                    l3 = load8(l1 + 8);
+                    goto after2;
+                }
+                after4:;
+                store8(l1 + 319, l2);
+                store8(l1 + 318, l3);
+                store8(l1 + 317, l5);
+                store8(l1 + 316, l6);
+                store8(l1 + 315, l7);
+                store8(l1 + 314, l8);
+                store8(l1 + 313, l9);
+                store8(l1 + 312, l10);
+                store8(l1 + 311, l11);
+                store8(l1 + 310, l12);
+                store8(l1 + 309, l13);
+                store8(l1 + 308, l14);
+                store8(l1 + 307, l15);
+                store8(l1 + 306, l16);
+                store8(l1 + 305, l17);
+                store8(l1 + 304, l18);
+                store8(l1 + 303, l19);
+                store8(l1 + 302, l20);
+                store8(l1 + 301, l21);
+                store8(l1 + 300, l22);
+                store8(l1 + 299, l23);
+                store8(l1 + 298, l24);
+                store8(l1 + 297, l25);
+                store8(l1 + 296, l26);
+                store8(l1 + 295, l27);
+                store8(l1 + 294, l28);
+                store8(l1 + 293, l29);
+                store8(l1 + 292, l30);
+                store8(l1 + 291, l31);
+                store8(l1 + 290, l32);
+                store8(l1 + 289, l33);
+                store8(l1 + 288, l34);
+                store64(l1 + 344, load64(l35 + 24));
+                store64(l1 + 336, load64(l35 + 16));
+                store64(l1 + 328, load64(l35 + 8));
+                store64(l1 + 320, load64(l35));
+                l35 = load64(l0 + UINT64_C(520));
+                l37 = load64(l0 + UINT64_C(528));
+                store64(l1 + 504, load64(l4 + 56));
+                store64(l1 + 496, load64(l4 + 48));
+                store64(l1 + 488, load64(l4 + 40));
+                store64(l1 + 480, load64(l4 + 32));
+                store64(l1 + 472, load64(l4 + 24));
+                store64(l1 + 464, load64(l4 + 16));
+                store64(l1 + 456, load64(l4 + 8));
+                store64(l1 + 448, load64(l4));
+                copy(l1 + UINT64_C(512), l0 + UINT64_C(544), UINT64_C(128));
+                copy(l1 + UINT64_C(80), l1 + UINT64_C(448), UINT64_C(192));
+                store64(l1 + 280, l37);
+                store64(l1 + 272, l35);
+                do_minisign_sha2_Sha512_finalize(sp, l1 + UINT64_C(448), l1 + UINT64_C(80));
+                l3 = 0u;
+                const u32 t28 = do_core_cmp_arrays_ArrayPartialEq_eq_i8_64_31_core_cmp_numbers_U8PartialEq(l1 + UINT64_C(448), l1 + UINT64_C(288));
+                l2 = t28;
+                goto after2;
+            }
+            after3:;
+            store8(l1 + 111, l2);
+            store8(l1 + 110, l3);
+            store8(l1 + 109, l5);
+            store8(l1 + 108, l6);
+            store8(l1 + 107, l7);
+            store8(l1 + 106, l8);
+            store8(l1 + 105, l9);
+            store8(l1 + 104, l10);
+            store8(l1 + 103, l11);
+            store8(l1 + 102, l12);
+            store8(l1 + 101, l13);
+            store8(l1 + 100, l14);
+            store8(l1 + 99, l15);
+            store8(l1 + 98, l16);
+            store8(l1 + 97, l17);
+            store8(l1 + 96, l18);
+            store8(l1 + 95, l19);
+            store8(l1 + 94, l20);
+            store8(l1 + 93, l21);
+            store8(l1 + 92, l22);
+            store8(l1 + 91, l23);
+            store8(l1 + 90, l24);
+            store8(l1 + 89, l25);
+            store8(l1 + 88, l26);
+            store8(l1 + 87, l27);
+            store8(l1 + 86, l28);
+            store8(l1 + 85, l29);
+            store8(l1 + 84, l30);
+            store8(l1 + 83, l31);
+            store8(l1 + 82, l32);
+            store8(l1 + 81, l33);
+            store8(l1 + 80, l34);
+            store64(l1 + 136, load64(l35 + 24));
+            store64(l1 + 128, load64(l35 + 16));
+            store64(l1 + 120, load64(l35 + 8));
+            store64(l1 + 112, load64(l35));
+            do_minisign_install_installation_reading_Reading_blake2b_digest(sp, l1 + UINT64_C(448), l4);
+            l3 = 0u;
+            const u32 t29 = do_core_cmp_arrays_ArrayPartialEq_eq_i8_64_31_core_cmp_numbers_U8PartialEq(l1 + UINT64_C(448), l1 + UINT64_C(80));
+            l2 = t29;
+        }
+        after2:;
+        if ((l3 & 255u) != 1u) { goto after1; }
+        if (load8(l1 + 16) != 0) { goto after1; }
+        if (load8(l1 + 24) != 2u) { goto after1; }
+        if (load64(l1 + 48) == 0) { goto after1; }
+        machine_rattle_dealloc(load64(l1 + 32));
+    }
+    after1:;
+    sp = l1 + UINT64_C(640);
+    return l2 & 1u;
+}
+
+static u32 do_minisign_install_answer(u64 sp, u64 table, u64 l0, u32 l1)
+{
+    u32 l3 = 0, l4 = 0, l5 = 0, l6 = 0, l7 = 0, l8 = 0, l9 = 0, l11 = 0, l19 = 0, l20 = 0;
+    u64 l2 = 0, l10 = 0, l12 = 0, l13 = 0, l14 = 0, l15 = 0, l16 = 0, l17 = 0, l18 = 0, l21 = 0;
+    l2 = sp - UINT64_C(352);
+    sp = l2;
+    store64(l2 + 22, UINT64_C(0));
+    store64(l2 + 16, UINT64_C(0));
+    store64(l2 + 8, UINT64_C(0));
+    store64(l2, UINT64_C(0));
+    store64(l2 + 54, UINT64_C(0));
+    store64(l2 + 48, UINT64_C(0));
+    store64(l2 + 40, UINT64_C(0));
+    store64(l2 + 32, UINT64_C(0));
+    {
+        {
+            {
+                {
+                    {
+                        if (l1 == 0x796573u) { goto after5; }
+                        l3 = 3u;
+                        if (l1 != 28271u) { goto after4; }
+                    }
+                    after5:;
+                    store64(l2 + 86, UINT64_C(0));
+                    store64(l2 + 80, UINT64_C(0));
+                    store64(l2 + 72, UINT64_C(0));
+                    store64(l2 + 64, UINT64_C(0));
+                    if (load64(l0) == UINT64_C(0x6c6c6174736e696d)) { goto after3; }
+                    l3 = 9u;
+                }
+                after4:;
+                store64(l2 + 22, UINT64_C(0));
+                store64(l2 + 16, UINT64_C(0));
+                store64(l2 + 8, UINT64_C(0));
+                store64(l2, UINT64_C(0));
+                store64(l2 + 224, UINT64_C(0));
+                l4 = 0u;
+                l5 = 0u;
+                l6 = 0u;
+                l7 = 0u;
+                goto after2;
+            }
+            after3:;
+            store64(l2 + 118, UINT64_C(0));
+            store64(l2 + 112, UINT64_C(0));
+            store64(l2 + 104, UINT64_C(0));
+            store64(l2 + 96, UINT64_C(0));
+            l8 = 0u;
+            l3 = 9u;
+            l9 = 1u;
+            l7 = 0u;
+            l4 = 0u;
+            l6 = 0u;
+            l5 = 0u;
+            {
+                {
+                    {
+                        {
+                            {
+                                {
+                                    {
+                                        {
+                                            l10 = l0 + UINT64_C(8);
+                                            l11 = load32(l10);
+                                            switch ((u32) (((u64) (l11 > 30u ? 0u : l11)) & UINT64_C(255))) {
+                                            case 4: goto after13;
+                                            case 6: goto after12;
+                                            case 7: goto after11;
+                                            case 9: goto after10;
+                                            case 16: goto after9;
+                                            default: goto after6;
+                                            }
+                                        }
+                                        after13:;
+                                        {
+                                            {
+                                                if (l1 != 0x796573u) { goto after15; }
+                                                store32(l0 + UINT64_C(440), 1u);
+                                                store64(l2 + 224, UINT64_C(0));
+                                                store64(l2 + 232, UINT64_C(0));
+                                                store64(l2 + 240, UINT64_C(0));
+                                                store64(l2 + 248, UINT64_C(0));
+                                                store64(l2 + 256, UINT64_C(0));
+                                                store64(l2 + 264, UINT64_C(0));
+                                                store64(l2 + 272, UINT64_C(0));
+                                                {
+                                                    {
+                                                        l7 = load32(l0 + UINT64_C(424)) + 0xffffffd2u;
+                                                        if (l7 > 48u) { goto after17; }
+                                                        l12 = (u64) l7;
+                                                        if ((((u32) (UINT64_C(0x1f00000007fff) >> (l12 & 63))) & 1u) == 0) { goto after17; }
+                                                        store64(l2 + 304, UINT64_C(0));
+                                                        store64(l2 + 312, UINT64_C(0));
+                                                        store64(l2 + 320, UINT64_C(0));
+                                                        store64(l2 + 328, UINT64_C(0));
+                                                        store64(l2 + 296, load64((l12 << 3) + address(data127)));
+                                                        do_minisign_install_installation_progress_Progress_reject(sp, table, l2 + UINT64_C(224), l10, l2 + UINT64_C(296));
+                                                        l5 = load8(l2 + 249);
+                                                        l6 = load8(l2 + 248);
+                                                        l4 = load8(l2 + 240);
+                                                        l3 = load8(l2 + 233);
+                                                        l7 = load8(l2 + 232);
+                                                        l9 = load8(l2 + 224);
+                                                        goto after16;
+                                                    }
+                                                    after17:;
+                                                    {
+                                                        {
+                                                            if (load32(l0 + UINT64_C(140)) != 1u) { goto after19; }
+                                                            store32(l10, 5u);
+                                                            goto after18;
+                                                        }
+                                                        after19:;
+                                                        do_minisign_install_installation_progress_Progress_compare(l10);
+                                                    }
+                                                    after18:;
+                                                    l5 = 0u;
+                                                    l6 = 0u;
+                                                    l4 = 0u;
+                                                    l3 = 0u;
+                                                    l7 = 0u;
+                                                    l9 = 0u;
+                                                }
+                                                after16:;
+                                                store64(l2 + 150, load64(l2 + 272));
+                                                store64(l2 + 144, load64(l2 + 266));
+                                                store64(l2 + 136, load64(l2 + 258));
+                                                store64(l2 + 128, load64(l2 + 250));
+                                                goto after14;
+                                            }
+                                            after15:;
+                                            store64(l2 + 224, UINT64_C(0));
+                                            store64(l2 + 232, UINT64_C(0));
+                                            store64(l2 + 240, UINT64_C(0));
+                                            store64(l2 + 248, UINT64_C(0));
+                                            store64(l2 + 256, UINT64_C(0));
+                                            store64(l2 + 264, UINT64_C(0));
+                                            store64(l2 + 272, UINT64_C(0));
+                                            {
+                                                if (load32(l0 + UINT64_C(432)) != 1u) { goto after20; }
+                                                if (load32(l0 + UINT64_C(436)) != 1u) { goto after20; }
+                                                l9 = 0u;
+                                                store32(l0 + UINT64_C(432), 0u);
+                                                store64(l2 + 128, UINT64_C(0));
+                                                store64(l2 + 136, UINT64_C(0));
+                                                store64(l2 + 144, UINT64_C(0));
+                                                store64(l2 + 150, UINT64_C(0));
+                                                l7 = 0u;
+                                                l3 = 0u;
+                                                l4 = 0u;
+                                                l6 = 0u;
+                                                l5 = 0u;
+                                                goto after14;
+                                            }
+                                            after20:;
+                                            store64(l2 + 306, UINT64_C(0));
+                                            store16(l2 + 304, 10240u);
+                                            store64(l2 + 296, UINT64_C(0));
+                                            store64(l2 + 314, UINT64_C(0));
+                                            store64(l2 + 322, UINT64_C(0));
+                                            store64(l2 + 328, UINT64_C(0));
+                                            do_minisign_install_installation_progress_Progress_reject(sp, table, l2 + UINT64_C(224), l10, l2 + UINT64_C(296));
+                                            store64(l2 + 128, load64(l2 + 250));
+                                            store64(l2 + 136, load64(l2 + 258));
+                                            store64(l2 + 144, load64(l2 + 266));
+                                            store64(l2 + 150, load64(l2 + 272));
+                                            l5 = load8(l2 + 249);
+                                            l6 = load8(l2 + 248);
+                                            l4 = load8(l2 + 240);
+                                            l3 = load8(l2 + 233);
+                                            l7 = load8(l2 + 232);
+                                            l9 = load8(l2 + 224);
+                                        }
+                                        after14:;
+                                        store64(l2 + 118, load64(l2 + 150));
+                                        store64(l2 + 112, load64(l2 + 144));
+                                        store64(l2 + 104, load64(l2 + 136));
+                                        store64(l2 + 96, load64(l2 + 128));
+                                        goto after6;
+                                    }
+                                    after12:;
+                                    store64(l2 + 128, UINT64_C(0));
+                                    store64(l2 + 136, UINT64_C(0));
+                                    store64(l2 + 144, UINT64_C(0));
+                                    store64(l2 + 152, UINT64_C(0));
+                                    store64(l2 + 160, UINT64_C(0));
+                                    store64(l2 + 168, UINT64_C(0));
+                                    store64(l2 + 176, UINT64_C(0));
+                                    {
+                                        {
+                                            if (l1 != 0x796573u) { goto after22; }
+                                            store32(l0 + UINT64_C(460), 1u);
+                                            store64(l2 + 296, UINT64_C(0));
+                                            store64(l2 + 304, UINT64_C(0));
+                                            store64(l2 + 312, UINT64_C(0));
+                                            store64(l2 + 320, UINT64_C(0));
+                                            store64(l2 + 328, UINT64_C(0));
+                                            store64(l2 + 336, UINT64_C(0));
+                                            store64(l2 + 344, UINT64_C(0));
+                                            do_minisign_install_installation_listing_ListingValue_listed(sp, l2 + UINT64_C(224), l0 + UINT64_C(840));
+                                            {
+                                                {
+                                                    if (load8(l2 + 224) != 0) { goto after24; }
+                                                    do_minisign_install_installation_progress_Progress_compare(l10);
+                                                    l5 = 0u;
+                                                    l6 = 0u;
+                                                    l4 = 0u;
+                                                    l3 = 0u;
+                                                    l7 = 0u;
+                                                    l9 = 0u;
+                                                    goto after23;
+                                                }
+                                                after24:;
+                                                store16(l2 + 192, load16(l2 + 240));
+                                                store64(l2 + 184, (u64) load8(l2 + 232));
+                                                store64(l2 + 194, load64(l2 + 242));
+                                                store64(l2 + 202, load64(l2 + 250));
+                                                store64(l2 + 210, load64(l2 + 258));
+                                                store64(l2 + 216, load64(l2 + 264));
+                                                do_minisign_install_installation_progress_Progress_reject(sp, table, l2 + UINT64_C(296), l10, l2 + UINT64_C(184));
+                                                l5 = load8(l2 + 321);
+                                                l6 = load8(l2 + 320);
+                                                l4 = load8(l2 + 312);
+                                                l3 = load8(l2 + 305);
+                                                l7 = load8(l2 + 304);
+                                                l9 = load8(l2 + 296);
+                                            }
+                                            after23:;
+                                            store64(l2 + 176, load64(l2 + 344));
+                                            store64(l2 + 170, load64(l2 + 338));
+                                            store64(l2 + 162, load64(l2 + 330));
+                                            store64(l2 + 154, load64(l2 + 322));
+                                            goto after21;
+                                        }
+                                        after22:;
+                                        store64(l2 + 234, UINT64_C(0));
+                                        store16(l2 + 232, 9984u);
+                                        store64(l2 + 224, UINT64_C(0));
+                                        store64(l2 + 242, UINT64_C(0));
+                                        store64(l2 + 250, UINT64_C(0));
+                                        store64(l2 + 256, UINT64_C(0));
+                                        do_minisign_install_installation_progress_Progress_reject(sp, table, l2 + UINT64_C(128), l10, l2 + UINT64_C(224));
+                                        l5 = load8(l2 + 153);
+                                        l6 = load8(l2 + 152);
+                                        l4 = load8(l2 + 144);
+                                        l3 = load8(l2 + 137);
+                                        l7 = load8(l2 + 136);
+                                        l9 = load8(l2 + 128);
+                                    }
+                                    after21:;
+                                    store64(l2 + 118, load64(l2 + 176));
+                                    store64(l2 + 112, load64(l2 + 170));
+                                    store64(l2 + 104, load64(l2 + 162));
+                                    store64(l2 + 96, load64(l2 + 154));
+                                    goto after6;
+                                }
+                                after11:;
+                                {
+                                    {
+                                        if (l1 != 0x796573u) { goto after26; }
+                                        store32(l0 + UINT64_C(8), 8u);
+                                        store32(l0 + UINT64_C(444), 1u);
+                                        l9 = 0u;
+                                        goto after25;
+                                    }
+                                    after26:;
+                                    {
+                                        if (load32(l0 + UINT64_C(256)) != 1u) { goto after27; }
+                                        if (load64(l0 + UINT64_C(272)) >= load64(l0 + UINT64_C(152))) { goto after27; }
+                                        l10 = UINT64_C(0x5be0cd19137e2179);
+                                        l12 = UINT64_C(0x1f83d9abfb41bd6b);
+                                        l13 = UINT64_C(0x9b05688c2b3e6c1f);
+                                        l14 = UINT64_C(0x510e527fade682d1);
+                                        l15 = UINT64_C(0xa54ff53a5f1d36f1);
+                                        l16 = UINT64_C(0x3c6ef372fe94f82b);
+                                        l17 = UINT64_C(0xbb67ae8584caa73b);
+                                        l18 = UINT64_C(0x6a09e667f2bdc948);
+                                        l9 = 0u;
+                                        {
+                                            {
+                                                if (load32(l0 + UINT64_C(140)) == 1u) { goto after29; }
+                                                l7 = 0u;
+                                                l1 = 0u;
+                                                l4 = 0u;
+                                                l3 = 0u;
+                                                l6 = 0u;
+                                                l5 = 0u;
+                                                l11 = 0u;
+                                                l19 = 0u;
+                                                goto after28;
+                                            }
+                                            after29:;
+                                            l7 = 0u;
+                                            l1 = 0u;
+                                            l4 = 0u;
+                                            l3 = 0u;
+                                            l6 = 0u;
+                                            l5 = 0u;
+                                            l11 = 0u;
+                                            l19 = 0u;
+                                            l20 = load32(l0 + UINT64_C(976)) + 0xffffffffu;
+                                            if (l20 > 2u) { goto after28; }
+                                            l21 = (u64) l20;
+                                            l18 = l21 << 3;
+                                            l10 = load64(l18 + address(data143));
+                                            l12 = load64(l18 + address(data142));
+                                            l13 = load64(l18 + address(data141));
+                                            l14 = load64(l18 + address(data140));
+                                            l15 = load64(l18 + address(data139));
+                                            l16 = load64(l18 + address(data138));
+                                            l17 = load64(l18 + address(data137));
+                                            l18 = load64(l18 + address(data136));
+                                            l21 = l21 << 2;
+                                            l19 = load32(l21 + address(data135));
+                                            l11 = load32(l21 + address(data134));
+                                            l5 = load32(l21 + address(data133));
+                                            l6 = load32(l21 + address(data132));
+                                            l3 = load32(l21 + address(data131));
+                                            l4 = load32(l21 + address(data130));
+                                            l1 = load32(l21 + address(data129));
+                                            l7 = load32(l21 + address(data128));
+                                        }
+                                        after28:;
+                                        store64(l0 + UINT64_C(520), l10);
+                                        store64(l0 + UINT64_C(512), l12);
+                                        store64(l0 + UINT64_C(504), l13);
+                                        store64(l0 + UINT64_C(496), l14);
+                                        store64(l0 + UINT64_C(488), l15);
+                                        store64(l0 + UINT64_C(480), l16);
+                                        store64(l0 + UINT64_C(472), l17);
+                                        store64(l0 + UINT64_C(464), l18);
+                                        fill(l0 + UINT64_C(528), 0u, UINT64_C(280));
+                                        store32(l0 + UINT64_C(836), l7);
+                                        store32(l0 + UINT64_C(832), l1);
+                                        store32(l0 + UINT64_C(828), l4);
+                                        store32(l0 + UINT64_C(824), l3);
+                                        store32(l0 + UINT64_C(820), l6);
+                                        store32(l0 + UINT64_C(816), l5);
+                                        store32(l0 + UINT64_C(812), l11);
+                                        store32(l0 + UINT64_C(808), l19);
+                                        store32(l0 + UINT64_C(8), load32(l0 + UINT64_C(124)) == 1u ? 29u : 12u);
+                                        goto after25;
+                                    }
+                                    after27:;
+                                    store32(l0 + UINT64_C(8), 8u);
+                                    l9 = 0u;
+                                    store32(l0 + UINT64_C(444), 0u);
+                                }
+                                after25:;
+                                l7 = 0u;
+                                l3 = 0u;
+                                l4 = 0u;
+                                l6 = 0u;
+                                l5 = 0u;
+                                goto after6;
+                            }
+                            after10:;
+                            store64(l2 + 150, UINT64_C(0));
+                            store64(l2 + 144, UINT64_C(0));
+                            store64(l2 + 136, UINT64_C(0));
+                            store64(l2 + 128, UINT64_C(0));
+                            {
+                                if (l1 != 0x796573u) { goto after30; }
+                                const u32 t1 = do_minisign_install_installation_progress_Progress_is_listed(sp, l10);
+                                if (t1 == 0) { goto after30; }
+                                store32(l0 + UINT64_C(8), load32(l0 + UINT64_C(124)) == 1u ? 28u : 10u);
+                                l9 = 0u;
+                                goto after8;
+                            }
+                            after30:;
+                            store64(l2 + 224, UINT64_C(0));
+                            store64(l2 + 232, UINT64_C(0));
+                            store64(l2 + 240, UINT64_C(0));
+                            store64(l2 + 248, UINT64_C(0));
+                            store64(l2 + 256, UINT64_C(0));
+                            store64(l2 + 264, UINT64_C(0));
+                            store64(l2 + 272, UINT64_C(0));
+                            store64(l2 + 304, UINT64_C(0));
+                            store64(l2 + 312, UINT64_C(0));
+                            store64(l2 + 320, UINT64_C(0));
+                            store64(l2 + 328, UINT64_C(0));
+                            {
+                                {
+                                    if (load32(l0 + UINT64_C(444)) == 1u) { goto after32; }
+                                    if (load32(l0 + UINT64_C(120)) != 1u) { goto after31; }
+                                }
+                                after32:;
+                                l10 = UINT64_C(0x5be0cd19137e2179);
+                                l12 = UINT64_C(0x1f83d9abfb41bd6b);
+                                l13 = UINT64_C(0x9b05688c2b3e6c1f);
+                                l14 = UINT64_C(0x510e527fade682d1);
+                                l15 = UINT64_C(0xa54ff53a5f1d36f1);
+                                l16 = UINT64_C(0x3c6ef372fe94f82b);
+                                l17 = UINT64_C(0xbb67ae8584caa73b);
+                                l18 = UINT64_C(0x6a09e667f2bdc948);
+                                l9 = 0u;
+                                {
+                                    {
+                                        if (load32(l0 + UINT64_C(140)) == 1u) { goto after34; }
+                                        l7 = 0u;
+                                        l1 = 0u;
+                                        l4 = 0u;
+                                        l3 = 0u;
+                                        l6 = 0u;
+                                        l5 = 0u;
+                                        l11 = 0u;
+                                        l19 = 0u;
+                                        goto after33;
+                                    }
+                                    after34:;
+                                    l7 = 0u;
+                                    l1 = 0u;
+                                    l4 = 0u;
+                                    l3 = 0u;
+                                    l6 = 0u;
+                                    l5 = 0u;
+                                    l11 = 0u;
+                                    l19 = 0u;
+                                    l20 = load32(l0 + UINT64_C(976)) + 0xffffffffu;
+                                    if (l20 > 2u) { goto after33; }
+                                    l21 = (u64) l20;
+                                    l18 = l21 << 3;
+                                    l10 = load64(l18 + address(data143));
+                                    l12 = load64(l18 + address(data142));
+                                    l13 = load64(l18 + address(data141));
+                                    l14 = load64(l18 + address(data140));
+                                    l15 = load64(l18 + address(data139));
+                                    l16 = load64(l18 + address(data138));
+                                    l17 = load64(l18 + address(data137));
+                                    l18 = load64(l18 + address(data136));
+                                    l21 = l21 << 2;
+                                    l19 = load32(l21 + address(data135));
+                                    l11 = load32(l21 + address(data134));
+                                    l5 = load32(l21 + address(data133));
+                                    l6 = load32(l21 + address(data132));
+                                    l3 = load32(l21 + address(data131));
+                                    l4 = load32(l21 + address(data130));
+                                    l1 = load32(l21 + address(data129));
+                                    l7 = load32(l21 + address(data128));
+                                }
+                                after33:;
+                                store64(l0 + UINT64_C(520), l10);
+                                store64(l0 + UINT64_C(512), l12);
+                                store64(l0 + UINT64_C(504), l13);
+                                store64(l0 + UINT64_C(496), l14);
+                                store64(l0 + UINT64_C(488), l15);
+                                store64(l0 + UINT64_C(480), l16);
+                                store64(l0 + UINT64_C(472), l17);
+                                store64(l0 + UINT64_C(464), l18);
+                                fill(l0 + UINT64_C(528), 0u, UINT64_C(280));
+                                store32(l0 + UINT64_C(836), l7);
+                                store32(l0 + UINT64_C(832), l1);
+                                store32(l0 + UINT64_C(828), l4);
+                                store32(l0 + UINT64_C(824), l3);
+                                store32(l0 + UINT64_C(820), l6);
+                                store32(l0 + UINT64_C(816), l5);
+                                store32(l0 + UINT64_C(812), l11);
+                                store32(l0 + UINT64_C(808), l19);
+                                store32(l0 + UINT64_C(8), load32(l0 + UINT64_C(124)) == 1u ? 29u : 12u);
+                                store64(l2 + 128, UINT64_C(0));
+                                store64(l2 + 136, UINT64_C(0));
+                                store64(l2 + 144, UINT64_C(0));
+                                store64(l2 + 150, UINT64_C(0));
+                                goto after8;
+                            }
+                            after31:;
+                            store64(l2 + 296, UINT64_C(12));
+                            do_minisign_install_installation_progress_Progress_reject(sp, table, l2 + UINT64_C(224), l10, l2 + UINT64_C(296));
+                            store64(l2 + 128, load64(l2 + 250));
+                            store64(l2 + 136, load64(l2 + 258));
+                            store64(l2 + 144, load64(l2 + 266));
+                            store64(l2 + 150, load64(l2 + 272));
+                            l5 = load8(l2 + 249);
+                            l6 = load8(l2 + 248);
+                            l4 = load8(l2 + 240);
+                            l3 = load8(l2 + 233);
+                            l7 = load8(l2 + 232);
+                            l9 = load8(l2 + 224);
+                            goto after7;
+                        }
+                        after9:;
+                        store64(l2 + 296, UINT64_C(0));
+                        store64(l2 + 304, UINT64_C(0));
+                        store64(l2 + 312, UINT64_C(0));
+                        store64(l2 + 320, UINT64_C(0));
+                        store64(l2 + 328, UINT64_C(0));
+                        store64(l2 + 336, UINT64_C(0));
+                        store64(l2 + 344, UINT64_C(0));
+                        {
+                            {
+                                if (l1 != 0x796573u) { goto after36; }
+                                store64(l2 + 224, UINT64_C(0));
+                                store64(l2 + 232, UINT64_C(0));
+                                store64(l2 + 240, UINT64_C(0));
+                                store64(l2 + 248, UINT64_C(0));
+                                store64(l2 + 256, UINT64_C(0));
+                                store64(l2 + 264, UINT64_C(0));
+                                store64(l2 + 272, UINT64_C(0));
+                                store64(l2 + 136, UINT64_C(0));
+                                store64(l2 + 144, UINT64_C(0));
+                                store64(l2 + 152, UINT64_C(0));
+                                store64(l2 + 160, UINT64_C(0));
+                                {
+                                    {
+                                        const u32 t2 = do_minisign_install_installation_progress_Progress_is_listed(sp, l10);
+                                        if (t2 == 0) { goto after38; }
+                                        store32(l10, 17u);
+                                        l5 = 0u;
+                                        l6 = 0u;
+                                        l4 = 0u;
+                                        l3 = 0u;
+                                        l7 = 0u;
+                                        l9 = 0u;
+                                        goto after37;
+                                    }
+                                    after38:;
+                                    store64(l2 + 128, UINT64_C(20));
+                                    do_minisign_install_installation_progress_Progress_reject(sp, table, l2 + UINT64_C(224), l10, l2 + UINT64_C(128));
+                                    l5 = load8(l2 + 249);
+                                    l6 = load8(l2 + 248);
+                                    l4 = load8(l2 + 240);
+                                    l3 = load8(l2 + 233);
+                                    l7 = load8(l2 + 232);
+                                    l9 = load8(l2 + 224);
+                                }
+                                after37:;
+                                store64(l2 + 344, load64(l2 + 272));
+                                store64(l2 + 338, load64(l2 + 266));
+                                store64(l2 + 330, load64(l2 + 258));
+                                store64(l2 + 322, load64(l2 + 250));
+                                goto after35;
+                            }
+                            after36:;
+                            store64(l2 + 234, UINT64_C(0));
+                            store16(l2 + 232, 9984u);
+                            store64(l2 + 224, UINT64_C(0));
+                            store64(l2 + 242, UINT64_C(0));
+                            store64(l2 + 250, UINT64_C(0));
+                            store64(l2 + 256, UINT64_C(0));
+                            do_minisign_install_installation_progress_Progress_reject(sp, table, l2 + UINT64_C(296), l10, l2 + UINT64_C(224));
+                            l5 = load8(l2 + 321);
+                            l6 = load8(l2 + 320);
+                            l4 = load8(l2 + 312);
+                            l3 = load8(l2 + 305);
+                            l7 = load8(l2 + 304);
+                            l9 = load8(l2 + 296);
+                        }
+                        after35:;
+                        store64(l2 + 118, load64(l2 + 344));
+                        store64(l2 + 112, load64(l2 + 338));
+                        store64(l2 + 104, load64(l2 + 330));
+                        store64(l2 + 96, load64(l2 + 322));
+                        goto after6;
+                    }
+                    after8:;
+                    l7 = 0u;
+                    l3 = 0u;
+                    l4 = 0u;
+                    l6 = 0u;
+                    l5 = 0u;
+                }
+                after7:;
+                store64(l2 + 118, load64(l2 + 150));
+                store64(l2 + 112, load64(l2 + 144));
+                store64(l2 + 104, load64(l2 + 136));
+                store64(l2 + 96, load64(l2 + 128));
+            }
+            after6:;
+            store64(l2 + 86, load64(l2 + 118));
+            store64(l2 + 80, load64(l2 + 112));
+            store64(l2 + 48, load64(l2 + 80));
+            store64(l2 + 54, load64(l2 + 86));
+            store64(l2, load64(l2 + 96));
+            store64(l2 + 8, load64(l2 + 104));
+            store64(l2 + 16, load64(l2 + 48));
+            store64(l2 + 22, load64(l2 + 54));
+            store64(l2 + 224, UINT64_C(0));
+            if ((l9 & 255u) == 0) { goto after1; }
+        }
+        after2:;
+        store8(l2 + 241, l5);
+        store8(l2 + 240, l6);
+        store8(l2 + 225, l3);
+        store64(l2 + 242, load64(l2));
+        store64(l2 + 250, load64(l2 + 8));
+        store64(l2 + 258, load64(l2 + 16));
+        store64(l2 + 264, load64(l2 + 22));
+        store64(l2 + 232, ((u64) l4) & UINT64_C(255));
+        store8(l2 + 224, l7);
+        const u32 t3 = do_minisign_external_state_Refusal_number_740bc7f2a85702bc(table, l2 + UINT64_C(224));
+        l8 = t3;
+        if ((l7 & 255u) != 1u) { goto after1; }
+        if ((l4 & 255u) != 0) { goto after1; }
+        if ((l6 & 255u) != 2u) { goto after1; }
+        if (load64(l2 + 264) == 0) { goto after1; }
+        machine_rattle_dealloc(load64(l2 + 248));
+    }
+    after1:;
+    sp = l2 + UINT64_C(352);
+    return l8;
+}
+
+static u32 do_minisign_install_is_signed(u64 l0)
+{
+    u32 l1 = 0;
+    l1 = 0u;
+    {
+        if (load64(l0) != UINT64_C(0x6c6c6174736e696d)) { goto after1; }
+        l1 = (u32) (load32(l0 + UINT64_C(440)) == 1u);
+    }
+    after1:;
+    return l1;
+}
+
+static u64 do_minisign_install_version(u64 l0)
+{
+    u64 l1 = 0;
+    l1 = UINT64_C(0);
+    {
+        if (load64(l0) != UINT64_C(0x6c6c6174736e696d)) { goto after1; }
+        if (load32(l0 + UINT64_C(440)) != 1u) { goto after1; }
+        l1 = load64(l0 + UINT64_C(272));
+    }
+    after1:;
+    return l1;
+}
+
+static u32 do_minisign_install_size(u64 l0, u64 l1)
+{
+    u32 l2 = 0;
+    l2 = 0u;
+    {
+        if (load64(l0) != UINT64_C(0x6c6c6174736e696d)) { goto after1; }
+        if (load32(l0 + UINT64_C(440)) != 1u) { goto after1; }
+        if (load32(l0 + UINT64_C(420)) != 1u) { goto after1; }
+        store64(l1, load64(l0 + UINT64_C(280)));
+        l2 = 1u;
+    }
+    after1:;
+    return l2;
+}
+
+static u64 do_minisign_install_record_text(u64 sp, u64 l0, u64 l1, u64 l2)
+{
+    u32 l8 = 0, l9 = 0, l10 = 0;
+    u64 l3 = 0, l4 = 0, l5 = 0, l6 = 0, l7 = 0, l11 = 0, l12 = 0, l13 = 0, l14 = 0, l15 = 0;
+    l3 = sp - UINT64_C(272);
+    sp = l3;
+    {
+        {
+            if (load64(l0) == UINT64_C(0x6c6c6174736e696d)) { goto after2; }
+            l4 = UINT64_C(0);
+            goto after1;
+        }
+        after2:;
+        l4 = UINT64_C(0);
+        l5 = l0 + UINT64_C(8);
+        if (load32(l5) != 20u) { goto after1; }
+        store64(l3 + 96, UINT64_C(0));
+        store64(l3 + 88, UINT64_C(0));
+        store64(l3 + 80, UINT64_C(0));
+        store64(l3 + 72, UINT64_C(0));
+        {
+            {
+                {
+                    if (load32(l0 + UINT64_C(432)) != 1u) { goto after5; }
+                    l4 = l0 + UINT64_C(24);
+                    goto after4;
+                }
+                after5:;
+                if (load32(l0 + UINT64_C(436)) != 1u) { goto after3; }
+                store64(l3 + 96, load64(l0 + UINT64_C(96)));
+                store64(l3 + 88, load64(l0 + UINT64_C(88)));
+                store64(l3 + 80, load64(l0 + UINT64_C(80)));
+                store64(l3 + 72, load64(l0 + UINT64_C(72)));
+                l4 = l3 + UINT64_C(72);
+            }
+            after4:;
+            store64(l3 + 32, load64(l4 + 24));
+            store64(l3 + 24, load64(l4 + 16));
+            store64(l3 + 16, load64(l4 + 8));
+            store64(l3 + 8, load64(l4));
+            {
+                {
+                    if (load32(l0 + UINT64_C(256)) == 1u) { goto after7; }
+                    l5 = load64(l0 + UINT64_C(272));
+                    l4 = l3 + UINT64_C(8);
+                    goto after6;
+                }
+                after7:;
+                l6 = load64(l0 + UINT64_C(272));
+                l7 = load64(l0 + UINT64_C(152));
+                l5 = load64(l5 + (l6 < l7 ? UINT64_C(144) : UINT64_C(264)));
+                store64(l3 + 96, load64(l3 + 32));
+                store64(l3 + 88, load64(l3 + 24));
+                store64(l3 + 80, load64(l3 + 16));
+                store64(l3 + 72, load64(l3 + 8));
+                l4 = l3 + UINT64_C(8);
+                if (l6 >= l7) { goto after6; }
+                l4 = load32(l0 + UINT64_C(260)) == 1u ? (l0 + UINT64_C(160)) : (l3 + UINT64_C(72));
+            }
+            after6:;
+            store64(l3 + 64, load64(l4 + 24));
+            store64(l3 + 56, load64(l4 + 16));
+            store64(l3 + 48, load64(l4 + 8));
+            store64(l3 + 40, load64(l4));
+            {
+                {
+                    if (load32(l0 + UINT64_C(140)) != 1u) { goto after9; }
+                    store64(l3 + 224, load64(l0 + UINT64_C(896)));
+                    store64(l3 + 216, load64(l0 + UINT64_C(888)));
+                    store64(l3 + 208, load64(l0 + UINT64_C(880)));
+                    store64(l3 + 200, load64(l0 + UINT64_C(872)));
+                    store64(l3 + 192, load64(l0 + UINT64_C(864)));
+                    store64(l3 + 184, load64(l0 + UINT64_C(856)));
+                    store64(l3 + 176, load64(l0 + UINT64_C(848)));
+                    store64(l3 + 168, load64(l0 + UINT64_C(840)));
+                    goto after8;
+                }
+                after9:;
+                do_minisign_install_installation_reading_Reading_blake2b_digest(sp, l3 + UINT64_C(168), l0 + UINT64_C(464));
+            }
+            after8:;
+            store64(l3 + 96, load64(l3 + 64));
+            store64(l3 + 88, load64(l3 + 56));
+            store64(l3 + 80, load64(l3 + 48));
+            store64(l3 + 72, load64(l3 + 40));
+            store64(l3 + 104, load64(l3 + 168));
+            store64(l3 + 112, load64(l3 + 176));
+            store64(l3 + 120, load64(l3 + 184));
+            store64(l3 + 128, load64(l3 + 192));
+            store64(l3 + 136, load64(l3 + 200));
+            store64(l3 + 144, load64(l3 + 208));
+            store64(l3 + 152, load64(l3 + 216));
+            store64(l3 + 160, load64(l3 + 224));
+            l8 = load32(l0 + UINT64_C(112));
+            store64(l3 + 264, UINT64_C(0));
+            store64(l3 + 256, UINT64_C(0));
+            store64(l3 + 248, UINT64_C(0));
+            store64(l3 + 240, UINT64_C(0));
+            store64(l3 + 232, UINT64_C(0));
+            l0 = UINT64_C(40);
+            {
+                if (l5 < UINT64_C(10000)) { goto after10; }
+                l0 = UINT64_C(40);
+                again11:;
+                {
+                    l6 = (l3 + UINT64_C(232)) + l0;
+                    l4 = l5;
+                    const u64 t1 = div_u64(l4, UINT64_C(10000));
+                    l5 = t1;
+                    l9 = (u32) (l4 - (l5 * UINT64_C(10000)));
+                    const u32 t2 = div_u32(l9 & 65535u, 100u);
+                    l10 = t2;
+                    store16(l6 + UINT64_C(0xfffffffffffffffc), load16((((u64) l10) << 1) + address(data61)));
+                    store16(l6 + UINT64_C(0xfffffffffffffffe), load16(((((u64) (l9 - (l10 * 100u))) & UINT64_C(65535)) << 1) + address(data61)));
+                    l0 = l0 + UINT64_C(0xfffffffffffffffc);
+                    if (l4 > UINT64_C(0x5f5e0ff)) { goto again11; }
+                }
+            }
+            after10:;
+            {
+                {
+                    if (l5 > UINT64_C(99)) { goto after13; }
+                    {
+                        if (l5 > UINT64_C(9)) { goto after14; }
+                        l11 = l0 + UINT64_C(0xffffffffffffffff);
+                        store8((l3 + UINT64_C(232)) + l11, ((u32) l5) | 48u);
+                        goto after12;
+                    }
+                    after14:;
+                    l11 = l0 + UINT64_C(0xfffffffffffffffe);
+                    store16((l3 + UINT64_C(232)) + l11, load16((l5 << 1) + address(data61)));
+                    goto after12;
+                }
+                after13:;
+                l9 = (u32) l5;
+                const u32 t3 = div_u32(l9 & 65535u, 100u);
+                const u32 t4 = l9;
+                l9 = t3;
+                store16(((l3 + UINT64_C(232)) + l0) + UINT64_C(0xfffffffffffffffe), load16(((((u64) (t4 - (l9 * 100u))) & UINT64_C(65535)) << 1) + address(data61)));
+                {
+                    if (l5 > UINT64_C(999)) { goto after15; }
+                    l11 = l0 + UINT64_C(0xfffffffffffffffd);
+                    store8((l3 + UINT64_C(232)) + l11, l9 | 48u);
+                    goto after12;
+                }
+                after15:;
+                l11 = l0 + UINT64_C(0xfffffffffffffffc);
+                store16((l3 + UINT64_C(232)) + l11, load16((((u64) l9) << 1) + address(data61)));
+            }
+            after12:;
+            l4 = UINT64_C(0);
+            l12 = UINT64_C(40) - l11;
+            l9 = (u32) (l8 == 1u);
+            l7 = l9 != 0 ? UINT64_C(8) : UINT64_C(10);
+            l13 = l12 + l7;
+            l14 = l13 + UINT64_C(194);
+            if (l2 < l14) { goto after1; }
+            {
+                {
+                    l15 = l1 == 0 ? UINT64_C(4096) : UINT64_C(0);
+                    l4 = l1 + l15;
+                    l5 = l9 != 0 ? address(data63) : address(data62);
+                    if ((l4 - l5) >= l7) { goto after17; }
+                    l6 = l7 & UINT64_C(2);
+                    l0 = UINT64_C(0xfffffffffffffff8);
+                    again18:;
+                    {
+                        store32((l4 + l0) + UINT64_C(8), load32((l5 + l0) + UINT64_C(8)));
+                        l0 = l0 + UINT64_C(4);
+                        if (l0 != UINT64_C(0)) { goto again18; }
+                    }
+                    if (l6 == 0) { goto after16; }
+                    l5 = l5 + l0;
+                    l6 = l4 + l0;
+                    l0 = UINT64_C(0);
+                    again19:;
+                    {
+                        store8((l6 + l0) + UINT64_C(8), load8((l5 + l0) + UINT64_C(8)));
+                        l0 = l0 + UINT64_C(1);
+                        if (l0 != UINT64_C(2)) { goto again19; }
+                        goto after16;
+                    }
+                }
+                after17:;
+                if (l7 == 0) { goto after16; }
+                copy(l4, l5, l7);
+            }
+            after16:;
+            l2 = l4 + l13;
+            {
+                if (l12 == 0) { goto after20; }
+                copy(l4 + l7, (l3 + UINT64_C(232)) + l11, l12);
+            }
+            after20:;
+            l6 = l3 + UINT64_C(104);
+            store8(l2, 10u);
+            l1 = ((l15 + l7) - l11) + l1;
+            l0 = l1 + UINT64_C(42);
+            l4 = UINT64_C(0);
+            again21:;
+            {
+                l5 = (u64) load8((l3 + UINT64_C(72)) + l4);
+                store8(l0, load8((l5 & UINT64_C(15)) + address(data64)));
+                store8(l0 + UINT64_C(0xffffffffffffffff), load8((l5 >> 4) + address(data64)));
+                l0 = l0 + UINT64_C(2);
+                l4 = l4 + UINT64_C(1);
+                if (l4 != UINT64_C(32)) { goto again21; }
+            }
+            store8(l2 + UINT64_C(65), 10u);
+            l0 = l1 + UINT64_C(107);
+            l4 = UINT64_C(0);
+            again22:;
+            {
+                l5 = (u64) load8(l6 + l4);
+                store8(l0, load8((l5 & UINT64_C(15)) + address(data64)));
+                store8(l0 + UINT64_C(0xffffffffffffffff), load8((l5 >> 4) + address(data64)));
+                l0 = l0 + UINT64_C(2);
+                l4 = l4 + UINT64_C(1);
+                if (l4 != UINT64_C(64)) { goto again22; }
+            }
+            l4 = l14;
+            goto after1;
+        }
+        after3:;
+        l4 = UINT64_C(0);
+    }
+    after1:;
+    sp = l3 + UINT64_C(272);
+    return l4;
+}
+
+static u32 do_minisign_install_error(u64 l0)
+{
+    u32 l1 = 0;
+    l1 = 0u;
+    {
+        if (load64(l0) != UINT64_C(0x6c6c6174736e696d)) { goto after1; }
+        l1 = load32(l0 + UINT64_C(12));
+    }
+    after1:;
+    return l1;
+}
+
+static u64 do_minisign_install_line(u64 l0)
+{
+    u64 l1 = 0;
+    l1 = UINT64_C(0);
+    {
+        if (load64(l0) != UINT64_C(0x6c6c6174736e696d)) { goto after1; }
+        if (load32(l0 + UINT64_C(460)) != 1u) { goto after1; }
+        l1 = load64(l0 + UINT64_C(968));
+    }
+    after1:;
+    return l1;
+}
+
+static u32 do_minisign_judge_comment(u64 sp, u64 table, u64 l0, u64 l1, u64 l2, u64 l3, u32 l4, u64 l5, u64 l6, u64 l7)
+{
+    u32 l9 = 0, l10 = 0, l17 = 0;
+    u64 l8 = 0, l11 = 0, l12 = 0, l13 = 0, l14 = 0, l15 = 0, l16 = 0, l18 = 0, l19 = 0;
+    l8 = sp - UINT64_C(256);
+    sp = l8;
+    store64(l8 + 72, UINT64_C(0));
+    store64(l8 + 80, UINT64_C(0));
+    store64(l8 + 88, UINT64_C(0));
+    store64(l8 + 96, UINT64_C(0));
+    store64(l8 + 104, UINT64_C(0));
+    store64(l8 + 56, UINT64_C(0));
+    store64(l8 + 62, UINT64_C(0));
+    l9 = 0u;
+    l10 = 14u;
+    {
+        {
+            {
+                switch (l4) {
+                case 0: goto after2;
+                case 1: goto after3;
+                default: goto after1;
+                }
+            }
+            after3:;
+            l9 = 1u;
+        }
+        after2:;
+        store64(l8 + 118, UINT64_C(0));
+        store64(l8 + 112, UINT64_C(0));
+        store64(l8 + 160, UINT64_C(0));
+        store64(l8 + 152, UINT64_C(0));
+        store64(l8 + 144, UINT64_C(0));
+        do_core_str_utf8_from_utf8(sp, l8 + UINT64_C(144), l0 + (l0 == 0 ? UINT64_C(4096) : UINT64_C(0)), l1);
+        {
+            {
+                {
+                    {
+                        {
+                            {
+                                {
+                                    {
+                                        {
+                                            {
+                                                {
+                                                    {
+                                                        {
+                                                            {
+                                                                {
+                                                                    {
+                                                                        {
+                                                                            {
+                                                                                {
+                                                                                    {
+                                                                                        if (load8(l8 + 144) != 0) { goto after23; }
+                                                                                        l11 = load64(l8 + 160);
+                                                                                        l12 = load64(l8 + 152);
+                                                                                        l13 = UINT64_C(0);
+                                                                                        store64(l8 + 160, UINT64_C(0));
+                                                                                        store64(l8 + 152, UINT64_C(0));
+                                                                                        store64(l8 + 144, UINT64_C(0));
+                                                                                        do_core_str_utf8_from_utf8(sp, l8 + UINT64_C(144), l2 + (l2 == 0 ? UINT64_C(4096) : UINT64_C(0)), l3);
+                                                                                        if (load8(l8 + 144) != 0) { goto after23; }
+                                                                                        l14 = (l8 + UINT64_C(224)) + UINT64_C(16);
+                                                                                        l15 = load64(l8 + 160);
+                                                                                        l16 = load64(l8 + 152);
+                                                                                        store64(l8 + 134, UINT64_C(0));
+                                                                                        store64(l8 + 128, UINT64_C(0));
+                                                                                        store64(l8 + 224, UINT64_C(0));
+                                                                                        store64(l8 + 232, UINT64_C(0));
+                                                                                        store64(l8 + 240, UINT64_C(0));
+                                                                                        store64(l8 + 246, UINT64_C(0));
+                                                                                        store64(l8 + 192, UINT64_C(0));
+                                                                                        store64(l8 + 200, UINT64_C(0));
+                                                                                        store64(l8 + 208, UINT64_C(0));
+                                                                                        store64(l8 + 214, UINT64_C(0));
+                                                                                        store64(l8 + 144, UINT64_C(0));
+                                                                                        store64(l8 + 152, UINT64_C(0));
+                                                                                        store64(l8 + 160, UINT64_C(0));
+                                                                                        store64(l8 + 168, UINT64_C(0));
+                                                                                        store64(l8 + 176, UINT64_C(0));
+                                                                                        store64(l8 + 184, UINT64_C(0));
+                                                                                        l17 = 0u;
+                                                                                        if (l11 == 0) { goto after22; }
+                                                                                        l18 = (l8 + UINT64_C(192)) + UINT64_C(16);
+                                                                                        l0 = l11;
+                                                                                        l1 = l12;
+                                                                                        {
+                                                                                            again25:;
+                                                                                            {
+                                                                                                do_core_iter_words_find_ascii(sp, l8 + UINT64_C(40), l1, l0, 9u);
+                                                                                                l3 = load64(l8 + 48);
+                                                                                                {
+                                                                                                    l2 = load64(l8 + 40);
+                                                                                                    l19 = l2 < l0 ? l2 : l0;
+                                                                                                    if (l19 < UINT64_C(5)) { goto after26; }
+                                                                                                    if (((((u64) load32(l1 + 1)) << 32) | ((u64) load32(l1))) == UINT64_C(0x3a656c69656c6966)) { goto after24; }
+                                                                                                }
+                                                                                                after26:;
+                                                                                                l10 = (u32) (l2 >= l0);
+                                                                                                if (l10 != 0) { goto after22; }
+                                                                                                l1 = l10 != 0 ? address(data53) : (l1 + l3);
+                                                                                                l0 = l0 - l3;
+                                                                                                if (l0 == 0) { goto after22; }
+                                                                                                goto again25;
+                                                                                            }
+                                                                                        }
+                                                                                        after24:;
+                                                                                        l2 = UINT64_C(5);
+                                                                                        const u32 t1 = do_core_cmp_bytes_equal(l1 + UINT64_C(5), l19 + UINT64_C(0xfffffffffffffffb), l16, l15);
+                                                                                        if (t1 == 0) { goto after22; }
+                                                                                        do_minisign_install_installation_judging_version_in(sp, l8 + UINT64_C(24), l12, l11, l9);
+                                                                                        l0 = UINT64_C(0);
+                                                                                        l4 = 0u;
+                                                                                        if (load8(l8 + 24) != 1u) { goto after21; }
+                                                                                        do_minisign_install_installation_judging_expiry_fault(sp, l8 + UINT64_C(144), l12, l11, 0u, 1u, l5);
+                                                                                        {
+                                                                                            if (load8(l8 + 144) != 1u) { goto after27; }
+                                                                                            l18 = l8 + UINT64_C(178);
+                                                                                            l2 = (u64) load8(l8 + 152);
+                                                                                            l13 = load64(l8 + 170);
+                                                                                            l0 = load64(l8 + 162);
+                                                                                            l17 = load8(l8 + 161);
+                                                                                            l4 = load8(l8 + 160);
+                                                                                            goto after21;
+                                                                                        }
+                                                                                        after27:;
+                                                                                        do_minisign_install_installation_judging_version_in(sp, l8 + UINT64_C(8), l12, l11, l9);
+                                                                                        l0 = load64(l8 + 16);
+                                                                                        {
+                                                                                            l10 = load8(l8 + 8);
+                                                                                            if ((l10 & 1u) == 0) { goto after28; }
+                                                                                            if (l0 < l6) { goto after20; }
+                                                                                        }
+                                                                                        after28:;
+                                                                                        store64(l7, l10 == 1u ? l0 : UINT64_C(0));
+                                                                                        l10 = 0u;
+                                                                                        goto after1;
+                                                                                    }
+                                                                                    after23:;
+                                                                                    store64(l8 + 82, UINT64_C(0));
+                                                                                    store16(l8 + 80, 1536u);
+                                                                                    store64(l8 + 72, UINT64_C(0));
+                                                                                    store64(l8 + 90, UINT64_C(0));
+                                                                                    store64(l8 + 98, UINT64_C(0));
+                                                                                    store64(l8 + 104, UINT64_C(0));
+                                                                                    l0 = l8 + UINT64_C(80);
+                                                                                    l4 = 0u;
+                                                                                    goto after4;
+                                                                                }
+                                                                                after22:;
+                                                                                l18 = l14;
+                                                                                l0 = UINT64_C(0);
+                                                                                l4 = 0u;
+                                                                                l2 = UINT64_C(4);
+                                                                            }
+                                                                            after21:;
+                                                                            store64(l8 + 134, load64(l18 + 6));
+                                                                            store64(l8 + 128, load64(l18));
+                                                                            store64(l8 + 118, load64(l8 + 134));
+                                                                            store64(l8 + 112, load64(l8 + 128));
+                                                                            store64(l8 + 56, load64(l8 + 112));
+                                                                            store64(l8 + 62, load64(l8 + 118));
+                                                                            store64(l8 + 90, l13);
+                                                                            store64(l8 + 82, l0);
+                                                                            store8(l8 + 81, l17);
+                                                                            store8(l8 + 80, l4);
+                                                                            store64(l8 + 72, l2);
+                                                                            store64(l8 + 104, load64(l8 + 62));
+                                                                            store64(l8 + 98, load64(l8 + 56));
+                                                                            l0 = l8 + UINT64_C(80);
+                                                                            l1 = table + 4144;
+                                                                            {
+                                                                                {
+                                                                                    {
+                                                                                        {
+                                                                                            switch ((u32) l2) {
+                                                                                            case 1: goto after5;
+                                                                                            case 2: goto after32;
+                                                                                            case 3: goto after31;
+                                                                                            case 4: goto after30;
+                                                                                            case 5: goto after29;
+                                                                                            case 6: goto after20;
+                                                                                            case 7: goto after19;
+                                                                                            case 8: goto after18;
+                                                                                            case 9: goto after17;
+                                                                                            case 10: goto after16;
+                                                                                            case 11: goto after15;
+                                                                                            case 12: goto after14;
+                                                                                            case 13: goto after13;
+                                                                                            case 14: goto after12;
+                                                                                            case 15: goto after11;
+                                                                                            case 16: goto after10;
+                                                                                            case 17: goto after9;
+                                                                                            case 18: goto after8;
+                                                                                            case 19: goto after7;
+                                                                                            case 20: goto after6;
+                                                                                            default: goto after4;
+                                                                                            }
+                                                                                        }
+                                                                                        after32:;
+                                                                                        l10 = load32(table + 4224);
+                                                                                        goto after1;
+                                                                                    }
+                                                                                    after31:;
+                                                                                    l10 = load32(table + 4288);
+                                                                                    goto after1;
+                                                                                }
+                                                                                after30:;
+                                                                                l10 = load32(table + 4352);
+                                                                                goto after1;
+                                                                            }
+                                                                            after29:;
+                                                                            l10 = load32(table + 4432);
+                                                                            goto after1;
+                                                                        }
+                                                                        after20:;
+                                                                        l10 = load32(table + 4512);
+                                                                        goto after1;
+                                                                    }
+                                                                    after19:;
+                                                                    l10 = load32(table + 4592);
+                                                                    goto after1;
+                                                                }
+                                                                after18:;
+                                                                l10 = load32(table + 4688);
+                                                                goto after1;
+                                                            }
+                                                            after17:;
+                                                            l10 = load32(table + 4768);
+                                                            goto after1;
+                                                        }
+                                                        after16:;
+                                                        l10 = load32(table + 4848);
+                                                        goto after1;
+                                                    }
+                                                    after15:;
+                                                    l10 = load32(table + 4896);
+                                                    goto after1;
+                                                }
+                                                after14:;
+                                                l10 = load32(table + 4992);
+                                                goto after1;
+                                            }
+                                            after13:;
+                                            l10 = load32(table + 5088);
+                                            goto after1;
+                                        }
+                                        after12:;
+                                        l10 = load32(table + 5168);
+                                        goto after1;
+                                    }
+                                    after11:;
+                                    l10 = load32(table + 5264);
+                                    goto after1;
+                                }
+                                after10:;
+                                l10 = load32(table + 5360);
+                                goto after1;
+                            }
+                            after9:;
+                            l10 = load32(table + 5456);
+                            goto after1;
+                        }
+                        after8:;
+                        l10 = load32(table + 5520);
+                        goto after1;
+                    }
+                    after7:;
+                    l10 = load32(table + 5584);
+                    goto after1;
+                }
+                after6:;
+                l1 = table + 5648;
+            }
+            after5:;
+            l10 = load32(l1);
+            goto after1;
+        }
+        after4:;
+        const u32 t2 = do_minisign_external_numbers_PErrorNumbered_number(table, l0);
+        l10 = t2;
+        if ((l4 & 255u) != 2u) { goto after1; }
+        if (load64(l8 + 104) == 0) { goto after1; }
+        machine_rattle_dealloc(load64(l8 + 88));
+    }
+    after1:;
+    sp = l8 + UINT64_C(256);
+    return l10;
+}
+
+static void do_minisign_lists_values_digest_of(u64 sp, u64 l0, u64 l1, u64 l2)
+{
+    u64 l3 = 0, l4 = 0, l5 = 0, l6 = 0;
+    l3 = sp - UINT64_C(752);
+    sp = l3;
+    store64(l3 + 56, UINT64_C(0));
+    store64(l3 + 48, UINT64_C(0));
+    store64(l3 + 40, UINT64_C(0));
+    store64(l3 + 32, UINT64_C(0));
+    store64(l3 + 24, UINT64_C(0));
+    store64(l3 + 16, UINT64_C(0));
+    store64(l3 + 8, UINT64_C(0));
+    store64(l3, UINT64_C(0));
+    store64(l3 + 120, UINT64_C(0x5be0cd19137e2179));
+    store64(l3 + 112, UINT64_C(0x1f83d9abfb41bd6b));
+    store64(l3 + 104, UINT64_C(0x9b05688c2b3e6c1f));
+    store64(l3 + 96, UINT64_C(0x510e527fade682d1));
+    store64(l3 + 88, UINT64_C(0xa54ff53a5f1d36f1));
+    store64(l3 + 80, UINT64_C(0x3c6ef372fe94f82b));
+    store64(l3 + 72, UINT64_C(0xbb67ae8584caa73b));
+    store64(l3 + 64, UINT64_C(0x6a09e667f2bdc948));
+    fill((l3 + UINT64_C(64)) + UINT64_C(64), 0u, UINT64_C(280));
+    store64(l3 + 416, UINT64_C(0));
+    store64(l3 + 408, UINT64_C(64));
+    store64(l3 + 424, UINT64_C(0));
+    do_minisign_hash_blake2b_Blake2b_update(sp, l3 + UINT64_C(64), l1, l2);
+    store64(l3 + 560, UINT64_C(0));
+    store64(l3 + 568, UINT64_C(0));
+    store64(l3 + 576, UINT64_C(0));
+    store64(l3 + 584, UINT64_C(0));
+    store64(l3 + 592, UINT64_C(0));
+    store64(l3 + 600, UINT64_C(0));
+    store64(l3 + 608, UINT64_C(0));
+    store64(l3 + 616, UINT64_C(0));
+    store64(l3 + 496, UINT64_C(0));
+    store64(l3 + 504, UINT64_C(0));
+    store64(l3 + 512, UINT64_C(0));
+    store64(l3 + 520, UINT64_C(0));
+    store64(l3 + 528, UINT64_C(0));
+    store64(l3 + 536, UINT64_C(0));
+    store64(l3 + 544, UINT64_C(0));
+    store64(l3 + 552, UINT64_C(0));
+    l1 = load64(l3 + 128);
+    l4 = load64(l3 + 136);
+    l5 = l3 + UINT64_C(144);
+    l6 = load64(l3 + 400);
+    l2 = (l6 - ((u64) ((u32) (l6 != UINT64_C(0))))) & UINT64_C(0xffffffffffffff80);
+    do_minisign_hash_blake2b_after_blocks(l3 + UINT64_C(496), l3 + UINT64_C(64), l1, l4, l5, l2, UINT64_C(128), UINT64_C(0), 0u);
+    fill(l3 + UINT64_C(624), 0u, UINT64_C(128));
+    {
+        l6 = l6 - l2;
+        if (l6 == 0) { goto after1; }
+        copy(l3 + UINT64_C(624), l5 + l2, l6);
+    }
+    after1:;
+    l2 = l1 + l2;
+    do_minisign_hash_blake2b_after_blocks(l3 + UINT64_C(560), l3 + UINT64_C(496), l2, l4 + ((u64) ((u32) (l2 < l1))), l3 + UINT64_C(624), UINT64_C(128), l6, UINT64_C(0), 1u);
+    store64(l3 + 488, load64(l3 + 616));
+    store64(l3 + 480, load64(l3 + 608));
+    store64(l3 + 472, load64(l3 + 600));
+    store64(l3 + 464, load64(l3 + 592));
+    store64(l3 + 456, load64(l3 + 584));
+    store64(l3 + 448, load64(l3 + 576));
+    store64(l3 + 440, load64(l3 + 568));
+    store64(l3 + 432, load64(l3 + 560));
+    {
+        l2 = load64(l3 + 408);
+        if (l2 == 0) { goto after2; }
+        copy(l3, l3 + UINT64_C(432), l2);
+    }
+    after2:;
+    store64(l0 + 56, load64(l3 + 56));
+    store64(l0 + 48, load64(l3 + 48));
+    store64(l0 + 40, load64(l3 + 40));
+    store64(l0 + 32, load64(l3 + 32));
+    store64(l0 + 24, load64(l3 + 24));
+    store64(l0 + 16, load64(l3 + 16));
+    store64(l0 + 8, load64(l3 + 8));
+    store64(l0, load64(l3));
+    sp = l3 + UINT64_C(752);
+}
+
+static void do_minisign_lists_values_ListValue_ask(u64 sp, u64 l0, u64 l1, u64 l2, u64 l3, u64 l4, u64 l5, u64 l6, u64 l7, u64 l8, u64 l9, u64 l10, u64 l11)
+{
+    u32 l15 = 0, l16 = 0, l17 = 0, l18 = 0, l19 = 0, l20 = 0;
+    u64 l12 = 0, l13 = 0, l14 = 0;
+    l12 = sp - UINT64_C(688);
+    sp = l12;
+    store64(l12 + 64, UINT64_C(0));
+    store64(l12 + 72, UINT64_C(0));
+    store64(l12 + 80, UINT64_C(0));
+    store64(l12 + 88, UINT64_C(0));
+    store64(l12 + 96, UINT64_C(0));
+    store64(l12 + 104, UINT64_C(0));
+    store64(l12 + 112, UINT64_C(0));
+    store64(l12 + 120, UINT64_C(0));
+    store64(l12, UINT64_C(0));
+    store64(l12 + 8, UINT64_C(0));
+    store64(l12 + 16, UINT64_C(0));
+    store64(l12 + 22, UINT64_C(0));
+    l13 = load64(l6 + UINT64_C(16));
+    l14 = load64(l6 + UINT64_C(8));
+    l15 = load8(l6);
+    store64(l12 + 640, UINT64_C(0));
+    store64(l12 + 648, UINT64_C(0));
+    store64(l12 + 656, UINT64_C(0));
+    store64(l12 + 664, UINT64_C(0));
+    store64(l12 + 672, UINT64_C(0));
+    store64(l12 + 680, UINT64_C(0));
+    l16 = 0u;
+    fill(l12 + UINT64_C(200), 0u, UINT64_C(440));
+    store64(l12 + 192, UINT64_C(0x5be0cd19137e2179));
+    store64(l12 + 184, UINT64_C(0x1f83d9abfb41bd6b));
+    store64(l12 + 176, UINT64_C(0x9b05688c2b3e6c1f));
+    store64(l12 + 168, UINT64_C(0x510e527fade682d1));
+    store64(l12 + 160, UINT64_C(0xa54ff53a5f1d36f1));
+    store64(l12 + 152, UINT64_C(0x3c6ef372fe94f82b));
+    store64(l12 + 144, UINT64_C(0xbb67ae8584caa73b));
+    store64(l12 + 136, UINT64_C(0x6a09e667f2bdc948));
+    store64(l12 + 128, UINT64_C(0x6e676973696e696d));
+    do_minisign_external_state_State_ask_strictly(sp, l12 + UINT64_C(640), l12 + UINT64_C(128), l2, l3, l4, l5, 0u, l9, l10, l11);
+    store64(l12 + 32, load64(l12 + 658));
+    store64(l12 + 40, load64(l12 + 666));
+    store64(l12 + 48, load64(l12 + 674));
+    store64(l12 + 54, load64(l12 + 680));
+    {
+        {
+            {
+                {
+                    {
+                        {
+                            l17 = load8(l12 + 640);
+                            if (l17 != 0) { goto after6; }
+                            l18 = 0u;
+                            {
+                                if ((load8(l12 + 641) & 1u) != 0) { goto after7; }
+                                l16 = 0u;
+                                goto after2;
+                            }
+                            after7:;
+                            do_minisign_lists_values_digest_of(sp, l12 + UINT64_C(64), l7, l8);
+                            store64(l9 + UINT64_C(88), load64(l12 + 120));
+                            store64(l9 + UINT64_C(80), load64(l12 + 112));
+                            store64(l9 + UINT64_C(72), load64(l12 + 104));
+                            store64(l9 + UINT64_C(64), load64(l12 + 96));
+                            store64(l9 + UINT64_C(56), load64(l12 + 88));
+                            store64(l9 + UINT64_C(48), load64(l12 + 80));
+                            store64(l9 + UINT64_C(40), load64(l12 + 72));
+                            store64(l9 + UINT64_C(32), load64(l12 + 64));
+                            l19 = load8(l3 + UINT64_C(195));
+                            l11 = load64(l2 + UINT64_C(40));
+                            if ((l15 & 255u) != 1u) { goto after4; }
+                            l16 = 0u;
+                            l3 = load64(l3 + UINT64_C(152));
+                            if (l3 == 0) { goto after3; }
+                            l9 = l10 + UINT64_C(64);
+                            again8:;
+                            {
+                                l6 = UINT64_C(0);
+                                {
+                                    again10:;
+                                    {
+                                        l2 = l9 + l6;
+                                        if (load8(l2) == 9u) { goto after9; }
+                                        l6 = l6 + UINT64_C(1);
+                                        if (l3 != l6) { goto again10; }
+                                    }
+                                    if (l3 < UINT64_C(5)) { goto after3; }
+                                    if (load8(l9) != 102u) { goto after3; }
+                                    if ((load8(l9 + UINT64_C(3)) & 255u) != 101u) { goto after3; }
+                                    if ((load8(l9 + UINT64_C(1)) & 255u) != 105u) { goto after3; }
+                                    if ((load8(l9 + UINT64_C(2)) & 255u) != 108u) { goto after3; }
+                                    if ((load8(l9 + UINT64_C(4)) & 255u) != 58u) { goto after3; }
+                                    goto after5;
+                                }
+                                after9:;
+                                {
+                                    if (l6 < UINT64_C(5)) { goto after11; }
+                                    if (load8(l9) != 102u) { goto after11; }
+                                    if ((load8(l9 + UINT64_C(3)) & 255u) != 101u) { goto after11; }
+                                    if ((load8(l9 + UINT64_C(1)) & 255u) != 105u) { goto after11; }
+                                    if ((load8(l9 + UINT64_C(2)) & 255u) != 108u) { goto after11; }
+                                    if ((load8(l9 + UINT64_C(4)) & 255u) != 58u) { goto after11; }
+                                    l3 = l6;
+                                    goto after5;
+                                }
+                                after11:;
+                                l10 = l3 + UINT64_C(0xffffffffffffffff);
+                                l3 = (l6 ^ UINT64_C(0xffffffffffffffff)) + l3;
+                                l9 = l2 + UINT64_C(1);
+                                if (l10 != l6) { goto again8; }
+                                goto after3;
+                            }
+                        }
+                        after6:;
+                        l20 = load8(l12 + 657);
+                        l18 = load8(l12 + 656);
+                        l19 = load8(l12 + 649);
+                        l15 = load8(l12 + 648);
+                        store64(l12 + 22, load64(l12 + 54));
+                        store64(l12 + 16, load64(l12 + 48));
+                        store64(l12 + 8, load64(l12 + 40));
+                        store64(l12, load64(l12 + 32));
+                        goto after1;
+                    }
+                    after5:;
+                    if ((l3 + UINT64_C(0xfffffffffffffffb)) != l13) { goto after3; }
+                    l6 = l9 + UINT64_C(5);
+                    {
+                        if (l13 < UINT64_C(4)) { goto after12; }
+                        if (load8(l9 + UINT64_C(5)) != load8(l14)) { goto after3; }
+                        if ((load8(l9 + UINT64_C(6)) & 255u) != (load8(l14 + UINT64_C(1)) & 255u)) { goto after3; }
+                        if ((load8(l9 + UINT64_C(7)) & 255u) != (load8(l14 + UINT64_C(2)) & 255u)) { goto after3; }
+                        if ((load8(l9 + UINT64_C(8)) & 255u) != (load8(l14 + UINT64_C(3)) & 255u)) { goto after3; }
+                        const u32 t1 = do_core_cmp_slices_groups_equal_i8_31_core_cmp_numbers_U8PartialEq(l6, l13, l14);
+                        if (t1 != 0) { goto after4; }
+                        goto after3;
+                    }
+                    after12:;
+                    if (l13 == 0) { goto after4; }
+                    l3 = UINT64_C(0);
+                    {
+                        if (load8(l6) != load8(l14)) { goto after13; }
+                        l3 = UINT64_C(1);
+                        if (l13 == UINT64_C(1)) { goto after4; }
+                        if (load8(l9 + UINT64_C(6)) != load8(l14 + UINT64_C(1))) { goto after13; }
+                        l3 = UINT64_C(2);
+                        if (l13 == UINT64_C(2)) { goto after4; }
+                        if (load8(l9 + UINT64_C(7)) == load8(l14 + UINT64_C(2))) { goto after4; }
+                    }
+                    after13:;
+                    if (l3 < l13) { goto after3; }
+                }
+                after4:;
+                l16 = 1u;
+            }
+            after3:;
+            store64(l1, UINT64_C(0x6b73616c696e696d));
+            store64(l1 + 8, load64(l12 + 64));
+            store64(l1 + 16, load64(l12 + 72));
+            store64(l1 + 24, load64(l12 + 80));
+            store64(l1 + 32, load64(l12 + 88));
+            store64(l1 + 40, load64(l12 + 96));
+            store64(l1 + 48, load64(l12 + 104));
+            store64(l1 + 56, load64(l12 + 112));
+            store64(l1 + 64, load64(l12 + 120));
+            store32(l1 + 84, l16);
+            store32(l1 + 80, l19);
+            store64(l1 + 72, l11);
+            l16 = 1u;
+        }
+        after2:;
+        l15 = 0u;
+        l19 = 0u;
+        l20 = 0u;
+    }
+    after1:;
+    store8(l0, l17);
+    store8(l0 + UINT64_C(17), l20);
+    store8(l0 + UINT64_C(16), l18);
+    store8(l0 + UINT64_C(9), l19);
+    store8(l0 + UINT64_C(8), l15);
+    store8(l0 + UINT64_C(1), l16);
+    store64(l0 + UINT64_C(18), load64(l12));
+    store64(l0 + UINT64_C(26), load64(l12 + 8));
+    store64(l0 + UINT64_C(34), load64(l12 + 16));
+    store64(l0 + UINT64_C(40), load64(l12 + 22));
+    sp = l12 + UINT64_C(688);
+}
+
+static u32 do_minisign_c_asked_number(u64 sp, u64 table, u64 l0)
+{
+    u32 l2 = 0, l3 = 0, l4 = 0, l5 = 0;
+    u64 l1 = 0;
+    l1 = sp - UINT64_C(48);
+    sp = l1;
+    store64(l1 + 8, UINT64_C(0));
+    {
+        {
+            if (load8(l0) != 0) { goto after2; }
+            l2 = (load8(l0 + UINT64_C(1)) & 1u) != 0 ? 0u : 81u;
+            goto after1;
+        }
+        after2:;
+        l3 = load8(l0 + UINT64_C(9));
+        l4 = load8(l0 + UINT64_C(16));
+        l2 = load8(l0 + UINT64_C(8));
+        store8(l1 + 17, load8(l0 + UINT64_C(17)));
+        store8(l1 + 16, l4);
+        store8(l1 + 9, l3);
+        store64(l1 + 18, load64(l0 + UINT64_C(18)));
+        store64(l1 + 26, load64(l0 + UINT64_C(26)));
+        store64(l1 + 34, load64(l0 + UINT64_C(34)));
+        store64(l1 + 40, load64(l0 + UINT64_C(40)));
+        store8(l1 + 8, l2);
+        {
+            l5 = l2 & 255u;
+            if (l5 == 0) { goto after3; }
+            const u32 t1 = do_minisign_external_numbers_PErrorNumbered_number(table, (l1 + UINT64_C(8)) + UINT64_C(8));
+            l2 = t1;
+            if (l5 != 1u) { goto after1; }
+            if ((l4 & 255u) != 2u) { goto after1; }
+            if (load64(l1 + 40) == 0) { goto after1; }
+            machine_rattle_dealloc(load64(l1 + 24));
+            goto after1;
+        }
+        after3:;
+        l2 = load32(((((u64) l3) & UINT64_C(255)) << 2) + address(data124));
+    }
+    after1:;
+    sp = l1 + UINT64_C(48);
+    return l2;
+}
+
+static u32 do_minisign_list_ask(u64 sp, u64 table, u64 l0, u64 l1, u64 l2, u64 l3, u64 l4, u64 l5, u64 l6, u64 l7, u64 l8, u64 l9, u64 l10, u64 l11)
+{
+    u32 l13 = 0;
+    u64 l12 = 0;
+    l12 = sp - UINT64_C(80);
+    sp = l12;
+    store64(l12 + 32, UINT64_C(0));
+    store64(l12 + 40, UINT64_C(0));
+    store64(l12 + 48, UINT64_C(0));
+    store64(l12 + 56, UINT64_C(0));
+    store64(l12 + 64, UINT64_C(0));
+    store64(l12 + 72, UINT64_C(0));
+    store64(l12 + 24, l6);
+    store64(l12 + 8, UINT64_C(1));
+    store64(l12 + 16, l5 + (l5 == 0 ? UINT64_C(4096) : UINT64_C(0)));
+    do_minisign_lists_values_ListValue_ask(sp, l12 + UINT64_C(32), l0, l1, l2, l3 + (l3 == 0 ? UINT64_C(4096) : UINT64_C(0)), l4, l12 + UINT64_C(8), l7 + (l7 == 0 ? UINT64_C(4096) : UINT64_C(0)), l8, l9, l10 + (l10 == 0 ? UINT64_C(4096) : UINT64_C(0)), l11);
+    const u32 t1 = do_minisign_c_asked_number(sp, table, l12 + UINT64_C(32));
+    l13 = t1;
+    sp = l12 + UINT64_C(80);
+    return l13;
+}
+
+static u32 do_minisign_list_ask_any(u64 sp, u64 table, u64 l0, u64 l1, u64 l2, u64 l3, u64 l4, u64 l5, u64 l6, u64 l7, u64 l8, u64 l9)
+{
+    u32 l11 = 0;
+    u64 l10 = 0;
+    l10 = sp - UINT64_C(80);
+    sp = l10;
+    store64(l10 + 32, UINT64_C(0));
+    store64(l10 + 40, UINT64_C(0));
+    store64(l10 + 48, UINT64_C(0));
+    store64(l10 + 56, UINT64_C(0));
+    store64(l10 + 64, UINT64_C(0));
+    store64(l10 + 72, UINT64_C(0));
+    store64(l10 + 8, UINT64_C(0));
+    store64(l10 + 16, UINT64_C(0));
+    store64(l10 + 24, UINT64_C(0));
+    do_minisign_lists_values_ListValue_ask(sp, l10 + UINT64_C(32), l0, l1, l2, l3 + (l3 == 0 ? UINT64_C(4096) : UINT64_C(0)), l4, l10 + UINT64_C(8), l5 + (l5 == 0 ? UINT64_C(4096) : UINT64_C(0)), l6, l7, l8 + (l8 == 0 ? UINT64_C(4096) : UINT64_C(0)), l9);
+    const u32 t1 = do_minisign_c_asked_number(sp, table, l10 + UINT64_C(32));
+    l11 = t1;
+    sp = l10 + UINT64_C(80);
+    return l11;
+}
+
+static u32 do_minisign_list_verdict(u64 table, u64 l0, u32 l1, u32 l2)
+{
+    u32 l3 = 0;
+    l3 = 4u;
+    {
+        {
+            if (l1 == 0x796573u) { goto after2; }
+            if (l1 != 28271u) { goto after1; }
+        }
+        after2:;
+        {
+            if (l2 == 0x796573u) { goto after3; }
+            if (l2 != 28271u) { goto after1; }
+        }
+        after3:;
+        {
+            if (load64(l0) == UINT64_C(0x6b73616c696e696d)) { goto after4; }
+            return 3u;
+        }
+        after4:;
+        store64(l0, UINT64_C(0));
+        l2 = ((u32) (l2 == 0x796573u)) & ((u32) (load32(l0 + UINT64_C(80)) == 1u));
+        {
+            if (l1 != 0x796573u) { goto after5; }
+            if (l2 == 0) { goto after5; }
+            {
+                if (load32(l0 + UINT64_C(84)) == 1u) { goto after6; }
+                return 89u;
+            }
+            after6:;
+            store64(l0, UINT64_C(0x7473696c696e696d));
+            return 0u;
+        }
+        after5:;
+        {
+            {
+                {
+                    {
+                        switch ((l1 == 0x796573u ? (l2 != 0 ? 0u : 40u) : 39u) + 0xffffffd9u) {
+                        case 0: goto after9;
+                        case 1: goto after8;
+                        default: goto after10;
+                        }
+                    }
+                    after10:;
+                    l0 = table + 832;
+                    goto after7;
+                }
+                after9:;
+                l0 = table + 880;
+                goto after7;
+            }
+            after8:;
+            l0 = table + 944;
+        }
+        after7:;
+        l3 = load32(l0);
+    }
+    after1:;
+    return l3;
+}
+
 static void do_minisign_lists_values_ListValue_text(u64 sp, u64 l0, u64 l1, u64 l2, u64 l3)
 {
     u32 l5 = 0, l6 = 0, l8 = 0;
@@ -19931,7 +22601,7 @@ static u32 do_minisign_list_find(u64 sp, u64 table, u64 l0, u64 l1, u64 l2, u32 
                     }
                     after22:;
                     store64(l7, l1);
-                    l1 = table + 5360;
+                    l1 = table + 5760;
                     {
                         {
                             {
@@ -19950,23 +22620,23 @@ static u32 do_minisign_list_find(u64 sp, u64 table, u64 l0, u64 l1, u64 l2, u32 
                                                 }
                                             }
                                             after29:;
-                                            l9 = load32(table + 5440);
+                                            l9 = load32(table + 5360);
                                             goto after1;
                                         }
                                         after28:;
-                                        l9 = load32(table + 5536);
+                                        l9 = load32(table + 5456);
                                         goto after1;
                                     }
                                     after27:;
-                                    l9 = load32(table + 5600);
+                                    l9 = load32(table + 5520);
                                     goto after1;
                                 }
                                 after26:;
-                                l9 = load32(table + 5664);
+                                l9 = load32(table + 5584);
                                 goto after1;
                             }
                             after25:;
-                            l1 = table + 5728;
+                            l1 = table + 5648;
                         }
                         after24:;
                         l9 = load32(l1);
@@ -20702,7 +23372,7 @@ static u32 do_minisign_list_entries(u64 sp, u64 table, u64 l0, u64 l1, u64 l2, u
             }
             after39:;
             store64(l7, l1);
-            l1 = table + 5360;
+            l1 = table + 5760;
             {
                 {
                     {
@@ -20722,23 +23392,23 @@ static u32 do_minisign_list_entries(u64 sp, u64 table, u64 l0, u64 l1, u64 l2, u
                                             }
                                         }
                                         after47:;
-                                        l1 = table + 5440;
+                                        l1 = table + 5360;
                                         goto after41;
                                     }
                                     after46:;
-                                    l1 = table + 5536;
+                                    l1 = table + 5456;
                                     goto after41;
                                 }
                                 after45:;
-                                l1 = table + 5600;
+                                l1 = table + 5520;
                                 goto after41;
                             }
                             after44:;
-                            l1 = table + 5664;
+                            l1 = table + 5584;
                             goto after41;
                         }
                         after43:;
-                        l1 = table + 5728;
+                        l1 = table + 5648;
                         goto after41;
                     }
                     after42:;
@@ -21629,808 +24299,6 @@ static void do_minisign_lists_values_FileValue_restore(u64 sp, u64 l0, u64 l1)
     sp = l2 + UINT64_C(992);
 }
 
-static void do_minisign_sha2_block256_compress(u64 l0, u64 l1)
-{
-    u32 l2 = 0, l3 = 0, l4 = 0, l5 = 0, l6 = 0, l7 = 0, l8 = 0, l9 = 0, l10 = 0, l11 = 0, l12 = 0, l13 = 0, l14 = 0, l15 = 0, l16 = 0, l17 = 0;
-    u32 l18 = 0, l19 = 0, l20 = 0, l21 = 0, l22 = 0, l23 = 0, l24 = 0, l25 = 0, l26 = 0, l27 = 0, l28 = 0, l29 = 0, l30 = 0, l31 = 0, l32 = 0, l33 = 0;
-    u32 l34 = 0, l35 = 0, l36 = 0, l37 = 0;
-    l2 = load32(l0);
-    l3 = load32(l0 + 8);
-    l4 = load32(l0 + 4);
-    l5 = l4 ^ l2;
-    l6 = load32(l0 + 28);
-    l7 = load32(l1);
-    l7 = rotr32(l7 & 0xff00ffu, 8u) | (rotr32(l7, 24u) & 0xff00ffu);
-    l8 = load32(l0 + 16);
-    l9 = load32(l0 + 24);
-    l10 = load32(l0 + 20);
-    l11 = (((l6 + l7) + rotl32(rotl32(rotl32(l8, 18u) ^ l8, 27u) ^ l8, 26u)) + (((l9 ^ l10) & l8) ^ l9)) + 0x428a2f98u;
-    l12 = (rotl32(rotl32(rotl32(l2, 23u) ^ l2, 21u) ^ l2, 30u) + (((l3 ^ l4) & l5) ^ l4)) + l11;
-    l13 = l12 ^ l2;
-    const u32 t1 = rotl32(rotl32(rotl32(l12, 23u) ^ l12, 21u) ^ l12, 30u) + ((l13 & l5) ^ l2);
-    l5 = load32(l1 + 4);
-    l14 = rotr32(l5 & 0xff00ffu, 8u) | (rotr32(l5, 24u) & 0xff00ffu);
-    l15 = load32(l0 + 12);
-    l5 = l11 + l15;
-    l16 = (((l9 + l14) + ((l5 & (l10 ^ l8)) ^ l10)) + rotl32(rotl32(rotl32(l5, 18u) ^ l5, 27u) ^ l5, 26u)) + 0x71374491u;
-    l17 = t1 + l16;
-    l18 = l17 ^ l12;
-    l11 = load32(l1 + 8);
-    l11 = rotr32(l11 & 0xff00ffu, 8u) | (rotr32(l11, 24u) & 0xff00ffu);
-    l19 = l16 + l3;
-    l16 = (((l10 + l11) + ((l19 & (l5 ^ l8)) ^ l8)) + rotl32(rotl32(rotl32(l19, 18u) ^ l19, 27u) ^ l19, 26u)) + 0xb5c0fbcfu;
-    l20 = (rotl32(rotl32(rotl32(l17, 23u) ^ l17, 21u) ^ l17, 30u) + ((l18 & l13) ^ l12)) + l16;
-    l21 = l20 ^ l17;
-    l13 = load32(l1 + 12);
-    l13 = rotr32(l13 & 0xff00ffu, 8u) | (rotr32(l13, 24u) & 0xff00ffu);
-    l22 = l16 + l4;
-    const u32 t2 = rotl32(rotl32(rotl32(l20, 23u) ^ l20, 21u) ^ l20, 30u) + ((l21 & l18) ^ l17);
-    l18 = (((l8 + l13) + ((l22 & (l19 ^ l5)) ^ l5)) + rotl32(rotl32(rotl32(l22, 18u) ^ l22, 27u) ^ l22, 26u)) + 0xe9b5dba5u;
-    l23 = t2 + l18;
-    l24 = l23 ^ l20;
-    l16 = load32(l1 + 16);
-    l16 = rotr32(l16 & 0xff00ffu, 8u) | (rotr32(l16, 24u) & 0xff00ffu);
-    const u32 t3 = l16 + l5;
-    l5 = l18 + l2;
-    const u32 t4 = rotl32(rotl32(rotl32(l23, 23u) ^ l23, 21u) ^ l23, 30u) + ((l24 & l21) ^ l20);
-    l21 = ((t3 + ((l5 & (l22 ^ l19)) ^ l19)) + rotl32(rotl32(rotl32(l5, 18u) ^ l5, 27u) ^ l5, 26u)) + 0x3956c25bu;
-    l25 = t4 + l21;
-    l26 = l25 ^ l23;
-    l18 = load32(l1 + 20);
-    l18 = rotr32(l18 & 0xff00ffu, 8u) | (rotr32(l18, 24u) & 0xff00ffu);
-    l21 = l21 + l12;
-    l12 = (((l18 + l19) + ((l21 & (l5 ^ l22)) ^ l22)) + rotl32(rotl32(rotl32(l21, 18u) ^ l21, 27u) ^ l21, 26u)) + 0x59f111f1u;
-    l24 = (rotl32(rotl32(rotl32(l25, 23u) ^ l25, 21u) ^ l25, 30u) + ((l26 & l24) ^ l23)) + l12;
-    l27 = l24 ^ l25;
-    l19 = load32(l1 + 24);
-    l19 = rotr32(l19 & 0xff00ffu, 8u) | (rotr32(l19, 24u) & 0xff00ffu);
-    l17 = l12 + l17;
-    l12 = (((l19 + l22) + ((l17 & (l21 ^ l5)) ^ l5)) + rotl32(rotl32(rotl32(l17, 18u) ^ l17, 27u) ^ l17, 26u)) + 0x923f82a4u;
-    l26 = (rotl32(rotl32(rotl32(l24, 23u) ^ l24, 21u) ^ l24, 30u) + ((l27 & l26) ^ l25)) + l12;
-    l28 = l26 ^ l24;
-    l22 = load32(l1 + 28);
-    l22 = rotr32(l22 & 0xff00ffu, 8u) | (rotr32(l22, 24u) & 0xff00ffu);
-    const u32 t5 = l22 + l5;
-    l5 = l12 + l20;
-    l20 = ((t5 + ((l5 & (l17 ^ l21)) ^ l21)) + rotl32(rotl32(rotl32(l5, 18u) ^ l5, 27u) ^ l5, 26u)) + 0xab1c5ed5u;
-    l27 = (rotl32(rotl32(rotl32(l26, 23u) ^ l26, 21u) ^ l26, 30u) + ((l28 & l27) ^ l24)) + l20;
-    l29 = l27 ^ l26;
-    l12 = load32(l1 + 32);
-    l12 = rotr32(l12 & 0xff00ffu, 8u) | (rotr32(l12, 24u) & 0xff00ffu);
-    l23 = l20 + l23;
-    l20 = (((l12 + l21) + ((l23 & (l5 ^ l17)) ^ l17)) + rotl32(rotl32(rotl32(l23, 18u) ^ l23, 27u) ^ l23, 26u)) + 0xd807aa98u;
-    l28 = (rotl32(rotl32(rotl32(l27, 23u) ^ l27, 21u) ^ l27, 30u) + ((l29 & l28) ^ l26)) + l20;
-    l30 = l28 ^ l27;
-    l21 = load32(l1 + 36);
-    l21 = rotr32(l21 & 0xff00ffu, 8u) | (rotr32(l21, 24u) & 0xff00ffu);
-    l25 = l20 + l25;
-    l20 = (((l21 + l17) + ((l25 & (l23 ^ l5)) ^ l5)) + rotl32(rotl32(rotl32(l25, 18u) ^ l25, 27u) ^ l25, 26u)) + 0x12835b01u;
-    l29 = (rotl32(rotl32(rotl32(l28, 23u) ^ l28, 21u) ^ l28, 30u) + ((l30 & l29) ^ l27)) + l20;
-    l31 = l29 ^ l28;
-    l17 = load32(l1 + 40);
-    l17 = rotr32(l17 & 0xff00ffu, 8u) | (rotr32(l17, 24u) & 0xff00ffu);
-    const u32 t6 = l17 + l5;
-    l5 = l20 + l24;
-    l24 = ((t6 + ((l5 & (l25 ^ l23)) ^ l23)) + rotl32(rotl32(rotl32(l5, 18u) ^ l5, 27u) ^ l5, 26u)) + 0x243185beu;
-    l32 = (rotl32(rotl32(rotl32(l29, 23u) ^ l29, 21u) ^ l29, 30u) + ((l31 & l30) ^ l28)) + l24;
-    l30 = l32 ^ l29;
-    l20 = load32(l1 + 44);
-    l20 = rotr32(l20 & 0xff00ffu, 8u) | (rotr32(l20, 24u) & 0xff00ffu);
-    l26 = l24 + l26;
-    l24 = (((l20 + l23) + ((l26 & (l5 ^ l25)) ^ l25)) + rotl32(rotl32(rotl32(l26, 18u) ^ l26, 27u) ^ l26, 26u)) + 0x550c7dc3u;
-    l33 = (rotl32(rotl32(rotl32(l32, 23u) ^ l32, 21u) ^ l32, 30u) + ((l30 & l31) ^ l29)) + l24;
-    l34 = l33 ^ l32;
-    l23 = load32(l1 + 48);
-    l23 = rotr32(l23 & 0xff00ffu, 8u) | (rotr32(l23, 24u) & 0xff00ffu);
-    l31 = l24 + l27;
-    l24 = (((l23 + l25) + ((l31 & (l26 ^ l5)) ^ l5)) + rotl32(rotl32(rotl32(l31, 18u) ^ l31, 27u) ^ l31, 26u)) + 0x72be5d74u;
-    l35 = (rotl32(rotl32(rotl32(l33, 23u) ^ l33, 21u) ^ l33, 30u) + ((l34 & l30) ^ l32)) + l24;
-    l30 = l35 ^ l33;
-    l25 = load32(l1 + 52);
-    l25 = rotr32(l25 & 0xff00ffu, 8u) | (rotr32(l25, 24u) & 0xff00ffu);
-    l27 = l24 + l28;
-    l5 = (((l25 + l5) + ((l27 & (l31 ^ l26)) ^ l26)) + rotl32(rotl32(rotl32(l27, 18u) ^ l27, 27u) ^ l27, 26u)) + 0x80deb1feu;
-    l28 = (rotl32(rotl32(rotl32(l35, 23u) ^ l35, 21u) ^ l35, 30u) + ((l30 & l34) ^ l33)) + l5;
-    l34 = l28 ^ l35;
-    l24 = load32(l1 + 56);
-    l24 = rotr32(l24 & 0xff00ffu, 8u) | (rotr32(l24, 24u) & 0xff00ffu);
-    l29 = l5 + l29;
-    l5 = (((l24 + l26) + ((l29 & (l27 ^ l31)) ^ l31)) + rotl32(rotl32(rotl32(l29, 18u) ^ l29, 27u) ^ l29, 26u)) + 0x9bdc06a7u;
-    l30 = (rotl32(rotl32(rotl32(l28, 23u) ^ l28, 21u) ^ l28, 30u) + ((l34 & l30) ^ l35)) + l5;
-    l26 = load32(l1 + 60);
-    l26 = rotr32(l26 & 0xff00ffu, 8u) | (rotr32(l26, 24u) & 0xff00ffu);
-    const u32 t7 = l26 + l31;
-    l31 = l5 + l32;
-    l5 = ((t7 + ((l31 & (l29 ^ l27)) ^ l27)) + rotl32(rotl32(rotl32(l31, 18u) ^ l31, 27u) ^ l31, 26u)) + 0xc19bf174u;
-    l32 = (rotl32(rotl32(rotl32(l30, 23u) ^ l30, 21u) ^ l30, 30u) + (((l30 ^ l28) & l34) ^ l28)) + l5;
-    l5 = l5 + l33;
-    l1 = UINT64_C(0);
-    again1:;
-    {
-        l34 = l30 ^ l32;
-        l7 = ((l7 + l21) + (rotl32(rotl32(l24, 30u) ^ l24, 15u) ^ (l24 >> 10))) + (rotl32(rotl32(l14, 21u) ^ l14, 25u) ^ (l14 >> 3));
-        l27 = (((rotl32(rotl32(rotl32(l5, 18u) ^ l5, 27u) ^ l5, 26u) + l27) + (((l29 ^ l31) & l5) ^ l29)) + load32(l1 + (address(data87) + 64))) + l7;
-        l33 = (rotl32(rotl32(rotl32(l32, 23u) ^ l32, 21u) ^ l32, 30u) + (((l28 ^ l30) & l34) ^ l30)) + l27;
-        l36 = l33 ^ l32;
-        l27 = l27 + l35;
-        const u32 t8 = rotl32(rotl32(rotl32(l33, 23u) ^ l33, 21u) ^ l33, 30u) + ((l36 & l34) ^ l32);
-        l34 = ((l17 + l14) + (rotl32(rotl32(l26, 30u) ^ l26, 15u) ^ (l26 >> 10))) + (rotl32(rotl32(l11, 21u) ^ l11, 25u) ^ (l11 >> 3));
-        l35 = (((load32(l1 + (address(data87) + 68)) + l29) + ((l27 & (l31 ^ l5)) ^ l31)) + l34) + rotl32(rotl32(rotl32(l27, 18u) ^ l27, 27u) ^ l27, 26u);
-        l29 = t8 + l35;
-        l14 = l29 ^ l33;
-        l11 = ((l20 + l11) + (rotl32(rotl32(l7, 30u) ^ l7, 15u) ^ (l7 >> 10))) + (rotl32(rotl32(l13, 21u) ^ l13, 25u) ^ (l13 >> 3));
-        l28 = l35 + l28;
-        l35 = (((load32(l1 + (address(data87) + 72)) + l31) + l11) + ((l28 & (l27 ^ l5)) ^ l5)) + rotl32(rotl32(rotl32(l28, 18u) ^ l28, 27u) ^ l28, 26u);
-        l31 = (rotl32(rotl32(rotl32(l29, 23u) ^ l29, 21u) ^ l29, 30u) + ((l14 & l36) ^ l33)) + l35;
-        l36 = l31 ^ l29;
-        l13 = ((l23 + l13) + (rotl32(rotl32(l34, 30u) ^ l34, 15u) ^ (l34 >> 10))) + (rotl32(rotl32(l16, 21u) ^ l16, 25u) ^ (l16 >> 3));
-        const u32 t9 = (load32(l1 + (address(data87) + 76)) + l5) + l13;
-        l5 = l35 + l30;
-        l35 = (t9 + ((l5 & (l28 ^ l27)) ^ l27)) + rotl32(rotl32(rotl32(l5, 18u) ^ l5, 27u) ^ l5, 26u);
-        l30 = (rotl32(rotl32(rotl32(l31, 23u) ^ l31, 21u) ^ l31, 30u) + ((l36 & l14) ^ l29)) + l35;
-        l14 = l30 ^ l31;
-        l16 = ((l25 + l16) + (rotl32(rotl32(l11, 30u) ^ l11, 15u) ^ (l11 >> 10))) + (rotl32(rotl32(l18, 21u) ^ l18, 25u) ^ (l18 >> 3));
-        const u32 t10 = (load32(l1 + (address(data87) + 80)) + l27) + l16;
-        l27 = l35 + l32;
-        l35 = (t10 + ((l27 & (l5 ^ l28)) ^ l28)) + rotl32(rotl32(rotl32(l27, 18u) ^ l27, 27u) ^ l27, 26u);
-        l32 = (rotl32(rotl32(rotl32(l30, 23u) ^ l30, 21u) ^ l30, 30u) + ((l14 & l36) ^ l31)) + l35;
-        l36 = l32 ^ l30;
-        l18 = ((l18 + l24) + (rotl32(rotl32(l13, 30u) ^ l13, 15u) ^ (l13 >> 10))) + (rotl32(rotl32(l19, 21u) ^ l19, 25u) ^ (l19 >> 3));
-        const u32 t11 = (load32(l1 + (address(data87) + 84)) + l28) + l18;
-        l28 = l35 + l33;
-        l33 = (t11 + ((l28 & (l27 ^ l5)) ^ l5)) + rotl32(rotl32(rotl32(l28, 18u) ^ l28, 27u) ^ l28, 26u);
-        l35 = (rotl32(rotl32(rotl32(l32, 23u) ^ l32, 21u) ^ l32, 30u) + ((l36 & l14) ^ l30)) + l33;
-        l14 = l35 ^ l32;
-        l19 = ((l19 + l26) + (rotl32(rotl32(l16, 30u) ^ l16, 15u) ^ (l16 >> 10))) + (rotl32(rotl32(l22, 21u) ^ l22, 25u) ^ (l22 >> 3));
-        const u32 t12 = (l5 + load32(l1 + (address(data87) + 88))) + l19;
-        l5 = l33 + l29;
-        l33 = (t12 + ((l5 & (l28 ^ l27)) ^ l27)) + rotl32(rotl32(rotl32(l5, 18u) ^ l5, 27u) ^ l5, 26u);
-        l29 = (rotl32(rotl32(rotl32(l35, 23u) ^ l35, 21u) ^ l35, 30u) + ((l14 & l36) ^ l32)) + l33;
-        l36 = l29 ^ l35;
-        l22 = ((l22 + l7) + (rotl32(rotl32(l18, 30u) ^ l18, 15u) ^ (l18 >> 10))) + (rotl32(rotl32(l12, 21u) ^ l12, 25u) ^ (l12 >> 3));
-        const u32 t13 = (l22 + load32(l1 + (address(data87) + 92))) + l27;
-        l27 = l33 + l31;
-        l33 = (t13 + ((l27 & (l5 ^ l28)) ^ l28)) + rotl32(rotl32(rotl32(l27, 18u) ^ l27, 27u) ^ l27, 26u);
-        l31 = (rotl32(rotl32(rotl32(l29, 23u) ^ l29, 21u) ^ l29, 30u) + ((l36 & l14) ^ l35)) + l33;
-        l14 = l31 ^ l29;
-        l12 = ((l34 + (rotl32(rotl32(l21, 21u) ^ l21, 25u) ^ (l21 >> 3))) + l12) + (rotl32(rotl32(l19, 30u) ^ l19, 15u) ^ (l19 >> 10));
-        const u32 t14 = (l12 + load32(l1 + (address(data87) + 96))) + l28;
-        l28 = l33 + l30;
-        l33 = (t14 + ((l28 & (l27 ^ l5)) ^ l5)) + rotl32(rotl32(rotl32(l28, 18u) ^ l28, 27u) ^ l28, 26u);
-        l30 = (rotl32(rotl32(rotl32(l31, 23u) ^ l31, 21u) ^ l31, 30u) + ((l14 & l36) ^ l29)) + l33;
-        l36 = l30 ^ l31;
-        l21 = (((rotl32(rotl32(l17, 21u) ^ l17, 25u) ^ (l17 >> 3)) + l21) + l11) + (rotl32(rotl32(l22, 30u) ^ l22, 15u) ^ (l22 >> 10));
-        const u32 t15 = (l21 + load32(l1 + (address(data87) + 100))) + l5;
-        l5 = l33 + l32;
-        l33 = (t15 + ((l5 & (l28 ^ l27)) ^ l27)) + rotl32(rotl32(rotl32(l5, 18u) ^ l5, 27u) ^ l5, 26u);
-        l32 = (rotl32(rotl32(rotl32(l30, 23u) ^ l30, 21u) ^ l30, 30u) + ((l36 & l14) ^ l31)) + l33;
-        l14 = l32 ^ l30;
-        l17 = (((rotl32(rotl32(l20, 21u) ^ l20, 25u) ^ (l20 >> 3)) + l17) + l13) + (rotl32(rotl32(l12, 30u) ^ l12, 15u) ^ (l12 >> 10));
-        const u32 t16 = (l17 + load32(l1 + (address(data87) + 104))) + l27;
-        l27 = l33 + l35;
-        l35 = (t16 + ((l27 & (l5 ^ l28)) ^ l28)) + rotl32(rotl32(rotl32(l27, 18u) ^ l27, 27u) ^ l27, 26u);
-        l33 = (rotl32(rotl32(rotl32(l32, 23u) ^ l32, 21u) ^ l32, 30u) + ((l14 & l36) ^ l30)) + l35;
-        l36 = l33 ^ l32;
-        l20 = (((rotl32(rotl32(l23, 21u) ^ l23, 25u) ^ (l23 >> 3)) + l20) + l16) + (rotl32(rotl32(l21, 30u) ^ l21, 15u) ^ (l21 >> 10));
-        l29 = l35 + l29;
-        l28 = (((l20 + load32(l1 + (address(data87) + 108))) + l28) + ((l29 & (l27 ^ l5)) ^ l5)) + rotl32(rotl32(rotl32(l29, 18u) ^ l29, 27u) ^ l29, 26u);
-        l14 = (rotl32(rotl32(rotl32(l33, 23u) ^ l33, 21u) ^ l33, 30u) + ((l36 & l14) ^ l32)) + l28;
-        l37 = l14 ^ l33;
-        l23 = (((rotl32(rotl32(l25, 21u) ^ l25, 25u) ^ (l25 >> 3)) + l23) + l18) + (rotl32(rotl32(l17, 30u) ^ l17, 15u) ^ (l17 >> 10));
-        const u32 t17 = (l23 + load32(l1 + (address(data87) + 112))) + l5;
-        l5 = l28 + l31;
-        l28 = (t17 + ((l5 & (l29 ^ l27)) ^ l27)) + rotl32(rotl32(rotl32(l5, 18u) ^ l5, 27u) ^ l5, 26u);
-        l35 = (rotl32(rotl32(rotl32(l14, 23u) ^ l14, 21u) ^ l14, 30u) + ((l37 & l36) ^ l33)) + l28;
-        l31 = l35 ^ l14;
-        l25 = ((l25 + (rotl32(rotl32(l24, 21u) ^ l24, 25u) ^ (l24 >> 3))) + l19) + (rotl32(rotl32(l20, 30u) ^ l20, 15u) ^ (l20 >> 10));
-        const u32 t18 = (l25 + load32(l1 + (address(data87) + 116))) + l27;
-        l27 = l28 + l30;
-        l30 = (t18 + ((l27 & (l5 ^ l29)) ^ l29)) + rotl32(rotl32(rotl32(l27, 18u) ^ l27, 27u) ^ l27, 26u);
-        l28 = (rotl32(rotl32(rotl32(l35, 23u) ^ l35, 21u) ^ l35, 30u) + ((l31 & l37) ^ l14)) + l30;
-        l36 = l28 ^ l35;
-        l24 = (((rotl32(rotl32(l26, 21u) ^ l26, 25u) ^ (l26 >> 3)) + l24) + l22) + (rotl32(rotl32(l23, 30u) ^ l23, 15u) ^ (l23 >> 10));
-        const u32 t19 = (l24 + load32(l1 + (address(data87) + 120))) + l29;
-        l29 = l30 + l32;
-        const u32 t20 = rotl32(rotl32(rotl32(l28, 23u) ^ l28, 21u) ^ l28, 30u) + ((l36 & l31) ^ l35);
-        l31 = (t19 + ((l29 & (l27 ^ l5)) ^ l5)) + rotl32(rotl32(rotl32(l29, 18u) ^ l29, 27u) ^ l29, 26u);
-        l30 = t20 + l31;
-        l26 = (((rotl32(rotl32(l7, 21u) ^ l7, 25u) ^ (l7 >> 3)) + l26) + l12) + (rotl32(rotl32(l25, 30u) ^ l25, 15u) ^ (l25 >> 10));
-        l31 = l31 + l33;
-        l5 = (((l26 + load32(l1 + (address(data87) + 124))) + l5) + ((l31 & (l29 ^ l27)) ^ l27)) + rotl32(rotl32(rotl32(l31, 18u) ^ l31, 27u) ^ l31, 26u);
-        l32 = (rotl32(rotl32(rotl32(l30, 23u) ^ l30, 21u) ^ l30, 30u) + (((l30 ^ l28) & l36) ^ l28)) + l5;
-        l5 = l5 + l14;
-        l14 = l34;
-        l1 = l1 + UINT64_C(64);
-        if (l1 != UINT64_C(192)) { goto again1; }
-    }
-    store32(l0 + 28, l27 + l6);
-    store32(l0 + 24, l29 + l9);
-    store32(l0 + 20, l31 + l10);
-    store32(l0 + 16, l5 + l8);
-    store32(l0 + 12, l35 + l15);
-    store32(l0 + 8, l28 + l3);
-    store32(l0 + 4, l30 + l4);
-    store32(l0, l32 + l2);
-}
-
-static void do_minisign_sha2_block256_Core256_update(u64 l0, u64 l1, u64 l2)
-{
-    u64 l3 = 0, l4 = 0, l5 = 0, l6 = 0, l7 = 0, l8 = 0, l9 = 0, l10 = 0, l11 = 0;
-    l3 = l0 + UINT64_C(96);
-    const u64 t1 = l3;
-    l3 = load64(l3);
-    store64(t1, l3 + l2);
-    {
-        {
-            {
-                {
-                    {
-                        {
-                            l4 = l3 & UINT64_C(63);
-                            if (!(l4 == 0)) { goto after6; }
-                            l5 = UINT64_C(0);
-                            goto after5;
-                        }
-                        after6:;
-                        l6 = l0 + UINT64_C(32);
-                        l7 = l6 + l4;
-                        l3 = l7 - l1;
-                        l5 = UINT64_C(64) - l4;
-                        if (l2 < l5) { goto after4; }
-                        {
-                            {
-                                if (l3 >= l5) { goto after8; }
-                                l8 = l5 & UINT64_C(3);
-                                l7 = UINT64_C(0);
-                                {
-                                    if ((l4 ^ UINT64_C(63)) < UINT64_C(3)) { goto after9; }
-                                    l9 = l0 + l4;
-                                    l10 = l5 & UINT64_C(124);
-                                    l7 = UINT64_C(0);
-                                    again10:;
-                                    {
-                                        l3 = l9 + l7;
-                                        l11 = l1 + l7;
-                                        store8(l3 + UINT64_C(32), load8(l11));
-                                        store8(l3 + UINT64_C(33), load8(l11 + UINT64_C(1)));
-                                        store8(l3 + UINT64_C(34), load8(l11 + UINT64_C(2)));
-                                        store8(l3 + UINT64_C(35), load8(l11 + UINT64_C(3)));
-                                        l7 = l7 + UINT64_C(4);
-                                        if (l10 != l7) { goto again10; }
-                                    }
-                                    if (l8 == 0) { goto after7; }
-                                }
-                                after9:;
-                                l3 = l1 + l7;
-                                l7 = ((l7 + l4) + l0) + UINT64_C(32);
-                                again11:;
-                                {
-                                    store8(l7, load8(l3));
-                                    l7 = l7 + UINT64_C(1);
-                                    l3 = l3 + UINT64_C(1);
-                                    l8 = l8 + UINT64_C(0xffffffffffffffff);
-                                    if (l8 != UINT64_C(0)) { goto again11; }
-                                    goto after7;
-                                }
-                            }
-                            after8:;
-                            if (l5 == 0) { goto after7; }
-                            copy(l7, l1, l5);
-                        }
-                        after7:;
-                        do_minisign_sha2_block256_compress(l0, l6);
-                    }
-                    after5:;
-                    {
-                        l11 = l2 - l5;
-                        l7 = l11 >> 6;
-                        if (l7 == 0) { goto after12; }
-                        l3 = l1 + l5;
-                        again13:;
-                        {
-                            do_minisign_sha2_block256_compress(l0, l3);
-                            l3 = l3 + UINT64_C(64);
-                            l7 = l7 + UINT64_C(0xffffffffffffffff);
-                            if (l7 != UINT64_C(0)) { goto again13; }
-                        }
-                    }
-                    after12:;
-                    {
-                        l7 = l0 + UINT64_C(32);
-                        l9 = l11 & UINT64_C(0xffffffffffffffc0);
-                        l3 = l9 + l5;
-                        l4 = l1 + l3;
-                        l3 = l2 - l3;
-                        if ((l7 - l4) >= l3) { goto after14; }
-                        l8 = l3 & UINT64_C(3);
-                        l7 = UINT64_C(0);
-                        if (((l5 - l2) + l9) > UINT64_C(0xfffffffffffffffc)) { goto after2; }
-                        l2 = l3 & UINT64_C(0xfffffffffffffffc);
-                        l7 = UINT64_C(0);
-                        again15:;
-                        {
-                            l3 = l0 + l7;
-                            l11 = l4 + l7;
-                            store8(l3 + UINT64_C(32), load8(l11));
-                            store8(l3 + UINT64_C(33), load8(l11 + UINT64_C(1)));
-                            store8(l3 + UINT64_C(34), load8(l11 + UINT64_C(2)));
-                            store8(l3 + UINT64_C(35), load8(l11 + UINT64_C(3)));
-                            l7 = l7 + UINT64_C(4);
-                            if (l2 != l7) { goto again15; }
-                            goto after3;
-                        }
-                    }
-                    after14:;
-                    if (l3 == 0) { goto after1; }
-                    copy(l7, l4, l3);
-                    return;
-                }
-                after4:;
-                {
-                    {
-                        {
-                            if (l3 >= l2) { goto after18; }
-                            l8 = l2 & UINT64_C(3);
-                            l7 = UINT64_C(0);
-                            if (l2 < UINT64_C(4)) { goto after16; }
-                            l5 = l0 + l4;
-                            l2 = l2 & UINT64_C(0xfffffffffffffffc);
-                            l7 = UINT64_C(0);
-                            again19:;
-                            {
-                                l3 = l5 + l7;
-                                l11 = l1 + l7;
-                                store8(l3 + UINT64_C(32), load8(l11));
-                                store8(l3 + UINT64_C(33), load8(l11 + UINT64_C(1)));
-                                store8(l3 + UINT64_C(34), load8(l11 + UINT64_C(2)));
-                                store8(l3 + UINT64_C(35), load8(l11 + UINT64_C(3)));
-                                l7 = l7 + UINT64_C(4);
-                                if (l2 != l7) { goto again19; }
-                                goto after17;
-                            }
-                        }
-                        after18:;
-                        if (l2 == 0) { goto after1; }
-                        copy(l7, l1, l2);
-                        return;
-                    }
-                    after17:;
-                    if (l8 == 0) { goto after1; }
-                }
-                after16:;
-                l3 = l1 + l7;
-                l7 = ((l7 + l4) + l0) + UINT64_C(32);
-                again20:;
-                {
-                    store8(l7, load8(l3));
-                    l7 = l7 + UINT64_C(1);
-                    l3 = l3 + UINT64_C(1);
-                    l8 = l8 + UINT64_C(0xffffffffffffffff);
-                    if (l8 != UINT64_C(0)) { goto again20; }
-                    goto after1;
-                }
-            }
-            after3:;
-            if (l8 == 0) { goto after1; }
-        }
-        after2:;
-        l3 = (l7 + l0) + UINT64_C(32);
-        l7 = l1 + ((l5 + l7) + l9);
-        again21:;
-        {
-            store8(l3, load8(l7));
-            l3 = l3 + UINT64_C(1);
-            l7 = l7 + UINT64_C(1);
-            l8 = l8 + UINT64_C(0xffffffffffffffff);
-            if (!(l8 == 0)) { goto again21; }
-        }
-    }
-    after1:;
-}
-
-static void do_minisign_sha2_block512_compress(u64 l0, u64 l1)
-{
-    u64 l2 = 0, l3 = 0, l4 = 0, l5 = 0, l6 = 0, l7 = 0, l8 = 0, l9 = 0, l10 = 0, l11 = 0, l12 = 0, l13 = 0, l14 = 0, l15 = 0, l16 = 0, l17 = 0;
-    u64 l18 = 0, l19 = 0, l20 = 0, l21 = 0, l22 = 0, l23 = 0, l24 = 0, l25 = 0, l26 = 0, l27 = 0, l28 = 0, l29 = 0, l30 = 0, l31 = 0, l32 = 0, l33 = 0;
-    u64 l34 = 0, l35 = 0, l36 = 0, l37 = 0;
-    l2 = load64(l0);
-    l3 = load64(l0 + 16);
-    l4 = load64(l0 + 8);
-    l5 = l4 ^ l2;
-    l6 = load64(l0 + 56);
-    l7 = load64(l1);
-    l8 = (((l7 << 56) | ((l7 & UINT64_C(65280)) << 40)) | (((l7 & UINT64_C(0xff0000)) << 24) | ((l7 & UINT64_C(0xff000000)) << 8))) | ((((l7 >> 8) & UINT64_C(0xff000000)) | ((l7 >> 24) & UINT64_C(0xff0000))) | (((l7 >> 40) & UINT64_C(65280)) | (l7 >> 56)));
-    l9 = load64(l0 + 32);
-    l10 = load64(l0 + 48);
-    l11 = load64(l0 + 40);
-    l12 = (((l6 + l8) + rotl64(rotl64(rotl64(l9, UINT64_C(41)) ^ l9, UINT64_C(60)) ^ l9, UINT64_C(50))) + (((l10 ^ l11) & l9) ^ l10)) + UINT64_C(0x428a2f98d728ae22);
-    l13 = (rotl64(rotl64(rotl64(l2, UINT64_C(59)) ^ l2, UINT64_C(58)) ^ l2, UINT64_C(36)) + (((l3 ^ l4) & l5) ^ l4)) + l12;
-    l14 = l13 ^ l2;
-    l7 = load64(l1 + 8);
-    l15 = (((l7 << 56) | ((l7 & UINT64_C(65280)) << 40)) | (((l7 & UINT64_C(0xff0000)) << 24) | ((l7 & UINT64_C(0xff000000)) << 8))) | ((((l7 >> 8) & UINT64_C(0xff000000)) | ((l7 >> 24) & UINT64_C(0xff0000))) | (((l7 >> 40) & UINT64_C(65280)) | (l7 >> 56)));
-    l16 = load64(l0 + 24);
-    l7 = l12 + l16;
-    l12 = (((l10 + l15) + ((l7 & (l11 ^ l9)) ^ l11)) + rotl64(rotl64(rotl64(l7, UINT64_C(41)) ^ l7, UINT64_C(60)) ^ l7, UINT64_C(50))) + UINT64_C(0x7137449123ef65cd);
-    l17 = (rotl64(rotl64(rotl64(l13, UINT64_C(59)) ^ l13, UINT64_C(58)) ^ l13, UINT64_C(36)) + ((l14 & l5) ^ l2)) + l12;
-    l18 = l17 ^ l13;
-    l5 = load64(l1 + 16);
-    l5 = (((l5 << 56) | ((l5 & UINT64_C(65280)) << 40)) | (((l5 & UINT64_C(0xff0000)) << 24) | ((l5 & UINT64_C(0xff000000)) << 8))) | ((((l5 >> 8) & UINT64_C(0xff000000)) | ((l5 >> 24) & UINT64_C(0xff0000))) | (((l5 >> 40) & UINT64_C(65280)) | (l5 >> 56)));
-    l19 = l12 + l3;
-    const u64 t1 = rotl64(rotl64(rotl64(l17, UINT64_C(59)) ^ l17, UINT64_C(58)) ^ l17, UINT64_C(36)) + ((l18 & l14) ^ l13);
-    l14 = (((l11 + l5) + ((l19 & (l7 ^ l9)) ^ l9)) + rotl64(rotl64(rotl64(l19, UINT64_C(41)) ^ l19, UINT64_C(60)) ^ l19, UINT64_C(50))) + UINT64_C(0xb5c0fbcfec4d3b2f);
-    l20 = t1 + l14;
-    l21 = l20 ^ l17;
-    l12 = load64(l1 + 24);
-    l12 = (((l12 << 56) | ((l12 & UINT64_C(65280)) << 40)) | (((l12 & UINT64_C(0xff0000)) << 24) | ((l12 & UINT64_C(0xff000000)) << 8))) | ((((l12 >> 8) & UINT64_C(0xff000000)) | ((l12 >> 24) & UINT64_C(0xff0000))) | (((l12 >> 40) & UINT64_C(65280)) | (l12 >> 56)));
-    l22 = l14 + l4;
-    const u64 t2 = rotl64(rotl64(rotl64(l20, UINT64_C(59)) ^ l20, UINT64_C(58)) ^ l20, UINT64_C(36)) + ((l21 & l18) ^ l17);
-    l18 = (((l9 + l12) + ((l22 & (l19 ^ l7)) ^ l7)) + rotl64(rotl64(rotl64(l22, UINT64_C(41)) ^ l22, UINT64_C(60)) ^ l22, UINT64_C(50))) + UINT64_C(0xe9b5dba58189dbbc);
-    l23 = t2 + l18;
-    l24 = l23 ^ l20;
-    l14 = load64(l1 + 32);
-    l14 = (((l14 << 56) | ((l14 & UINT64_C(65280)) << 40)) | (((l14 & UINT64_C(0xff0000)) << 24) | ((l14 & UINT64_C(0xff000000)) << 8))) | ((((l14 >> 8) & UINT64_C(0xff000000)) | ((l14 >> 24) & UINT64_C(0xff0000))) | (((l14 >> 40) & UINT64_C(65280)) | (l14 >> 56)));
-    const u64 t3 = l14 + l7;
-    l7 = l18 + l2;
-    const u64 t4 = rotl64(rotl64(rotl64(l23, UINT64_C(59)) ^ l23, UINT64_C(58)) ^ l23, UINT64_C(36)) + ((l24 & l21) ^ l20);
-    l21 = ((t3 + ((l7 & (l22 ^ l19)) ^ l19)) + rotl64(rotl64(rotl64(l7, UINT64_C(41)) ^ l7, UINT64_C(60)) ^ l7, UINT64_C(50))) + UINT64_C(0x3956c25bf348b538);
-    l25 = t4 + l21;
-    l26 = l25 ^ l23;
-    l18 = load64(l1 + 40);
-    l18 = (((l18 << 56) | ((l18 & UINT64_C(65280)) << 40)) | (((l18 & UINT64_C(0xff0000)) << 24) | ((l18 & UINT64_C(0xff000000)) << 8))) | ((((l18 >> 8) & UINT64_C(0xff000000)) | ((l18 >> 24) & UINT64_C(0xff0000))) | (((l18 >> 40) & UINT64_C(65280)) | (l18 >> 56)));
-    l21 = l21 + l13;
-    l13 = (((l18 + l19) + ((l21 & (l7 ^ l22)) ^ l22)) + rotl64(rotl64(rotl64(l21, UINT64_C(41)) ^ l21, UINT64_C(60)) ^ l21, UINT64_C(50))) + UINT64_C(0x59f111f1b605d019);
-    l24 = (rotl64(rotl64(rotl64(l25, UINT64_C(59)) ^ l25, UINT64_C(58)) ^ l25, UINT64_C(36)) + ((l26 & l24) ^ l23)) + l13;
-    l27 = l24 ^ l25;
-    l19 = load64(l1 + 48);
-    l19 = (((l19 << 56) | ((l19 & UINT64_C(65280)) << 40)) | (((l19 & UINT64_C(0xff0000)) << 24) | ((l19 & UINT64_C(0xff000000)) << 8))) | ((((l19 >> 8) & UINT64_C(0xff000000)) | ((l19 >> 24) & UINT64_C(0xff0000))) | (((l19 >> 40) & UINT64_C(65280)) | (l19 >> 56)));
-    l17 = l13 + l17;
-    l13 = (((l19 + l22) + ((l17 & (l21 ^ l7)) ^ l7)) + rotl64(rotl64(rotl64(l17, UINT64_C(41)) ^ l17, UINT64_C(60)) ^ l17, UINT64_C(50))) + UINT64_C(0x923f82a4af194f9b);
-    l26 = (rotl64(rotl64(rotl64(l24, UINT64_C(59)) ^ l24, UINT64_C(58)) ^ l24, UINT64_C(36)) + ((l27 & l26) ^ l25)) + l13;
-    l28 = l26 ^ l24;
-    l22 = load64(l1 + 56);
-    l22 = (((l22 << 56) | ((l22 & UINT64_C(65280)) << 40)) | (((l22 & UINT64_C(0xff0000)) << 24) | ((l22 & UINT64_C(0xff000000)) << 8))) | ((((l22 >> 8) & UINT64_C(0xff000000)) | ((l22 >> 24) & UINT64_C(0xff0000))) | (((l22 >> 40) & UINT64_C(65280)) | (l22 >> 56)));
-    const u64 t5 = l22 + l7;
-    l7 = l13 + l20;
-    l20 = ((t5 + ((l7 & (l17 ^ l21)) ^ l21)) + rotl64(rotl64(rotl64(l7, UINT64_C(41)) ^ l7, UINT64_C(60)) ^ l7, UINT64_C(50))) + UINT64_C(0xab1c5ed5da6d8118);
-    l27 = (rotl64(rotl64(rotl64(l26, UINT64_C(59)) ^ l26, UINT64_C(58)) ^ l26, UINT64_C(36)) + ((l28 & l27) ^ l24)) + l20;
-    l29 = l27 ^ l26;
-    l13 = load64(l1 + 64);
-    l13 = (((l13 << 56) | ((l13 & UINT64_C(65280)) << 40)) | (((l13 & UINT64_C(0xff0000)) << 24) | ((l13 & UINT64_C(0xff000000)) << 8))) | ((((l13 >> 8) & UINT64_C(0xff000000)) | ((l13 >> 24) & UINT64_C(0xff0000))) | (((l13 >> 40) & UINT64_C(65280)) | (l13 >> 56)));
-    l23 = l20 + l23;
-    l20 = (((l13 + l21) + ((l23 & (l7 ^ l17)) ^ l17)) + rotl64(rotl64(rotl64(l23, UINT64_C(41)) ^ l23, UINT64_C(60)) ^ l23, UINT64_C(50))) + UINT64_C(0xd807aa98a3030242);
-    l28 = (rotl64(rotl64(rotl64(l27, UINT64_C(59)) ^ l27, UINT64_C(58)) ^ l27, UINT64_C(36)) + ((l29 & l28) ^ l26)) + l20;
-    l30 = l28 ^ l27;
-    l21 = load64(l1 + 72);
-    l21 = (((l21 << 56) | ((l21 & UINT64_C(65280)) << 40)) | (((l21 & UINT64_C(0xff0000)) << 24) | ((l21 & UINT64_C(0xff000000)) << 8))) | ((((l21 >> 8) & UINT64_C(0xff000000)) | ((l21 >> 24) & UINT64_C(0xff0000))) | (((l21 >> 40) & UINT64_C(65280)) | (l21 >> 56)));
-    l25 = l20 + l25;
-    l20 = (((l21 + l17) + ((l25 & (l23 ^ l7)) ^ l7)) + rotl64(rotl64(rotl64(l25, UINT64_C(41)) ^ l25, UINT64_C(60)) ^ l25, UINT64_C(50))) + UINT64_C(0x12835b0145706fbe);
-    l29 = (rotl64(rotl64(rotl64(l28, UINT64_C(59)) ^ l28, UINT64_C(58)) ^ l28, UINT64_C(36)) + ((l30 & l29) ^ l27)) + l20;
-    l31 = l29 ^ l28;
-    l17 = load64(l1 + 80);
-    l17 = (((l17 << 56) | ((l17 & UINT64_C(65280)) << 40)) | (((l17 & UINT64_C(0xff0000)) << 24) | ((l17 & UINT64_C(0xff000000)) << 8))) | ((((l17 >> 8) & UINT64_C(0xff000000)) | ((l17 >> 24) & UINT64_C(0xff0000))) | (((l17 >> 40) & UINT64_C(65280)) | (l17 >> 56)));
-    const u64 t6 = l17 + l7;
-    l7 = l20 + l24;
-    l24 = ((t6 + ((l7 & (l25 ^ l23)) ^ l23)) + rotl64(rotl64(rotl64(l7, UINT64_C(41)) ^ l7, UINT64_C(60)) ^ l7, UINT64_C(50))) + UINT64_C(0x243185be4ee4b28c);
-    l32 = (rotl64(rotl64(rotl64(l29, UINT64_C(59)) ^ l29, UINT64_C(58)) ^ l29, UINT64_C(36)) + ((l31 & l30) ^ l28)) + l24;
-    l30 = l32 ^ l29;
-    l20 = load64(l1 + 88);
-    l20 = (((l20 << 56) | ((l20 & UINT64_C(65280)) << 40)) | (((l20 & UINT64_C(0xff0000)) << 24) | ((l20 & UINT64_C(0xff000000)) << 8))) | ((((l20 >> 8) & UINT64_C(0xff000000)) | ((l20 >> 24) & UINT64_C(0xff0000))) | (((l20 >> 40) & UINT64_C(65280)) | (l20 >> 56)));
-    l26 = l24 + l26;
-    l24 = (((l20 + l23) + ((l26 & (l7 ^ l25)) ^ l25)) + rotl64(rotl64(rotl64(l26, UINT64_C(41)) ^ l26, UINT64_C(60)) ^ l26, UINT64_C(50))) + UINT64_C(0x550c7dc3d5ffb4e2);
-    l33 = (rotl64(rotl64(rotl64(l32, UINT64_C(59)) ^ l32, UINT64_C(58)) ^ l32, UINT64_C(36)) + ((l30 & l31) ^ l29)) + l24;
-    l34 = l33 ^ l32;
-    l23 = load64(l1 + 96);
-    l23 = (((l23 << 56) | ((l23 & UINT64_C(65280)) << 40)) | (((l23 & UINT64_C(0xff0000)) << 24) | ((l23 & UINT64_C(0xff000000)) << 8))) | ((((l23 >> 8) & UINT64_C(0xff000000)) | ((l23 >> 24) & UINT64_C(0xff0000))) | (((l23 >> 40) & UINT64_C(65280)) | (l23 >> 56)));
-    l31 = l24 + l27;
-    l24 = (((l23 + l25) + ((l31 & (l26 ^ l7)) ^ l7)) + rotl64(rotl64(rotl64(l31, UINT64_C(41)) ^ l31, UINT64_C(60)) ^ l31, UINT64_C(50))) + UINT64_C(0x72be5d74f27b896f);
-    l35 = (rotl64(rotl64(rotl64(l33, UINT64_C(59)) ^ l33, UINT64_C(58)) ^ l33, UINT64_C(36)) + ((l34 & l30) ^ l32)) + l24;
-    l30 = l35 ^ l33;
-    l25 = load64(l1 + 104);
-    l25 = (((l25 << 56) | ((l25 & UINT64_C(65280)) << 40)) | (((l25 & UINT64_C(0xff0000)) << 24) | ((l25 & UINT64_C(0xff000000)) << 8))) | ((((l25 >> 8) & UINT64_C(0xff000000)) | ((l25 >> 24) & UINT64_C(0xff0000))) | (((l25 >> 40) & UINT64_C(65280)) | (l25 >> 56)));
-    l27 = l24 + l28;
-    const u64 t7 = rotl64(rotl64(rotl64(l35, UINT64_C(59)) ^ l35, UINT64_C(58)) ^ l35, UINT64_C(36)) + ((l30 & l34) ^ l33);
-    l34 = (((l25 + l7) + ((l27 & (l31 ^ l26)) ^ l26)) + rotl64(rotl64(rotl64(l27, UINT64_C(41)) ^ l27, UINT64_C(60)) ^ l27, UINT64_C(50))) + UINT64_C(0x80deb1fe3b1696b1);
-    l28 = t7 + l34;
-    l36 = l28 ^ l35;
-    l7 = load64(l1 + 112);
-    l24 = (((l7 << 56) | ((l7 & UINT64_C(65280)) << 40)) | (((l7 & UINT64_C(0xff0000)) << 24) | ((l7 & UINT64_C(0xff000000)) << 8))) | ((((l7 >> 8) & UINT64_C(0xff000000)) | ((l7 >> 24) & UINT64_C(0xff0000))) | (((l7 >> 40) & UINT64_C(65280)) | (l7 >> 56)));
-    l29 = l34 + l29;
-    l7 = (((l24 + l26) + ((l29 & (l27 ^ l31)) ^ l31)) + rotl64(rotl64(rotl64(l29, UINT64_C(41)) ^ l29, UINT64_C(60)) ^ l29, UINT64_C(50))) + UINT64_C(0x9bdc06a725c71235);
-    l30 = (rotl64(rotl64(rotl64(l28, UINT64_C(59)) ^ l28, UINT64_C(58)) ^ l28, UINT64_C(36)) + ((l36 & l30) ^ l35)) + l7;
-    l1 = load64(l1 + 120);
-    l26 = (((l1 << 56) | ((l1 & UINT64_C(65280)) << 40)) | (((l1 & UINT64_C(0xff0000)) << 24) | ((l1 & UINT64_C(0xff000000)) << 8))) | ((((l1 >> 8) & UINT64_C(0xff000000)) | ((l1 >> 24) & UINT64_C(0xff0000))) | (((l1 >> 40) & UINT64_C(65280)) | (l1 >> 56)));
-    const u64 t8 = l26 + l31;
-    l31 = l7 + l32;
-    l1 = ((t8 + ((l31 & (l29 ^ l27)) ^ l27)) + rotl64(rotl64(rotl64(l31, UINT64_C(41)) ^ l31, UINT64_C(60)) ^ l31, UINT64_C(50))) + UINT64_C(0xc19bf174cf692694);
-    l32 = (rotl64(rotl64(rotl64(l30, UINT64_C(59)) ^ l30, UINT64_C(58)) ^ l30, UINT64_C(36)) + (((l30 ^ l28) & l36) ^ l28)) + l1;
-    l7 = l1 + l33;
-    l1 = UINT64_C(0);
-    again1:;
-    {
-        l34 = l30 ^ l32;
-        l8 = ((l8 + l21) + (rotl64(rotl64(l24, UINT64_C(22)) ^ l24, UINT64_C(45)) ^ (l24 >> 6))) + (rotl64(rotl64(l15, UINT64_C(57)) ^ l15, UINT64_C(63)) ^ (l15 >> 7));
-        l27 = (((rotl64(rotl64(rotl64(l7, UINT64_C(41)) ^ l7, UINT64_C(60)) ^ l7, UINT64_C(50)) + l27) + (((l29 ^ l31) & l7) ^ l29)) + load64(l1 + (address(data89) + 128))) + l8;
-        l33 = (rotl64(rotl64(rotl64(l32, UINT64_C(59)) ^ l32, UINT64_C(58)) ^ l32, UINT64_C(36)) + (((l28 ^ l30) & l34) ^ l30)) + l27;
-        l36 = l33 ^ l32;
-        l27 = l27 + l35;
-        const u64 t9 = rotl64(rotl64(rotl64(l33, UINT64_C(59)) ^ l33, UINT64_C(58)) ^ l33, UINT64_C(36)) + ((l36 & l34) ^ l32);
-        l34 = ((l17 + l15) + (rotl64(rotl64(l26, UINT64_C(22)) ^ l26, UINT64_C(45)) ^ (l26 >> 6))) + (rotl64(rotl64(l5, UINT64_C(57)) ^ l5, UINT64_C(63)) ^ (l5 >> 7));
-        l35 = (((load64(l1 + (address(data89) + 136)) + l29) + ((l27 & (l31 ^ l7)) ^ l31)) + l34) + rotl64(rotl64(rotl64(l27, UINT64_C(41)) ^ l27, UINT64_C(60)) ^ l27, UINT64_C(50));
-        l29 = t9 + l35;
-        l15 = l29 ^ l33;
-        l5 = ((l20 + l5) + (rotl64(rotl64(l8, UINT64_C(22)) ^ l8, UINT64_C(45)) ^ (l8 >> 6))) + (rotl64(rotl64(l12, UINT64_C(57)) ^ l12, UINT64_C(63)) ^ (l12 >> 7));
-        l28 = l35 + l28;
-        l35 = (((load64(l1 + (address(data89) + 144)) + l31) + l5) + ((l28 & (l27 ^ l7)) ^ l7)) + rotl64(rotl64(rotl64(l28, UINT64_C(41)) ^ l28, UINT64_C(60)) ^ l28, UINT64_C(50));
-        l31 = (rotl64(rotl64(rotl64(l29, UINT64_C(59)) ^ l29, UINT64_C(58)) ^ l29, UINT64_C(36)) + ((l15 & l36) ^ l33)) + l35;
-        l36 = l31 ^ l29;
-        l12 = ((l23 + l12) + (rotl64(rotl64(l34, UINT64_C(22)) ^ l34, UINT64_C(45)) ^ (l34 >> 6))) + (rotl64(rotl64(l14, UINT64_C(57)) ^ l14, UINT64_C(63)) ^ (l14 >> 7));
-        const u64 t10 = (load64(l1 + (address(data89) + 152)) + l7) + l12;
-        l7 = l35 + l30;
-        l35 = (t10 + ((l7 & (l28 ^ l27)) ^ l27)) + rotl64(rotl64(rotl64(l7, UINT64_C(41)) ^ l7, UINT64_C(60)) ^ l7, UINT64_C(50));
-        l30 = (rotl64(rotl64(rotl64(l31, UINT64_C(59)) ^ l31, UINT64_C(58)) ^ l31, UINT64_C(36)) + ((l36 & l15) ^ l29)) + l35;
-        l15 = l30 ^ l31;
-        l14 = ((l25 + l14) + (rotl64(rotl64(l5, UINT64_C(22)) ^ l5, UINT64_C(45)) ^ (l5 >> 6))) + (rotl64(rotl64(l18, UINT64_C(57)) ^ l18, UINT64_C(63)) ^ (l18 >> 7));
-        const u64 t11 = (load64(l1 + (address(data89) + 160)) + l27) + l14;
-        l27 = l35 + l32;
-        l35 = (t11 + ((l27 & (l7 ^ l28)) ^ l28)) + rotl64(rotl64(rotl64(l27, UINT64_C(41)) ^ l27, UINT64_C(60)) ^ l27, UINT64_C(50));
-        l32 = (rotl64(rotl64(rotl64(l30, UINT64_C(59)) ^ l30, UINT64_C(58)) ^ l30, UINT64_C(36)) + ((l15 & l36) ^ l31)) + l35;
-        l36 = l32 ^ l30;
-        l18 = ((l18 + l24) + (rotl64(rotl64(l12, UINT64_C(22)) ^ l12, UINT64_C(45)) ^ (l12 >> 6))) + (rotl64(rotl64(l19, UINT64_C(57)) ^ l19, UINT64_C(63)) ^ (l19 >> 7));
-        const u64 t12 = (load64(l1 + (address(data89) + 168)) + l28) + l18;
-        l28 = l35 + l33;
-        l33 = (t12 + ((l28 & (l27 ^ l7)) ^ l7)) + rotl64(rotl64(rotl64(l28, UINT64_C(41)) ^ l28, UINT64_C(60)) ^ l28, UINT64_C(50));
-        l35 = (rotl64(rotl64(rotl64(l32, UINT64_C(59)) ^ l32, UINT64_C(58)) ^ l32, UINT64_C(36)) + ((l36 & l15) ^ l30)) + l33;
-        l15 = l35 ^ l32;
-        l19 = ((l19 + l26) + (rotl64(rotl64(l14, UINT64_C(22)) ^ l14, UINT64_C(45)) ^ (l14 >> 6))) + (rotl64(rotl64(l22, UINT64_C(57)) ^ l22, UINT64_C(63)) ^ (l22 >> 7));
-        const u64 t13 = (l7 + load64(l1 + (address(data89) + 176))) + l19;
-        l7 = l33 + l29;
-        l33 = (t13 + ((l7 & (l28 ^ l27)) ^ l27)) + rotl64(rotl64(rotl64(l7, UINT64_C(41)) ^ l7, UINT64_C(60)) ^ l7, UINT64_C(50));
-        l29 = (rotl64(rotl64(rotl64(l35, UINT64_C(59)) ^ l35, UINT64_C(58)) ^ l35, UINT64_C(36)) + ((l15 & l36) ^ l32)) + l33;
-        l36 = l29 ^ l35;
-        l22 = ((l22 + l8) + (rotl64(rotl64(l18, UINT64_C(22)) ^ l18, UINT64_C(45)) ^ (l18 >> 6))) + (rotl64(rotl64(l13, UINT64_C(57)) ^ l13, UINT64_C(63)) ^ (l13 >> 7));
-        const u64 t14 = (l22 + load64(l1 + (address(data89) + 184))) + l27;
-        l27 = l33 + l31;
-        l33 = (t14 + ((l27 & (l7 ^ l28)) ^ l28)) + rotl64(rotl64(rotl64(l27, UINT64_C(41)) ^ l27, UINT64_C(60)) ^ l27, UINT64_C(50));
-        l31 = (rotl64(rotl64(rotl64(l29, UINT64_C(59)) ^ l29, UINT64_C(58)) ^ l29, UINT64_C(36)) + ((l36 & l15) ^ l35)) + l33;
-        l15 = l31 ^ l29;
-        l13 = ((l34 + (rotl64(rotl64(l21, UINT64_C(57)) ^ l21, UINT64_C(63)) ^ (l21 >> 7))) + l13) + (rotl64(rotl64(l19, UINT64_C(22)) ^ l19, UINT64_C(45)) ^ (l19 >> 6));
-        const u64 t15 = (l13 + load64(l1 + (address(data89) + 192))) + l28;
-        l28 = l33 + l30;
-        l33 = (t15 + ((l28 & (l27 ^ l7)) ^ l7)) + rotl64(rotl64(rotl64(l28, UINT64_C(41)) ^ l28, UINT64_C(60)) ^ l28, UINT64_C(50));
-        l30 = (rotl64(rotl64(rotl64(l31, UINT64_C(59)) ^ l31, UINT64_C(58)) ^ l31, UINT64_C(36)) + ((l15 & l36) ^ l29)) + l33;
-        l36 = l30 ^ l31;
-        l21 = (((rotl64(rotl64(l17, UINT64_C(57)) ^ l17, UINT64_C(63)) ^ (l17 >> 7)) + l21) + l5) + (rotl64(rotl64(l22, UINT64_C(22)) ^ l22, UINT64_C(45)) ^ (l22 >> 6));
-        const u64 t16 = (l21 + load64(l1 + (address(data89) + 200))) + l7;
-        l7 = l33 + l32;
-        l33 = (t16 + ((l7 & (l28 ^ l27)) ^ l27)) + rotl64(rotl64(rotl64(l7, UINT64_C(41)) ^ l7, UINT64_C(60)) ^ l7, UINT64_C(50));
-        l32 = (rotl64(rotl64(rotl64(l30, UINT64_C(59)) ^ l30, UINT64_C(58)) ^ l30, UINT64_C(36)) + ((l36 & l15) ^ l31)) + l33;
-        l15 = l32 ^ l30;
-        l17 = (((rotl64(rotl64(l20, UINT64_C(57)) ^ l20, UINT64_C(63)) ^ (l20 >> 7)) + l17) + l12) + (rotl64(rotl64(l13, UINT64_C(22)) ^ l13, UINT64_C(45)) ^ (l13 >> 6));
-        const u64 t17 = (l17 + load64(l1 + (address(data89) + 208))) + l27;
-        l27 = l33 + l35;
-        l35 = (t17 + ((l27 & (l7 ^ l28)) ^ l28)) + rotl64(rotl64(rotl64(l27, UINT64_C(41)) ^ l27, UINT64_C(60)) ^ l27, UINT64_C(50));
-        l33 = (rotl64(rotl64(rotl64(l32, UINT64_C(59)) ^ l32, UINT64_C(58)) ^ l32, UINT64_C(36)) + ((l15 & l36) ^ l30)) + l35;
-        l36 = l33 ^ l32;
-        l20 = (((rotl64(rotl64(l23, UINT64_C(57)) ^ l23, UINT64_C(63)) ^ (l23 >> 7)) + l20) + l14) + (rotl64(rotl64(l21, UINT64_C(22)) ^ l21, UINT64_C(45)) ^ (l21 >> 6));
-        l29 = l35 + l29;
-        l28 = (((l20 + load64(l1 + (address(data89) + 216))) + l28) + ((l29 & (l27 ^ l7)) ^ l7)) + rotl64(rotl64(rotl64(l29, UINT64_C(41)) ^ l29, UINT64_C(60)) ^ l29, UINT64_C(50));
-        l15 = (rotl64(rotl64(rotl64(l33, UINT64_C(59)) ^ l33, UINT64_C(58)) ^ l33, UINT64_C(36)) + ((l36 & l15) ^ l32)) + l28;
-        l37 = l15 ^ l33;
-        l23 = (((rotl64(rotl64(l25, UINT64_C(57)) ^ l25, UINT64_C(63)) ^ (l25 >> 7)) + l23) + l18) + (rotl64(rotl64(l17, UINT64_C(22)) ^ l17, UINT64_C(45)) ^ (l17 >> 6));
-        const u64 t18 = (l23 + load64(l1 + (address(data89) + 224))) + l7;
-        l7 = l28 + l31;
-        l28 = (t18 + ((l7 & (l29 ^ l27)) ^ l27)) + rotl64(rotl64(rotl64(l7, UINT64_C(41)) ^ l7, UINT64_C(60)) ^ l7, UINT64_C(50));
-        l35 = (rotl64(rotl64(rotl64(l15, UINT64_C(59)) ^ l15, UINT64_C(58)) ^ l15, UINT64_C(36)) + ((l37 & l36) ^ l33)) + l28;
-        l31 = l35 ^ l15;
-        l25 = ((l25 + (rotl64(rotl64(l24, UINT64_C(57)) ^ l24, UINT64_C(63)) ^ (l24 >> 7))) + l19) + (rotl64(rotl64(l20, UINT64_C(22)) ^ l20, UINT64_C(45)) ^ (l20 >> 6));
-        const u64 t19 = (l25 + load64(l1 + (address(data89) + 232))) + l27;
-        l27 = l28 + l30;
-        l30 = (t19 + ((l27 & (l7 ^ l29)) ^ l29)) + rotl64(rotl64(rotl64(l27, UINT64_C(41)) ^ l27, UINT64_C(60)) ^ l27, UINT64_C(50));
-        l28 = (rotl64(rotl64(rotl64(l35, UINT64_C(59)) ^ l35, UINT64_C(58)) ^ l35, UINT64_C(36)) + ((l31 & l37) ^ l15)) + l30;
-        l36 = l28 ^ l35;
-        l24 = (((rotl64(rotl64(l26, UINT64_C(57)) ^ l26, UINT64_C(63)) ^ (l26 >> 7)) + l24) + l22) + (rotl64(rotl64(l23, UINT64_C(22)) ^ l23, UINT64_C(45)) ^ (l23 >> 6));
-        const u64 t20 = (l24 + load64(l1 + (address(data89) + 240))) + l29;
-        l29 = l30 + l32;
-        const u64 t21 = rotl64(rotl64(rotl64(l28, UINT64_C(59)) ^ l28, UINT64_C(58)) ^ l28, UINT64_C(36)) + ((l36 & l31) ^ l35);
-        l31 = (t20 + ((l29 & (l27 ^ l7)) ^ l7)) + rotl64(rotl64(rotl64(l29, UINT64_C(41)) ^ l29, UINT64_C(60)) ^ l29, UINT64_C(50));
-        l30 = t21 + l31;
-        l26 = (((rotl64(rotl64(l8, UINT64_C(57)) ^ l8, UINT64_C(63)) ^ (l8 >> 7)) + l26) + l13) + (rotl64(rotl64(l25, UINT64_C(22)) ^ l25, UINT64_C(45)) ^ (l25 >> 6));
-        l31 = l31 + l33;
-        l7 = (((l26 + load64(l1 + (address(data89) + 248))) + l7) + ((l31 & (l29 ^ l27)) ^ l27)) + rotl64(rotl64(rotl64(l31, UINT64_C(41)) ^ l31, UINT64_C(60)) ^ l31, UINT64_C(50));
-        l32 = (rotl64(rotl64(rotl64(l30, UINT64_C(59)) ^ l30, UINT64_C(58)) ^ l30, UINT64_C(36)) + (((l30 ^ l28) & l36) ^ l28)) + l7;
-        l7 = l7 + l15;
-        l15 = l34;
-        l1 = l1 + UINT64_C(128);
-        if (l1 != UINT64_C(512)) { goto again1; }
-    }
-    store64(l0 + 56, l27 + l6);
-    store64(l0 + 48, l29 + l10);
-    store64(l0 + 40, l31 + l11);
-    store64(l0 + 32, l7 + l9);
-    store64(l0 + 24, l35 + l16);
-    store64(l0 + 16, l28 + l3);
-    store64(l0 + 8, l30 + l4);
-    store64(l0, l32 + l2);
-}
-
-static void do_minisign_sha2_block512_Core512_update(u64 l0, u64 l1, u64 l2)
-{
-    u64 l3 = 0, l4 = 0, l5 = 0, l6 = 0, l7 = 0, l8 = 0, l9 = 0, l10 = 0, l11 = 0;
-    l3 = l0 + UINT64_C(192);
-    const u64 t1 = l3;
-    l3 = load64(l3);
-    l4 = l3 + l2;
-    store64(t1, l4);
-    l5 = l0 + UINT64_C(200);
-    store64(l5, load64(l5) + ((u64) ((u32) (l4 < l3))));
-    {
-        {
-            {
-                {
-                    {
-                        {
-                            l6 = l3 & UINT64_C(127);
-                            if (!(l6 == 0)) { goto after6; }
-                            l7 = UINT64_C(0);
-                            goto after5;
-                        }
-                        after6:;
-                        l8 = l0 + UINT64_C(64);
-                        l4 = l8 + l6;
-                        l3 = l4 - l1;
-                        l7 = UINT64_C(128) - l6;
-                        if (l2 < l7) { goto after4; }
-                        {
-                            {
-                                if (l3 >= l7) { goto after8; }
-                                l9 = l7 & UINT64_C(3);
-                                l4 = UINT64_C(0);
-                                {
-                                    if ((l6 ^ UINT64_C(127)) < UINT64_C(3)) { goto after9; }
-                                    l10 = l0 + l6;
-                                    l11 = l7 & UINT64_C(252);
-                                    l4 = UINT64_C(0);
-                                    again10:;
-                                    {
-                                        l3 = l10 + l4;
-                                        l5 = l1 + l4;
-                                        store8(l3 + UINT64_C(64), load8(l5));
-                                        store8(l3 + UINT64_C(65), load8(l5 + UINT64_C(1)));
-                                        store8(l3 + UINT64_C(66), load8(l5 + UINT64_C(2)));
-                                        store8(l3 + UINT64_C(67), load8(l5 + UINT64_C(3)));
-                                        l4 = l4 + UINT64_C(4);
-                                        if (l11 != l4) { goto again10; }
-                                    }
-                                    if (l9 == 0) { goto after7; }
-                                }
-                                after9:;
-                                l3 = l1 + l4;
-                                l4 = ((l4 + l6) + l0) + UINT64_C(64);
-                                again11:;
-                                {
-                                    store8(l4, load8(l3));
-                                    l4 = l4 + UINT64_C(1);
-                                    l3 = l3 + UINT64_C(1);
-                                    l9 = l9 + UINT64_C(0xffffffffffffffff);
-                                    if (l9 != UINT64_C(0)) { goto again11; }
-                                    goto after7;
-                                }
-                            }
-                            after8:;
-                            if (l7 == 0) { goto after7; }
-                            copy(l4, l1, l7);
-                        }
-                        after7:;
-                        do_minisign_sha2_block512_compress(l0, l8);
-                    }
-                    after5:;
-                    {
-                        l5 = l2 - l7;
-                        l4 = l5 >> 7;
-                        if (l4 == 0) { goto after12; }
-                        l3 = l1 + l7;
-                        again13:;
-                        {
-                            do_minisign_sha2_block512_compress(l0, l3);
-                            l3 = l3 + UINT64_C(128);
-                            l4 = l4 + UINT64_C(0xffffffffffffffff);
-                            if (l4 != UINT64_C(0)) { goto again13; }
-                        }
-                    }
-                    after12:;
-                    {
-                        l4 = l0 + UINT64_C(64);
-                        l10 = l5 & UINT64_C(0xffffffffffffff80);
-                        l3 = l10 + l7;
-                        l6 = l1 + l3;
-                        l3 = l2 - l3;
-                        if ((l4 - l6) >= l3) { goto after14; }
-                        l9 = l3 & UINT64_C(3);
-                        l4 = UINT64_C(0);
-                        if (((l7 - l2) + l10) > UINT64_C(0xfffffffffffffffc)) { goto after2; }
-                        l2 = l3 & UINT64_C(0xfffffffffffffffc);
-                        l4 = UINT64_C(0);
-                        again15:;
-                        {
-                            l3 = l0 + l4;
-                            l5 = l6 + l4;
-                            store8(l3 + UINT64_C(64), load8(l5));
-                            store8(l3 + UINT64_C(65), load8(l5 + UINT64_C(1)));
-                            store8(l3 + UINT64_C(66), load8(l5 + UINT64_C(2)));
-                            store8(l3 + UINT64_C(67), load8(l5 + UINT64_C(3)));
-                            l4 = l4 + UINT64_C(4);
-                            if (l2 != l4) { goto again15; }
-                            goto after3;
-                        }
-                    }
-                    after14:;
-                    if (l3 == 0) { goto after1; }
-                    copy(l4, l6, l3);
-                    return;
-                }
-                after4:;
-                {
-                    {
-                        {
-                            if (l3 >= l2) { goto after18; }
-                            l9 = l2 & UINT64_C(3);
-                            l4 = UINT64_C(0);
-                            if (l2 < UINT64_C(4)) { goto after16; }
-                            l7 = l0 + l6;
-                            l2 = l2 & UINT64_C(0xfffffffffffffffc);
-                            l4 = UINT64_C(0);
-                            again19:;
-                            {
-                                l3 = l7 + l4;
-                                l5 = l1 + l4;
-                                store8(l3 + UINT64_C(64), load8(l5));
-                                store8(l3 + UINT64_C(65), load8(l5 + UINT64_C(1)));
-                                store8(l3 + UINT64_C(66), load8(l5 + UINT64_C(2)));
-                                store8(l3 + UINT64_C(67), load8(l5 + UINT64_C(3)));
-                                l4 = l4 + UINT64_C(4);
-                                if (l2 != l4) { goto again19; }
-                                goto after17;
-                            }
-                        }
-                        after18:;
-                        if (l2 == 0) { goto after1; }
-                        copy(l4, l1, l2);
-                        return;
-                    }
-                    after17:;
-                    if (l9 == 0) { goto after1; }
-                }
-                after16:;
-                l3 = l1 + l4;
-                l4 = ((l4 + l6) + l0) + UINT64_C(64);
-                again20:;
-                {
-                    store8(l4, load8(l3));
-                    l4 = l4 + UINT64_C(1);
-                    l3 = l3 + UINT64_C(1);
-                    l9 = l9 + UINT64_C(0xffffffffffffffff);
-                    if (l9 != UINT64_C(0)) { goto again20; }
-                    goto after1;
-                }
-            }
-            after3:;
-            if (l9 == 0) { goto after1; }
-        }
-        after2:;
-        l3 = (l4 + l0) + UINT64_C(64);
-        l4 = l1 + ((l7 + l4) + l10);
-        again21:;
-        {
-            store8(l3, load8(l4));
-            l3 = l3 + UINT64_C(1);
-            l4 = l4 + UINT64_C(1);
-            l9 = l9 + UINT64_C(0xffffffffffffffff);
-            if (!(l9 == 0)) { goto again21; }
-        }
-    }
-    after1:;
-}
-
 static u32 do_minisign_list_update(u64 sp, u64 l0, u64 l1, u64 l2)
 {
     u32 l9 = 0;
@@ -22637,18 +24505,13 @@ static u32 do_minisign_list_update(u64 sp, u64 l0, u64 l1, u64 l2)
     return l9;
 }
 
-static u32 do_core_cmp_arrays_ArrayPartialEq_eq_i8_64_31_core_cmp_numbers_U8PartialEq(u64 l0, u64 l1)
-{
-    return (((((((((((((((((((((((((((((((((((u32) (load8(l0) != load8(l1))) | ((u32) (load8(l0 + UINT64_C(1)) != load8(l1 + UINT64_C(1))))) | ((u32) (load8(l0 + UINT64_C(2)) != load8(l1 + UINT64_C(2))))) | ((u32) (load8(l0 + UINT64_C(3)) != load8(l1 + UINT64_C(3))))) | ((u32) (load8(l0 + UINT64_C(4)) != load8(l1 + UINT64_C(4))))) | ((u32) (load8(l0 + UINT64_C(5)) != load8(l1 + UINT64_C(5))))) | ((u32) (load8(l0 + UINT64_C(6)) != load8(l1 + UINT64_C(6))))) | ((u32) (load8(l0 + UINT64_C(7)) != load8(l1 + UINT64_C(7))))) | ((u32) (load8(l0 + UINT64_C(8)) != load8(l1 + UINT64_C(8))))) | ((u32) (load8(l0 + UINT64_C(9)) != load8(l1 + UINT64_C(9))))) | ((u32) (load8(l0 + UINT64_C(10)) != load8(l1 + UINT64_C(10))))) | ((u32) (load8(l0 + UINT64_C(11)) != load8(l1 + UINT64_C(11))))) | ((u32) (load8(l0 + UINT64_C(12)) != load8(l1 + UINT64_C(12))))) | ((u32) (load8(l0 + UINT64_C(13)) != load8(l1 + UINT64_C(13))))) | ((u32) (load8(l0 + UINT64_C(14)) != load8(l1 + UINT64_C(14))))) | ((u32) (load8(l0 + UINT64_C(15)) != load8(l1 + UINT64_C(15))))) | ((u32) (load8(l0 + UINT64_C(16)) != load8(l1 + UINT64_C(16))))) | ((u32) (load8(l0 + UINT64_C(17)) != load8(l1 + UINT64_C(17))))) | ((u32) (load8(l0 + UINT64_C(18)) != load8(l1 + UINT64_C(18))))) | ((u32) (load8(l0 + UINT64_C(19)) != load8(l1 + UINT64_C(19))))) | ((u32) (load8(l0 + UINT64_C(20)) != load8(l1 + UINT64_C(20))))) | ((u32) (load8(l0 + UINT64_C(21)) != load8(l1 + UINT64_C(21))))) | ((u32) (load8(l0 + UINT64_C(22)) != load8(l1 + UINT64_C(22))))) | ((u32) (load8(l0 + UINT64_C(23)) != load8(l1 + UINT64_C(23))))) | ((u32) (load8(l0 + UINT64_C(24)) != load8(l1 + UINT64_C(24))))) | ((u32) (load8(l0 + UINT64_C(25)) != load8(l1 + UINT64_C(25))))) | ((u32) (load8(l0 + UINT64_C(26)) != load8(l1 + UINT64_C(26))))) | ((u32) (load8(l0 + UINT64_C(27)) != load8(l1 + UINT64_C(27))))) | ((u32) (load8(l0 + UINT64_C(28)) != load8(l1 + UINT64_C(28))))) | ((u32) (load8(l0 + UINT64_C(29)) != load8(l1 + UINT64_C(29))))) | ((u32) (load8(l0 + UINT64_C(30)) != load8(l1 + UINT64_C(30))))) | ((u32) (load8(l0 + UINT64_C(31)) != load8(l1 + UINT64_C(31))))) | (((((((((((((((((((((((((((((((((u32) (load8(l0 + UINT64_C(32)) != load8(l1 + UINT64_C(32)))) | ((u32) (load8(l0 + UINT64_C(33)) != load8(l1 + UINT64_C(33))))) | ((u32) (load8(l0 + UINT64_C(34)) != load8(l1 + UINT64_C(34))))) | ((u32) (load8(l0 + UINT64_C(35)) != load8(l1 + UINT64_C(35))))) | ((u32) (load8(l0 + UINT64_C(36)) != load8(l1 + UINT64_C(36))))) | ((u32) (load8(l0 + UINT64_C(37)) != load8(l1 + UINT64_C(37))))) | ((u32) (load8(l0 + UINT64_C(38)) != load8(l1 + UINT64_C(38))))) | ((u32) (load8(l0 + UINT64_C(39)) != load8(l1 + UINT64_C(39))))) | ((u32) (load8(l0 + UINT64_C(40)) != load8(l1 + UINT64_C(40))))) | ((u32) (load8(l0 + UINT64_C(41)) != load8(l1 + UINT64_C(41))))) | ((u32) (load8(l0 + UINT64_C(42)) != load8(l1 + UINT64_C(42))))) | ((u32) (load8(l0 + UINT64_C(43)) != load8(l1 + UINT64_C(43))))) | ((u32) (load8(l0 + UINT64_C(44)) != load8(l1 + UINT64_C(44))))) | ((u32) (load8(l0 + UINT64_C(45)) != load8(l1 + UINT64_C(45))))) | ((u32) (load8(l0 + UINT64_C(46)) != load8(l1 + UINT64_C(46))))) | ((u32) (load8(l0 + UINT64_C(47)) != load8(l1 + UINT64_C(47))))) | ((u32) (load8(l0 + UINT64_C(48)) != load8(l1 + UINT64_C(48))))) | ((u32) (load8(l0 + UINT64_C(49)) != load8(l1 + UINT64_C(49))))) | ((u32) (load8(l0 + UINT64_C(50)) != load8(l1 + UINT64_C(50))))) | ((u32) (load8(l0 + UINT64_C(51)) != load8(l1 + UINT64_C(51))))) | ((u32) (load8(l0 + UINT64_C(52)) != load8(l1 + UINT64_C(52))))) | ((u32) (load8(l0 + UINT64_C(53)) != load8(l1 + UINT64_C(53))))) | ((u32) (load8(l0 + UINT64_C(54)) != load8(l1 + UINT64_C(54))))) | ((u32) (load8(l0 + UINT64_C(55)) != load8(l1 + UINT64_C(55))))) | ((u32) (load8(l0 + UINT64_C(56)) != load8(l1 + UINT64_C(56))))) | ((u32) (load8(l0 + UINT64_C(57)) != load8(l1 + UINT64_C(57))))) | ((u32) (load8(l0 + UINT64_C(58)) != load8(l1 + UINT64_C(58))))) | ((u32) (load8(l0 + UINT64_C(59)) != load8(l1 + UINT64_C(59))))) | ((u32) (load8(l0 + UINT64_C(60)) != load8(l1 + UINT64_C(60))))) | ((u32) (load8(l0 + UINT64_C(61)) != load8(l1 + UINT64_C(61))))) | ((u32) (load8(l0 + UINT64_C(62)) != load8(l1 + UINT64_C(62))))) | ((u32) (load8(l0 + UINT64_C(63)) != load8(l1 + UINT64_C(63)))))) ^ 0xffffffffu) & 1u;
-}
-
 static u32 do_minisign_list_finish(u64 sp, u64 l0)
 {
     u32 l2 = 0, l3 = 0, l4 = 0, l5 = 0, l6 = 0, l7 = 0, l8 = 0, l9 = 0, l10 = 0, l11 = 0, l12 = 0, l13 = 0, l14 = 0, l15 = 0, l16 = 0, l17 = 0;
     u32 l18 = 0, l19 = 0, l20 = 0, l21 = 0, l22 = 0, l23 = 0, l24 = 0, l25 = 0, l26 = 0, l27 = 0, l28 = 0, l29 = 0, l30 = 0, l31 = 0, l32 = 0, l33 = 0;
     u32 l36 = 0;
     u64 l1 = 0, l34 = 0, l35 = 0, l37 = 0, l38 = 0;
-    l1 = sp - UINT64_C(1600);
+    l1 = sp - UINT64_C(1728);
     sp = l1;
     fill(l1, 0u, UINT64_C(464));
     do_minisign_lists_values_FileValue_restore(sp, l1, l0);
@@ -22692,14 +24555,6 @@ static u32 do_minisign_list_finish(u64 sp, u64 l0)
                 l35 = l1 + UINT64_C(24);
                 copy(l1 + UINT64_C(472), l35, UINT64_C(104));
                 store64(l0, UINT64_C(0));
-                store64(l1 + 632, UINT64_C(0));
-                store64(l1 + 624, UINT64_C(0));
-                store64(l1 + 616, UINT64_C(0));
-                store64(l1 + 608, UINT64_C(0));
-                store64(l1 + 600, UINT64_C(0));
-                store64(l1 + 592, UINT64_C(0));
-                store64(l1 + 584, UINT64_C(0));
-                store64(l1 + 576, UINT64_C(0));
                 l0 = l1 + UINT64_C(160);
                 {
                     {
@@ -22712,62 +24567,62 @@ static u32 do_minisign_list_finish(u64 sp, u64 l0)
                                 }
                             }
                             after7:;
-                            copy(l1 + UINT64_C(1200), l35, UINT64_C(104));
-                            l0 = load64(l1 + 1296);
-                            do_minisign_sha2_block256_Core256_update(l1 + UINT64_C(1200), address(data86), ((UINT64_C(55) - l0) & UINT64_C(63)) + UINT64_C(1));
+                            copy(l1 + UINT64_C(1600), l35, UINT64_C(104));
+                            l0 = load64(l1 + 1696);
+                            do_minisign_sha2_block256_Core256_update(l1 + UINT64_C(1600), address(data86), ((UINT64_C(55) - l0) & UINT64_C(63)) + UINT64_C(1));
                             store64(l1 + 1536, ((((((((l0 << 43) & UINT64_C(0xff000000000000)) | (l0 << 59)) | ((l0 << 27) & UINT64_C(0xff0000000000))) | ((l0 << 11) & UINT64_C(0xff00000000))) | ((l0 >> 5) & UINT64_C(0xff000000))) | ((l0 >> 21) & UINT64_C(0xff0000))) | ((l0 >> 37) & UINT64_C(65280))) | ((l0 >> 53) & UINT64_C(255)));
-                            do_minisign_sha2_block256_Core256_update(l1 + UINT64_C(1200), l1 + UINT64_C(1536), UINT64_C(8));
+                            do_minisign_sha2_block256_Core256_update(l1 + UINT64_C(1600), l1 + UINT64_C(1536), UINT64_C(8));
                             const u32 t1 = l26 & 255u;
-                            l26 = load32(l1 + 1204);
+                            l26 = load32(l1 + 1604);
                             l36 = rotr32(l26 & 0xff00ffu, 8u);
                             if (t1 != (l36 >> 24)) { goto after2; }
                             l26 = l36 | (rotr32(l26, 24u) & 0xff00ffu);
                             if ((l27 & 255u) != ((l26 >> 16) & 255u)) { goto after2; }
                             if ((l28 & 255u) != ((l26 >> 8) & 255u)) { goto after2; }
                             if ((l29 & 255u) != (l26 & 255u)) { goto after2; }
-                            l26 = load32(l1 + 1200);
+                            l26 = load32(l1 + 1600);
                             l27 = rotr32(l26 & 0xff00ffu, 8u);
                             if ((l30 & 255u) != (l27 >> 24)) { goto after2; }
                             l26 = l27 | (rotr32(l26, 24u) & 0xff00ffu);
                             if ((l31 & 255u) != ((l26 >> 16) & 255u)) { goto after2; }
                             if ((l33 & 255u) != (l26 & 255u)) { goto after2; }
                             if ((l32 & 255u) != ((l26 >> 8) & 255u)) { goto after2; }
-                            l26 = load32(l1 + 1212);
+                            l26 = load32(l1 + 1612);
                             l27 = rotr32(l26 & 0xff00ffu, 8u);
                             if ((l18 & 255u) != (l27 >> 24)) { goto after2; }
                             l26 = l27 | (rotr32(l26, 24u) & 0xff00ffu);
                             if ((l19 & 255u) != ((l26 >> 16) & 255u)) { goto after2; }
                             if ((l20 & 255u) != ((l26 >> 8) & 255u)) { goto after2; }
                             if ((l21 & 255u) != (l26 & 255u)) { goto after2; }
-                            l26 = load32(l1 + 1208);
+                            l26 = load32(l1 + 1608);
                             l27 = rotr32(l26 & 0xff00ffu, 8u);
                             if ((l22 & 255u) != (l27 >> 24)) { goto after2; }
                             l26 = l27 | (rotr32(l26, 24u) & 0xff00ffu);
                             if ((l23 & 255u) != ((l26 >> 16) & 255u)) { goto after2; }
                             if ((l25 & 255u) != (l26 & 255u)) { goto after2; }
                             if ((l24 & 255u) != ((l26 >> 8) & 255u)) { goto after2; }
-                            l26 = load32(l1 + 1220);
+                            l26 = load32(l1 + 1620);
                             l27 = rotr32(l26 & 0xff00ffu, 8u);
                             if ((l10 & 255u) != (l27 >> 24)) { goto after2; }
                             l26 = l27 | (rotr32(l26, 24u) & 0xff00ffu);
                             if ((l11 & 255u) != ((l26 >> 16) & 255u)) { goto after2; }
                             if ((l12 & 255u) != ((l26 >> 8) & 255u)) { goto after2; }
                             if ((l13 & 255u) != (l26 & 255u)) { goto after2; }
-                            l26 = load32(l1 + 1216);
+                            l26 = load32(l1 + 1616);
                             l27 = rotr32(l26 & 0xff00ffu, 8u);
                             if ((l14 & 255u) != (l27 >> 24)) { goto after2; }
                             l26 = l27 | (rotr32(l26, 24u) & 0xff00ffu);
                             if ((l15 & 255u) != ((l26 >> 16) & 255u)) { goto after2; }
                             if ((l17 & 255u) != (l26 & 255u)) { goto after2; }
                             if ((l16 & 255u) != ((l26 >> 8) & 255u)) { goto after2; }
-                            l26 = load32(l1 + 1228);
+                            l26 = load32(l1 + 1628);
                             l27 = rotr32(l26 & 0xff00ffu, 8u);
                             if ((l2 & 255u) != (l27 >> 24)) { goto after2; }
                             l26 = l27 | (rotr32(l26, 24u) & 0xff00ffu);
                             if ((l3 & 255u) != ((l26 >> 16) & 255u)) { goto after2; }
                             if ((l4 & 255u) != ((l26 >> 8) & 255u)) { goto after2; }
                             if ((l5 & 255u) != (l26 & 255u)) { goto after2; }
-                            l26 = load32(l1 + 1224);
+                            l26 = load32(l1 + 1624);
                             l27 = rotr32(l26 & 0xff00ffu, 8u);
                             if ((l6 & 255u) != (l27 >> 24)) { goto after2; }
                             l26 = l27 | (rotr32(l26, 24u) & 0xff00ffu);
@@ -22850,15 +24705,15 @@ static u32 do_minisign_list_finish(u64 sp, u64 l0)
                         l35 = load64(l1 + 1104);
                         l0 = (l35 - ((u64) ((u32) (l35 != UINT64_C(0))))) & UINT64_C(0xffffffffffffff80);
                         do_minisign_hash_blake2b_after_blocks(l1 + UINT64_C(1472), l1 + UINT64_C(480), l34, l37, l38, l0, UINT64_C(128), UINT64_C(0), 0u);
-                        fill(l1 + UINT64_C(1200), 0u, UINT64_C(128));
+                        fill(l1 + UINT64_C(1600), 0u, UINT64_C(128));
                         {
                             l35 = l35 - l0;
                             if (l35 == 0) { goto after8; }
-                            copy(l1 + UINT64_C(1200), l38 + l0, l35);
+                            copy(l1 + UINT64_C(1600), l38 + l0, l35);
                         }
                         after8:;
                         l0 = l34 + l0;
-                        do_minisign_hash_blake2b_after_blocks(l1 + UINT64_C(1536), l1 + UINT64_C(1472), l0, l37 + ((u64) ((u32) (l0 < l34))), l1 + UINT64_C(1200), UINT64_C(128), l35, UINT64_C(0), 1u);
+                        do_minisign_hash_blake2b_after_blocks(l1 + UINT64_C(1536), l1 + UINT64_C(1472), l0, l37 + ((u64) ((u32) (l0 < l34))), l1 + UINT64_C(1600), UINT64_C(128), l35, UINT64_C(0), 1u);
                         store64(l1 + 1464, load64(l1 + 1592));
                         store64(l1 + 1456, load64(l1 + 1584));
                         store64(l1 + 1448, load64(l1 + 1576));
@@ -22878,14 +24733,6 @@ static u32 do_minisign_list_finish(u64 sp, u64 l0)
                         goto after4;
                     }
                     after5:;
-                    store64(l1 + 1192, load64(l1 + 296));
-                    store64(l1 + 1184, load64(l1 + 288));
-                    store64(l1 + 1176, load64(l1 + 280));
-                    store64(l1 + 1168, load64(l1 + 272));
-                    store64(l1 + 1160, load64(l1 + 264));
-                    store64(l1 + 1152, load64(l1 + 256));
-                    store64(l1 + 1144, load64(l1 + 248));
-                    store64(l1 + 1136, load64(l1 + 240));
                     copy(l1 + UINT64_C(1200), l1 + UINT64_C(32), UINT64_C(96));
                     store8(l1 + 1327, l2);
                     store8(l1 + 1326, l3);
@@ -22920,44 +24767,15 @@ static u32 do_minisign_list_finish(u64 sp, u64 l0)
                     store8(l1 + 1297, l32);
                     store8(l1 + 1296, l33);
                     copy(l1 + UINT64_C(1328), l0, UINT64_C(80));
-                    l34 = load64(l1 + 1400);
-                    l0 = load64(l1 + 1392);
-                    do_minisign_sha2_block512_Core512_update(l1 + UINT64_C(1200), address(data88), ((UINT64_C(111) - l0) & UINT64_C(127)) + UINT64_C(1));
-                    store8(l1 + 1551, l0 << 3);
-                    l26 = (u32) l0;
-                    store8(l1 + 1550, l26 >> 5);
-                    store8(l1 + 1549, l26 >> 13);
-                    store8(l1 + 1548, l26 >> 21);
-                    store8(l1 + 1547, l0 >> 29);
-                    store8(l1 + 1546, l0 >> 37);
-                    store8(l1 + 1545, l0 >> 45);
-                    store8(l1 + 1544, l0 >> 53);
-                    store8(l1 + 1543, (l0 >> 61) | (l34 << 3));
-                    l26 = (u32) l34;
-                    store8(l1 + 1542, l26 >> 5);
-                    store8(l1 + 1541, l26 >> 13);
-                    store8(l1 + 1540, l26 >> 21);
-                    store8(l1 + 1539, l34 >> 29);
-                    store8(l1 + 1538, l34 >> 37);
-                    store8(l1 + 1537, l34 >> 45);
-                    store8(l1 + 1536, l34 >> 53);
-                    do_minisign_sha2_block512_Core512_update(l1 + UINT64_C(1200), l1 + UINT64_C(1536), UINT64_C(16));
-                    l0 = load64(l1 + 1256);
-                    store64(l1 + 632, (((l0 << 56) | ((l0 & UINT64_C(65280)) << 40)) | (((l0 & UINT64_C(0xff0000)) << 24) | ((l0 & UINT64_C(0xff000000)) << 8))) | ((((l0 >> 8) & UINT64_C(0xff000000)) | ((l0 >> 24) & UINT64_C(0xff0000))) | (((l0 >> 40) & UINT64_C(65280)) | (l0 >> 56))));
-                    l0 = load64(l1 + 1248);
-                    store64(l1 + 624, (((l0 << 56) | ((l0 & UINT64_C(65280)) << 40)) | (((l0 & UINT64_C(0xff0000)) << 24) | ((l0 & UINT64_C(0xff000000)) << 8))) | ((((l0 >> 8) & UINT64_C(0xff000000)) | ((l0 >> 24) & UINT64_C(0xff0000))) | (((l0 >> 40) & UINT64_C(65280)) | (l0 >> 56))));
-                    l0 = load64(l1 + 1240);
-                    store64(l1 + 616, (((l0 << 56) | ((l0 & UINT64_C(65280)) << 40)) | (((l0 & UINT64_C(0xff0000)) << 24) | ((l0 & UINT64_C(0xff000000)) << 8))) | ((((l0 >> 8) & UINT64_C(0xff000000)) | ((l0 >> 24) & UINT64_C(0xff0000))) | (((l0 >> 40) & UINT64_C(65280)) | (l0 >> 56))));
-                    l0 = load64(l1 + 1232);
-                    store64(l1 + 608, (((l0 << 56) | ((l0 & UINT64_C(65280)) << 40)) | (((l0 & UINT64_C(0xff0000)) << 24) | ((l0 & UINT64_C(0xff000000)) << 8))) | ((((l0 >> 8) & UINT64_C(0xff000000)) | ((l0 >> 24) & UINT64_C(0xff0000))) | (((l0 >> 40) & UINT64_C(65280)) | (l0 >> 56))));
-                    l0 = load64(l1 + 1224);
-                    store64(l1 + 600, (((l0 << 56) | ((l0 & UINT64_C(65280)) << 40)) | (((l0 & UINT64_C(0xff0000)) << 24) | ((l0 & UINT64_C(0xff000000)) << 8))) | ((((l0 >> 8) & UINT64_C(0xff000000)) | ((l0 >> 24) & UINT64_C(0xff0000))) | (((l0 >> 40) & UINT64_C(65280)) | (l0 >> 56))));
-                    l0 = load64(l1 + 1216);
-                    store64(l1 + 592, (((l0 << 56) | ((l0 & UINT64_C(65280)) << 40)) | (((l0 & UINT64_C(0xff0000)) << 24) | ((l0 & UINT64_C(0xff000000)) << 8))) | ((((l0 >> 8) & UINT64_C(0xff000000)) | ((l0 >> 24) & UINT64_C(0xff0000))) | (((l0 >> 40) & UINT64_C(65280)) | (l0 >> 56))));
-                    l0 = load64(l1 + 1208);
-                    store64(l1 + 584, (((l0 << 56) | ((l0 & UINT64_C(65280)) << 40)) | (((l0 & UINT64_C(0xff0000)) << 24) | ((l0 & UINT64_C(0xff000000)) << 8))) | ((((l0 >> 8) & UINT64_C(0xff000000)) | ((l0 >> 24) & UINT64_C(0xff0000))) | (((l0 >> 40) & UINT64_C(65280)) | (l0 >> 56))));
-                    l0 = load64(l1 + 1200);
-                    store64(l1 + 576, (((l0 << 56) | ((l0 & UINT64_C(65280)) << 40)) | (((l0 & UINT64_C(0xff0000)) << 24) | ((l0 & UINT64_C(0xff000000)) << 8))) | ((((l0 >> 8) & UINT64_C(0xff000000)) | ((l0 >> 24) & UINT64_C(0xff0000))) | (((l0 >> 40) & UINT64_C(65280)) | (l0 >> 56))));
+                    store64(l1 + 1192, load64(l1 + 296));
+                    store64(l1 + 1184, load64(l1 + 288));
+                    store64(l1 + 1176, load64(l1 + 280));
+                    store64(l1 + 1168, load64(l1 + 272));
+                    store64(l1 + 1160, load64(l1 + 264));
+                    store64(l1 + 1152, load64(l1 + 256));
+                    store64(l1 + 1144, load64(l1 + 248));
+                    store64(l1 + 1136, load64(l1 + 240));
+                    do_minisign_sha2_Sha512_finalize(sp, l1 + UINT64_C(576), l1 + UINT64_C(1200));
                     const u32 t3 = do_core_cmp_arrays_ArrayPartialEq_eq_i8_64_31_core_cmp_numbers_U8PartialEq(l1 + UINT64_C(576), l1 + UINT64_C(1136));
                     if (t3 == 0) { goto after2; }
                 }
@@ -22973,7 +24791,7 @@ static u32 do_minisign_list_finish(u64 sp, u64 l0)
         l26 = 94u;
     }
     after1:;
-    sp = l1 + UINT64_C(1600);
+    sp = l1 + UINT64_C(1728);
     return l26;
 }
 
@@ -23362,7 +25180,7 @@ static u32 do_minisign_list_append(u64 sp, u64 table, u32 l0, u64 l1, u64 l2, u6
                     if (load8(l8 + 264) != 0) { goto after10; }
                     l11 = (u64) load8(l8 + 272);
                     l2 = UINT64_C(5);
-                    l10 = table + 5664;
+                    l10 = table + 5584;
                     goto after7;
                 }
                 after10:;
@@ -23374,7 +25192,7 @@ static u32 do_minisign_list_append(u64 sp, u64 table, u32 l0, u64 l1, u64 l2, u6
                         if (load8((l17 + l2) + UINT64_C(0xffffffffffffffff)) == 10u) { goto after12; }
                         l11 = UINT64_C(0);
                         l2 = UINT64_C(3);
-                        l10 = table + 5536;
+                        l10 = table + 5456;
                         l16 = UINT64_C(0);
                         goto after7;
                     }
@@ -23397,7 +25215,7 @@ static u32 do_minisign_list_append(u64 sp, u64 table, u32 l0, u64 l1, u64 l2, u6
                     l17 = l10 + l21;
                     {
                         {
-                            l11 = load64(l2 + (table + 5808));
+                            l11 = load64(l2 + (table + 5728));
                             if ((l10 - l11) >= l21) { goto after15; }
                             l16 = l21 & UINT64_C(0xfffffffffffffffc);
                             l14 = l21 & UINT64_C(3);
@@ -23569,7 +25387,7 @@ static u32 do_minisign_list_append(u64 sp, u64 table, u32 l0, u64 l1, u64 l2, u6
                 l11 = load64(l8 + 280);
                 l16 = load64(l8 + 288);
                 l15 = (u32) (load64(l8 + 304) == 0);
-                l10 = table + 5360;
+                l10 = table + 5760;
                 {
                     {
                         {
@@ -23587,19 +25405,19 @@ static u32 do_minisign_list_append(u64 sp, u64 table, u32 l0, u64 l1, u64 l2, u6
                                         }
                                     }
                                     after37:;
-                                    l10 = table + 5440;
+                                    l10 = table + 5360;
                                     goto after7;
                                 }
                                 after36:;
-                                l10 = table + 5536;
+                                l10 = table + 5456;
                                 goto after7;
                             }
                             after35:;
-                            l10 = table + 5664;
+                            l10 = table + 5584;
                             goto after7;
                         }
                         after34:;
-                        l10 = table + 5728;
+                        l10 = table + 5648;
                         goto after7;
                     }
                     after33:;
@@ -24228,7 +26046,7 @@ u32 machine_minisign_install_init(u64 l0, u64 l1, u64 l2, u64 l3);
 
 u32 machine_minisign_install_init(u64 l0, u64 l1, u64 l2, u64 l3)
 {
-    STACK(480);
+    STACK(656);
     return do_minisign_install_init(sp, l0, l1, l2, l3);
 }
 
@@ -24293,7 +26111,7 @@ u32 machine_minisign_install_piece(u64 l0, u64 l1, u64 l2);
 
 u32 machine_minisign_install_piece(u64 l0, u64 l1, u64 l2)
 {
-    STACK(960);
+    STACK(1184);
     TABLE(sizeof table_bytes);
     write_table(table);
     return do_minisign_install_piece(sp, table, l0, l1, l2);
@@ -24319,11 +26137,21 @@ u32 machine_minisign_install_signature(u64 l0, u64 l1, u64 l2, u64 l3, u64 l4, u
     return do_minisign_install_signature(sp, table, l0, l1, l2, l3, l4, l5, l6, l7, l8);
 }
 
+u32 machine_minisign_install_list(u64 l0, u64 l1, u64 l2, u64 l3, u64 l4);
+
+u32 machine_minisign_install_list(u64 l0, u64 l1, u64 l2, u64 l3, u64 l4)
+{
+    STACK(3840);
+    TABLE(sizeof table_bytes);
+    write_table(table);
+    return do_minisign_install_list(sp, table, l0, l1, l2, l3, l4);
+}
+
 u32 machine_minisign_install_question(u64 l0, u64 l1, u64 l2, u64 l3);
 
 u32 machine_minisign_install_question(u64 l0, u64 l1, u64 l2, u64 l3)
 {
-    STACK(1680);
+    STACK(2192);
     return do_minisign_install_question(sp, l0, l1, l2, l3);
 }
 
@@ -24331,7 +26159,7 @@ u32 machine_minisign_install_answer(u64 l0, u32 l1);
 
 u32 machine_minisign_install_answer(u64 l0, u32 l1)
 {
-    STACK(240);
+    STACK(1680);
     TABLE(sizeof table_bytes);
     write_table(table);
     return do_minisign_install_answer(sp, table, l0, l1);
@@ -24362,7 +26190,7 @@ u64 machine_minisign_install_record_text(u64 l0, u64 l1, u64 l2);
 
 u64 machine_minisign_install_record_text(u64 l0, u64 l1, u64 l2)
 {
-    STACK(864);
+    STACK(960);
     return do_minisign_install_record_text(sp, l0, l1, l2);
 }
 
@@ -24371,6 +26199,13 @@ u32 machine_minisign_install_error(u64 l0);
 u32 machine_minisign_install_error(u64 l0)
 {
     return do_minisign_install_error(l0);
+}
+
+u64 machine_minisign_install_line(u64 l0);
+
+u64 machine_minisign_install_line(u64 l0)
+{
+    return do_minisign_install_line(l0);
 }
 
 u32 machine_minisign_judge_comment(u64 l0, u64 l1, u64 l2, u64 l3, u32 l4, u64 l5, u64 l6, u64 l7);
@@ -24452,7 +26287,7 @@ u32 machine_minisign_list_finish(u64 l0);
 
 u32 machine_minisign_list_finish(u64 l0)
 {
-    STACK(2592);
+    STACK(2720);
     return do_minisign_list_finish(sp, l0);
 }
 
