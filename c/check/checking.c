@@ -43,7 +43,7 @@ static void look_up_entry(void *context, size_t index, uint8_t *buffer)
     if (error == MINISIGN_NOT_UTF8 || error == MINISIGN_BAD_NAME || error == MINISIGN_NOT_LISTED
         || error == MINISIGN_LISTED_TWICE) {
         checked->outcome = NOT_ONE_ENTRY;
-        checked->why = error == MINISIGN_NOT_UTF8 ? "this name is not UTF-8, so no list can contain it" : NULL;
+        checked->reason = error == MINISIGN_NOT_UTF8 ? "this name is not UTF-8, so no list can contain it" : NULL;
     } else if (error != MINISIGN_OK) {
         checked->outcome = LIST_REJECTED;
     }
@@ -91,7 +91,7 @@ static struct files files_from_list(const struct listing *listing, const struct 
         *checked = (struct checked_file) { .name = listed->name, .line = listed->entry.line, .entry = listed->entry };
         if (count == 0) {
             checked->outcome = MISSING_FILE;
-            checked->why = "names with a backslash or with escapes are not supported";
+            checked->reason = "names with a backslash or with escapes are not supported";
         } else if (count > 1) {
             checked->outcome = NOT_ONE_ENTRY;
             checked->error = MINISIGN_LISTED_TWICE;
@@ -141,7 +141,7 @@ static int open_regular(struct checked_file *checked)
         }
     } else {
         checked->outcome = UNUSABLE_FILE;
-        checked->why = "this is not a regular file";
+        checked->reason = "this is not a regular file";
     }
     close_if_open(&handle.fd);
     return fd;
@@ -194,8 +194,8 @@ static void print_reason(const struct checked_file *checked)
 {
     char text[MINISIGN_ERROR_TEXT_BYTES];
 
-    if (checked->why != NULL || checked->system_error != 0) {
-        print_error(checked->name, checked->why != NULL ? checked->why : strerror(checked->system_error));
+    if (checked->reason != NULL || checked->system_error != 0) {
+        print_error(checked->name, checked->reason != NULL ? checked->reason : strerror(checked->system_error));
     } else {
         describe_error(checked->error, text);
         print_error(checked->name, text);

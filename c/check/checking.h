@@ -18,9 +18,9 @@ struct checked_file {
     /* ALL_MATCH before the check. Any other value is the result: it is set early if there is no entry to compare
      * with. */
     int outcome;
-    /* The reason for another outcome than ALL_MATCH: the text `why` unless it is NULL, otherwise the errno
+    /* The reason for another outcome than ALL_MATCH: the text `reason` unless it is NULL, otherwise the errno
      * `system_error` unless it is 0, otherwise the error of the library. */
-    const char *why;
+    const char *reason;
     int system_error;
     enum minisign_error error;
 };

@@ -251,9 +251,9 @@ static _Noreturn void reject_entries(const char *file, enum minisign_error error
 
 static int compare_names(const void *first, const void *second)
 {
-    const struct named_entry *const *one = first, *const *other = second;
+    const struct named_entry *const *first_entry = first, *const *second_entry = second;
 
-    return strcmp((*one)->name, (*other)->name);
+    return strcmp((*first_entry)->name, (*second_entry)->name);
 }
 
 /* Returns true if a file can match the entry. No file matches a name that has escapes or a backslash. */

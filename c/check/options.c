@@ -7,13 +7,13 @@
 #include "shared/reports.h"
 #include "usage.h"
 
-/* The options. KEY_FILE to IN take a value. */
+/* The options. KEY_FILE to IN_DIRECTORY take a value. */
 enum check_option {
     KEY_FILE,
     BARE_KEY,
     SIGNATURE_FILE,
-    IN,
-    LISTED,
+    IN_DIRECTORY,
+    LISTED_ONLY,
     NOTHING_ELSE,
     ANY_LIST,
     BLAKE2B,
@@ -26,8 +26,8 @@ static const char *const option_words[] = {
     [KEY_FILE] = "-p",
     [BARE_KEY] = "-P",
     [SIGNATURE_FILE] = "-x",
-    [IN] = "--in",
-    [LISTED] = "--listed",
+    [IN_DIRECTORY] = "--in",
+    [LISTED_ONLY] = "--listed",
     [NOTHING_ELSE] = "--nothing-else",
     [ANY_LIST] = "--any-list",
     [BLAKE2B] = "--blake2b",
@@ -50,9 +50,9 @@ static _Noreturn void print_help_and_exit(const char *text, const char *more_tex
 }
 
 /* Prints what is wrong with an argument, or with the whole command line if `word` is NULL, and ends the program. */
-static _Noreturn void reject_arguments(const char *word, const char *what)
+static _Noreturn void reject_arguments(const char *word, const char *message)
 {
-    print_error(word, what);
+    print_error(word, message);
     fputs(USAGE "\n", stderr);
     print_hint("use --help to list the options");
     exit(WRONG_USAGE);
@@ -67,7 +67,7 @@ static enum check_option find_option(const char *word, const char **value)
         if (strcmp(word, option_words[option]) == 0) {
             return option;
         }
-        if (option < IN && strncmp(word, option_words[option], 2) == 0) {
+        if (option < IN_DIRECTORY && strncmp(word, option_words[option], 2) == 0) {
             *value = word + 2;
             return option;
         }
@@ -97,7 +97,7 @@ static struct arguments split_arguments(int argc, char *argv[])
         if (option == CHECK_OPTION_COUNT) {
             reject_arguments(word, "unknown option");
         }
-        if (option <= IN && value == NULL && ++i == argc) {
+        if (option <= IN_DIRECTORY && value == NULL && ++i == argc) {
             reject_arguments(word, "this option needs a value");
         }
         if (arguments.values[option] != NULL) {
@@ -120,7 +120,7 @@ static void check_arguments(const struct arguments *arguments)
     if (arguments->count == 0) {
         reject_arguments(NULL, "missing argument, expected LIST");
     }
-    if (arguments->values[LISTED] != NULL && arguments->count > 1) {
+    if (arguments->values[LISTED_ONLY] != NULL && arguments->count > 1) {
         reject_arguments("--listed", "this option cannot be combined with FILE");
     }
     if (arguments->values[COPIES] != NULL && arguments->count != 2) {
@@ -144,8 +144,8 @@ struct check_options parse_arguments(int argc, char *argv[])
         .key_file = arguments.values[KEY_FILE],
         .bare_key = arguments.values[BARE_KEY],
         .signature = arguments.values[SIGNATURE_FILE],
-        .directory = arguments.values[IN],
-        .listed_only = arguments.values[LISTED] != NULL,
+        .directory = arguments.values[IN_DIRECTORY],
+        .listed_only = arguments.values[LISTED_ONLY] != NULL,
         .nothing_else = arguments.values[NOTHING_ELSE] != NULL,
         .any_list = arguments.values[ANY_LIST] != NULL,
         .blake2b = arguments.values[BLAKE2B] != NULL,

@@ -26,9 +26,9 @@ enum outcome final_outcome(void)
     return ALL_MATCH;
 }
 
-void exit_with_error(enum outcome outcome, const char *file, const char *what, const char *hint)
+void exit_with_error(enum outcome outcome, const char *file, const char *message, const char *hint)
 {
-    print_error(file, what);
+    print_error(file, message);
     print_hint(hint);
     exit(outcome);
 }

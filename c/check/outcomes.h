@@ -28,7 +28,7 @@ enum outcome final_outcome(void);
 
 /* Prints an error and a hint, and ends the program with this outcome. `file` is NULL if the error is not about a file.
  * `hint` is NULL if there is none. */
-_Noreturn void exit_with_error(enum outcome outcome, const char *file, const char *what, const char *hint);
+_Noreturn void exit_with_error(enum outcome outcome, const char *file, const char *message, const char *hint);
 
 /* Prints the text of errno for this file, and ends the program with status UNUSABLE_FILE. */
 _Noreturn void exit_with_errno(const char *file);

@@ -49,9 +49,9 @@ static bool must_be_listed(const struct listing *listing, const char *name)
 
 static int compare_strings(const void *first, const void *second)
 {
-    char *const *one = first, *const *other = second;
+    char *const *first_string = first, *const *second_string = second;
 
-    return strcmp(*one, *other);
+    return strcmp(*first_string, *second_string);
 }
 
 void find_unlisted(const struct listing *listing)

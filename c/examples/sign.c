@@ -25,14 +25,14 @@ static minisign_unopened_key unopened;
 static minisign_secret_key key;
 
 // Clears all secrets, which are in static variables, and ends the program.
-static void end(int status, const char *what)
+static void clear_and_exit(int status, const char *error_text)
 {
     sodium_memzero(&unopened, sizeof unopened);
     sodium_memzero(&key, sizeof key);
     sodium_memzero(text, sizeof text);
     sodium_memzero(password, sizeof password);
-    if (what != NULL) {
-        fprintf(stderr, "sign: %s\n", what);
+    if (error_text != NULL) {
+        fprintf(stderr, "sign: %s\n", error_text);
     }
     exit(status);
 }
@@ -40,10 +40,10 @@ static void end(int status, const char *what)
 static void expect(enum minisign_error error)
 {
     if (error != MINISIGN_OK) {
-        char why[MINISIGN_ERROR_TEXT_BYTES];
+        char error_text[MINISIGN_ERROR_TEXT_BYTES];
 
-        minisign_error_text(error, why, sizeof why);
-        end(1, why);
+        minisign_error_text(error, error_text, sizeof error_text);
+        clear_and_exit(1, error_text);
     }
 }
 
@@ -53,7 +53,7 @@ static FILE *open_file(const char *name, const char *mode)
     FILE *file = fopen(name, mode);
 
     if (file == NULL || setvbuf(file, NULL, _IONBF, 0) != 0) {
-        end(1, "a file cannot be opened");
+        clear_and_exit(1, "a file cannot be opened");
     }
     return file;
 }
@@ -64,7 +64,7 @@ static size_t read_piece(FILE *file, uint8_t *to)
     size_t len = fread(to, 1, TEXT_BYTES, file);
 
     if (ferror(file)) {
-        end(1, "a file cannot be read");
+        clear_and_exit(1, "a file cannot be read");
     }
     return len;
 }
@@ -75,7 +75,7 @@ static void sign(uint8_t *signature, const uint8_t *bytes, size_t len)
 {
     if (crypto_sign_detached(signature, NULL, bytes, len, key.secret) != 0
         || crypto_sign_verify_detached(signature, bytes, len, key.secret + 32) != 0) {
-        end(1, "the key does not sign: its halves do not belong together");
+        clear_and_exit(1, "the key does not sign: its halves do not belong together");
     }
 }
 
@@ -89,13 +89,13 @@ int main(int argc, char **argv)
     FILE *file;
 
     if ((argc != 5 && argc != 6) || sodium_init() < 0) {
-        end(1, "usage: sign SECRET_KEY DATA SIGNATURE COMMENT [PASSWORD_FILE]");
+        clear_and_exit(1, "usage: sign SECRET_KEY DATA SIGNATURE COMMENT [PASSWORD_FILE]");
     }
     if (argc == 6) {
         // The password is the first line.
         line_end = memchr(password, '\n', read_piece(open_file(argv[5], "rb"), password));
         if (line_end == NULL) {
-            end(1, "the password cannot be read");
+            clear_and_exit(1, "the password cannot be read");
         }
     }
     password_len = (size_t) (line_end - password);
@@ -126,7 +126,7 @@ int main(int argc, char **argv)
     expect(minisign_signed_text(&public_key, &parts, text, sizeof text, &len));
     file = open_file(argv[3], "wb");
     if (fwrite(text, 1, len, file) != len || fclose(file) != 0) {
-        end(1, "the signature cannot be written");
+        clear_and_exit(1, "the signature cannot be written");
     }
-    end(0, NULL);
+    clear_and_exit(0, NULL);
 }

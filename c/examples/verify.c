@@ -15,19 +15,19 @@ enum { TEXT_BYTES = 65536 };
 
 static uint8_t text[TEXT_BYTES], message[TEXT_BYTES];
 
-static void fail(const char *what)
+static void fail(const char *error_text)
 {
-    fprintf(stderr, "verify: %s\n", what);
+    fprintf(stderr, "verify: %s\n", error_text);
     exit(1);
 }
 
 static void expect(enum minisign_error error)
 {
     if (error != MINISIGN_OK) {
-        char why[MINISIGN_ERROR_TEXT_BYTES];
+        char error_text[MINISIGN_ERROR_TEXT_BYTES];
 
-        minisign_error_text(error, why, sizeof why);
-        fail(why);
+        minisign_error_text(error, error_text, sizeof error_text);
+        fail(error_text);
     }
 }
 

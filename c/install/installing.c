@@ -551,13 +551,13 @@ static bool perform_operation(struct install_run *run)
 static void block_end_signals(sigset_t *old_mask)
 {
     static const int end_signals[] = { SIGHUP, SIGINT, SIGQUIT, SIGTERM };
-    sigset_t ends;
+    sigset_t mask;
 
-    sigemptyset(&ends);
+    sigemptyset(&mask);
     for (size_t i = 0; i < sizeof end_signals / sizeof end_signals[0]; i++) {
-        sigaddset(&ends, end_signals[i]);
+        sigaddset(&mask, end_signals[i]);
     }
-    pthread_sigmask(SIG_BLOCK, &ends, old_mask);
+    pthread_sigmask(SIG_BLOCK, &mask, old_mask);
 }
 
 /* Renames the new record and then the new file, with the operations in between, until both are renamed or one has
@@ -728,9 +728,9 @@ static enum minisign_install_status status_of(const struct install_run *run)
 
 /* Reports API misuse. */
 static enum minisign_install_status report_misuse(const minisign_installing_options *options, const char *file,
-                                                  const char *what)
+                                                  const char *message)
 {
-    send_message(options, MINISIGN_MESSAGE_ERROR, file, what);
+    send_message(options, MINISIGN_MESSAGE_ERROR, file, message);
     return MINISIGN_STATUS_MISUSE;
 }
 

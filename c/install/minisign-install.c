@@ -33,9 +33,9 @@ static struct text_file signature_text, list_text;
 /* ---- Files that are read ---- */
 
 /* Ends the program because the content of a file is not acceptable. `hint` may be NULL. */
-static _Noreturn void reject_file(const char *file, const char *why, const char *hint)
+static _Noreturn void reject_file(const char *file, const char *reason, const char *hint)
 {
-    print_error(file, why);
+    print_error(file, reason);
     print_hint(hint);
     exit(MINISIGN_STATUS_REJECTED);
 }

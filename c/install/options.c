@@ -70,9 +70,9 @@ static _Noreturn void exit_with_usage(void)
 }
 
 /* Reports what is wrong with an argument, or with the whole command line if `word` is NULL, and ends the program. */
-static _Noreturn void reject_argument(const char *word, const char *what)
+static _Noreturn void reject_argument(const char *word, const char *message)
 {
-    print_error(word, what);
+    print_error(word, message);
     exit_with_usage();
 }
 

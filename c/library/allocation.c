@@ -216,18 +216,19 @@ struct grant rattle_alloc(size_t len, size_t alignment)
 {
     int is_large = len >= LARGE_BYTES;
     size_t unit = is_large ? HUGE_PAGE_BYTES : sizeof(struct heading);
-    size_t front = is_large ? LARGE_FRONT_BYTES : sizeof(struct heading);
+    size_t front_bytes = is_large ? LARGE_FRONT_BYTES : sizeof(struct heading);
     char *allocation, *block;
 
     unit = alignment > unit ? alignment : unit;
     /* malloc aligns a size that is a multiple of 16 to 16 bytes, so there is room for the front and the aligned
      * block. */
-    allocation = len <= PTRDIFF_MAX - 2 * unit - front ? malloc(aligned(len, sizeof(struct heading)) + unit + front)
-                                                       : NULL;
+    allocation = len <= PTRDIFF_MAX - 2 * unit - front_bytes
+                     ? malloc(aligned(len, sizeof(struct heading)) + unit + front_bytes)
+                     : NULL;
     if (allocation == NULL) {
         return (struct grant) { 0, &no_block };
     }
-    block = allocation + (aligned((uintptr_t) allocation + front, unit) - (uintptr_t) allocation);
+    block = allocation + (aligned((uintptr_t) allocation + front_bytes, unit) - (uintptr_t) allocation);
     *heading_of(block) = (struct heading) { allocation, len };
     if (is_large) {
         *pages_of(block) = (struct pages) { .block = block, .len = whole_pages(len) };
@@ -249,11 +250,11 @@ struct grant rattle_realloc(void *block, size_t old_len, size_t len, size_t alig
 
 void rattle_dealloc(void *block)
 {
-    struct heading front = *heading_of(block);
+    struct heading heading = *heading_of(block);
 
-    if (front.len >= LARGE_BYTES) {
+    if (heading.len >= LARGE_BYTES) {
         join_thread(pages_of(block));
     }
-    clear(block, front.len);
-    free(front.allocation);
+    clear(block, heading.len);
+    free(heading.allocation);
 }

@@ -9,7 +9,7 @@ enum { MAX_CLEANERS = 2 };
 
 static void (*volatile cleaners[MAX_CLEANERS])(void);
 
-static void clean(void)
+static void run_cleaners(void)
 {
     for (int i = 0; i < MAX_CLEANERS; i++) {
         if (cleaners[i] != NULL) {
@@ -22,7 +22,7 @@ static void clean(void)
  * handler returns. */
 static void clean_and_end(int signo)
 {
-    clean();
+    run_cleaners();
     signal(signo, SIG_DFL);
     raise(signo);
 }
@@ -64,7 +64,7 @@ void clean_at_end(void (*cleaner)(void))
 {
     static int count;
 
-    if (count == MAX_CLEANERS || (count == 0 && atexit(clean) != 0)) {
+    if (count == MAX_CLEANERS || (count == 0 && atexit(run_cleaners) != 0)) {
         fail_with_hint(NULL, "the clean-up at exit could not be registered", NULL);
     }
     cleaners[count++] = cleaner;

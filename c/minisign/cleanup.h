@@ -7,7 +7,7 @@
 
 /* Registers a function to be called when the program ends. It must be async-signal-safe: it may only make system calls
  * and write memory. */
-void clean_at_end(void (*clean)(void));
+void clean_at_end(void (*cleaner)(void));
 
 /* Returns true if the default action of a signal is to end the program. */
 bool ends_program(int signo);

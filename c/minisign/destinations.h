@@ -20,9 +20,10 @@ struct destination {
     /* The existing file, if there is one. */
     bool has_existing;
     struct handle existing;
-    /* The existing file, open for writing, or -1. `open_existing` opens it, unless `file` names a descriptor: then
-     * `find_destination` duplicates this descriptor. */
+    /* The existing file, open for writing, or -1. `open_existing` opens it, unless `names_descriptor` is true: then
+     * `find_destination` has duplicated the descriptor that `file` names. */
     int existing_fd;
+    /* True if `file` is a path such as /dev/fd/N, and the file is written through that descriptor. */
     bool names_descriptor;
 };
 
@@ -31,10 +32,10 @@ struct destination {
  * opening a named pipe blocks until it has a reader. Symbolic links are followed as the system follows them, even if
  * they lead to a missing file. A file counts as missing only if the system reports ENOENT.
  *
- * A file is written in place, instead of being replaced, if it is not a regular file, or if it was deleted but is still
- * open. A regular file is also written in place, through an existing descriptor, if `file` names a descriptor of the
- * program (/dev/stdout, /dev/stderr, /dev/fd/N, /proc/self/fd/N) that has it open for writing. A secret is not written
- * through such a descriptor if others can access the file.
+ * A file is written in place, instead of being replaced, if it is not a regular file, or if it was deleted and the path
+ * leads to a descriptor that is still open. A regular file is also written in place, through an existing descriptor, if
+ * `file` names a descriptor of the program (/dev/stdout, /dev/stderr, /dev/fd/N, /proc/self/fd/N) that has it open for
+ * writing. If a secret is to be written, and others can access that file, this is an error.
  *
  * Untrusted users are all users except root and the user who runs the program. These rules protect against them, and do
  * not depend on system settings such as fs.protected_symlinks:
@@ -45,12 +46,13 @@ struct destination {
  * - In any directory, a secret is not written in place to a file of an untrusted user, unless the file is a standard
  *   stream of the program.
  *
- * If these rules forbid the file, or it cannot be inspected, prints an error and ends the program.
+ * If one of these rules forbids the file, or if the file cannot be inspected, prints an error and ends the program.
  */
 struct destination find_destination(const char *file, bool is_secret);
 
-/* Opens the existing file, if there is one, for writing. Ends the program if it cannot be opened, or if it is to be
- * replaced and cannot be. So a file without write permission is neither written nor replaced. */
+/* Opens the existing file, if there is one, for writing. Ends the program if the file cannot be opened, so that a file
+ * without write permission is neither written nor replaced. Also ends the program if the file is to be replaced, but
+ * renaming would fail: its directory is sticky, and the user owns neither the file nor the directory. */
 void open_existing(struct destination *destination);
 
 /* Returns true if the file is written in place, instead of being replaced. */

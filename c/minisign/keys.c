@@ -220,15 +220,15 @@ static void check_output(const struct options *options, const char *file, enum f
 }
 
 /* Writes a key file to a temporary file. It may replace an existing file only with -f. */
-static struct replacement *stage_key(const struct options *options, const char *file, enum file_kind kind,
-                                     const uint8_t *text, size_t len)
+static struct replacement *prepare_key_file(const struct options *options, const char *file, enum file_kind kind,
+                                            const uint8_t *text, size_t len)
 {
-    struct replacement *stage = stage_file(file, kind, options->force, text, len);
+    struct replacement *replacement = prepare_replacement(file, kind, options->force, text, len);
 
-    if (stage == NULL) {
+    if (replacement == NULL) {
         reject_existing(file);
     }
-    return stage;
+    return replacement;
 }
 
 static _Noreturn void reject_same_file(const char *file, const char *second_name)
@@ -293,15 +293,16 @@ static void create_directory(const char *file)
 /* Writes both key files. Ends the program if they are the same file. */
 static void write_key_pair(const struct options *options, const struct text *public)
 {
-    struct replacement *secret_stage =
-        stage_key(options, options->secret_file, NEW_SECRET_KEY, secrets->text, secrets->text_len);
-    struct replacement *public_stage = stage_key(options, options->public_file, PUBLIC_KEY, public->bytes, public->len);
+    struct replacement *secret_replacement =
+        prepare_key_file(options, options->secret_file, NEW_SECRET_KEY, secrets->text, secrets->text_len);
+    struct replacement *public_replacement =
+        prepare_key_file(options, options->public_file, PUBLIC_KEY, public->bytes, public->len);
     const char *existing;
 
-    if (have_same_destination(secret_stage, public_stage)) {
+    if (have_same_destination(secret_replacement, public_replacement)) {
         reject_same_file(options->secret_file, options->public_file);
     }
-    existing = put_both_in_place(public_stage, secret_stage);
+    existing = put_both_in_place(public_replacement, secret_replacement);
     if (existing != NULL) {
         reject_existing(existing);
     }
@@ -357,7 +358,7 @@ int recreate_public_key(const struct options *options)
     reject_secret_key_as_output(options, options->public_file, "use -p FILE to name another file for the public key");
     load_secret_key(options);
     encode_public_key(&public);
-    if (!put_in_place(stage_key(options, options->public_file, PUBLIC_KEY, public.bytes, public.len))) {
+    if (!put_in_place(prepare_key_file(options, options->public_file, PUBLIC_KEY, public.bytes, public.len))) {
         reject_existing(options->public_file);
     }
     return STATUS_OK;

@@ -8,20 +8,20 @@
 /* The maximum number of directories that are remembered as cleaned. After that, the oldest are forgotten. */
 #define MAX_DIRECTORIES 32
 
-bool random_stage_name(char name[STAGE_NAME_BYTES])
+bool random_temporary_name(char name[TEMPORARY_NAME_BYTES])
 {
-    strcpy(name, STAGE_PREFIX);
-    return random_hex(name + strlen(name), STAGE_RANDOM_BYTES);
+    strcpy(name, TEMPORARY_PREFIX);
+    return random_hex(name + strlen(name), TEMPORARY_RANDOM_BYTES);
 }
 
-bool lock_stage(int fd)
+bool lock_temporary_file(int fd)
 {
     return flock(fd, LOCK_EX | LOCK_NB) == 0 || errno != EWOULDBLOCK;
 }
 
 /* Removes a temporary file if it is a regular file that no run has locked. Checks the name again after locking the
  * file, because another run may have renamed the file in between. */
-static void remove_unlocked(int directory, const char *name)
+static void remove_if_unlocked(int directory, const char *name)
 {
     int fd = openat(directory, name, O_RDWR | O_NOFOLLOW | O_NONBLOCK | O_CLOEXEC);
     struct stat opened, named;
@@ -55,9 +55,9 @@ static bool was_cleaned(int directory)
     return false;
 }
 
-void remove_unlocked_stages(int directory)
+void remove_unlocked_files(int directory)
 {
     if (!was_cleaned(directory)) {
-        for_each_random_name(directory, STAGE_PREFIX, STAGE_RANDOM_BYTES, remove_unlocked);
+        for_each_random_name(directory, TEMPORARY_PREFIX, TEMPORARY_RANDOM_BYTES, remove_if_unlocked);
     }
 }

@@ -14,9 +14,9 @@ void fail_as_minisign(const char *line)
 
 void print_errno(const char *file)
 {
-    const char *why = strerror(errno);
+    const char *reason = strerror(errno);
 
-    fprintf(stderr, "%s%s%s\n", escape_name(file).text, *file == 0 ? "" : ": ", why);
+    fprintf(stderr, "%s%s%s\n", escape_name(file).text, *file == 0 ? "" : ": ", reason);
 }
 
 void fail_errno(const char *file)
@@ -32,9 +32,9 @@ void check_errno(bool ok, const char *file)
     }
 }
 
-void fail_with_hint(const char *file, const char *what, const char *hint)
+void fail_with_hint(const char *file, const char *message, const char *hint)
 {
-    print_error(file, what);
+    print_error(file, message);
     print_hint(hint);
     exit(STATUS_ERROR);
 }

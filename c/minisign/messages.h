@@ -24,18 +24,18 @@ void print_errno(const char *file);
 /* Prints the name of a file and the text of errno, and ends the program with STATUS_ERROR. */
 _Noreturn void fail_errno(const char *file);
 
-/* Calls `fail_errno` unless `ok` is true. */
+/* Calls `fail_errno` unless `ok`, the result of a system call, is true. */
 void check_errno(bool ok, const char *file);
 
 /* Prints an error and a hint, each on its own line and in this program's own format, and ends the program with
  * STATUS_ERROR. `file` and `hint` may be NULL. */
-_Noreturn void fail_with_hint(const char *file, const char *what, const char *hint);
+_Noreturn void fail_with_hint(const char *file, const char *message, const char *hint);
 
 /* Ends the program if a comment contains a line break. `comment` may be NULL. */
 void require_one_line(const char *comment);
 
-/* Prints an error that the library returned: Minisign's message for it if there is one, otherwise the name of the file
- * and the error in this program's words. */
+/* Prints an error that the library returned: Minisign's message for it, or if Minisign has no such error, the name of
+ * the file and the error in this program's words. */
 void print_library_error(const char *file, enum minisign_error error);
 
 /* If the library returned an error, prints it and ends the program with STATUS_ERROR. */

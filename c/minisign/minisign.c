@@ -4,10 +4,10 @@
  * statuses.
  *
  * The library of minisign.h parses and encodes keys and signatures, hashes the data, derives keys from passwords and
- * decides whether a signature is valid. libsodium has Ed25519, random bytes and memory for secrets. The other files of
- * this directory parse the command line (options), ask for passwords (terminal), decrypt, generate and change keys
- * (keys), sign (signing), verify (verifying), read data (reading), find out where to write a file (destinations), and
- * replace files in one step (replacing).
+ * decides whether a signature is valid. libsodium provides Ed25519, random bytes and memory for secrets. The other
+ * files of this directory parse the command line (options), ask for passwords (terminal), decrypt, generate and change
+ * keys (keys), sign (signing), verify (verifying), read data (reading), find out where to write a file (destinations),
+ * and replace files in one step (replacing).
  */
 #include "keys.h"
 

@@ -22,7 +22,7 @@ static _Noreturn void print_and_exit(const char *text, int status)
     exit(status);
 }
 
-static _Noreturn void usage(void)
+static _Noreturn void print_usage_and_exit(void)
 {
     print_and_exit("Usage:\n"
                    "minisign -G [-f] [-p pubkey_file] [-s seckey_file] [-W]\n"
@@ -81,7 +81,7 @@ static uint32_t parse_number(const char *text, uint32_t max)
     errno = 0;
     number = strtoul(text, &end, 10);
     if (errno != 0 || *text < '0' || *text > '9' || *end != 0 || number < 1 || number > max) {
-        usage();
+        print_usage_and_exit();
     }
     return (uint32_t) number;
 }
@@ -89,7 +89,7 @@ static uint32_t parse_number(const char *text, uint32_t max)
 static void set_command(struct options *options, enum command command)
 {
     if (options->command != NO_COMMAND && options->command != command) {
-        usage();
+        print_usage_and_exit();
     }
     options->command = command;
 }
@@ -123,7 +123,7 @@ static struct options parse_flags(int argc, char *argv[])
         case 'v': print_and_exit(VERSION, STATUS_OK);
         case 'W': options.unsealed = true; break;
         case 'x': options.signature_file = optarg; break;
-        default: usage();
+        default: print_usage_and_exit();
         }
     }
     options.further_files = argv + optind;
@@ -143,7 +143,7 @@ struct options parse_options(int argc, char *argv[])
 
     if (options.command == NO_COMMAND || (with_data && options.data_file == NULL)
         || (options.command != SIGN && options.further_files[0] != NULL)) {
-        usage();
+        print_usage_and_exit();
     }
     options.signature_file = null_if_empty(options.signature_file);
     options.comment = null_if_empty(options.comment);

@@ -1,6 +1,6 @@
 /* SPDX-License-Identifier: MIT */
-/* Replaces files in one step: writes the new content to a temporary file, also called stage, and renames it to its
- * destination, which is a directory and a name (destinations.h). */
+/* Replaces files in one step: writes the new content to a temporary file, and renames it to its destination, which is a
+ * directory and a name (destinations.h). */
 #include "replacing.h"
 
 #include <sodium.h>
@@ -24,13 +24,13 @@
 #define COUNTED_DESCRIPTORS 256
 
 struct replacement {
-    /* The destination of the file. `destination.file` is NULL if this entry of `stages` is free. */
+    /* The destination of the file. `destination.file` is NULL if this entry of `replacements` is free. */
     struct destination destination;
     /* The temporary file, which is open and locked until it is renamed. -1 if the content was written in place. */
     int fd;
     /* The name of the temporary file. `is_named` is set before the file gets the name, so that a signal handler never
      * misses a file that has to be removed. */
-    char name[STAGE_NAME_BYTES];
+    char name[TEMPORARY_NAME_BYTES];
     volatile sig_atomic_t is_named;
     bool is_key;
     /* True if an existing file may be replaced. */
@@ -46,32 +46,33 @@ struct replacement {
 };
 
 /* The maximum number of queued files. Syncing all of them takes little more time than syncing one. There is one more
- * stage for the file that is being written. A key pair needs two stages, but is never written while files are
+ * entry for the file that is being written. A key pair needs two entries, but is never written while files are
  * queued. */
-enum { MAX_QUEUED = 32, MAX_STAGES = MAX_QUEUED + 1 };
-static struct replacement stages[MAX_STAGES];
+enum { MAX_QUEUED = 32, MAX_REPLACEMENTS = MAX_QUEUED + 1 };
+static struct replacement replacements[MAX_REPLACEMENTS];
 static int queued_count;
 
 /* ---- Names ---- */
 
 /* Gives an unnamed temporary file a random name. */
-static bool name_stage(struct replacement *stage)
+static bool name_temporary_file(struct replacement *replacement)
 {
-    stage->is_named = random_stage_name(stage->name);
-    if (stage->is_named && !link_unnamed(stage->fd, stage->destination.directory, stage->name)) {
-        stage->is_named = 0;
+    replacement->is_named = random_temporary_name(replacement->name);
+    if (replacement->is_named
+        && !link_unnamed(replacement->fd, replacement->destination.directory, replacement->name)) {
+        replacement->is_named = 0;
     }
-    return stage->is_named;
+    return replacement->is_named;
 }
 
-/* Returns true if the name of a destination refers to the file of this stage. Async-signal-safe. */
-static bool is_stage_at(const struct replacement *stage, const struct destination *destination)
+/* Returns true if the name of a destination refers to the new file. Async-signal-safe. */
+static bool is_new_file_at(const struct replacement *replacement, const struct destination *destination)
 {
-    struct stat staged, named;
+    struct stat opened, named;
 
-    return fstat(stage->fd, &staged) == 0
+    return fstat(replacement->fd, &opened) == 0
            && fstatat(destination->directory, destination->name, &named, AT_SYMLINK_NOFOLLOW) == 0
-           && is_same_file(&staged, &named);
+           && is_same_file(&opened, &named);
 }
 
 /* Reads the start of the file at a destination, up to the size of the buffer. Returns the number of bytes, or -1. */
@@ -99,42 +100,43 @@ static bool have_same_content(const struct destination *first, const struct dest
     return are_same;
 }
 
-/* Returns true if this stage was put in place, or its content was written in place. Async-signal-safe. */
-static bool is_placed(const struct replacement *stage)
+/* Returns true if the new file was put in place, or its content was written in place. Async-signal-safe. */
+static bool is_placed(const struct replacement *replacement)
 {
-    return stage->fd < 0 || is_stage_at(stage, &stage->destination);
+    return replacement->fd < 0 || is_new_file_at(replacement, &replacement->destination);
 }
 
 /* ---- Removal at exit ---- */
 
 /* Removes a file of a key pair from its place again if the other file is not in place. Async-signal-safe. */
-static void undo_stage(struct replacement *stage)
+static void undo_replacement(struct replacement *replacement)
 {
-    const struct destination *destination = &stage->destination;
+    const struct destination *destination = &replacement->destination;
 
-    if (stage->partner == NULL || stage->fd < 0 || is_placed(stage->partner) || !is_placed(stage)) {
+    if (replacement->partner == NULL || replacement->fd < 0 || is_placed(replacement->partner)
+        || !is_placed(replacement)) {
         return;
     }
-    if (stage->is_exchanged) {
+    if (replacement->is_exchanged) {
         /* If the exchange fails, the temporary name still refers to the replaced file, which must not be removed. */
-        stage->is_named = exchange_names(destination->directory, stage->name, destination->name);
+        replacement->is_named = exchange_names(destination->directory, replacement->name, destination->name);
     } else {
         unlinkat(destination->directory, destination->name, 0);
     }
 }
 
 /* Removes all temporary files. Async-signal-safe. */
-static void remove_stages(void)
+static void delete_temporary_files(void)
 {
-    for (struct replacement *stage = stages; stage < stages + MAX_STAGES; stage++) {
-        undo_stage(stage);
-        if (stage->is_named) {
-            unlinkat(stage->destination.directory, stage->name, 0);
+    for (struct replacement *replacement = replacements; replacement < replacements + MAX_REPLACEMENTS; replacement++) {
+        undo_replacement(replacement);
+        if (replacement->is_named) {
+            unlinkat(replacement->destination.directory, replacement->name, 0);
         }
     }
 }
 
-static void finish_queued_stages(void);
+static void finish_queued_replacements(void);
 
 /* Registers the functions that run when the program ends. Only the first call has an effect. Also ignores SIGXFSZ, so
  * that a write beyond the file size limit returns an error and does not kill the program. */
@@ -144,78 +146,80 @@ static void register_cleanup(void)
 
     if (!is_registered) {
         is_registered = true;
-        clean_at_end(remove_stages);
+        clean_at_end(delete_temporary_files);
         signal(SIGXFSZ, SIG_IGN);
-        if (atexit(finish_queued_stages) != 0) {
+        if (atexit(finish_queued_replacements) != 0) {
             fail_with_hint(NULL, "the clean-up at exit could not be registered", NULL);
         }
     }
 }
 
-static struct replacement *find_free_stage(void)
+static struct replacement *find_free_replacement(void)
 {
-    for (struct replacement *stage = stages; stage < stages + MAX_STAGES; stage++) {
-        if (stage->destination.file == NULL) {
-            stage->fd = -1;
-            return stage;
+    for (struct replacement *replacement = replacements; replacement < replacements + MAX_REPLACEMENTS; replacement++) {
+        if (replacement->destination.file == NULL) {
+            replacement->fd = -1;
+            return replacement;
         }
     }
     fail_with_hint(NULL, "too many files are written at the same time", NULL);
 }
 
-/* Closes the descriptors of a stage and removes its temporary name, so that the entry is free again. If the name cannot
- * be removed, the entry is kept, so that the end of the program tries again. */
-static void release_stage(struct replacement *stage)
+/* Closes the descriptors of a replacement and removes its temporary name, so that the entry is free again. If the name
+ * cannot be removed, the entry is kept, so that the end of the program tries again. */
+static void release_replacement(struct replacement *replacement)
 {
-    stage->partner = NULL;
-    if (stage->is_named && unlinkat(stage->destination.directory, stage->name, 0) != 0 && errno != ENOENT) {
+    replacement->partner = NULL;
+    if (replacement->is_named && unlinkat(replacement->destination.directory, replacement->name, 0) != 0
+        && errno != ENOENT) {
         return;
     }
-    close_if_open(&stage->fd);
-    release_destination(&stage->destination);
-    *stage = (struct replacement) { .fd = -1 };
+    close_if_open(&replacement->fd);
+    release_destination(&replacement->destination);
+    *replacement = (struct replacement) { .fd = -1 };
 }
 
 /* ---- Writing ---- */
 
 /* Creates and locks a temporary file. It has no name if the file system supports that (O_TMPFILE). Otherwise it has a
  * random name, and another run may remove it before it is locked: then the function tries again. */
-static bool open_stage(struct replacement *stage, mode_t mode)
+static bool open_temporary_file(struct replacement *replacement, mode_t mode)
 {
-    stage->fd = open_unnamed(stage->destination.directory, mode);
-    if (stage->fd >= 0) {
-        return lock_stage(stage->fd);
+    replacement->fd = open_unnamed(replacement->destination.directory, mode);
+    if (replacement->fd >= 0) {
+        return lock_temporary_file(replacement->fd);
     }
-    for (int i = 0; i < MAX_TRIES && random_stage_name(stage->name); i++) {
+    for (int i = 0; i < MAX_TRIES && random_temporary_name(replacement->name); i++) {
         struct stat created;
 
-        stage->is_named = 1;
-        stage->fd = open_named(stage->destination.directory, stage->name, mode);
-        if (stage->fd >= 0 && lock_stage(stage->fd) && fstat(stage->fd, &created) == 0 && created.st_nlink > 0) {
+        replacement->is_named = 1;
+        replacement->fd = open_named(replacement->destination.directory, replacement->name, mode);
+        if (replacement->fd >= 0 && lock_temporary_file(replacement->fd) && fstat(replacement->fd, &created) == 0
+            && created.st_nlink > 0) {
             return true;
         }
-        stage->is_named = 0;
-        if (stage->fd < 0) {
+        replacement->is_named = 0;
+        if (replacement->fd < 0) {
             return false;
         }
-        unlinkat(stage->destination.directory, stage->name, 0);
-        close_if_open(&stage->fd);
+        unlinkat(replacement->destination.directory, replacement->name, 0);
+        close_if_open(&replacement->fd);
         errno = EBUSY;
     }
     return false;
 }
 
-/* Copies the owner, mode and access list of the existing file to a stage. If `owner_only`, copies only the owner's
- * permissions. */
-static void copy_permissions(const struct replacement *stage, bool owner_only)
+/* Copies the owner, mode and access list of the existing file to the temporary file. If `owner_only`, copies only the
+ * owner's permissions. */
+static void copy_permissions(const struct replacement *replacement, bool owner_only)
 {
     static struct permissions existing;
 
-    check_errno(read_permissions_fd(&existing, stage->destination.existing_fd), stage->destination.file);
+    check_errno(read_permissions_fd(&existing, replacement->destination.existing_fd), replacement->destination.file);
     if (owner_only) {
         replace_mode(&existing, existing.mode & S_IRWXU);
     }
-    check_errno(give_permissions(stage->fd, &existing), stage->destination.file);
+    check_errno(give_permissions(replacement->fd, &existing), replacement->destination.file);
 }
 
 /* Writes to the existing file. Truncates a regular file first, unless it was named as a descriptor, such as
@@ -246,62 +250,62 @@ void reject_untrusted_file(const char *file, enum file_kind kind)
     }
 }
 
-/* Returns a stage that does not have a temporary file yet. Opens the existing file, if there is one. Returns NULL if a
- * file exists and must not be replaced. */
-static struct replacement *prepare_stage(const char *file, enum file_kind kind, bool may_replace)
+/* Returns a replacement that does not have a temporary file yet. Opens the existing file, if there is one. Returns NULL
+ * if a file exists and must not be replaced. */
+static struct replacement *begin_replacement(const char *file, enum file_kind kind, bool may_replace)
 {
-    struct replacement *stage = find_free_stage();
+    struct replacement *replacement = find_free_replacement();
 
     register_cleanup();
-    stage->destination = find_destination(file, is_secret(kind));
-    stage->may_replace = may_replace;
-    if (stage->destination.has_existing && !may_replace) {
-        release_stage(stage);
+    replacement->destination = find_destination(file, is_secret(kind));
+    replacement->may_replace = may_replace;
+    if (replacement->destination.has_existing && !may_replace) {
+        release_replacement(replacement);
         return NULL;
     }
-    open_existing(&stage->destination);
-    return stage;
+    open_existing(&replacement->destination);
+    return replacement;
 }
 
 /* Writes the content to a temporary file, or in place. */
-static void write_replacement(struct replacement *stage, enum file_kind kind, const uint8_t *bytes, size_t len)
+static void write_replacement(struct replacement *replacement, enum file_kind kind, const uint8_t *bytes, size_t len)
 {
     mode_t mode;
     int fd;
 
-    if (is_written_in_place(&stage->destination)) {
-        write_in_place(&stage->destination, bytes, len);
+    if (is_written_in_place(&replacement->destination)) {
+        write_in_place(&replacement->destination, bytes, len);
         return;
     }
-    stage->is_key = kind != SIGNATURE;
-    stage->is_synced = !stage->is_key && !stage->destination.has_existing;
-    mode = is_secret(kind) || stage->destination.has_existing ? 0600 : 0666;
-    remove_unlocked_stages(stage->destination.directory);
-    check_errno(open_stage(stage, mode), stage->destination.file);
-    check_errno(!is_secret(kind) || remove_inherited_list(stage->fd), stage->destination.file);
-    if (stage->destination.has_existing && kind != NEW_SECRET_KEY) {
-        copy_permissions(stage, kind == UNSEALED_SECRET_KEY || (is_secret(kind) && !has_access_lists));
+    replacement->is_key = kind != SIGNATURE;
+    replacement->is_synced = !replacement->is_key && !replacement->destination.has_existing;
+    mode = is_secret(kind) || replacement->destination.has_existing ? 0600 : 0666;
+    remove_unlocked_files(replacement->destination.directory);
+    check_errno(open_temporary_file(replacement, mode), replacement->destination.file);
+    check_errno(!is_secret(kind) || remove_inherited_list(replacement->fd), replacement->destination.file);
+    if (replacement->destination.has_existing && kind != NEW_SECRET_KEY) {
+        copy_permissions(replacement, kind == UNSEALED_SECRET_KEY || (is_secret(kind) && !has_access_lists));
     }
-    check_errno(write_whole(stage->fd, bytes, len), stage->destination.file);
-    if (stage->is_synced) {
+    check_errno(write_whole(replacement->fd, bytes, len), replacement->destination.file);
+    if (replacement->is_synced) {
         /* Some file systems report a failed write only when the file is closed. */
-        fd = dup(stage->fd);
-        check_errno(fd < 0 || close(fd) == 0, stage->destination.file);
+        fd = dup(replacement->fd);
+        check_errno(fd < 0 || close(fd) == 0, replacement->destination.file);
     } else {
         /* Starts writing to the disk now, so that fsync takes less time. */
-        start_writeback(stage->fd, 0, 0);
+        start_writeback(replacement->fd, 0, 0);
     }
 }
 
-struct replacement *stage_file(const char *file, enum file_kind kind, bool may_replace, const uint8_t *bytes,
-                               size_t len)
+struct replacement *prepare_replacement(const char *file, enum file_kind kind, bool may_replace, const uint8_t *bytes,
+                                        size_t len)
 {
-    struct replacement *stage = prepare_stage(file, kind, may_replace);
+    struct replacement *replacement = begin_replacement(file, kind, may_replace);
 
-    if (stage != NULL) {
-        write_replacement(stage, kind, bytes, len);
+    if (replacement != NULL) {
+        write_replacement(replacement, kind, bytes, len);
     }
-    return stage;
+    return replacement;
 }
 
 bool have_same_destination(const struct replacement *first, const struct replacement *second)
@@ -314,169 +318,169 @@ bool have_same_destination(const struct replacement *first, const struct replace
                && have_same_content(destination, second_destination));
 }
 
-/* Syncs all stages that need it. */
-static void sync_stages(void)
+/* Syncs all temporary files that need it. */
+static void sync_temporary_files(void)
 {
-    for (struct replacement *stage = stages; stage < stages + MAX_STAGES; stage++) {
-        if (stage->destination.file != NULL && stage->fd >= 0 && !stage->is_synced) {
-            bool is_queued = stage->is_queued;
+    for (struct replacement *replacement = replacements; replacement < replacements + MAX_REPLACEMENTS; replacement++) {
+        if (replacement->destination.file != NULL && replacement->fd >= 0 && !replacement->is_synced) {
+            bool is_queued = replacement->is_queued;
 
-            /* If syncing fails, the program ends, and finish_queued_stages must not put this file in place. */
-            stage->is_queued = false;
-            check_errno(sync_to_disk(stage->fd), stage->destination.file);
-            stage->is_synced = true;
-            stage->is_queued = is_queued;
+            /* If syncing fails, the program ends, and finish_queued_replacements must not put this file in place. */
+            replacement->is_queued = false;
+            check_errno(sync_to_disk(replacement->fd), replacement->destination.file);
+            replacement->is_synced = true;
+            replacement->is_queued = is_queued;
         }
     }
 }
 
 /* ---- Putting in place ---- */
 
-/* The result of putting a stage in place: success, a file exists that must not be replaced, or an error (in errno). */
+/* The result of putting a file in place: success, a file exists that must not be replaced, or an error (in errno). */
 enum placement { PLACED, NAME_TAKEN, NOT_PLACED };
 
-/* Copies a stage to the existing file, which cannot be replaced by renaming because it is a mount point. Fails if the
- * content is secret and other users can access the existing file. */
-static bool overwrite(struct replacement *stage)
+/* Copies the new content to the existing file, which cannot be replaced by renaming because it is a mount point. Fails
+ * if the content is secret and other users can access the existing file. */
+static bool overwrite(struct replacement *replacement)
 {
     uint8_t bytes[TEXT_BUFFER_BYTES];
     bool is_written;
     ssize_t len;
     int fd;
 
-    if (stage->destination.is_secret && !may_keep_secret(&stage->destination.existing.status)) {
+    if (replacement->destination.is_secret && !may_keep_secret(&replacement->destination.existing.status)) {
         errno = EBUSY;
         return false;
     }
-    if (stage->destination.existing_fd < 0) {
-        stage->destination.existing_fd = open_by_path(&stage->destination.existing, stage->destination.file,
-                                                      O_WRONLY | O_CLOEXEC);
+    if (replacement->destination.existing_fd < 0) {
+        replacement->destination.existing_fd =
+            open_by_path(&replacement->destination.existing, replacement->destination.file, O_WRONLY | O_CLOEXEC);
     }
-    fd = stage->destination.existing_fd;
-    len = fd >= 0 && lseek(stage->fd, 0, SEEK_SET) == 0 ? read_whole(stage->fd, bytes, sizeof bytes) : -1;
+    fd = replacement->destination.existing_fd;
+    len = fd >= 0 && lseek(replacement->fd, 0, SEEK_SET) == 0 ? read_whole(replacement->fd, bytes, sizeof bytes) : -1;
     is_written = len >= 0 && ftruncate(fd, 0) == 0 && write_whole(fd, bytes, (size_t) len) && sync_to_disk(fd);
     sodium_memzero(bytes, sizeof bytes);
     return is_written;
 }
 
-/* Puts a stage that has a name in place. */
-static enum placement rename_replacement(struct replacement *stage)
+/* Puts a temporary file that has a name in place. */
+static enum placement rename_replacement(struct replacement *replacement)
 {
-    const struct destination *destination = &stage->destination;
+    const struct destination *destination = &replacement->destination;
 
-    if (stage->may_replace
-            ? renameat(destination->directory, stage->name, destination->directory, destination->name) == 0
-            : rename_no_replace(destination->directory, stage->name, destination->name)) {
-        stage->is_named = 0;
+    if (replacement->may_replace
+            ? renameat(destination->directory, replacement->name, destination->directory, destination->name) == 0
+            : rename_no_replace(destination->directory, replacement->name, destination->name)) {
+        replacement->is_named = 0;
         return PLACED;
     }
-    if (!stage->may_replace && errno == EEXIST) {
+    if (!replacement->may_replace && errno == EEXIST) {
         return NAME_TAKEN;
     }
-    return errno == EBUSY && stage->destination.has_existing && overwrite(stage) ? PLACED : NOT_PLACED;
+    return errno == EBUSY && replacement->destination.has_existing && overwrite(replacement) ? PLACED : NOT_PLACED;
 }
 
-/* Puts a stage in place. An unnamed file is linked or, if it replaces an existing file, named and renamed. */
-static enum placement place_stage(struct replacement *stage)
+/* Puts a temporary file in place. An unnamed file is linked or, if it replaces an existing file, named and renamed. */
+static enum placement place_replacement(struct replacement *replacement)
 {
-    if (stage->fd < 0) {
+    if (replacement->fd < 0) {
         return PLACED;
     }
-    if (!stage->is_named && !stage->destination.has_existing) {
-        if (link_unnamed(stage->fd, stage->destination.directory, stage->destination.name)) {
+    if (!replacement->is_named && !replacement->destination.has_existing) {
+        if (link_unnamed(replacement->fd, replacement->destination.directory, replacement->destination.name)) {
             return PLACED;
         }
-        if (errno != EEXIST || !stage->may_replace) {
+        if (errno != EEXIST || !replacement->may_replace) {
             return errno == EEXIST ? NAME_TAKEN : NOT_PLACED;
         }
     }
-    return stage->is_named || name_stage(stage) ? rename_replacement(stage) : NOT_PLACED;
+    return replacement->is_named || name_temporary_file(replacement) ? rename_replacement(replacement) : NOT_PLACED;
 }
 
-/* Returns true if the stage was put in place. Ends the program after an error. */
-static bool was_placed(const struct replacement *stage, enum placement placement)
+/* Returns true if the file was put in place. Ends the program after an error. */
+static bool was_placed(const struct replacement *replacement, enum placement placement)
 {
-    check_errno(placement != NOT_PLACED, stage->destination.file);
+    check_errno(placement != NOT_PLACED, replacement->destination.file);
     return placement == PLACED;
 }
 
 /* Syncs the new name of a file: syncs its directory, if the system supports that. */
-static void sync_new_name(const struct replacement *stage)
+static void sync_new_name(const struct replacement *replacement)
 {
     int fd;
 
-    if (stage->fd < 0) {
+    if (replacement->fd < 0) {
         return;
     }
     /* Syncs the file too, because linking an unnamed file has changed its link count. */
-    check_errno(sync_to_disk(stage->fd), stage->destination.file);
-    fd = openat(stage->destination.directory, ".", O_RDONLY | O_DIRECTORY | O_CLOEXEC);
-    check_errno(fd < 0 || sync_to_disk(fd) || errno == EINVAL, stage->destination.file);
+    check_errno(sync_to_disk(replacement->fd), replacement->destination.file);
+    fd = openat(replacement->destination.directory, ".", O_RDONLY | O_DIRECTORY | O_CLOEXEC);
+    check_errno(fd < 0 || sync_to_disk(fd) || errno == EINVAL, replacement->destination.file);
     close_if_open(&fd);
 }
 
-bool put_in_place(struct replacement *stage)
+bool put_in_place(struct replacement *replacement)
 {
     bool is_in_place;
 
-    if (stage->fd >= 0 && !stage->is_synced) {
-        sync_stages();
+    if (replacement->fd >= 0 && !replacement->is_synced) {
+        sync_temporary_files();
     }
-    is_in_place = was_placed(stage, place_stage(stage));
-    if (is_in_place && stage->is_key) {
-        sync_new_name(stage);
+    is_in_place = was_placed(replacement, place_replacement(replacement));
+    if (is_in_place && replacement->is_key) {
+        sync_new_name(replacement);
     }
-    release_stage(stage);
+    release_replacement(replacement);
     return is_in_place;
 }
 
 void replace_key(const char *file, enum file_kind kind, uid_t owner, const uint8_t *bytes, size_t len)
 {
-    struct replacement *stage = prepare_stage(file, kind, true);
+    struct replacement *replacement = begin_replacement(file, kind, true);
 
-    if (stage->destination.has_existing && stage->destination.existing.status.st_uid != owner) {
+    if (replacement->destination.has_existing && replacement->destination.existing.status.st_uid != owner) {
         fail_with_hint(file, "another user replaced this file after the key was read",
                        "check who can write to its directory, then try again");
     }
-    write_replacement(stage, kind, bytes, len);
-    put_in_place(stage);
+    write_replacement(replacement, kind, bytes, len);
+    put_in_place(replacement);
 }
 
 /* ---- Pairs ---- */
 
-/* Exchanges the names of a stage and the existing file. The existing file has the temporary name until the other file
- * of the pair is in place, and is locked so that no run removes it as a leftover. Returns false if the file system
- * cannot exchange names. */
-static bool exchange_stage(struct replacement *stage)
+/* Exchanges the names of the temporary file and the existing file. The existing file has the temporary name until the
+ * other file of the pair is in place, and is locked so that no run removes it as a leftover. Returns false if the file
+ * system cannot exchange names. */
+static bool exchange_with_existing(struct replacement *replacement)
 {
-    const struct destination *destination = &stage->destination;
+    const struct destination *destination = &replacement->destination;
 
-    if (!stage->is_named && !name_stage(stage)) {
+    if (!replacement->is_named && !name_temporary_file(replacement)) {
         return false;
     }
-    lock_stage(destination->existing_fd);
-    stage->is_exchanged = 1;
-    stage->is_exchanged = exchange_names(destination->directory, stage->name, destination->name);
-    return stage->is_exchanged;
+    lock_temporary_file(destination->existing_fd);
+    replacement->is_exchanged = 1;
+    replacement->is_exchanged = exchange_names(destination->directory, replacement->name, destination->name);
+    return replacement->is_exchanged;
 }
 
 /* Puts the first file of a pair in place. If the program ends before the partner is in place, the first file is removed
  * again. */
-static enum placement place_with_partner(struct replacement *stage, struct replacement *partner)
+static enum placement place_with_partner(struct replacement *replacement, struct replacement *partner)
 {
-    stage->partner = partner;
-    if (stage->fd < 0 || (stage->destination.has_existing && exchange_stage(stage))) {
+    replacement->partner = partner;
+    if (replacement->fd < 0 || (replacement->destination.has_existing && exchange_with_existing(replacement))) {
         return PLACED;
     }
-    stage->partner = stage->destination.has_existing ? NULL : partner;
-    return place_stage(stage);
+    replacement->partner = replacement->destination.has_existing ? NULL : partner;
+    return place_replacement(replacement);
 }
 
 const char *put_both_in_place(struct replacement *first, struct replacement *second)
 {
     const char *existing = NULL;
 
-    sync_stages();
+    sync_temporary_files();
     if (!was_placed(first, place_with_partner(first, second))) {
         existing = first->destination.file;
     } else {
@@ -485,34 +489,36 @@ const char *put_both_in_place(struct replacement *first, struct replacement *sec
          * replace the first. FUSE may report different inode numbers for the two names, so the contents are compared
          * too. Equal contents show that it is the same file, because the first file is a new public key. */
         if (first->fd >= 0 && second->fd >= 0
-            && (is_stage_at(first, &second->destination)
+            && (is_new_file_at(first, &second->destination)
                 || have_same_content(&first->destination, &second->destination))) {
-            undo_stage(first);
+            undo_replacement(first);
             fail_with_hint(second->destination.file,
                            "on this file system, this is the same file as the other key file",
                            "use -s FILE and -p FILE to name two different files");
         }
-        if (was_placed(second, place_stage(second))) {
+        if (was_placed(second, place_replacement(second))) {
             first->partner = NULL;
             sync_new_name(second);
         } else {
             existing = second->destination.file;
-            undo_stage(first);
+            undo_replacement(first);
         }
     }
-    release_stage(first);
-    release_stage(second);
+    release_replacement(first);
+    release_replacement(second);
     return existing;
 }
 
 /* ---- Queued files ---- */
 
 /* Puts the queued files in place when the program ends, because they are complete. */
-static void finish_queued_stages(void)
+static void finish_queued_replacements(void)
 {
-    for (struct replacement *stage = stages; stage < stages + MAX_STAGES; stage++) {
-        if (stage->is_queued && ((!stage->is_synced && !sync_to_disk(stage->fd)) || place_stage(stage) != PLACED)) {
-            print_errno(stage->destination.file);
+    for (struct replacement *replacement = replacements; replacement < replacements + MAX_REPLACEMENTS; replacement++) {
+        if (replacement->is_queued
+            && ((!replacement->is_synced && !sync_to_disk(replacement->fd))
+                || place_replacement(replacement) != PLACED)) {
+            print_errno(replacement->destination.file);
         }
     }
 }
@@ -537,14 +543,14 @@ static int max_queued(void)
 
 void queue_replacement(const char *file, enum file_kind kind, const uint8_t *bytes, size_t len)
 {
-    struct replacement *stage = stage_file(file, kind, true, bytes, len);
+    struct replacement *replacement = prepare_replacement(file, kind, true, bytes, len);
 
-    if (stage->fd < 0 || stage->is_synced) {
-        put_in_place(stage);
+    if (replacement->fd < 0 || replacement->is_synced) {
+        put_in_place(replacement);
         return;
     }
-    close_existing(&stage->destination);
-    stage->is_queued = true;
+    close_existing(&replacement->destination);
+    replacement->is_queued = true;
     queued_count++;
     if (queued_count >= max_queued()) {
         finish_replacements();
@@ -553,11 +559,11 @@ void queue_replacement(const char *file, enum file_kind kind, const uint8_t *byt
 
 void finish_replacements(void)
 {
-    sync_stages();
-    for (struct replacement *stage = stages; stage < stages + MAX_STAGES; stage++) {
-        if (stage->is_queued) {
-            stage->is_queued = false;
-            put_in_place(stage);
+    sync_temporary_files();
+    for (struct replacement *replacement = replacements; replacement < replacements + MAX_REPLACEMENTS; replacement++) {
+        if (replacement->is_queued) {
+            replacement->is_queued = false;
+            put_in_place(replacement);
         }
     }
     queued_count = 0;
@@ -572,8 +578,9 @@ void finish_replacements_before(const char *file)
         return;
     }
     is_small = stat(file, &status) == 0 && S_ISREG(status.st_mode) && status.st_size < SMALL_BYTES;
-    for (struct replacement *stage = stages; stage < stages + MAX_STAGES && is_small; stage++) {
-        is_small = !stage->is_queued || !is_same_file(&stage->destination.existing.status, &status);
+    for (struct replacement *replacement = replacements; replacement < replacements + MAX_REPLACEMENTS && is_small;
+         replacement++) {
+        is_small = !replacement->is_queued || !is_same_file(&replacement->destination.existing.status, &status);
     }
     if (!is_small) {
         finish_replacements();

@@ -19,24 +19,25 @@
  */
 enum file_kind { NEW_SECRET_KEY, CHANGED_SECRET_KEY, UNSEALED_SECRET_KEY, PUBLIC_KEY, SIGNATURE };
 
-/* A temporary file, also called stage, that is written but does not have its final name yet. Giving it this name is
- * called putting it in place. */
+/* A temporary file that is written but does not have its final name yet. Giving it this name is called putting it in
+ * place. */
 struct replacement;
 
 /*
  * Writes the whole content of a file to a temporary file in the directory of the target. The temporary file has no name
- * if the file system supports that. Otherwise, and while it replaces an existing file, its name is STAGE_PREFIX and 16
- * hexadecimal digits. It is locked (flock) while it is used. Temporary files that killed runs left in the directory are
- * removed first.
+ * if the file system supports that. Otherwise, and while it replaces an existing file, its name is TEMPORARY_PREFIX and
+ * 16 hexadecimal digits. It is locked (flock) while it is used. Temporary files that killed runs left in the directory
+ * are removed first.
  *
  * destinations.h says how links and files of other users are handled. If the target is not a regular file, but for
  * example a pipe or a device, the content is written to it at once. If the target exists and `may_replace` is false,
  * nothing is opened or written, and the result is NULL. On failure, removes the temporary file and ends the program.
  */
-struct replacement *stage_file(const char *file, enum file_kind kind, bool may_replace, const uint8_t *bytes,
-                               size_t len);
+struct replacement *prepare_replacement(const char *file, enum file_kind kind, bool may_replace, const uint8_t *bytes,
+                                        size_t len);
 
-/* Ends the program if `stage_file` would do so because of a link or file of an untrusted user. Opens nothing. */
+/* Ends the program if `prepare_replacement` would do so because of a link or file of an untrusted user. Opens
+ * nothing. */
 void reject_untrusted_file(const char *file, enum file_kind kind);
 
 /* Returns true if both files would be put in the same place. */
@@ -44,7 +45,7 @@ bool have_same_destination(const struct replacement *first, const struct replace
 
 /* Puts a temporary file in place. If it must not replace a file, and the target exists by now, removes the temporary
  * file and returns false. */
-bool put_in_place(struct replacement *stage);
+bool put_in_place(struct replacement *replacement);
 
 /*
  * Puts a pair of files in place: both of them, or none if that fails or a signal ends the program. In two cases, only

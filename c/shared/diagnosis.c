@@ -321,22 +321,22 @@ static bool explain_other_kind(const char *name, const uint8_t *text, size_t len
 static void explain_damage(const char *name, const struct lines *lines, enum text_kind expected,
                            enum minisign_error error, const char *hint)
 {
-    const char *kind = kinds[expected].name, *why = damage_reason(error);
+    const char *kind = kinds[expected].name, *reason = damage_reason(error);
     bool is_short = error != MINISIGN_NOT_UTF8 && lines->count < kinds[expected].lines;
     bool is_damaged = claims_kind(lines, expected) || error == MINISIGN_KEY_CORRUPTED
                     || (is_short && recognize_kind(lines) != OTHER_TEXT);
 
     if (error == MINISIGN_PARAMETERS_TOO_HIGH) {
-        fprintf(stderr, "error: %s: %s\n", name, why);
+        fprintf(stderr, "error: %s: %s\n", name, reason);
         return;
     }
     if (is_short) {
         fprintf(stderr, is_damaged ? "error: %s: this %s is truncated: it has only %zu of %zu lines\n"
                                    : "error: %s: this is not a %s: it has only %zu of %zu lines\n",
                 name, kind, lines->count, kinds[expected].lines);
-    } else if (why != NULL) {
+    } else if (reason != NULL) {
         fprintf(stderr, is_damaged ? "error: %s: this %s is damaged: %s\n" : "error: %s: this is not a %s: %s\n", name,
-                kind, why);
+                kind, reason);
     } else {
         fprintf(stderr, "error: %s: this is not a %s\n", name, kind);
     }

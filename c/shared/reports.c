@@ -4,18 +4,18 @@
 
 #include "text.h"
 
-void print_error(const char *file, const char *what)
+void print_error(const char *file, const char *message)
 {
     if (file == NULL) {
-        fprintf(stderr, "error: %s\n", what);
+        fprintf(stderr, "error: %s\n", message);
     } else {
-        fprintf(stderr, "error: %s: %s\n", escape_name(file).text, what);
+        fprintf(stderr, "error: %s: %s\n", escape_name(file).text, message);
     }
 }
 
-void print_hint(const char *what)
+void print_hint(const char *hint)
 {
-    if (what != NULL) {
-        fprintf(stderr, "hint: %s\n", what);
+    if (hint != NULL) {
+        fprintf(stderr, "hint: %s\n", hint);
     }
 }

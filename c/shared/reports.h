@@ -9,9 +9,9 @@
 #include "system.h"
 
 /* Prints an error. `file` is NULL if the error is not about a file. */
-void print_error(const char *file, const char *what);
+void print_error(const char *file, const char *message);
 
-/* Prints what the user can do about the error, or nothing if `what` is NULL. */
-void print_hint(const char *what);
+/* Prints what the user can do about the error, or nothing if `hint` is NULL. */
+void print_hint(const char *hint);
 
 #endif

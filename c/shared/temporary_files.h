@@ -1,7 +1,7 @@
 /* SPDX-License-Identifier: MIT */
 /*
- * Creates, links, renames and syncs temporary files, also called stages: a file is written completely, in the directory
- * of its target, before it gets its final name.
+ * Creates, links, renames and syncs temporary files: a file is written completely, in the directory of its target,
+ * before it gets its final name.
  *
  * These functions use calls that only Linux has. Other systems, some file systems (such as NFS), and builds with
  * -DPOSIX_ONLY do without these calls. There,

@@ -30,7 +30,7 @@ void allow_termination(void)
     LeaveCriticalSection(&termination);
 }
 
-static void clean(void)
+static void run_cleaners(void)
 {
     for (int i = 0; i < MAX_CLEANERS; i++) {
         if (cleaners[i] != NULL) {
@@ -45,7 +45,7 @@ static BOOL WINAPI clean_and_end(DWORD event)
 {
     (void) event;
     block_termination();
-    clean();
+    run_cleaners();
     TerminateProcess(GetCurrentProcess(), STATUS_CONTROL_C_EXIT);
     return TRUE;
 }
@@ -53,14 +53,14 @@ static BOOL WINAPI clean_and_end(DWORD event)
 static LONG WINAPI clean_after_crash(EXCEPTION_POINTERS *crash)
 {
     (void) crash;
-    clean();
+    run_cleaners();
     return EXCEPTION_CONTINUE_SEARCH;
 }
 
 static void clean_at_exit(void)
 {
     block_termination();
-    clean();
+    run_cleaners();
 }
 
 void clean_at_end(void (*cleaner)(void))

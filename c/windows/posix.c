@@ -173,7 +173,7 @@ static bool is_allowed_name(const wchar_t *name, size_t len)
 }
 
 /* Skips what is not a name at the start of a path: \\?\ or \\.\, which UNC\ may follow, and a drive with its colon. */
-static const wchar_t *skip_front(const wchar_t *path)
+static const wchar_t *skip_prefix(const wchar_t *path)
 {
     if (is_separator(path[0]) && is_separator(path[1]) && (path[2] == L'?' || path[2] == L'.')
         && is_separator(path[3])) {
@@ -192,7 +192,7 @@ static bool has_allowed_names(const wchar_t *path)
 {
     size_t len;
 
-    for (path = skip_front(path); *path != 0; path += len + (path[len] != 0)) {
+    for (path = skip_prefix(path); *path != 0; path += len + (path[len] != 0)) {
         len = wcscspn(path, L"\\/");
         if (!is_allowed_name(path, len)) {
             return false;
@@ -204,22 +204,22 @@ static bool has_allowed_names(const wchar_t *path)
 /* Returns the full path, with the prefix that allows more than 260 characters. */
 static wchar_t *full_path(const wchar_t *path)
 {
-    const wchar_t *front = L"\\\\?\\";
+    const wchar_t *prefix = L"\\\\?\\";
     DWORD size = GetFullPathNameW(path, 0, NULL, NULL);
     wchar_t *full = size == 0 ? NULL : malloc(size * sizeof *full), *result = NULL;
     const wchar_t *rest = full;
 
     if (full != NULL && GetFullPathNameW(path, size, full, NULL) < size) {
         if (wcsncmp(full, L"\\\\?\\", 4) == 0 || wcsncmp(full, L"\\\\.\\", 4) == 0) {
-            front = L"";
+            prefix = L"";
         } else if (wcsncmp(full, L"\\\\", 2) == 0) {
-            front = L"\\\\?\\UNC\\";
+            prefix = L"\\\\?\\UNC\\";
             rest += 2;
         }
-        result = malloc((wcslen(front) + wcslen(rest) + 1) * sizeof *result);
+        result = malloc((wcslen(prefix) + wcslen(rest) + 1) * sizeof *result);
     }
     if (result != NULL) {
-        wcscpy(result, front);
+        wcscpy(result, prefix);
         wcscat(result, rest);
     } else {
         errno = size == 0 ? errno_of(GetLastError()) : ENOMEM;

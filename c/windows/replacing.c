@@ -1,9 +1,9 @@
 /* SPDX-License-Identifier: MIT */
 /*
- * Replaces files in one step, on Windows. A temporary file, also called stage, is opened so that no other process can
- * open it. Until it is complete, it is marked so that Windows deletes it when it is closed, even if the program is
- * killed. Then it is renamed, through its handle, to its target. Each file is synced and renamed at once; there is no queue
- * of complete files, as on POSIX systems.
+ * Replaces files in one step, on Windows. A temporary file is opened so that no other process can open it. Until it is
+ * complete, it is marked so that Windows deletes it when it is closed, even if the program is killed. Then it is
+ * renamed, through its handle, to its target. Each file is synced and renamed at once; there is no queue of complete
+ * files, as on POSIX systems.
  */
 #include "minisign/replacing.h"
 
@@ -17,10 +17,10 @@
 #include "shared/handles.h"
 #include "shared/temporary_files.h"
 
-#define STAGE_PREFIX_CHARACTERS (sizeof STAGE_PREFIX - 1)
+#define TEMPORARY_PREFIX_CHARACTERS (sizeof TEMPORARY_PREFIX - 1)
 
-/* A key pair has two stages. */
-enum { MAX_STAGES = 2 };
+/* A key pair consists of two files. */
+enum { MAX_REPLACEMENTS = 2 };
 
 /* The maximum number of tries of a call that fails because another process, such as a virus scanner, has the file open;
  * and the pause after the first try. Each pause is twice as long as the one before, so the pauses take about one
@@ -28,7 +28,7 @@ enum { MAX_STAGES = 2 };
 enum { MAX_TRIES = 11, FIRST_PAUSE_MS = 1 };
 
 struct replacement {
-    /* The file's name as it was given, for messages. NULL if this entry of `stages` is free. */
+    /* The file's name as it was given, for messages. NULL if this entry of `replacements` is free. */
     const char *file;
     /* Three paths, allocated with malloc: of the target, with all links resolved; of the temporary file; and a second
      * name of the existing file, with which it is restored if the partner is not put in place. */
@@ -47,7 +47,7 @@ struct replacement {
     struct replacement *volatile partner;
 };
 
-static struct replacement stages[MAX_STAGES];
+static struct replacement replacements[MAX_REPLACEMENTS];
 
 /* ---- Targets ---- */
 
@@ -80,26 +80,26 @@ static wchar_t *join_paths(const wchar_t *directory, const wchar_t *name)
     return path;
 }
 
-/* Finds the target if the file exists. `found` is its handle. */
-static bool find_existing(struct replacement *stage, const wchar_t *path, HANDLE found)
+/* Finds the target if the file exists. `existing` is its handle. */
+static bool find_existing_target(struct replacement *replacement, const wchar_t *path, HANDLE existing)
 {
-    stage->has_existing = status_of_handle(found, &stage->existing);
-    stage->is_written_in_place = stage->has_existing && !S_ISREG(stage->existing.st_mode);
-    stage->target = stage->is_written_in_place ? wcsdup(path) : path_of(found);
-    if (stage->target == NULL && (GetFileAttributesW(path) & FILE_ATTRIBUTE_REPARSE_POINT) == 0) {
-        stage->target = wcsdup(path);
+    replacement->has_existing = status_of_handle(existing, &replacement->existing);
+    replacement->is_written_in_place = replacement->has_existing && !S_ISREG(replacement->existing.st_mode);
+    replacement->target = replacement->is_written_in_place ? wcsdup(path) : path_of(existing);
+    if (replacement->target == NULL && (GetFileAttributesW(path) & FILE_ATTRIBUTE_REPARSE_POINT) == 0) {
+        replacement->target = wcsdup(path);
     }
-    if (stage->target == NULL) {
+    if (replacement->target == NULL) {
         errno = EINVAL;
     }
-    return stage->has_existing && stage->target != NULL;
+    return replacement->has_existing && replacement->target != NULL;
 }
 
 /* Finds the target if the file does not exist, but its directory does. */
-static bool find_new(struct replacement *stage, wchar_t *path)
+static bool find_new_target(struct replacement *replacement, wchar_t *path)
 {
     wchar_t *name = last_part_of(path), *copy, *directory;
-    HANDLE found;
+    HANDLE parent;
 
     if (*name == 0) {
         errno = ENOENT;
@@ -110,40 +110,40 @@ static bool find_new(struct replacement *stage, wchar_t *path)
         return false;
     }
     copy[name - path] = 0;
-    found = open_to_inspect(copy, FILE_READ_ATTRIBUTES);
-    if (found == INVALID_HANDLE_VALUE) {
+    parent = open_to_inspect(copy, FILE_READ_ATTRIBUTES);
+    if (parent == INVALID_HANDLE_VALUE) {
         errno = errno_of(GetLastError());
         free(copy);
         return false;
     }
-    directory = path_of(found);
-    CloseHandle(found);
-    stage->target = join_paths(directory != NULL ? directory : copy, name);
+    directory = path_of(parent);
+    CloseHandle(parent);
+    replacement->target = join_paths(directory != NULL ? directory : copy, name);
     free(directory);
     free(copy);
-    return stage->target != NULL;
+    return replacement->target != NULL;
 }
 
-/* Finds the target of `stage->file`. On failure, returns false and sets errno. */
-static bool find_target(struct replacement *stage)
+/* Finds the target of `replacement->file`. On failure, returns false and sets errno. */
+static bool find_target(struct replacement *replacement)
 {
-    wchar_t *path = wide_path(stage->file);
+    wchar_t *path = wide_path(replacement->file);
     bool is_found = false;
-    HANDLE found;
+    HANDLE existing;
 
     if (path == NULL) {
         return false;
     }
-    found = open_to_inspect(path, READ_CONTROL | FILE_READ_ATTRIBUTES);
-    if (found != INVALID_HANDLE_VALUE) {
-        is_found = find_existing(stage, path, found);
-        CloseHandle(found);
+    existing = open_to_inspect(path, READ_CONTROL | FILE_READ_ATTRIBUTES);
+    if (existing != INVALID_HANDLE_VALUE) {
+        is_found = find_existing_target(replacement, path, existing);
+        CloseHandle(existing);
     } else {
         errno = errno_of(GetLastError());
         if (errno == ENOENT && GetFileAttributesW(path) != INVALID_FILE_ATTRIBUTES) {
             errno = LINK_HAS_NO_TARGET;
         } else if (errno == ENOENT) {
-            is_found = find_new(stage, path);
+            is_found = find_new_target(replacement, path);
         }
     }
     free(path);
@@ -160,59 +160,59 @@ static bool delete_on_close(HANDLE handle, bool is_deleted)
     return SetFileInformationByHandle(handle, FileDispositionInfo, &disposition, sizeof disposition) != 0;
 }
 
-/* If a stage was put in place but its partner was not, removes the stage again and restores the existing file. */
-static void undo_stage(struct replacement *stage)
+/* If a file was put in place but its partner was not, removes the file again and restores the existing one. */
+static void undo_replacement(struct replacement *replacement)
 {
-    if (!stage->is_placed || stage->partner == NULL || stage->partner->is_placed) {
+    if (!replacement->is_placed || replacement->partner == NULL || replacement->partner->is_placed) {
         return;
     }
-    if (stage->backup_path == NULL) {
-        delete_on_close(stage->handle, true);
+    if (replacement->backup_path == NULL) {
+        delete_on_close(replacement->handle, true);
     }
-    CloseHandle(stage->handle);
-    stage->handle = INVALID_HANDLE_VALUE;
-    if (stage->backup_path != NULL) {
-        MoveFileExW(stage->backup_path, stage->target, MOVEFILE_REPLACE_EXISTING);
-        stage->backup_path = NULL;
+    CloseHandle(replacement->handle);
+    replacement->handle = INVALID_HANDLE_VALUE;
+    if (replacement->backup_path != NULL) {
+        MoveFileExW(replacement->backup_path, replacement->target, MOVEFILE_REPLACE_EXISTING);
+        replacement->backup_path = NULL;
     }
-    stage->is_placed = false;
+    replacement->is_placed = false;
 }
 
 /* Closes the temporary file, which is deleted unless it was put in place, and removes the second name of the existing
  * file. */
-static void close_stage(struct replacement *stage)
+static void close_temporary_file(struct replacement *replacement)
 {
-    if (stage->handle != INVALID_HANDLE_VALUE) {
-        if (!stage->is_placed && !stage->is_written_in_place) {
-            delete_on_close(stage->handle, true);
+    if (replacement->handle != INVALID_HANDLE_VALUE) {
+        if (!replacement->is_placed && !replacement->is_written_in_place) {
+            delete_on_close(replacement->handle, true);
         }
-        CloseHandle(stage->handle);
-        stage->handle = INVALID_HANDLE_VALUE;
+        CloseHandle(replacement->handle);
+        replacement->handle = INVALID_HANDLE_VALUE;
     }
-    if (stage->backup_path != NULL) {
-        DeleteFileW(stage->backup_path);
+    if (replacement->backup_path != NULL) {
+        DeleteFileW(replacement->backup_path);
     }
 }
 
 /* Runs when the program ends. Frees no memory, because it may run in the thread that handles a console event. */
-static void remove_stages(void)
+static void delete_temporary_files(void)
 {
-    for (struct replacement *stage = stages; stage < stages + MAX_STAGES; stage++) {
-        if (stage->file != NULL) {
-            undo_stage(stage);
-            close_stage(stage);
+    for (struct replacement *replacement = replacements; replacement < replacements + MAX_REPLACEMENTS; replacement++) {
+        if (replacement->file != NULL) {
+            undo_replacement(replacement);
+            close_temporary_file(replacement);
         }
     }
 }
 
-static void release_stage(struct replacement *stage)
+static void release_replacement(struct replacement *replacement)
 {
     block_termination();
-    close_stage(stage);
-    free(stage->backup_path);
-    free(stage->target);
-    free(stage->temporary_path);
-    *stage = (struct replacement) { .handle = INVALID_HANDLE_VALUE };
+    close_temporary_file(replacement);
+    free(replacement->backup_path);
+    free(replacement->target);
+    free(replacement->temporary_path);
+    *replacement = (struct replacement) { .handle = INVALID_HANDLE_VALUE };
     allow_termination();
 }
 
@@ -234,35 +234,35 @@ static wchar_t *sibling_path(wchar_t *target, const wchar_t *name)
 /* Returns a path with a random temporary name in the directory of the target, allocated with malloc. */
 static wchar_t *random_sibling_path(wchar_t *target)
 {
-    uint8_t random[STAGE_RANDOM_BYTES];
-    wchar_t name[STAGE_NAME_BYTES];
-    char hex[2 * STAGE_RANDOM_BYTES + 1];
+    uint8_t random[TEMPORARY_RANDOM_BYTES];
+    wchar_t name[TEMPORARY_NAME_BYTES];
+    char hex[2 * TEMPORARY_RANDOM_BYTES + 1];
 
     randombytes_buf(random, sizeof random);
     sodium_bin2hex(hex, sizeof hex, random, sizeof random);
-    _snwprintf(name, STAGE_NAME_BYTES, L"%hs%hs", STAGE_PREFIX, hex);
+    _snwprintf(name, TEMPORARY_NAME_BYTES, L"%hs%hs", TEMPORARY_PREFIX, hex);
     return sibling_path(target, name);
 }
 
-static bool is_stage_name(const wchar_t *name)
+static bool is_temporary_name(const wchar_t *name)
 {
-    size_t digits = 2 * STAGE_RANDOM_BYTES;
+    size_t digits = 2 * TEMPORARY_RANDOM_BYTES;
 
-    return wcslen(name) == STAGE_PREFIX_CHARACTERS + digits
-           && wcsspn(name + STAGE_PREFIX_CHARACTERS, L"0123456789abcdef") == digits;
+    return wcslen(name) == TEMPORARY_PREFIX_CHARACTERS + digits
+           && wcsspn(name + TEMPORARY_PREFIX_CHARACTERS, L"0123456789abcdef") == digits;
 }
 
 /* Removes the temporary files that killed runs left in the directory of the target. A file that another process has open
  * is in use, and is not removed. */
 static void remove_leftovers(wchar_t *target)
 {
-    wchar_t *pattern = sibling_path(target, L"" STAGE_PREFIX "*");
+    wchar_t *pattern = sibling_path(target, L"" TEMPORARY_PREFIX "*");
     WIN32_FIND_DATAW entry;
     HANDLE entries = pattern == NULL ? INVALID_HANDLE_VALUE : FindFirstFileW(pattern, &entry);
 
     for (BOOL has_entry = entries != INVALID_HANDLE_VALUE; has_entry; has_entry = FindNextFileW(entries, &entry)) {
         bool is_file = (entry.dwFileAttributes & (FILE_ATTRIBUTE_DIRECTORY | FILE_ATTRIBUTE_REPARSE_POINT)) == 0;
-        wchar_t *path = is_file && is_stage_name(entry.cFileName) ? sibling_path(target, entry.cFileName) : NULL;
+        wchar_t *path = is_file && is_temporary_name(entry.cFileName) ? sibling_path(target, entry.cFileName) : NULL;
         HANDLE leftover = INVALID_HANDLE_VALUE;
 
         if (path != NULL) {
@@ -281,7 +281,7 @@ static void remove_leftovers(wchar_t *target)
 }
 
 /* Creates a temporary file that is deleted when it is closed. On failure, returns false and sets errno. */
-static bool open_stage(struct replacement *stage, bool is_secret)
+static bool open_temporary_file(struct replacement *replacement, bool is_secret)
 {
     DWORD access = GENERIC_READ | GENERIC_WRITE | DELETE | WRITE_DAC | READ_CONTROL;
     struct own_access own = { 0 };
@@ -289,20 +289,20 @@ static bool open_stage(struct replacement *stage, bool is_secret)
     if (is_secret && !begin_own_access(&own, false)) {
         return false;
     }
-    stage->temporary_path = random_sibling_path(stage->target);
+    replacement->temporary_path = random_sibling_path(replacement->target);
     block_termination();
-    if (stage->temporary_path != NULL) {
-        stage->handle = CreateFileW(stage->temporary_path, access, 0, is_secret ? &own.attributes : NULL, CREATE_NEW,
-                                    FILE_ATTRIBUTE_NORMAL, NULL);
+    if (replacement->temporary_path != NULL) {
+        replacement->handle = CreateFileW(replacement->temporary_path, access, 0, is_secret ? &own.attributes : NULL,
+                                          CREATE_NEW, FILE_ATTRIBUTE_NORMAL, NULL);
     }
-    if (stage->handle == INVALID_HANDLE_VALUE) {
+    if (replacement->handle == INVALID_HANDLE_VALUE) {
         errno = errno_of(GetLastError());
     } else {
-        delete_on_close(stage->handle, true);
+        delete_on_close(replacement->handle, true);
     }
     allow_termination();
     end_own_access(&own);
-    return stage->handle != INVALID_HANDLE_VALUE;
+    return replacement->handle != INVALID_HANDLE_VALUE;
 }
 
 /* ---- Writing ---- */
@@ -364,80 +364,81 @@ static bool write_handle(HANDLE handle, const uint8_t *bytes, size_t len)
 }
 
 /* Writes to a device or a pipe. A secret is not written to a pipe, because the pipe may be another user's. */
-static void write_in_place(struct replacement *stage, enum file_kind kind, const uint8_t *bytes, size_t len)
+static void write_in_place(struct replacement *replacement, enum file_kind kind, const uint8_t *bytes, size_t len)
 {
-    errno = S_ISDIR(stage->existing.st_mode) ? EISDIR : EINVAL;
-    check_errno(S_ISCHR(stage->existing.st_mode) || (S_ISFIFO(stage->existing.st_mode) && !is_secret(kind)),
-                stage->file);
-    stage->handle = CreateFileW(stage->target, GENERIC_WRITE, FILE_SHARE_READ | FILE_SHARE_WRITE, NULL, OPEN_EXISTING,
-                                0, NULL);
-    errno = stage->handle == INVALID_HANDLE_VALUE ? errno_of(GetLastError()) : 0;
-    check_errno(stage->handle != INVALID_HANDLE_VALUE && write_handle(stage->handle, bytes, len), stage->file);
+    errno = S_ISDIR(replacement->existing.st_mode) ? EISDIR : EINVAL;
+    check_errno(S_ISCHR(replacement->existing.st_mode) || (S_ISFIFO(replacement->existing.st_mode) && !is_secret(kind)),
+                replacement->file);
+    replacement->handle = CreateFileW(replacement->target, GENERIC_WRITE, FILE_SHARE_READ | FILE_SHARE_WRITE, NULL,
+                                      OPEN_EXISTING, 0, NULL);
+    errno = replacement->handle == INVALID_HANDLE_VALUE ? errno_of(GetLastError()) : 0;
+    check_errno(replacement->handle != INVALID_HANDLE_VALUE && write_handle(replacement->handle, bytes, len),
+                replacement->file);
 }
 
-/* Gives a stage the access list of the existing file. But if the password of a secret key was removed, gives it a list
- * with only this user and the system. A new secret key was already created with such a list. */
-static void copy_permissions(const struct replacement *stage, enum file_kind kind)
+/* Gives the temporary file the access list of the existing file. But if the password of a secret key was removed, gives
+ * it a list with only this user and the system. A new secret key was already created with such a list. */
+static void copy_permissions(const struct replacement *replacement, enum file_kind kind)
 {
-    HANDLE existing = open_existing_file(stage->target);
+    HANDLE existing = open_existing_file(replacement->target);
     bool is_given;
 
-    check_errno(existing != INVALID_HANDLE_VALUE, stage->file);
+    check_errno(existing != INVALID_HANDLE_VALUE, replacement->file);
     is_given = kind == NEW_SECRET_KEY        ? true
-               : kind == UNSEALED_SECRET_KEY ? give_own_access(stage->handle)
-                                             : copy_access(existing, stage->handle);
+               : kind == UNSEALED_SECRET_KEY ? give_own_access(replacement->handle)
+                                             : copy_access(existing, replacement->handle);
     CloseHandle(existing);
-    check_errno(is_given, stage->file);
+    check_errno(is_given, replacement->file);
 }
 
-static void sync_stage(const struct replacement *stage)
+static void sync_temporary_file(const struct replacement *replacement)
 {
     errno = EIO;
-    check_errno(FlushFileBuffers(stage->handle) != 0, stage->file);
+    check_errno(FlushFileBuffers(replacement->handle) != 0, replacement->file);
 }
 
-static void write_replacement(struct replacement *stage, enum file_kind kind, const uint8_t *bytes, size_t len)
+static void write_replacement(struct replacement *replacement, enum file_kind kind, const uint8_t *bytes, size_t len)
 {
-    if (stage->is_written_in_place) {
-        write_in_place(stage, kind, bytes, len);
+    if (replacement->is_written_in_place) {
+        write_in_place(replacement, kind, bytes, len);
         return;
     }
-    stage->is_key = kind != SIGNATURE;
-    remove_leftovers(stage->target);
-    check_errno(open_stage(stage, is_secret(kind)), stage->file);
-    if (stage->has_existing) {
-        copy_permissions(stage, kind);
+    replacement->is_key = kind != SIGNATURE;
+    remove_leftovers(replacement->target);
+    check_errno(open_temporary_file(replacement, is_secret(kind)), replacement->file);
+    if (replacement->has_existing) {
+        copy_permissions(replacement, kind);
     }
-    check_errno(write_handle(stage->handle, bytes, len), stage->file);
-    if (stage->is_key || stage->has_existing) {
-        sync_stage(stage);
+    check_errno(write_handle(replacement->handle, bytes, len), replacement->file);
+    if (replacement->is_key || replacement->has_existing) {
+        sync_temporary_file(replacement);
     }
 }
 
-/* ---- Stages ---- */
+/* ---- Replacements ---- */
 
-static struct replacement *prepare_stage(const char *file, bool may_replace)
+static struct replacement *begin_replacement(const char *file, bool may_replace)
 {
     static bool is_registered;
-    struct replacement *stage = stages;
+    struct replacement *replacement = replacements;
 
     if (!is_registered) {
         is_registered = true;
-        for (int i = 0; i < MAX_STAGES; i++) {
-            stages[i].handle = INVALID_HANDLE_VALUE;
+        for (int i = 0; i < MAX_REPLACEMENTS; i++) {
+            replacements[i].handle = INVALID_HANDLE_VALUE;
         }
-        clean_at_end(remove_stages);
+        clean_at_end(delete_temporary_files);
     }
-    while (stage < stages + MAX_STAGES && stage->file != NULL) {
-        stage++;
+    while (replacement < replacements + MAX_REPLACEMENTS && replacement->file != NULL) {
+        replacement++;
     }
-    if (stage == stages + MAX_STAGES) {
+    if (replacement == replacements + MAX_REPLACEMENTS) {
         fail_with_hint(NULL, "too many files are written at the same time", NULL);
     }
-    stage->file = file;
-    stage->may_replace = may_replace;
-    check_errno(find_target(stage), file);
-    return stage;
+    replacement->file = file;
+    replacement->may_replace = may_replace;
+    check_errno(find_target(replacement), file);
+    return replacement;
 }
 
 /* Ends the program if no file can have this name, before the user is asked for a password. Files of other users are not
@@ -451,17 +452,17 @@ void reject_untrusted_file(const char *file, enum file_kind kind)
     free(path);
 }
 
-struct replacement *stage_file(const char *file, enum file_kind kind, bool may_replace, const uint8_t *bytes,
-                               size_t len)
+struct replacement *prepare_replacement(const char *file, enum file_kind kind, bool may_replace, const uint8_t *bytes,
+                                        size_t len)
 {
-    struct replacement *stage = prepare_stage(file, may_replace);
+    struct replacement *replacement = begin_replacement(file, may_replace);
 
-    if (stage->has_existing && !may_replace) {
-        release_stage(stage);
+    if (replacement->has_existing && !may_replace) {
+        release_replacement(replacement);
         return NULL;
     }
-    write_replacement(stage, kind, bytes, len);
-    return stage;
+    write_replacement(replacement, kind, bytes, len);
+    return replacement;
 }
 
 bool have_same_destination(const struct replacement *first, const struct replacement *second)
@@ -473,7 +474,7 @@ bool have_same_destination(const struct replacement *first, const struct replace
 
 /* ---- Putting in place ---- */
 
-/* The result of putting a stage in place: success, a file exists that must not be replaced, or an error (in errno). */
+/* The result of putting a file in place: success, a file exists that must not be replaced, or an error (in errno). */
 enum placement { PLACED, NAME_TAKEN, NOT_PLACED };
 
 static bool rename_handle(HANDLE handle, const wchar_t *target, bool may_replace)
@@ -496,115 +497,115 @@ static bool rename_handle(HANDLE handle, const wchar_t *target, bool may_replace
 
 /* Tries to rename the temporary file to the target. During that, the file is not marked for deletion, because a file
  * with this mark cannot be renamed. */
-static DWORD try_rename(struct replacement *stage)
+static DWORD try_rename(struct replacement *replacement)
 {
     DWORD error = ERROR_SUCCESS;
 
     block_termination();
-    delete_on_close(stage->handle, false);
-    stage->is_placed = rename_handle(stage->handle, stage->target, stage->may_replace);
-    if (!stage->is_placed) {
+    delete_on_close(replacement->handle, false);
+    replacement->is_placed = rename_handle(replacement->handle, replacement->target, replacement->may_replace);
+    if (!replacement->is_placed) {
         error = GetLastError();
-        delete_on_close(stage->handle, true);
+        delete_on_close(replacement->handle, true);
     }
     allow_termination();
     return error;
 }
 
-static enum placement place_stage(struct replacement *stage)
+static enum placement place_replacement(struct replacement *replacement)
 {
     DWORD error = ERROR_SUCCESS;
 
-    if (stage->is_written_in_place) {
+    if (replacement->is_written_in_place) {
         return PLACED;
     }
     for (int tries = 0; tries == 0 || wait_for_others(error, tries - 1); tries++) {
-        error = try_rename(stage);
-        if (stage->is_placed) {
+        error = try_rename(replacement);
+        if (replacement->is_placed) {
             return PLACED;
         }
-        if (!stage->may_replace && GetFileAttributesW(stage->target) != INVALID_FILE_ATTRIBUTES) {
+        if (!replacement->may_replace && GetFileAttributesW(replacement->target) != INVALID_FILE_ATTRIBUTES) {
             return NAME_TAKEN;
         }
     }
     /* The existing file could be opened for writing, so access is denied only because another process has it open. */
-    errno = errno_of(error == ERROR_ACCESS_DENIED && stage->has_existing ? ERROR_SHARING_VIOLATION : error);
+    errno = errno_of(error == ERROR_ACCESS_DENIED && replacement->has_existing ? ERROR_SHARING_VIOLATION : error);
     return NOT_PLACED;
 }
 
-static bool was_placed(const struct replacement *stage, enum placement placement)
+static bool was_placed(const struct replacement *replacement, enum placement placement)
 {
-    check_errno(placement != NOT_PLACED, stage->file);
+    check_errno(placement != NOT_PLACED, replacement->file);
     return placement == PLACED;
 }
 
 /* Syncs the new name, which Windows writes together with the file. */
-static void sync_new_name(const struct replacement *stage)
+static void sync_new_name(const struct replacement *replacement)
 {
-    if (!stage->is_written_in_place) {
-        sync_stage(stage);
+    if (!replacement->is_written_in_place) {
+        sync_temporary_file(replacement);
     }
 }
 
-bool put_in_place(struct replacement *stage)
+bool put_in_place(struct replacement *replacement)
 {
-    bool is_in_place = was_placed(stage, place_stage(stage));
+    bool is_in_place = was_placed(replacement, place_replacement(replacement));
 
-    if (is_in_place && stage->is_key) {
-        sync_new_name(stage);
+    if (is_in_place && replacement->is_key) {
+        sync_new_name(replacement);
     }
-    release_stage(stage);
+    release_replacement(replacement);
     return is_in_place;
 }
 
 void replace_key(const char *file, enum file_kind kind, uid_t owner, const uint8_t *bytes, size_t len)
 {
-    struct replacement *stage = prepare_stage(file, true);
+    struct replacement *replacement = begin_replacement(file, true);
 
-    if (stage->has_existing && stage->existing.st_uid != owner) {
+    if (replacement->has_existing && replacement->existing.st_uid != owner) {
         fail_with_hint(file, "another user replaced this file after the key was read",
                        "check who can write to its directory, then try again");
     }
-    write_replacement(stage, kind, bytes, len);
-    put_in_place(stage);
+    write_replacement(replacement, kind, bytes, len);
+    put_in_place(replacement);
 }
 
 /* ---- Pairs ---- */
 
 /* Gives the existing file a second name, with which it is restored if the partner is not put in place. Without hard
  * links it could not be restored, so then the first file of the pair is never removed again. */
-static void back_up(struct replacement *stage, struct replacement *partner)
+static void back_up(struct replacement *replacement, struct replacement *partner)
 {
     block_termination();
-    stage->partner = partner;
-    if (stage->has_existing && !stage->is_written_in_place) {
-        stage->backup_path = random_sibling_path(stage->target);
-        if (stage->backup_path != NULL && !CreateHardLinkW(stage->backup_path, stage->target, NULL)) {
-            free(stage->backup_path);
-            stage->backup_path = NULL;
-            stage->partner = NULL;
+    replacement->partner = partner;
+    if (replacement->has_existing && !replacement->is_written_in_place) {
+        replacement->backup_path = random_sibling_path(replacement->target);
+        if (replacement->backup_path != NULL && !CreateHardLinkW(replacement->backup_path, replacement->target, NULL)) {
+            free(replacement->backup_path);
+            replacement->backup_path = NULL;
+            replacement->partner = NULL;
         }
     }
     allow_termination();
 }
 
-static void undo_uninterrupted(struct replacement *stage)
+static void undo_uninterrupted(struct replacement *replacement)
 {
     block_termination();
-    undo_stage(stage);
+    undo_replacement(replacement);
     allow_termination();
 }
 
-/* Returns true if the target of `other` is the file of `stage`. */
-static bool is_stage_at(const struct replacement *stage, const struct replacement *other)
+/* Returns true if the target of the partner is the new file. */
+static bool is_new_file_at(const struct replacement *replacement, const struct replacement *partner)
 {
-    HANDLE found = open_to_inspect(other->target, FILE_READ_ATTRIBUTES | READ_CONTROL);
-    struct stat staged, named;
-    bool is_same = found != INVALID_HANDLE_VALUE && status_of_handle(found, &named)
-                   && status_of_handle(stage->handle, &staged) && is_same_file(&staged, &named);
+    HANDLE handle = open_to_inspect(partner->target, FILE_READ_ATTRIBUTES | READ_CONTROL);
+    struct stat opened, named;
+    bool is_same = handle != INVALID_HANDLE_VALUE && status_of_handle(handle, &named)
+                   && status_of_handle(replacement->handle, &opened) && is_same_file(&opened, &named);
 
-    if (found != INVALID_HANDLE_VALUE) {
-        CloseHandle(found);
+    if (handle != INVALID_HANDLE_VALUE) {
+        CloseHandle(handle);
     }
     return is_same;
 }
@@ -614,16 +615,16 @@ const char *put_both_in_place(struct replacement *first, struct replacement *sec
     const char *existing = NULL;
 
     back_up(first, second);
-    if (!was_placed(first, place_stage(first))) {
+    if (!was_placed(first, place_replacement(first))) {
         existing = first->file;
     } else {
         sync_new_name(first);
-        if (!first->is_written_in_place && !second->is_written_in_place && is_stage_at(first, second)) {
+        if (!first->is_written_in_place && !second->is_written_in_place && is_new_file_at(first, second)) {
             undo_uninterrupted(first);
             fail_with_hint(second->file, "on this file system, this is the same file as the other key file",
                            "use -s FILE and -p FILE to name two different files");
         }
-        if (was_placed(second, place_stage(second))) {
+        if (was_placed(second, place_replacement(second))) {
             first->partner = NULL;
             sync_new_name(second);
         } else {
@@ -631,8 +632,8 @@ const char *put_both_in_place(struct replacement *first, struct replacement *sec
             undo_uninterrupted(first);
         }
     }
-    release_stage(first);
-    release_stage(second);
+    release_replacement(first);
+    release_replacement(second);
     return existing;
 }
 
@@ -640,7 +641,7 @@ const char *put_both_in_place(struct replacement *first, struct replacement *sec
 
 void queue_replacement(const char *file, enum file_kind kind, const uint8_t *bytes, size_t len)
 {
-    put_in_place(stage_file(file, kind, true, bytes, len));
+    put_in_place(prepare_replacement(file, kind, true, bytes, len));
 }
 
 void finish_replacements(void)

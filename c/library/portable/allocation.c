@@ -25,10 +25,10 @@ static u8 no_block;
 
 static struct heading heading_of(const u8 *block)
 {
-    struct heading front;
+    struct heading heading;
 
-    memcpy(&front, block - sizeof front, sizeof front);
-    return front;
+    memcpy(&heading, block - sizeof heading, sizeof heading);
+    return heading;
 }
 
 /* Writes zeros that the compiler must not optimize away. */
@@ -48,14 +48,14 @@ struct grant rattle_alloc(size_t len, size_t alignment)
 {
     const size_t unit = alignment > UNIT ? alignment : UNIT, extra = unit + sizeof(struct heading);
     struct grant grant = { 0, &no_block };
-    struct heading front = { NULL, len };
+    struct heading heading = { NULL, len };
     u8 *block;
 
-    front.allocation = len <= PTRDIFF_MAX && extra <= PTRDIFF_MAX - len ? malloc(len + extra) : NULL;
-    if (front.allocation != NULL) {
-        block = (u8 *) front.allocation + sizeof front;
+    heading.allocation = len <= PTRDIFF_MAX && extra <= PTRDIFF_MAX - len ? malloc(len + extra) : NULL;
+    if (heading.allocation != NULL) {
+        block = (u8 *) heading.allocation + sizeof heading;
         block += (unit - (uintptr_t) block % unit) % unit;
-        memcpy(block - sizeof front, &front, sizeof front);
+        memcpy(block - sizeof heading, &heading, sizeof heading);
         grant.is_granted = 1;
         grant.block = block;
     }
@@ -75,10 +75,10 @@ struct grant rattle_realloc(void *block, size_t old_len, size_t len, size_t alig
 
 void rattle_dealloc(void *block)
 {
-    const struct heading front = heading_of(block);
+    const struct heading heading = heading_of(block);
 
-    write_zeros(block, front.len);
-    free(front.allocation);
+    write_zeros(block, heading.len);
+    free(heading.allocation);
 }
 
 #endif
