@@ -19,11 +19,11 @@ import (
 // After any other error there is no file. On Windows, which has no file modes, the file inherits the permissions of its
 // directory, so choose a directory that only its owner can read.
 func WriteNew(file string, text []byte) error {
-	created, err := os.OpenFile(file, os.O_WRONLY|os.O_CREATE|os.O_EXCL, 0o600)
+	newFile, err := os.OpenFile(file, os.O_WRONLY|os.O_CREATE|os.O_EXCL, 0o600)
 	if err != nil {
 		return err
 	}
-	if err = writeSecret(created, text); err == nil {
+	if err = writeSecret(newFile, text); err == nil {
 		err = syncDirectory(filepath.Dir(file))
 	}
 	if err != nil {

@@ -119,10 +119,16 @@ func callSignatureRecord(signature *C.minisign_signature) ([74]byte, error) {
 	return record, errorOf(err)
 }
 
-func callAsk(state *C.minisign_state, key *C.minisign_public_key, signature *C.minisign_signature, sigText []byte, allowLegacy C.uint32_t) (*C.minisign_questions, []byte, error) {
+func callAsk(
+	state *C.minisign_state, key *C.minisign_public_key, signature *C.minisign_signature, sigText []byte,
+	allowLegacy C.uint32_t,
+) (*C.minisign_questions, []byte, error) {
 	questions := new(C.minisign_questions)
 	message := make([]byte, 64+signature.comment_len)
-	err := C.minisign_ask(state, key, signature, pointer(sigText), C.size_t(len(sigText)), allowLegacy, questions, pointer(message), C.size_t(len(message)))
+	err := C.minisign_ask(
+		state, key, signature, pointer(sigText), C.size_t(len(sigText)), allowLegacy, questions, pointer(message),
+		C.size_t(len(message)),
+	)
 	return questions, message, errorOf(err)
 }
 
@@ -134,7 +140,9 @@ func callVerdict(state *C.minisign_state, first bool, second bool) error {
 	return errorOf(C.minisign_verdict(state, answer(first), answer(second)))
 }
 
-func callAskBare(state *C.minisign_state, key *C.minisign_public_key, signature *C.minisign_signature, allowLegacy C.uint32_t) (*C.minisign_questions, error) {
+func callAskBare(
+	state *C.minisign_state, key *C.minisign_public_key, signature *C.minisign_signature, allowLegacy C.uint32_t,
+) (*C.minisign_questions, error) {
 	questions := new(C.minisign_questions)
 	err := C.minisign_ask_bare(state, key, signature, allowLegacy, questions)
 	return questions, errorOf(err)
@@ -158,7 +166,9 @@ func callReadSecretKeyRecord(secretRecord []byte) (*C.minisign_unopened_key, err
 
 func callEncodeUnopenedKey(unopened *C.minisign_unopened_key, comment []byte) ([]byte, error) {
 	text, length := make([]byte, 233+len(comment)), C.size_t(0)
-	err := C.minisign_encode_unopened_key(unopened, pointer(comment), C.size_t(len(comment)), pointer(text), C.size_t(len(text)), &length)
+	err := C.minisign_encode_unopened_key(
+		unopened, pointer(comment), C.size_t(len(comment)), pointer(text), C.size_t(len(text)), &length,
+	)
 	return text[:length], errorOf(err)
 }
 
@@ -172,7 +182,9 @@ func callOpenUnsealedKey(unopened *C.minisign_unopened_key) (*C.minisign_secret_
 	return key, errorOf(err)
 }
 
-func callOpenSealedKey(unopened *C.minisign_unopened_key, password []byte, keepEvery C.uint64_t, mostRows C.uint64_t) (*C.minisign_secret_key, error) {
+func callOpenSealedKey(
+	unopened *C.minisign_unopened_key, password []byte, keepEvery C.uint64_t, mostRows C.uint64_t,
+) (*C.minisign_secret_key, error) {
 	key := new(C.minisign_secret_key)
 	err := C.minisign_open_sealed_key(unopened, pointer(password), C.size_t(len(password)), keepEvery, mostRows, key)
 	return key, errorOf(err)
@@ -192,47 +204,75 @@ func callPublicKeyOf(key *C.minisign_secret_key) (*C.minisign_public_key, error)
 
 func callCommentMessage(first *[64]byte, trusted []byte) ([]byte, error) {
 	message := make([]byte, 64+len(trusted))
-	err := C.minisign_comment_message((*C.uint8_t)(&first[0]), pointer(trusted), C.size_t(len(trusted)), pointer(message), C.size_t(len(message)))
+	err := C.minisign_comment_message(
+		(*C.uint8_t)(&first[0]), pointer(trusted), C.size_t(len(trusted)), pointer(message), C.size_t(len(message)),
+	)
 	return message, errorOf(err)
 }
 
-func callSignedText(key *C.minisign_public_key, signature *[64]byte, commentSignature *[64]byte, trustedComment []byte, untrustedComment []byte) ([]byte, error) {
+func callSignedText(
+	key *C.minisign_public_key, signature *[64]byte, commentSignature *[64]byte, trustedComment []byte,
+	untrustedComment []byte,
+) ([]byte, error) {
 	text, length := make([]byte, 240+len(trustedComment)+len(untrustedComment)), C.size_t(0)
-	err := C.flat_minisign_signed_text(key, (*C.uint8_t)(&signature[0]), (*C.uint8_t)(&commentSignature[0]), pointer(trustedComment), C.size_t(len(trustedComment)), pointer(untrustedComment), C.size_t(len(untrustedComment)), pointer(text), C.size_t(len(text)), &length)
+	err := C.flat_minisign_signed_text(
+		key, (*C.uint8_t)(&signature[0]), (*C.uint8_t)(&commentSignature[0]), pointer(trustedComment),
+		C.size_t(len(trustedComment)), pointer(untrustedComment), C.size_t(len(untrustedComment)), pointer(text),
+		C.size_t(len(text)), &length,
+	)
 	return text[:length], errorOf(err)
 }
 
-func callSecretKeyText(key *C.minisign_secret_key, password []byte, sealing *C.minisign_sealing, keepEvery C.uint64_t, comment []byte) ([]byte, error) {
+func callSecretKeyText(
+	key *C.minisign_secret_key, password []byte, sealing *C.minisign_sealing, keepEvery C.uint64_t, comment []byte,
+) ([]byte, error) {
 	text, length := make([]byte, 233+len(comment)), C.size_t(0)
-	err := C.minisign_secret_key_text(key, isGiven(password), pointer(password), C.size_t(len(password)), sealing, keepEvery, pointer(comment), C.size_t(len(comment)), pointer(text), C.size_t(len(text)), &length)
+	err := C.minisign_secret_key_text(
+		key, isGiven(password), pointer(password), C.size_t(len(password)), sealing, keepEvery, pointer(comment),
+		C.size_t(len(comment)), pointer(text), C.size_t(len(text)), &length,
+	)
 	return text[:length], errorOf(err)
 }
 
 func callPublicKeyText(key *C.minisign_secret_key, comment []byte) ([]byte, error) {
 	text, length := make([]byte, 77+len(comment)), C.size_t(0)
-	err := C.minisign_public_key_text(key, pointer(comment), C.size_t(len(comment)), pointer(text), C.size_t(len(text)), &length)
+	err := C.minisign_public_key_text(
+		key, pointer(comment), C.size_t(len(comment)), pointer(text), C.size_t(len(text)), &length,
+	)
 	return text[:length], errorOf(err)
 }
 
 func callEncodePublicKey(key *C.minisign_public_key, comment []byte) ([]byte, error) {
 	text, length := make([]byte, 77+len(comment)), C.size_t(0)
-	err := C.minisign_encode_public_key(key, pointer(comment), C.size_t(len(comment)), pointer(text), C.size_t(len(text)), &length)
+	err := C.minisign_encode_public_key(
+		key, pointer(comment), C.size_t(len(comment)), pointer(text), C.size_t(len(text)), &length,
+	)
 	return text[:length], errorOf(err)
 }
 
-func callListAsk(key *C.minisign_public_key, signature *C.minisign_signature, sigText []byte, listName []byte, text []byte) (*C.minisign_list, *C.minisign_questions, []byte, error) {
+func callListAsk(
+	key *C.minisign_public_key, signature *C.minisign_signature, sigText []byte, listName []byte, text []byte,
+) (*C.minisign_list, *C.minisign_questions, []byte, error) {
 	list := new(C.minisign_list)
 	questions := new(C.minisign_questions)
 	message := make([]byte, 64+signature.comment_len)
-	err := C.minisign_list_ask(list, key, signature, pointer(sigText), C.size_t(len(sigText)), pointer(listName), C.size_t(len(listName)), pointer(text), C.size_t(len(text)), questions, pointer(message), C.size_t(len(message)))
+	err := C.minisign_list_ask(
+		list, key, signature, pointer(sigText), C.size_t(len(sigText)), pointer(listName), C.size_t(len(listName)),
+		pointer(text), C.size_t(len(text)), questions, pointer(message), C.size_t(len(message)),
+	)
 	return list, questions, message, errorOf(err)
 }
 
-func callListAskAny(key *C.minisign_public_key, signature *C.minisign_signature, sigText []byte, text []byte) (*C.minisign_list, *C.minisign_questions, []byte, error) {
+func callListAskAny(
+	key *C.minisign_public_key, signature *C.minisign_signature, sigText []byte, text []byte,
+) (*C.minisign_list, *C.minisign_questions, []byte, error) {
 	list := new(C.minisign_list)
 	questions := new(C.minisign_questions)
 	message := make([]byte, 64+signature.comment_len)
-	err := C.minisign_list_ask_any(list, key, signature, pointer(sigText), C.size_t(len(sigText)), pointer(text), C.size_t(len(text)), questions, pointer(message), C.size_t(len(message)))
+	err := C.minisign_list_ask_any(
+		list, key, signature, pointer(sigText), C.size_t(len(sigText)), pointer(text), C.size_t(len(text)), questions,
+		pointer(message), C.size_t(len(message)),
+	)
 	return list, questions, message, errorOf(err)
 }
 

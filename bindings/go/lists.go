@@ -109,7 +109,7 @@ func (publicKey *PublicKey) VerifyList(text []byte, signature Signature, options
 	if err != nil {
 		return nil, err
 	}
-	asked, err := askList(publicKey, parsed, text, []byte(options.Name), options.AnyName, options.LongDigest)
+	questions, err := askList(publicKey, parsed, text, []byte(options.Name), options.AnyName, options.LongDigest)
 	if err != nil {
 		return nil, err
 	}
@@ -117,12 +117,12 @@ func (publicKey *PublicKey) VerifyList(text []byte, signature Signature, options
 	if parsed.signature() != signature {
 		return nil, ErrBadComment
 	}
-	isListValid := accepts(publicKey.PublicKey, asked.digest(), asked.dataSignature())
-	isCommentValid := accepts(publicKey.PublicKey, asked.commentMessage, asked.commentSignature())
-	if err = callListVerdict(asked.list.raw, isListValid, isCommentValid); err != nil {
+	isListValid := accepts(publicKey.PublicKey, questions.digest(), questions.dataSignature())
+	isCommentValid := accepts(publicKey.PublicKey, questions.commentMessage, questions.commentSignature())
+	if err = callListVerdict(questions.list.raw, isListValid, isCommentValid); err != nil {
 		return nil, err
 	}
-	return &SignedList{asked.list, asked.comment()}, nil
+	return &SignedList{questions.list, questions.comment()}, nil
 }
 
 // VerifyListFromFile reads a list and its signature, file.minisig, and verifies it as VerifyList does. The name of the list

@@ -52,10 +52,10 @@ func parseSignature(text string) (*parsedSignature, error) {
 // signature returns the fields of the signature. The untrusted comment comes from the text, because the library does not
 // return it.
 func (parsed *parsedSignature) signature() Signature {
-	untrusted, _, _ := strings.Cut(parsed.text, "\n")
+	firstLine, _, _ := strings.Cut(parsed.text, "\n")
 	raw := parsed.raw
 	return Signature{
-		UntrustedComment:   strings.TrimRight(untrusted, "\r"),
+		UntrustedComment:   strings.TrimRight(firstLine, "\r"),
 		SignatureAlgorithm: *(*[2]byte)(unsafe.Pointer(&raw.algorithm)),
 		KeyId:              *(*[8]byte)(unsafe.Pointer(&raw.key_id)),
 		Signature:          *(*[64]byte)(unsafe.Pointer(&raw.signature)),
@@ -101,11 +101,11 @@ func (questions *questions) commentSignature() [64]byte {
 }
 
 func readPublicKey(text string, isBare bool) (PublicKey, error) {
-	read := callReadPublicKey
+	readKey := callReadPublicKey
 	if isBare {
-		read = callReadBarePublicKey
+		readKey = callReadBarePublicKey
 	}
-	key, err := read([]byte(text))
+	key, err := readKey([]byte(text))
 	return publicKeyOf(key), err
 }
 
@@ -165,18 +165,18 @@ func orDefault(value, defaultValue C.uint64_t) C.uint64_t {
 // openSecretKey decrypts the content of a secret key file. The second result is true if the file was encrypted with limits
 // below the minimum.
 func openSecretKey(text, password []byte, work Work) (*openedKey, bool, error) {
-	unopened, err := callReadSecretKey(text)
+	unopenedKey, err := callReadSecretKey(text)
 	if err != nil {
 		return nil, false, err
 	}
-	defer func() { *unopened = C.minisign_unopened_key{} }()
+	defer func() { *unopenedKey = C.minisign_unopened_key{} }()
 	if password == nil {
-		key, err := callOpenUnsealedKey(unopened)
+		key, err := callOpenUnsealedKey(unopenedKey)
 		return withFinalizer(key), false, err
 	}
 	mostRows := orDefault(C.uint64_t(work.MostRows), C.MINISIGN_USUAL_ROWS)
-	key, err := callOpenSealedKey(unopened, password, work.keepEvery(), mostRows)
-	return withFinalizer(key), unopened.log2_rows < C.MINISIGN_LEAST_LOG2_ROWS, err
+	key, err := callOpenSealedKey(unopenedKey, password, work.keepEvery(), mostRows)
+	return withFinalizer(key), unopenedKey.log2_rows < C.MINISIGN_LEAST_LOG2_ROWS, err
 }
 
 // text returns the content of a secret key file. It is encrypted unless password is nil. Limits below the minimum are
@@ -198,16 +198,18 @@ func (key *openedKey) publicKeyText(keyId string) ([]byte, error) {
 }
 
 func (key *openedKey) publicKey() (PublicKey, error) {
-	public, err := callPublicKeyOf(key.raw())
-	return publicKeyOf(public), err
+	publicKey, err := callPublicKeyOf(key.raw())
+	return publicKeyOf(publicKey), err
 }
 
-func (key *openedKey) signatureText(dataSignature, commentSignature *[64]byte, trusted, untrusted []byte) ([]byte, error) {
-	public, err := callPublicKeyOf(key.raw())
+func (key *openedKey) signatureText(
+	dataSignature, commentSignature *[64]byte, trustedComment, untrustedComment []byte,
+) ([]byte, error) {
+	publicKey, err := callPublicKeyOf(key.raw())
 	if err != nil {
 		return nil, err
 	}
-	return callSignedText(public, dataSignature, commentSignature, trusted, untrusted)
+	return callSignedText(publicKey, dataSignature, commentSignature, trustedComment, untrustedComment)
 }
 
 // A rawList is the library's struct of a list, together with the text of the list.
@@ -238,13 +240,17 @@ func askList(
 		return nil, ErrBadHash
 	}
 	list := &rawList{text: append([]byte(nil), text...), longDigest: hash}
-	asked := &listQuestions{list: list}
+	questions := &listQuestions{list: list}
 	if anyName {
-		list.raw, asked.raw, asked.commentMessage, err = callListAskAny(key, signature.raw, []byte(signature.text), list.text)
+		list.raw, questions.raw, questions.commentMessage, err = callListAskAny(
+			key, signature.raw, []byte(signature.text), list.text,
+		)
 	} else {
-		list.raw, asked.raw, asked.commentMessage, err = callListAsk(key, signature.raw, []byte(signature.text), name, list.text)
+		list.raw, questions.raw, questions.commentMessage, err = callListAsk(
+			key, signature.raw, []byte(signature.text), name, list.text,
+		)
 	}
-	return asked, err
+	return questions, err
 }
 
 func (questions *questions) digest() []byte {

@@ -33,8 +33,8 @@ type Work struct {
 // A SecretKey is a decrypted or new secret key. Printing it shows only its key ID. Clear clears its bytes. If Clear is not
 // called, a finalizer clears them when the key is no longer referenced.
 type SecretKey struct {
-	opened *openedKey
-	isWeak bool
+	openedKey *openedKey
+	isWeak    bool
 }
 
 // GenerateKey generates a new key from random bytes of the system.
@@ -48,17 +48,17 @@ func GenerateKey() (*SecretKey, error) {
 		return nil, err
 	}
 	defer Wipe(secret)
-	return &SecretKey{opened: newKey(keyId, secret)}, nil
+	return &SecretKey{openedKey: newKey(keyId, secret)}, nil
 }
 
 // DecodeSecretKey decrypts the content of a secret key file, such as minisign.key: both lines. Pass nil as the password of
 // a key that is not encrypted.
 func DecodeSecretKey(in, password []byte, work Work) (*SecretKey, error) {
-	opened, isWeak, err := openSecretKey(in, password, work)
+	key, isWeak, err := openSecretKey(in, password, work)
 	if err != nil {
 		return nil, err
 	}
-	return &SecretKey{opened, isWeak}, nil
+	return &SecretKey{key, isWeak}, nil
 }
 
 // NewSecretKeyFromFile reads and decrypts a secret key file, such as minisign.key: see DecodeSecretKey.
@@ -89,13 +89,13 @@ func (key *SecretKey) Encode(password []byte, work Work) ([]byte, error) {
 	if _, err := rand.Read(salt[:]); err != nil {
 		return nil, err
 	}
-	return key.opened.text(password, salt, work)
+	return key.openedKey.text(password, salt, work)
 }
 
 // EncodeUnsealed returns the content of a secret key file that is not encrypted, so anybody who can read it can sign. Write
 // it to a file with WriteNew, so that only its owner can read it.
 func (key *SecretKey) EncodeUnsealed() ([]byte, error) {
-	return key.opened.text(nil, [32]byte{}, Work{})
+	return key.openedKey.text(nil, [32]byte{}, Work{})
 }
 
 // IsWeak returns true if the file from which the key was read was encrypted with limits below the minimum of Encode. The
@@ -103,43 +103,43 @@ func (key *SecretKey) EncodeUnsealed() ([]byte, error) {
 func (key *SecretKey) IsWeak() bool { return key.isWeak }
 
 // KeyId returns the key ID, which is also the key ID of the public key.
-func (key *SecretKey) KeyId() [8]byte { return key.opened.keyId() }
+func (key *SecretKey) KeyId() [8]byte { return key.openedKey.keyId() }
 
 // KeyIdText returns the key ID as the program minisign prints it: in upper-case hexadecimal digits without leading zeros.
 func (key *SecretKey) KeyIdText() string { return keyIdText(key.KeyId()) }
 
 // PublicKey returns the public key, which verifies the signatures of this key.
-func (key *SecretKey) PublicKey() (PublicKey, error) { return key.opened.publicKey() }
+func (key *SecretKey) PublicKey() (PublicKey, error) { return key.openedKey.publicKey() }
 
 // EncodePublicKey returns the content of a public key file, such as minisign.pub: both lines.
 func (key *SecretKey) EncodePublicKey() ([]byte, error) {
-	return key.opened.publicKeyText(key.KeyIdText())
+	return key.openedKey.publicKeyText(key.KeyIdText())
 }
 
 // Clear overwrites the key with zeros. After that, it cannot sign.
-func (key *SecretKey) Clear() { key.opened.clear() }
+func (key *SecretKey) Clear() { key.openedKey.clear() }
 
 // Format prints only the key ID, whatever the verb is.
 func (key SecretKey) Format(to fmt.State, _ rune) { fmt.Fprintf(to, "SecretKey(%s)", key.KeyIdText()) }
 
-// SignBytes signs data. trusted is the trusted comment, which is signed with the data, and untrusted is the untrusted
-// comment, which is not signed. Each is one line. The errors are those of Signer.Sign.
-func (key *SecretKey) SignBytes(bin []byte, trusted, untrusted string) (Signature, error) {
-	return key.Sign(bytes.NewReader(bin), trusted, untrusted)
+// SignBytes signs data. trustedComment is signed with the data, and untrustedComment is not signed. Each is one line. The
+// errors are those of Signer.Sign.
+func (key *SecretKey) SignBytes(bin []byte, trustedComment, untrustedComment string) (Signature, error) {
+	return key.Sign(bytes.NewReader(bin), trustedComment, untrustedComment)
 }
 
 // SignFile signs a file as SignBytes signs data.
-func (key *SecretKey) SignFile(file, trusted, untrusted string) (Signature, error) {
+func (key *SecretKey) SignFile(file, trustedComment, untrustedComment string) (Signature, error) {
 	reader, err := os.Open(file)
 	if err != nil {
 		return Signature{}, err
 	}
 	defer reader.Close()
-	return key.Sign(reader, trusted, untrusted)
+	return key.Sign(reader, trustedComment, untrustedComment)
 }
 
 // Sign signs the data of a reader, up to its end, as SignBytes does.
-func (key *SecretKey) Sign(reader io.Reader, trusted, untrusted string) (Signature, error) {
+func (key *SecretKey) Sign(reader io.Reader, trustedComment, untrustedComment string) (Signature, error) {
 	if reader == nil {
 		return Signature{}, errors.New("minisign: reader is nil")
 	}
@@ -150,7 +150,7 @@ func (key *SecretKey) Sign(reader io.Reader, trusted, untrusted string) (Signatu
 	if err != nil {
 		return Signature{}, err
 	}
-	return signer.Sign(trusted, untrusted)
+	return signer.Sign(trustedComment, untrustedComment)
 }
 
 // A Signer signs data that arrives in pieces. It is an io.Writer: write the data, then call Sign once. Make one with
@@ -184,7 +184,7 @@ func (signer *Signer) Write(piece []byte) (int, error) {
 // It returns ErrAlreadyAsked if it is called a second time; ErrKeyNotOpened after Clear; ErrSignatureRefused if the key is
 // damaged, so that its seed and its public key do not match; and ErrNotUtf8, ErrBadComment or ErrUnreadableComment for a
 // comment that Minisign could not read back.
-func (signer *Signer) Sign(trusted, untrusted string) (Signature, error) {
+func (signer *Signer) Sign(trustedComment, untrustedComment string) (Signature, error) {
 	if signer.state == nil {
 		return Signature{}, ErrNotBegun
 	}
@@ -196,7 +196,7 @@ func (signer *Signer) Sign(trusted, untrusted string) (Signature, error) {
 	if err != nil {
 		return Signature{}, err
 	}
-	message, err := callCommentMessage(dataSignature, []byte(trusted))
+	message, err := callCommentMessage(dataSignature, []byte(trustedComment))
 	if err != nil {
 		return Signature{}, err
 	}
@@ -204,7 +204,9 @@ func (signer *Signer) Sign(trusted, untrusted string) (Signature, error) {
 	if err != nil {
 		return Signature{}, err
 	}
-	text, err := signer.key.opened.signatureText(dataSignature, commentSignature, []byte(trusted), []byte(untrusted))
+	text, err := signer.key.openedKey.signatureText(
+		dataSignature, commentSignature, []byte(trustedComment), []byte(untrustedComment),
+	)
 	if err != nil {
 		return Signature{}, err
 	}
@@ -218,7 +220,7 @@ func (signer *Signer) signMessage(message []byte) (*[64]byte, error) {
 	if err != nil {
 		return nil, err
 	}
-	signature := (*[64]byte)(ed25519.Sign(signer.key.opened.bytes(), message))
+	signature := (*[64]byte)(ed25519.Sign(signer.key.openedKey.bytes(), message))
 	if !accepts(key.PublicKey, message, *signature) {
 		return nil, ErrSignatureRefused
 	}

@@ -100,10 +100,10 @@ function isPlain(object) {
 }
 
 // Copies the options from a plain object. Throws a TypeError for an object of
-// any other kind, for a property that is not one of the known options, and for
-// a value of the wrong type. The copy has no prototype, so an option that was
+// any other kind, for a property whose name is not in `optionNames`, and for a
+// value of the wrong type. The copy has no prototype, so an option that was
 // not passed is undefined even if Object.prototype has a property of this name.
-export function optionsOf(options, ...known) {
+export function optionsOf(options, ...optionNames) {
   const isObject = typeof options === "object" && options !== null;
   mustBe(isObject, "options", "a plain object", options);
   if (!isPlain(options)) {
@@ -111,7 +111,7 @@ export function optionsOf(options, ...known) {
   }
   const copy = { __proto__: null };
   for (const name of Reflect.ownKeys(options)) {
-    if (!known.includes(name)) {
+    if (!optionNames.includes(name)) {
       throw argumentError(`unknown option ${String(name)}`);
     }
     const value = options[name];

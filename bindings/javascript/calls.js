@@ -119,8 +119,9 @@ export class Library {
     return new Library(instance.exports);
   }
 
-  // Copies bytes into the buffer of this size at this address. Returns the
-  // address and the number of bytes, as the functions of the module take them.
+  // Copies bytes into the buffer of this size at this address. Returns their
+  // span: the address and the number of bytes, as the functions of the module
+  // take them.
   put(address, size, bytes) {
     if (bytes.length > size) {
       const why = new Error("an argument is too long for the library");
@@ -152,8 +153,8 @@ export class Library {
   // Returns the error number, the key ID, and the struct of the key.
   readKey(text, isBare) {
     const call = `page_read_${isBare ? "bare_" : ""}public_key`;
-    const passed = this.put(this.text, TEXT_BYTES, text);
-    const number = this.calls[call](...passed, BigInt(this.key)) >>> 0;
+    const span = this.put(this.text, TEXT_BYTES, text);
+    const number = this.calls[call](...span, BigInt(this.key)) >>> 0;
     const key = this.bytesAt(this.key, number === 0 ? KEY_BYTES : 0);
     const keyId = keyIdText(key.subarray(PUBLIC_KEY.key_id));
     return { number, keyId, key };
@@ -171,9 +172,9 @@ export class Library {
   // a legacy one. `ask` takes this result.
   readSignature(text) {
     this.memory.fill(0, this.signature, this.signature + SIGNATURE_BYTES);
-    const passed = this.put(this.text, TEXT_BYTES, text);
+    const span = this.put(this.text, TEXT_BYTES, text);
     const address = BigInt(this.signature);
-    const number = this.calls.page_read_signature(...passed, address) >>> 0;
+    const number = this.calls.page_read_signature(...span, address) >>> 0;
     const value = this.bytesAt(this.signature, SIGNATURE_BYTES);
     const keyId = value.subarray(SIGNATURE.key_id, SIGNATURE.key_id + 8);
     return {
@@ -353,14 +354,14 @@ export class Library {
   listEntries(list, text, longDigest) {
     const line = this.scratch;
     const count = this.scratch + 8;
-    const passed = this.putList(text);
+    const span = this.putList(text);
     // The module writes the structs behind the list. Their address has to be a
     // multiple of 16, as this.piece is.
     const entries = this.piece + Math.ceil((text.length + 1) / 16) * 16;
     const end = this.piece + this.pieceBytes;
     const number = this.calls.page_list_entries(
       this.put(this.list, LIST_BYTES, list)[0],
-      ...passed,
+      ...span,
       longDigest,
       BigInt(entries),
       BigInt(Math.floor((end - entries) / LIST_ENTRY_BYTES)),
@@ -412,11 +413,11 @@ export class Library {
   // otherwise an error number. The caller has to compute the digest with the
   // hash function of the entry.
   compareDigest(entry, digest) {
-    const passed = this.put(this.entry, LIST_ENTRY_BYTES, entry)[0];
+    const address = this.put(this.entry, LIST_ENTRY_BYTES, entry)[0];
     const hash = this.numberAt(this.entry + LIST_ENTRY.hash, 4);
-    const digestPassed = this.put(this.scratch, 64, digest);
+    const digestSpan = this.put(this.scratch, 64, digest);
     const { page_list_compare_trusting_your_hash: compare } = this.calls;
-    return compare(passed, hash, ...digestPassed) >>> 0;
+    return compare(address, hash, ...digestSpan) >>> 0;
   }
 
   // ---- Digests ----

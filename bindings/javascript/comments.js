@@ -12,13 +12,13 @@ export function parseTrustedComment(comment) {
   const fields = { hashed: false };
   const parts = comment.split("\t");
   for (const name of [...TEXT_FIELDS, ...NUMBER_FIELDS]) {
-    const [value, second] = parts
+    const [value, secondValue] = parts
       .filter((part) => part.startsWith(`${name}:`))
       .map((part) => part.slice(name.length + 1));
     const isNumber = /^\d+$/.test(value) && Number.isSafeInteger(Number(value));
     // A field that occurs twice is left out, because other programs may use the
     // first or the second value.
-    if (value !== undefined && second === undefined) {
+    if (value !== undefined && secondValue === undefined) {
       if (TEXT_FIELDS.includes(name)) {
         fields[name] = value;
       } else if (isNumber) {

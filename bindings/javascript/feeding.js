@@ -4,7 +4,7 @@
 
 import { argumentError, bytesOf, mustBe, optionsOf } from "./arguments.js";
 import { ERRORS } from "./errors.js";
-import { checked, platformError } from "./loaded.js";
+import { checkedResult, platformError } from "./library_loader.js";
 
 // The maximum size of a slice of data that is fed at once. Hashing a slice
 // takes a few milliseconds. Other tasks run between two slices.
@@ -16,16 +16,16 @@ const SLICE_BYTES = 1048576;
 // means "already ended". An exception is `end` after `writable` was closed or
 // aborted, or after a write to it failed: `end` can still be called, and
 // resolves to the result, or rejects with the error or the reason for aborting.
-// The function `more` returns further properties of the object. Its parameter
-// is a function that throws NOT_BEGUN after the end.
-export function pieceConsumer(library, feed, end, more = () => ({})) {
+// The function `moreProperties` returns further properties of the object. Its
+// parameter is a function that throws NOT_BEGUN after the end.
+export function pieceConsumer(library, feed, end, moreProperties = () => ({})) {
   let bytesFed = 0;
   let isEnded = false;
   let writable;
   // A promise of the result, after `writable` was closed or aborted.
-  let streamed;
+  let streamResult;
   const checkNotEnded = () =>
-    checked(library, { number: isEnded ? ERRORS.NOT_BEGUN : 0 });
+    checkedResult(library, { number: isEnded ? ERRORS.NOT_BEGUN : 0 });
   const update = (piece) => {
     checkNotEnded();
     const bytes = bytesOf(piece);
@@ -40,9 +40,9 @@ export function pieceConsumer(library, feed, end, more = () => ({})) {
   };
   const fail = (why) => {
     isEnded = true;
-    streamed = Promise.reject(why);
+    streamResult = Promise.reject(why);
     // The stream reports the error, so this must not be an unhandled rejection.
-    streamed.catch(() => {});
+    streamResult.catch(() => {});
   };
   const sink = {
     async write(piece) {
@@ -56,13 +56,13 @@ export function pieceConsumer(library, feed, end, more = () => ({})) {
       }
     },
     async close() {
-      streamed = endOnce();
-      await streamed;
+      streamResult = endOnce();
+      await streamResult;
     },
     abort: fail,
   };
   return Object.freeze({
-    ...more(checkNotEnded),
+    ...moreProperties(checkNotEnded),
     get bytes() {
       return bytesFed;
     },
@@ -72,7 +72,7 @@ export function pieceConsumer(library, feed, end, more = () => ({})) {
     },
     update,
     async end() {
-      return streamed ?? endOnce();
+      return streamResult ?? endOnce();
     },
   });
 }
@@ -88,18 +88,18 @@ function writableStreamClass() {
 
 // Feeds all data to a verifier or signer, and resolves to the result of its
 // `end`. `begin` makes the verifier or signer. It gets the options without
-// `progress` and `signal`. `known` lists the names of the allowed options.
-export async function feedAll(data, options, known, begin) {
+// `progress` and `signal`. `optionNames` lists the allowed options.
+export async function feedAll(data, options, optionNames, begin) {
   const bytes = bytesOf(data);
   const isBlob = bytes === null && typeof data?.stream === "function";
   const source = isBlob ? data.stream() : data;
   const total = isBlob ? data.size : bytes?.length;
-  const readOptions = () => optionsOf(options, ...known);
+  const readOptions = () => optionsOf(options, ...optionNames);
   const stream = bytes === null ? source : null;
-  const run = async ({ progress, signal, ...rest }) => {
+  const run = async ({ progress, signal, ...consumerOptions }) => {
     // No prototype, as in the result of `readOptions`, so that a property of
     // Object.prototype is not taken for an option.
-    const consumer = await begin({ __proto__: null, ...rest });
+    const consumer = await begin({ __proto__: null, ...consumerOptions });
     for await (const piece of slicesOfData(source, signal)) {
       await consumer.update(piece);
       progress?.(consumer.bytes, total);
@@ -179,8 +179,9 @@ function piecesOfData(source, signal) {
   if (typeof source?.getReader === "function") {
     return piecesOfReader(source.getReader(), signal);
   }
-  const isList = typeof source === "object" && source?.[Symbol.iterator];
-  const isIterable = source?.[Symbol.asyncIterator] || isList;
+  const isSyncIterable =
+    typeof source === "object" && source?.[Symbol.iterator];
+  const isIterable = source?.[Symbol.asyncIterator] || isSyncIterable;
   const expected = "bytes, a Blob, a stream or an iterable of bytes";
   mustBe(isIterable, "data", expected, source);
   return source;
@@ -191,10 +192,10 @@ async function* piecesOfReader(reader, signal) {
   const stop = () => reader.cancel(signal.reason).catch(() => {});
   signal?.addEventListener("abort", stop);
   try {
-    let next = await reader.read();
-    while (!next.done) {
-      yield next.value;
-      next = await reader.read();
+    let result = await reader.read();
+    while (!result.done) {
+      yield result.value;
+      result = await reader.read();
     }
   } finally {
     signal?.removeEventListener("abort", stop);
@@ -209,8 +210,10 @@ async function* piecesOfReader(reader, signal) {
 // release, and an error without a listener would end the program.
 async function releasingOnError(stream, readOptions, run) {
   let reject;
-  const stopped = new Promise((_, stop) => (reject = stop));
-  stopped.catch(() => {});
+  const interruption = new Promise((_, rejectInterruption) => {
+    reject = rejectInterruption;
+  });
+  interruption.catch(() => {});
   stream?.on?.("error", reject);
   let signal;
   const abort = () => reject(signal.reason);
@@ -221,7 +224,7 @@ async function releasingOnError(stream, readOptions, run) {
     if (signal?.aborted) {
       throw signal.reason;
     }
-    return await Promise.race([stopped, run(options)]);
+    return await Promise.race([interruption, run(options)]);
   } catch (why) {
     // An error of `release` is ignored, because the promise rejects with the
     // first error.

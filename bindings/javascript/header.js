@@ -3,7 +3,7 @@
 // fields of structs, and the calls of include/minisign.h. Made by
 // tools/bindings.py.
 
-import { bytesOfBase64, checked, loadLibrary } from "./loaded.js";
+import { bytesOfBase64, checkedResult, loadLibrary } from "./library_loader.js";
 
 export const VERSION_MAJOR = 0;
 export const VERSION_MINOR = 3;
@@ -66,10 +66,10 @@ export const STRUCTS = {
 };
 
 // An instance of the module with more memory than this is not used again.
-const KEPT_BYTES = 8 * 1048576;
+const MAX_REUSED_BYTES = 8 * 1048576;
 
 // Passed instead of a password if there is none.
-const NOTHING = new Uint8Array(0);
+const NO_BYTES = new Uint8Array(0);
 
 // Returns a view of the bytes of a field of a struct.
 export function fieldOf(struct, field, bytes) {
@@ -96,7 +96,7 @@ export function structOf(struct, fields) {
 // Decodes the text that a call has written. `length` are the bytes of the
 // length that it has written. Clears the bytes of the text, which may be those
 // of a secret key.
-function cut(text, length) {
+function decodeAndClear(text, length) {
   const count = new DataView(length.buffer).getUint32(0, true);
   const string = new TextDecoder().decode(text.subarray(0, count));
   text.fill(0);
@@ -108,28 +108,28 @@ function cut(text, length) {
 // writes, or rejects with a MinisignError.
 export class SigningCalls {
   // A promise of the compiled module, after it was needed for the first time.
-  static #compiling;
+  static #modulePromise;
   // An instance of the module that no call uses, with a copy of its memory
   // before the first call. Calls do not overlap, so one instance is enough.
-  static #unused;
+  static #unusedInstance;
 
   static async load() {
     const library = await loadLibrary();
-    this.#compiling ??= import("./signing_module.js").then(
+    this.#modulePromise ??= import("./signing_module.js").then(
       ({ SIGNING_MODULE: base64 }) =>
         WebAssembly.compile(bytesOfBase64(base64)),
     );
-    const module = await this.#compiling;
+    const module = await this.#modulePromise;
     return Object.assign(new this(), { library, module });
   }
 
   // Returns the unused instance, or makes one. Instances are used again,
   // because each of them reserves gigabytes of addresses.
-  static #take(module) {
-    const unused = this.#unused;
-    this.#unused = undefined;
-    if (unused) {
-      return unused;
+  static #takeInstance(module) {
+    const instance = this.#unusedInstance;
+    this.#unusedInstance = undefined;
+    if (instance) {
+      return instance;
     }
     const { exports } = new WebAssembly.Instance(module, {});
     return { exports, begin: new Uint8Array(exports.memory.buffer).slice() };
@@ -137,23 +137,23 @@ export class SigningCalls {
 
   // Clears the memory of an instance, which may contain secrets. Keeps the
   // instance for the next call, unless its memory has grown for scrypt.
-  static #giveBack(instance) {
+  static #returnInstance(instance) {
     const memory = new Uint8Array(instance.exports.memory.buffer);
     memory.fill(0);
-    if (memory.length <= KEPT_BYTES) {
+    if (memory.length <= MAX_REUSED_BYTES) {
       memory.set(instance.begin);
-      this.#unused = instance;
+      this.#unusedInstance = instance;
     }
   }
 
   // Makes a call in an instance of the module. Arguments that are bytes are
   // copied into its memory before the call, and copied out after it. Then the
   // memory is cleared.
-  async make(name, ...passed) {
-    const instance = SigningCalls.#take(this.module);
+  async call(name, ...callArguments) {
+    const instance = SigningCalls.#takeInstance(this.module);
     const { exports } = instance;
     let end = Number(exports.__heap_base.value);
-    const addresses = passed.map((argument) => {
+    const addresses = callArguments.map((argument) => {
       const address = Math.ceil(end / 16) * 16;
       const isBytes = argument instanceof Uint8Array;
       end = isBytes ? address + argument.length : end;
@@ -162,26 +162,26 @@ export class SigningCalls {
     const copyEach = (copy) =>
       addresses.forEach((address, index) => {
         const memory = new Uint8Array(exports.memory.buffer);
-        return address === null || copy(memory, address, passed[index]);
+        return address === null || copy(memory, address, callArguments[index]);
       });
-    const converted = addresses.map((address, index) =>
-      address === null ? passed[index] : BigInt(address),
+    const numbers = addresses.map((address, index) =>
+      address === null ? callArguments[index] : BigInt(address),
     );
     try {
       copyEach((memory, address, bytes) => memory.set(bytes, address));
-      const number = exports[`machine_${name}`](...converted) >>> 0;
-      checked(this.library, { number });
+      const number = exports[`machine_${name}`](...numbers) >>> 0;
+      checkedResult(this.library, { number });
       copyEach((memory, address, bytes) =>
         bytes.set(memory.subarray(address, address + bytes.length)),
       );
     } finally {
-      SigningCalls.#giveBack(instance);
+      SigningCalls.#returnInstance(instance);
     }
   }
 
   async readSecretKey(skText) {
     const unopened = new Uint8Array(STRUCTS.unopened_key.size);
-    await this.make(
+    await this.call(
       "minisign_read_secret_key",
       skText,
       BigInt(skText.length),
@@ -192,13 +192,13 @@ export class SigningCalls {
 
   async openUnsealedKey(unopened) {
     const key = new Uint8Array(STRUCTS.secret_key.size);
-    await this.make("minisign_open_unsealed_key", unopened, key);
+    await this.call("minisign_open_unsealed_key", unopened, key);
     return key;
   }
 
   async openSealedKey(unopened, password, keepEvery, mostRows) {
     const key = new Uint8Array(STRUCTS.secret_key.size);
-    await this.make(
+    await this.call(
       "minisign_open_sealed_key",
       unopened,
       password,
@@ -212,19 +212,19 @@ export class SigningCalls {
 
   async takeSecretKey(newKey) {
     const key = new Uint8Array(STRUCTS.secret_key.size);
-    await this.make("minisign_take_secret_key", newKey, key);
+    await this.call("minisign_take_secret_key", newKey, key);
     return key;
   }
 
   async publicKeyOf(key) {
     const publicKey = new Uint8Array(STRUCTS.public_key.size);
-    await this.make("minisign_public_key_of", key, publicKey);
+    await this.call("minisign_public_key_of", key, publicKey);
     return publicKey;
   }
 
   async commentMessage(first, trusted) {
     const message = new Uint8Array(64 + trusted.length);
-    await this.make(
+    await this.call(
       "minisign_comment_message",
       first,
       trusted,
@@ -246,7 +246,7 @@ export class SigningCalls {
       240 + trustedComment.length + untrustedComment.length,
     );
     const length = new Uint8Array(8);
-    await this.make(
+    await this.call(
       "minisign_signed_text",
       key,
       signature,
@@ -259,17 +259,17 @@ export class SigningCalls {
       BigInt(text.length),
       length,
     );
-    return cut(text, length);
+    return decodeAndClear(text, length);
   }
 
   async secretKeyText(key, password, sealing, keepEvery, comment) {
     const text = new Uint8Array(233 + comment.length);
     const length = new Uint8Array(8);
-    await this.make(
+    await this.call(
       "minisign_secret_key_text",
       key,
       password === null ? 0 : 1,
-      password ?? NOTHING,
+      password ?? NO_BYTES,
       BigInt(password?.length ?? 0),
       sealing,
       BigInt(keepEvery),
@@ -279,13 +279,13 @@ export class SigningCalls {
       BigInt(text.length),
       length,
     );
-    return cut(text, length);
+    return decodeAndClear(text, length);
   }
 
   async publicKeyText(key, comment) {
     const text = new Uint8Array(77 + comment.length);
     const length = new Uint8Array(8);
-    await this.make(
+    await this.call(
       "minisign_public_key_text",
       key,
       comment,
@@ -294,6 +294,6 @@ export class SigningCalls {
       BigInt(text.length),
       length,
     );
-    return cut(text, length);
+    return decodeAndClear(text, length);
   }
 }

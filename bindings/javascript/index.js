@@ -5,8 +5,8 @@
 import { optionsOf, bytesOfText } from "./arguments.js";
 import { parseTrustedComment } from "./comments.js";
 import { feedAll, pieceConsumer } from "./feeding.js";
+import { checkedResult, loadLibrary } from "./library_loader.js";
 import { listName, listText, longDigestOf, signedList } from "./lists.js";
-import { checked, loadLibrary } from "./loaded.js";
 import { Verification } from "./verification.js";
 
 export { parseTrustedComment };
@@ -21,27 +21,29 @@ const parsedKeys = new WeakMap();
 
 // Checks the argument `signature`, which is a text or a result of
 // readSignature. Returns a function that parses it with the library.
-function signatureReader(signature) {
+function signatureParser(signature) {
   const parsed = parsedSignatures.get(signature);
   const text = parsed ? null : bytesOfText(signature, "signature");
-  return (library) => parsed ?? checked(library, library.readSignature(text));
+  return (library) =>
+    parsed ?? checkedResult(library, library.readSignature(text));
 }
 
 // Checks the argument `key`, which is a text or a result of readPublicKey.
 // Returns a function that parses it with the library. A string of one line is
 // the base64 of a key.
-function keyReader(key) {
+function keyParser(key) {
   const parsed = parsedKeys.get(key);
   const isBare = typeof key === "string" && !key.trimEnd().includes("\n");
   const text = parsed ? null : bytesOfText(isBare ? key.trimEnd() : key, "key");
-  return (library) => parsed ?? checked(library, library.readKey(text, isBare));
+  return (library) =>
+    parsed ?? checkedResult(library, library.readKey(text, isBare));
 }
 
 // ---- Reading ----
 
 export async function readSignature(signature) {
-  const reader = signatureReader(bytesOfText(signature, "signature"));
-  const parsed = reader(await loadLibrary());
+  const parse = signatureParser(bytesOfText(signature, "signature"));
+  const parsed = parse(await loadLibrary());
   const { keyId, isLegacy } = parsed;
   const fields = Object.freeze({ keyId, isLegacy });
   parsedSignatures.set(fields, parsed);
@@ -50,8 +52,8 @@ export async function readSignature(signature) {
 
 export async function readPublicKey(key) {
   const text = typeof key === "string" ? key : bytesOfText(key, "key");
-  const reader = keyReader(text);
-  const parsed = reader(await loadLibrary());
+  const parse = keyParser(text);
+  const parsed = parse(await loadLibrary());
   const fields = Object.freeze({ keyId: parsed.keyId });
   parsedKeys.set(fields, parsed);
   return fields;
@@ -61,17 +63,22 @@ export async function readPublicKey(key) {
 
 export async function createVerifier(signature, key, options = {}) {
   const { allowLegacy = false } = optionsOf(options, "allowLegacy");
-  const readSignatureWith = signatureReader(signature);
-  const readKeyWith = keyReader(key);
+  const parseSignature = signatureParser(signature);
+  const parseKey = keyParser(key);
   const library = await loadLibrary();
-  const { key: bytes, keyId } = readKeyWith(library);
-  const parsed = readSignatureWith(library);
-  const { isLegacy } = parsed;
-  const verification = new Verification(library, bytes, parsed, allowLegacy);
-  checked(library, verification);
+  const { key: keyStruct, keyId } = parseKey(library);
+  const parsedSignature = parseSignature(library);
+  const { isLegacy } = parsedSignature;
+  const verification = new Verification(
+    library,
+    keyStruct,
+    parsedSignature,
+    allowLegacy,
+  );
+  checkedResult(library, verification);
   const feed = (piece) => verification.feed(piece);
   const end = async () => {
-    checked(library, await verification.end());
+    checkedResult(library, await verification.end());
     const trustedComment = verification.comment();
     const fields = parseTrustedComment(trustedComment);
     return { trustedComment, fields, keyId, isLegacy };
@@ -81,16 +88,17 @@ export async function createVerifier(signature, key, options = {}) {
     isLegacy,
     async trustedComment() {
       checkNotEnded();
-      checked(library, { number: await verification.commentVerdict() });
+      checkedResult(library, { number: await verification.commentVerdict() });
       return verification.comment();
     },
   }));
 }
 
 export async function verify(data, signature, key, options = {}) {
-  const begin = (rest) => createVerifier(signature, key, rest);
-  const known = ["allowLegacy", "progress", "signal"];
-  return feedAll(data, options, known, begin);
+  const begin = (verifierOptions) =>
+    createVerifier(signature, key, verifierOptions);
+  const optionNames = ["allowLegacy", "progress", "signal"];
+  return feedAll(data, options, optionNames, begin);
 }
 
 // ---- Signed lists ----
@@ -99,11 +107,11 @@ export async function verifyList(text, signature, key, name, options = {}) {
   const bytes = listText(text);
   const nameBytes = listName(name);
   const longDigest = longDigestOf(options);
-  const readSignatureWith = signatureReader(signature);
-  const readKeyWith = keyReader(key);
+  const parseSignature = signatureParser(signature);
+  const parseKey = keyParser(key);
   const library = await loadLibrary();
-  const parsedKey = readKeyWith(library);
-  const parsed = readSignatureWith(library);
+  const parsedKey = parseKey(library);
+  const parsedSignature = parseSignature(library);
   const list = [nameBytes, bytes, longDigest];
-  return signedList(library, parsedKey, parsed, ...list);
+  return signedList(library, parsedKey, parsedSignature, ...list);
 }

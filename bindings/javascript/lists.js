@@ -7,7 +7,7 @@ import { LONG_DIGESTS, MAX_LIST_BYTES } from "./calls.js";
 import { parseTrustedComment } from "./comments.js";
 import { accepts, platformCrypto } from "./ed25519.js";
 import { feedAll, pieceConsumer } from "./feeding.js";
-import { checked } from "./loaded.js";
+import { checkedResult } from "./library_loader.js";
 
 // The names that hash functions have in WebCrypto, which lacks BLAKE2b.
 const WEBCRYPTO_NAMES = { sha256: "SHA-256", sha512: "SHA-512" };
@@ -47,27 +47,33 @@ export async function signedList(
   text,
   longDigest,
 ) {
-  const asked = library.askList(key.key, signature, listName, text);
-  checked(library, asked);
-  const { publicKey, list, digest, message } = asked;
-  const first = await accepts(publicKey, asked.signature, digest);
-  const second = await accepts(publicKey, asked.commentSignature, message);
-  checked(library, { number: library.listVerdict(list, first, second) });
+  const questions = library.askList(key.key, signature, listName, text);
+  checkedResult(library, questions);
+  const { publicKey, list, digest, message } = questions;
+  const isListValid = await accepts(publicKey, questions.signature, digest);
+  const isCommentValid = await accepts(
+    publicKey,
+    questions.commentSignature,
+    message,
+  );
+  const number = library.listVerdict(list, isListValid, isCommentValid);
+  checkedResult(library, { number });
   const decoder = new TextDecoder("utf-8", { fatal: true, ignoreBOM: true });
-  const trustedComment = decoder.decode(asked.comment);
+  const trustedComment = decoder.decode(questions.comment);
   const fieldsOf = (entry) => Object.freeze(library.fieldsOfEntry(entry, text));
   const findEntry = (name) => {
     const bytes = bytesOfText(name, "name");
     const result = library.findEntry(list, text, longDigest, bytes);
-    return checked(library, result).entry;
+    return checkedResult(library, result).entry;
   };
   // Returns the fields of an entry if it has this digest, and throws otherwise.
-  const compare = (entry, found) => {
-    checked(library, { number: library.compareDigest(entry, found) });
+  const compare = (entry, dataDigest) => {
+    const number = library.compareDigest(entry, dataDigest);
+    checkedResult(library, { number });
     return fieldsOf(entry);
   };
   // Begins to verify data. The library computes its digest.
-  const begin = (name) => {
+  const beginFile = (name) => {
     const entry = findEntry(name);
     const { hash } = fieldsOf(entry);
     const state = library.beginHash(hash);
@@ -77,14 +83,14 @@ export async function signedList(
     return pieceConsumer(library, feed, end);
   };
   const verifyListed = async (data, name, options = {}) =>
-    feedAll(data, options, ["progress", "signal"], () => begin(name));
+    feedAll(data, options, ["progress", "signal"], () => beginFile(name));
   return Object.freeze({
     keyId: key.keyId,
     trustedComment,
     fields: parseTrustedComment(trustedComment),
     entries() {
       const result = library.listEntries(list, text, longDigest);
-      return checked(library, result).entries.map(fieldsOf);
+      return checkedResult(library, result).entries.map(fieldsOf);
     },
     find: (name) => fieldsOf(findEntry(name)),
     verifyListed,

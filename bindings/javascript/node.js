@@ -9,7 +9,7 @@ import { dirname } from "node:path";
 import { bytesOfText, clearCopy } from "./arguments.js";
 import { pathOf, syncDirectory } from "./paths.js";
 
-export { verifyListedFile, verifyListFile } from "./listed.js";
+export { verifyListedFile, verifyListFile } from "./list_files.js";
 export { saveVerified } from "./saving.js";
 
 // With these flags, `open` fails if the name exists, even if it is a symbolic

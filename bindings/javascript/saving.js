@@ -71,9 +71,9 @@ class Replacement {
 export async function saveVerified(data, path, signature, key, options = {}) {
   const replacement = new Replacement(pathOf(path));
   let requestedMode;
-  const begin = async ({ mode, ...rest }) => {
+  const begin = async ({ mode, ...feedingOptions }) => {
     requestedMode = mode;
-    const verifierOptions = { __proto__: null, ...rest };
+    const verifierOptions = { __proto__: null, ...feedingOptions };
     const verifier = await createVerifier(signature, key, verifierOptions);
     await replacement.begin();
     return {
@@ -92,9 +92,9 @@ export async function saveVerified(data, path, signature, key, options = {}) {
     };
   };
   try {
-    const verified = await feedAll(data, options, OPTIONS, begin);
+    const result = await feedAll(data, options, OPTIONS, begin);
     await replacement.commit(requestedMode);
-    return verified;
+    return result;
   } catch (why) {
     await replacement.discard();
     throw why;

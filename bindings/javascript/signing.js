@@ -16,7 +16,7 @@ import { ED25519, accepts, platformCrypto } from "./ed25519.js";
 import { ERRORS } from "./errors.js";
 import { feedAll, pieceConsumer } from "./feeding.js";
 import * as h from "./header.js";
-import { checked } from "./loaded.js";
+import { checkedResult } from "./library_loader.js";
 
 const READ_OPTIONS = ["password", "lowMemory", "mostRows"];
 const COMMENT_OPTIONS = ["trustedComment", "untrustedComment"];
@@ -41,10 +41,10 @@ function bytesOfKey(secretKey) {
 // that is made in another way, such as by Uint8Array.of, on the heap of the
 // garbage collector, which moves it and leaves copies that nobody can clear.
 function joinedSecret(first, second) {
-  const both = new Uint8Array(new ArrayBuffer(first.length + second.length));
-  both.set(first);
-  both.set(second, first.length);
-  return both;
+  const joined = new Uint8Array(new ArrayBuffer(first.length + second.length));
+  joined.set(first);
+  joined.set(second, first.length);
+  return joined;
 }
 
 // Returns the parameter keep_every of the library: for low memory, scrypt
@@ -67,10 +67,10 @@ export async function generateSecretKey() {
   const calls = await h.SigningCalls.load();
   const crypto = await platformCrypto();
   const { subtle } = crypto;
-  const pair = await subtle.generateKey(ED25519, true, ["sign", "verify"]);
-  const exported = await subtle.exportKey("pkcs8", pair.privateKey);
-  const seed = new Uint8Array(exported, PKCS8_PREFIX.length, 32);
-  const rawKey = await subtle.exportKey("raw", pair.publicKey);
+  const keyPair = await subtle.generateKey(ED25519, true, ["sign", "verify"]);
+  const pkcs8Key = await subtle.exportKey("pkcs8", keyPair.privateKey);
+  const seed = new Uint8Array(pkcs8Key, PKCS8_PREFIX.length, 32);
+  const rawKey = await subtle.exportKey("raw", keyPair.publicKey);
   const secret = joinedSecret(seed, new Uint8Array(rawKey));
   const keyId = crypto.getRandomValues(new Uint8Array(8));
   const newKey = h.structOf("new_key", { key_id: keyId, secret });
@@ -85,19 +85,23 @@ export async function readSecretKey(text, options = {}) {
   const passwordBytes =
     password === undefined ? null : bytesOfText(password, "password");
   const calls = await h.SigningCalls.load();
-  let unopened;
+  let unopenedKey;
   try {
-    unopened = await calls.readSecretKey(bytes);
+    unopenedKey = await calls.readSecretKey(bytes);
     if (passwordBytes === null) {
-      return secretKeyOf(await calls.openUnsealedKey(unopened), false);
+      return secretKeyOf(await calls.openUnsealedKey(unopenedKey), false);
     }
-    const work = [keepEveryOf(lowMemory), mostRows ?? h.USUAL_ROWS];
-    const opened = await calls.openSealedKey(unopened, passwordBytes, ...work);
+    const scryptArguments = [keepEveryOf(lowMemory), mostRows ?? h.USUAL_ROWS];
+    const openedKey = await calls.openSealedKey(
+      unopenedKey,
+      passwordBytes,
+      ...scryptArguments,
+    );
     // A key is weak if scrypt has few rows, so that passwords are fast to try.
-    const [log2Rows] = h.fieldOf("unopened_key", "log2_rows", unopened);
-    return secretKeyOf(opened, log2Rows < h.LEAST_LOG2_ROWS);
+    const [log2Rows] = h.fieldOf("unopened_key", "log2_rows", unopenedKey);
+    return secretKeyOf(openedKey, log2Rows < h.LEAST_LOG2_ROWS);
   } finally {
-    unopened?.fill(0);
+    unopenedKey?.fill(0);
     clearCopy(bytes, text);
     clearCopy(passwordBytes, password);
   }
@@ -147,7 +151,7 @@ async function signMessage(library, secretKey, publicKey, message) {
   const { subtle } = await platformCrypto();
   const signature = new Uint8Array(await subtle.sign(ED25519, key, message));
   const isValid = await accepts(publicKey, signature, message);
-  checked(library, { number: isValid ? 0 : ERRORS.SIGNATURE_REFUSED });
+  checkedResult(library, { number: isValid ? 0 : ERRORS.SIGNATURE_REFUSED });
   return signature;
 }
 
@@ -205,14 +209,17 @@ function defaultComment(name) {
 }
 
 export async function createSigner(secretKey, options = {}) {
-  return begin(secretKey, optionsOf(options, ...COMMENT_OPTIONS), () => "");
+  const comments = optionsOf(options, ...COMMENT_OPTIONS);
+  return makeSigner(secretKey, comments, () => "");
 }
 
-// Makes a signer. `name` returns the file name for the default trusted comment.
-async function begin(secretKey, { trustedComment, untrustedComment }, name) {
-  const comment = trustedComment ?? defaultComment(name());
-  const trusted = bytesOfText(comment, "trustedComment");
-  const untrusted = bytesOfText(
+// Makes a signer. `comments` are options of `createSigner`, and `getFileName`
+// returns the file name for the default trusted comment.
+async function makeSigner(secretKey, comments, getFileName) {
+  const { trustedComment, untrustedComment } = comments;
+  const comment = trustedComment ?? defaultComment(getFileName());
+  const trustedBytes = bytesOfText(comment, "trustedComment");
+  const untrustedBytes = bytesOfText(
     untrustedComment ?? DEFAULT_UNTRUSTED_COMMENT,
     "untrustedComment",
   );
@@ -228,16 +235,18 @@ async function begin(secretKey, { trustedComment, untrustedComment }, name) {
     const publicKey = await calls.publicKeyOf(bytes);
     const keys = [bytes, h.fieldOf("public_key", "key", publicKey)];
     const dataSignature = await signMessage(library, ...keys, result.digest);
-    const message = await calls.commentMessage(dataSignature, trusted);
+    const message = await calls.commentMessage(dataSignature, trustedBytes);
     const commentSignature = await signMessage(library, ...keys, message);
     const signatures = [dataSignature, commentSignature];
-    return calls.signedText(publicKey, ...signatures, trusted, untrusted);
+    const commentBytes = [trustedBytes, untrustedBytes];
+    return calls.signedText(publicKey, ...signatures, ...commentBytes);
   };
   return pieceConsumer(library, feed, end);
 }
 
 export async function sign(data, secretKey, options = {}) {
-  const known = [...COMMENT_OPTIONS, "progress", "signal"];
-  const beginWith = (rest) => begin(secretKey, rest, () => nameOf(data));
-  return feedAll(data, options, known, beginWith);
+  const optionNames = [...COMMENT_OPTIONS, "progress", "signal"];
+  const begin = (comments) =>
+    makeSigner(secretKey, comments, () => nameOf(data));
+  return feedAll(data, options, optionNames, begin);
 }

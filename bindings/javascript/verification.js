@@ -31,7 +31,7 @@ export class Verification {
   // once can be verified with many signatures. `state` is a state of
   // Library.begin to which all data was fed. It is copied. If the signature is
   // a legacy one, `legacyData` has the pieces of the data.
-  takeFed(state, legacyData) {
+  takeState(state, legacyData) {
     this.state = state.slice();
     this.questions = this.library.ask(this.state, ...this.askArguments);
     checkUse(this.questions.number);
@@ -63,7 +63,7 @@ export class Verification {
     const { library, state, questions } = this;
     checkUse(library.digest(state, questions));
     const { isLegacy, publicKey, signature } = questions;
-    const message = isLegacy ? joined(this.legacyData) : questions.digest;
+    const message = isLegacy ? joinedPieces(this.legacyData) : questions.digest;
     const isDataValid = await accepts(publicKey, signature, message);
     const isCommentValid = await this.acceptsComment();
     this.number = library.verdict(state, isDataValid, isCommentValid);
@@ -79,7 +79,7 @@ export class Verification {
 }
 
 // Concatenates pieces of bytes.
-function joined(pieces) {
+function joinedPieces(pieces) {
   const length = pieces.reduce((sum, piece) => sum + piece.length, 0);
   const bytes = new Uint8Array(length);
   let end = 0;

@@ -61,13 +61,13 @@ def output_of(*words):
 
 def compiler():
     """Returns the command and flags of the C compiler, and the macros it defines."""
-    named = os.environ.get("CC") or sysconfig.get_config_var("CC") or "gcc"
-    words = [named] if os.path.isfile(named) else shlex.split(named)
+    command = os.environ.get("CC") or sysconfig.get_config_var("CC") or "gcc"
+    words = [command] if os.path.isfile(command) else shlex.split(command)
     words += ["-O2", *shlex.split(os.environ.get("CFLAGS", ""))]
     macros = output_of(*words, "-dM", "-E", "-x", "c", os.devnull)
     names = {line.split()[1] for line in macros.splitlines()}
     if "__GNUC__" not in names:
-        sys.exit(NO_COMPILER.format(named))
+        sys.exit(NO_COMPILER.format(command))
     return words, names
 
 

@@ -1,7 +1,7 @@
 // SPDX-License-Identifier: MIT
-//! Reads the archives of `dist/`, and renames the symbols in them to the names that programs link.
-//! The build script uses this module instead of objcopy, which many systems do not have. In a
-//! packed crate, the archives already have these names.
+//! Reads the archives of `dist/`, and renames the symbols in them to the public names that programs
+//! link. The build script uses this module instead of objcopy, which many systems do not have. In
+//! a packed crate, the symbols already have the public names.
 
 /// Returns the objects in an archive, with renamed symbols. `new_name` returns the new name of a
 /// symbol, or `None` if the symbol keeps its name. Returns `None` if this is not an archive of ELF
@@ -18,8 +18,10 @@ pub fn objects(archive: &[u8], new_name: impl Fn(&str) -> Option<String>) -> Opt
             .parse()
             .ok()?;
         let member = tail.get(..size)?;
-        // The names of the index and of the table of long names begin with a slash.
-        if head[0] != b'/' {
+        // The index, whose name is "/" or "/SYM64/", and the table of long names, whose name is
+        // "//", are not objects. An object with a long name has a slash and an offset in that table
+        // here.
+        if head[0] != b'/' || head[1].is_ascii_digit() {
             objects.push(renamed(member, &new_name)?);
         }
         rest = tail.get(size + size % 2..).unwrap_or_default();
@@ -50,9 +52,9 @@ fn renamed(object: &[u8], new_name: impl Fn(&str) -> Option<String>) -> Option<V
     let is_symbols = |&at: &usize| number(&object, at + SECTION_TYPE, 4) == Some(SYMBOL_TABLE);
     let symbols = (0..count).map(section).find(is_symbols)?;
     let names = section(number(&object, symbols + SECTION_LINK, 4)?);
-    let (begin, size) = place(&object, names)?;
+    let (begin, size) = extent(&object, names)?;
     let mut table = object.get(begin..begin + size)?.to_vec();
-    let (begin, size) = place(&object, symbols)?;
+    let (begin, size) = extent(&object, symbols)?;
     for symbol in (begin..begin + size).step_by(SYMBOL_BYTES) {
         let name = table
             .get(number(&object, symbol, 4)?..)?
@@ -71,7 +73,7 @@ fn renamed(object: &[u8], new_name: impl Fn(&str) -> Option<String>) -> Option<V
 }
 
 /// Returns the offset and the size of a section.
-fn place(object: &[u8], section: usize) -> Option<(usize, usize)> {
+fn extent(object: &[u8], section: usize) -> Option<(usize, usize)> {
     let offset = number(object, section + SECTION_OFFSET, 8)?;
     Some((offset, number(object, section + SECTION_SIZE, 8)?))
 }

@@ -1,5 +1,6 @@
 // SPDX-License-Identifier: MIT
-//! Errors with the kinds and texts of the crate `minisign`.
+//! Errors with the kinds and texts of the original crate `minisign`, which this crate replaces
+//! under the same name.
 
 use minisign_proved::{Error, Kind};
 use std::{error, fmt, io, process, result};
@@ -44,7 +45,6 @@ pub enum ErrorKind {
 /// assert_eq!(error.to_string(), "base64 conversion failed - was an actual public key given?");
 /// let mine = PError::new(ErrorKind::Misc, "an error of my program");
 /// assert_eq!(mine.to_string(), "an error of my program");
-/// # Ok::<(), minisign::PError>(())
 /// ```
 #[derive(Debug)]
 pub struct PError {
@@ -125,7 +125,9 @@ impl From<std::string::FromUtf8Error> for PError {
     }
 }
 
-/// Converts an error of `minisign-proved`. The kind and the text are those of its error code.
+/// Converts an error of `minisign-proved`. If the C library or the package has an error code for it
+/// (`reason`), the kind and the text are those of this code. Otherwise the kind is `Io` for an
+/// `IoError`, and `Misc` for any other error.
 impl From<Error> for PError {
     fn from(error: Error) -> PError {
         let reason = match (error.reason().copied(), error) {
@@ -143,7 +145,8 @@ impl From<Error> for PError {
             Kind::Rng => ErrorKind::RNG,
             Kind::Encoding => ErrorKind::Encoding,
             Kind::EncryptedKey => ErrorKind::EncryptedKey,
-            // The only API misuse that is possible is a comment that could not be read back.
+            // Through this crate, the only possible API misuse is to pass a comment that could not
+            // be read back from the file, for example one with a line break.
             Kind::Misuse => ErrorKind::Sign,
             _ => ErrorKind::Misc,
         };

@@ -1,6 +1,6 @@
 // SPDX-License-Identifier: MIT
-//! Encodes the records of signatures in base64. Keys are encoded by the C library, so this module
-//! never gets a secret.
+//! Encodes signature records, the 74 bytes of a bare signature, in base64. The C library encodes
+//! keys, so this module never gets a secret.
 
 const ALPHABET: &[u8; 64] = b"ABCDEFGHIJKLMNOPQRSTUVWXYZabcdefghijklmnopqrstuvwxyz0123456789+/";
 

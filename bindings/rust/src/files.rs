@@ -28,12 +28,12 @@ use std::{fs, path::Path};
 pub fn write_new<P: AsRef<Path>>(path: P, text: &str) -> io::Result<()> {
     let path = path.as_ref();
     let mut file = options().open(path)?;
-    let written = allow_owner_only(&file)
+    let file_result = allow_owner_only(&file)
         .and_then(|()| file.write_all(text.as_bytes()))
         .and_then(|()| file.sync_all());
     // Windows cannot remove an open file.
     drop(file);
-    let result = written.and_then(|()| sync_directory(path));
+    let result = file_result.and_then(|()| sync_directory(path));
     if result.is_err() {
         let _ = fs::remove_file(path);
     }

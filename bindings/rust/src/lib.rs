@@ -367,15 +367,19 @@ fn key_id_text(key_id: &[u8; 8]) -> String {
     format!("{:X}", u64::from_le_bytes(*key_id))
 }
 
-/// Reads to the end of a reader. Passes each piece to `take`, with the number of bytes read so far.
-fn read_pieces(mut from: impl io::Read, mut take: impl FnMut(&[u8], u64)) -> io::Result<()> {
+/// Reads to the end of a reader. Passes each piece to `take_piece`, with the number of bytes read
+/// so far.
+fn read_pieces(
+    mut reader: impl io::Read,
+    mut take_piece: impl FnMut(&[u8], u64),
+) -> io::Result<()> {
     let (mut piece, mut bytes_read) = (vec![0; 1 << 16], 0);
     loop {
-        match from.read(&mut piece) {
+        match reader.read(&mut piece) {
             Ok(0) => return Ok(()),
             Ok(len) => {
                 bytes_read += len as u64;
-                take(&piece[..len], bytes_read);
+                take_piece(&piece[..len], bytes_read);
             }
             Err(error) if error.kind() == io::ErrorKind::Interrupted => {}
             Err(error) => return Err(error),
@@ -588,7 +592,7 @@ impl PublicKey {
         signature: &BareSignature,
         allow_legacy: bool,
     ) -> Result<(), Error> {
-        let mut verifier = StreamVerifier::bare(&self.key, ed25519, signature, allow_legacy)?;
+        let mut verifier = StreamVerifier::begin_bare(&self.key, ed25519, signature, allow_legacy)?;
         verifier.update(data);
         verifier.end(data)
     }
@@ -619,7 +623,7 @@ impl PublicKey {
         ed25519: &'a dyn Verify,
         signature: &'a BareSignature,
     ) -> Result<StreamVerifier<'a>, Error> {
-        StreamVerifier::bare(&self.key, ed25519, signature, false).map_err(stream_error)
+        StreamVerifier::begin_bare(&self.key, ed25519, signature, false).map_err(stream_error)
     }
 
     /// Begins to verify data that arrives in pieces, and checks everything that does not depend on
@@ -818,9 +822,9 @@ impl<'a> StreamVerifier<'a> {
         allow_legacy: bool,
     ) -> Result<Self, Reason> {
         let mut state = raw::init();
-        let (text, legacy) = (signature.text.as_bytes(), allow_legacy.into());
+        let (text, legacy_flag) = (signature.text.as_bytes(), allow_legacy.into());
         let (questions, comment_message) =
-            raw::ask(&mut state, key, &signature.parsed, text, legacy)?;
+            raw::ask(&mut state, key, &signature.parsed, text, legacy_flag)?;
         Ok(StreamVerifier {
             ed25519,
             signature: Some(signature),
@@ -831,15 +835,15 @@ impl<'a> StreamVerifier<'a> {
     }
 
     /// Begins a verification as `begin` does, with a signature that has no comments.
-    fn bare(
+    fn begin_bare(
         key: &raw::PublicKey,
         ed25519: &'a dyn Verify,
         signature: &'a BareSignature,
         allow_legacy: bool,
     ) -> Result<Self, Reason> {
         let mut state = raw::init();
-        let legacy = allow_legacy.into();
-        let questions = raw::ask_bare(&mut state, key, &signature.parsed, legacy)?;
+        let legacy_flag = allow_legacy.into();
+        let questions = raw::ask_bare(&mut state, key, &signature.parsed, legacy_flag)?;
         Ok(StreamVerifier {
             ed25519,
             signature: None,
@@ -877,10 +881,10 @@ impl<'a> StreamVerifier<'a> {
     /// ```
     pub fn update_from(
         &mut self,
-        from: impl io::Read,
+        reader: impl io::Read,
         mut progress: impl FnMut(u64),
     ) -> io::Result<()> {
-        read_pieces(from, |piece, bytes_read| {
+        read_pieces(reader, |piece, bytes_read| {
             self.update(piece);
             progress(bytes_read)
         })

@@ -187,15 +187,16 @@ impl PublicKey {
         name: Option<&str>,
         long_digest: LongDigest,
     ) -> Result<SignedList, Error> {
-        let (key, parsed, sig_text) = (&self.key, &signature.parsed, signature.text.as_bytes());
+        let (key, parsed_signature, sig_text) =
+            (&self.key, &signature.parsed, signature.text.as_bytes());
         let (mut list, questions, message) = match name {
-            Some(name) => raw::list_ask(key, parsed, sig_text, name.as_bytes(), text)?,
-            None => raw::list_ask_any(key, parsed, sig_text, text)?,
+            Some(name) => raw::list_ask(key, parsed_signature, sig_text, name.as_bytes(), text)?,
+            None => raw::list_ask_any(key, parsed_signature, sig_text, text)?,
         };
         let public_key = &questions.public_key;
-        let of_list = ed25519.verify(&questions.signature, &questions.digest, public_key);
-        let of_comment = ed25519.verify(&questions.comment_signature, &message, public_key);
-        raw::list_verdict(&mut list, of_list.is_ok(), of_comment.is_ok())?;
+        let list_result = ed25519.verify(&questions.signature, &questions.digest, public_key);
+        let comment_result = ed25519.verify(&questions.comment_signature, &message, public_key);
+        raw::list_verdict(&mut list, list_result.is_ok(), comment_result.is_ok())?;
         Ok(SignedList {
             list,
             text: text.to_vec(),
@@ -278,13 +279,13 @@ impl SignedList {
     ) -> Result<ListEntry, ListError> {
         let entry = self.find_raw(name)?;
         let mut file = raw::list_begin(&entry)?;
-        let mut fed = Ok(());
+        let mut feed_result = Ok(());
         read_pieces(reader, |piece, _| {
-            if fed.is_ok() {
-                fed = raw::list_update(&mut file, piece);
+            if feed_result.is_ok() {
+                feed_result = raw::list_update(&mut file, piece);
             }
         })?;
-        fed?;
+        feed_result?;
         raw::list_finish(&mut file)?;
         Ok(self.entry(&entry))
     }

@@ -88,9 +88,9 @@ impl Default for Work {
 /// // The minimum limits. `Work::USUAL` has the limits of `minisign -G`.
 /// let work = Work::new(524_288, 1 << 24);
 /// let text = key.encode(&Sodium, Some("pass word"), &work)?;
-/// let same = SecretKey::decode(&text, Some("pass word"), &Work::USUAL)?;
-/// assert_eq!(same.public_key()?, key.public_key()?);
-/// assert!(!same.is_weak());
+/// let decoded_key = SecretKey::decode(&text, Some("pass word"), &Work::USUAL)?;
+/// assert_eq!(decoded_key.public_key()?, key.public_key()?);
+/// assert!(!decoded_key.is_weak());
 /// assert!(SecretKey::decode(&text, Some("password"), &Work::USUAL).is_err());
 /// # Ok::<(), minisign_proved::Error>(())
 /// ```
@@ -122,12 +122,12 @@ impl SecretKey {
     /// # Ok::<(), minisign_proved::Error>(())
     /// ```
     pub fn generate<E: Sign + Random + ?Sized>(ed25519: &E) -> Result<SecretKey, Error> {
-        let (mut new, mut seed) = (raw::NewKey::ZEROS, Zeroizing::new([0; 32]));
-        let failed = |_| Reason::RANDOM_SOURCE_FAILED;
-        ed25519.fill(&mut new.key_id).map_err(failed)?;
-        ed25519.fill(&mut *seed).map_err(failed)?;
-        ed25519.expand(&seed, &mut new.secret)?;
-        let (key, is_weak) = (raw::take_secret_key(&new), false);
+        let (mut new_key, mut seed) = (raw::NewKey::ZEROS, Zeroizing::new([0; 32]));
+        let random_error = |_| Reason::RANDOM_SOURCE_FAILED;
+        ed25519.fill(&mut new_key.key_id).map_err(random_error)?;
+        ed25519.fill(&mut *seed).map_err(random_error)?;
+        ed25519.expand(&seed, &mut new_key.secret)?;
+        let (key, is_weak) = (raw::take_secret_key(&new_key), false);
         Ok(SecretKey { key, is_weak })
     }
 
@@ -142,17 +142,19 @@ impl SecretKey {
     }
 
     pub(crate) fn open(
-        unopened: &raw::UnopenedKey,
+        unopened_key: &raw::UnopenedKey,
         password: Option<&str>,
         work: &Work,
     ) -> Result<SecretKey, Error> {
-        let every = work.keep_every;
+        let keep_every = work.keep_every;
         let key = match password.map(str::as_bytes) {
-            Some(password) => raw::open_sealed_key(unopened, password, every, work.most_rows),
-            None => raw::open_unsealed_key(unopened),
+            Some(password) => {
+                raw::open_sealed_key(unopened_key, password, keep_every, work.most_rows)
+            }
+            None => raw::open_unsealed_key(unopened_key),
         }?;
-        let is_weak =
-            unopened.is_sealed == 1 && usize::from(unopened.log2_rows) < raw::LEAST_LOG2_ROWS;
+        let is_weak = unopened_key.is_sealed == 1
+            && usize::from(unopened_key.log2_rows) < raw::LEAST_LOG2_ROWS;
         Ok(SecretKey { key, is_weak })
     }
 
@@ -402,8 +404,8 @@ impl Signer<'_> {
     /// # Errors
     ///
     /// The first error of the reader, except `Interrupted`.
-    pub fn update_from(&mut self, from: impl io::Read) -> io::Result<()> {
-        read_pieces(from, |piece, _| self.update(piece))
+    pub fn update_from(&mut self, reader: impl io::Read) -> io::Result<()> {
+        read_pieces(reader, |piece, _| self.update(piece))
     }
 
     /// Signs all data, verifies the signature, and returns it.
@@ -413,19 +415,24 @@ impl Signer<'_> {
     /// `Scheme` if Ed25519 fails to sign; `InvalidSignature` if the key is damaged, so that its
     /// seed and its public key do not match; `Rejected` with `BAD_COMMENT` or `UNREADABLE_COMMENT`
     /// for a comment that Minisign could not read back.
-    pub fn finalize(mut self, trusted: &str, untrusted: &str) -> Result<Signature, Error> {
-        let (trusted, untrusted) = (trusted.as_bytes(), untrusted.as_bytes());
+    pub fn finalize(
+        mut self,
+        trusted_comment: &str,
+        untrusted_comment: &str,
+    ) -> Result<Signature, Error> {
+        let (trusted_comment, untrusted_comment) =
+            (trusted_comment.as_bytes(), untrusted_comment.as_bytes());
         let digest = raw::digest(&mut self.state)?;
         let data_signature = self.sign_message(&digest)?;
-        let message = raw::comment_message(&data_signature, trusted)?;
+        let message = raw::comment_message(&data_signature, trusted_comment)?;
         let comment_signature = self.sign_message(&message)?;
         let key = raw::public_key_of(&self.key.key)?;
         let text = raw::signed_text(
             &key,
             &data_signature,
             &comment_signature,
-            trusted,
-            untrusted,
+            trusted_comment,
+            untrusted_comment,
         )?;
         Signature::decode(&text)
     }

@@ -10,7 +10,7 @@ from .errors import NotUtf8
 Path = Union[str, bytes, "os.PathLike[str]", "os.PathLike[bytes]"]
 # Text, or its UTF-8 bytes.
 Text = Union[str, bytes]
-Kind = TypeVar("Kind")
+Choice = TypeVar("Choice")
 
 
 def wrong_type(name: str, expected: str, value: object) -> TypeError:
@@ -39,8 +39,8 @@ def text_octets(name: str, value: object) -> bytes:
         return octets(name, value, "str or bytes")
     try:
         return value.encode()
-    except UnicodeEncodeError as why:
-        index = why.start
+    except UnicodeEncodeError as error:
+        index = error.start
         message = f"{name} has a surrogate at index {index}, which UTF-8 cannot encode"
         raise NotUtf8(message) from None
 
@@ -57,7 +57,7 @@ def path_text(name: str, value: object) -> str:
     return text
 
 
-def choice(name: str, value: object, choices: Dict[str, Kind]) -> Kind:
+def choice(name: str, value: object, choices: Dict[str, Choice]) -> Choice:
     """Returns the element of `choices` whose key is the value of an argument."""
     check_kind(name, value, str)
     if value not in choices:
@@ -68,7 +68,8 @@ def choice(name: str, value: object, choices: Dict[str, Kind]) -> Kind:
 
 def check_kind(name: str, value: object, kind: type) -> None:
     """Checks that an argument is an instance of a class. A bool is not accepted as an
-    int. Only True and False are accepted as a bool, because "no" would be true."""
+    int. For a bool, only True and False are accepted, because Python would take any
+    other value, such as the string "no", as true."""
     if not isinstance(value, kind) or (kind is int and isinstance(value, bool)):
         raise wrong_type(name, kind.__name__, value)
 
@@ -78,14 +79,15 @@ def check_number(
     value: object,
     minimum: int,
     maximum: int,
-    shown: Callable[[int], str] = str,
+    formatted: Callable[[int], str] = str,
 ) -> None:
-    """Checks that an argument is an int from `minimum` to `maximum`. `shown` formats
-    the numbers for the message."""
+    """Checks that an argument is an int from `minimum` to `maximum`. `formatted`
+    formats the numbers for the message."""
     check_kind(name, value, int)
     if not minimum <= cast(int, value) <= maximum:
-        expected = f"from {shown(minimum)} to {shown(maximum)}"
-        raise ValueError(f"{name} must be {expected}, not {shown(cast(int, value))}")
+        expected = f"from {formatted(minimum)} to {formatted(maximum)}"
+        actual = formatted(cast(int, value))
+        raise ValueError(f"{name} must be {expected}, not {actual}")
 
 
 def check_function(name: str, value: object) -> None:

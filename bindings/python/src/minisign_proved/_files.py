@@ -29,8 +29,8 @@ def _sync_directory(name: str) -> None:
         return
     try:
         os.fsync(directory)
-    except OSError as why:
-        if why.errno != errno.EINVAL:
+    except OSError as error:
+        if error.errno != errno.EINVAL:
             raise
     finally:
         os.close(directory)
@@ -85,11 +85,11 @@ def replace_file(path: str, text: bytes, is_secret: bool) -> None:
             file.write(text)
         return
     with tempfile.TemporaryDirectory(dir=os.path.dirname(name)) as directory:
-        new = os.path.join(directory, "new")
-        _create(new, text, is_secret)
+        new_path = os.path.join(directory, "new")
+        _create(new_path, text, is_secret)
         if os.path.exists(name) and not is_secret:
-            shutil.copymode(name, new)
-        os.replace(new, name)
+            shutil.copymode(name, new_path)
+        os.replace(new_path, name)
     # An error is ignored, because the file is already replaced. After a crash the old
     # file may be back.
     with contextlib.suppress(OSError):

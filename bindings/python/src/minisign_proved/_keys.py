@@ -387,10 +387,10 @@ class SecretKey(AbstractContextManager["SecretKey"]):
     def generate(cls) -> "SecretKey":
         """Generates a new key from random bytes of the system."""
         pair = ed25519().pair()
-        new = h.NewKey((ctypes.c_ubyte * 8)(*secrets.token_bytes(8)))
-        ctypes.memmove(new.secret, pair, ctypes.sizeof(new.secret))
-        opened = calls.take_secret_key(new)
-        for secret in (pair, new):
+        new_key = h.NewKey((ctypes.c_ubyte * 8)(*secrets.token_bytes(8)))
+        ctypes.memmove(new_key.secret, pair, ctypes.sizeof(new_key.secret))
+        opened = calls.take_secret_key(new_key)
+        for secret in (pair, new_key):
             ctypes.memset(ctypes.byref(secret), 0, ctypes.sizeof(secret))
         return cls(opened)
 
@@ -479,8 +479,8 @@ class SecretKey(AbstractContextManager["SecretKey"]):
         """
         password_bytes = new_password("password", password)
         check_kind("low_memory", low_memory, bool)
-        least, most = h.LEAST_OPERATIONS_LIMIT, h.ANY_ROWS
-        check_number("operations_limit", operations_limit, least, most)
+        minimum, maximum = h.LEAST_OPERATIONS_LIMIT, h.ANY_ROWS
+        check_number("operations_limit", operations_limit, minimum, maximum)
         check_number("memory_limit", memory_limit, h.LEAST_MEMORY_LIMIT, h.MEMORY_LIMIT)
         salt = (ctypes.c_ubyte * 32)(*secrets.token_bytes(32))
         sealing = h.Sealing(salt, operations_limit, memory_limit)

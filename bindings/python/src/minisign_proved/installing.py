@@ -217,13 +217,13 @@ class _Run:
 
         return call
 
-    def _read(self, at: int, size: int, length: "ctypes._Pointer[Any]") -> None:
+    def _read(self, buffer: int, size: int, length: "ctypes._Pointer[Any]") -> None:
         """Reads a piece of an open file, which can be any object with a method read."""
         result = cast("IO[bytes]", self.data).read(size)
         piece = octets("the result of data.read", result)
         if len(piece) > size:
             raise ValueError(f"data.read({size}) returned {len(piece)} bytes")
-        ctypes.memmove(at, piece, len(piece))
+        ctypes.memmove(buffer, piece, len(piece))
         length[0] = len(piece)
 
     def _answer(
@@ -243,8 +243,8 @@ class _Run:
         self.number = version
         self.comment = ctypes.string_at(comment_at, length).decode()
 
-    def _show_phase(self, passed: "ctypes._Pointer[Phase]") -> None:
-        phase = passed.contents
+    def _show_phase(self, progress: "ctypes._Pointer[Phase]") -> None:
+        phase = progress.contents
         if phase.phase == PHASE_RENAMING:
             self.signals.defer()
         elif phase.phase in (PHASE_RECEIVING, PHASE_COPYING) and self.progress:
@@ -252,11 +252,11 @@ class _Run:
         phase.goes_on = 1
 
     def _keep_message(self, message: "ctypes._Pointer[Message]") -> None:
-        found = message.contents
-        self.line = self.line or found.line
-        if found.kind == MESSAGE_CAUSE:
-            reason, path = os.fsdecode(found.text), os.fsdecode(found.file or b"")
-            self.cause = OSError(found.system_error or errno.EINVAL, reason, path)
+        contents = message.contents
+        self.line = self.line or contents.line
+        if contents.kind == MESSAGE_CAUSE:
+            reason, path = os.fsdecode(contents.text), os.fsdecode(contents.file or b"")
+            self.cause = OSError(contents.system_error or errno.EINVAL, reason, path)
 
     def make(self, options: InstallingOptions) -> int:
         """Makes the run, and returns its status. Raises the exception that a function
@@ -270,10 +270,10 @@ class _Run:
         options.signed_comment = CommentFunction(self._catching(self._keep_comment))
         options.progress = ProgressFunction(self._catching(self._show_phase))
         options.message = MessageFunction(self._catching(self._keep_message))
-        why = ctypes.c_uint()
+        error_code = ctypes.c_uint()
         try:
             status = library.minisign_install_file(
-                ctypes.byref(options), ctypes.byref(why)
+                ctypes.byref(options), ctypes.byref(error_code)
             )
         finally:
             self.signals.release()
@@ -284,8 +284,8 @@ class _Run:
             raise KeyboardInterrupt
         if status == STATUS_TOO_LARGE:
             raise TooLong("the data is larger than the limit") from self.cause
-        if why.value != 0:
-            raise at_line(error_of(why.value), self.line) from self.cause
+        if error_code.value != 0:
+            raise at_line(error_of(error_code.value), self.line) from self.cause
         return int(status)
 
 

@@ -63,8 +63,8 @@ def _at_line(call: Callable[[ctypes.c_uint64], object]) -> None:
     line = ctypes.c_uint64()
     try:
         call(line)
-    except MinisignError as why:
-        at_line(why, line.value)
+    except MinisignError as error:
+        at_line(error, line.value)
         raise
 
 
@@ -263,9 +263,9 @@ class SignedList:
     def _entry(self, struct: h.ListEntry) -> ListEntry:
         """Converts an entry of the library, and copies its name from the list. The
         library has checked that the list is UTF-8."""
-        hash_name, begin = HASHES[struct.hash], struct.name_offset
+        hash_name, start = HASHES[struct.hash], struct.name_offset
         return ListEntry(
-            name=self._text[begin : begin + struct.name_len].decode(),
+            name=self._text[start : start + struct.name_len].decode(),
             hash=hash_name,
             digest=bytes(struct.digest)[: DIGEST_BYTES[hash_name]],
             line=struct.line,

@@ -26,8 +26,8 @@ impl Verify for Sodium {
         key: &[u8; 32],
     ) -> Result<(), SchemeError> {
         init()?;
-        let (from, len) = (message.as_ptr(), message.len() as u64);
-        let result = unsafe { sodium::crypto_sign_verify_detached(signature, from, len, key) };
+        let (data, len) = (message.as_ptr(), message.len() as u64);
+        let result = unsafe { sodium::crypto_sign_verify_detached(signature, data, len, key) };
         check(result, "crypto_sign_verify_detached")
     }
 }
@@ -35,9 +35,9 @@ impl Verify for Sodium {
 impl Sign for Sodium {
     fn sign(&self, message: &[u8], secret: &[u8; 64]) -> Result<[u8; 64], SchemeError> {
         init()?;
-        let (mut signature, from, len) = ([0; 64], message.as_ptr(), message.len() as u64);
+        let (mut signature, data, len) = ([0; 64], message.as_ptr(), message.len() as u64);
         let result =
-            unsafe { sodium::crypto_sign_detached(&mut signature, null_mut(), from, len, secret) };
+            unsafe { sodium::crypto_sign_detached(&mut signature, null_mut(), data, len, secret) };
         check(result, "crypto_sign_detached").map(|()| signature)
     }
 

@@ -6,10 +6,11 @@ import { hasEd25519 } from "./ed25519.js";
 import { MinisignError } from "./errors.js";
 import { MODULE } from "./module.js";
 
-let loading;
+let libraryPromise;
 
 // Decodes base64. This function is not in header.js, because a program that
-// only verifies must not import that file.
+// only verifies must not import that file: header.js imports the module for
+// signing, so a bundle of the program would contain it.
 export function bytesOfBase64(base64) {
   return Uint8Array.from(atob(base64), (letter) => letter.charCodeAt(0));
 }
@@ -30,17 +31,17 @@ async function load() {
 // Resolves to the library, which is loaded once. If loading fails, the next
 // call tries again.
 export function loadLibrary() {
-  loading ??= load().catch((why) => {
-    loading = undefined;
-    throw why;
+  libraryPromise ??= load().catch((error) => {
+    libraryPromise = undefined;
+    throw error;
   });
-  return loading;
+  return libraryPromise;
 }
 
 // Returns a result of the library if its `number` is 0, and throws a
-// MinisignError for any other number. `line` is the line of a list that is at
-// fault, or 0.
-export function checked(library, result) {
+// MinisignError for any other number. If the error is in a line of a list of
+// checksums, `line` is the number of this line, otherwise 0.
+export function checkedResult(library, result) {
   const { number, line = 0 } = result;
   if (number !== 0) {
     const text = library.errorText(number);

@@ -18,8 +18,8 @@ async function bytesOfFile(path, size) {
     let length = 0;
     let bytesRead;
     do {
-      const rest = buffer.subarray(length);
-      ({ bytesRead } = await file.read(rest, 0, rest.length));
+      const freeSpace = buffer.subarray(length);
+      ({ bytesRead } = await file.read(freeSpace, 0, freeSpace.length));
       length += bytesRead;
     } while (bytesRead > 0);
     if (length > size) {
@@ -42,7 +42,10 @@ export async function verifyListedFile(path, list, options = {}) {
   const file = pathOf(path);
   const isList = typeof list?.verifyListed === "function";
   mustBe(isList, "list", "the result of verifyList", list);
-  const known = ["name", "progress", "signal"];
-  const { name = basename(file), ...rest } = optionsOf(options, ...known);
-  return list.verifyListed(createReadStream(file), name, { ...rest });
+  const optionNames = ["name", "progress", "signal"];
+  const { name = basename(file), ...feedingOptions } = optionsOf(
+    options,
+    ...optionNames,
+  );
+  return list.verifyListed(createReadStream(file), name, { ...feedingOptions });
 }
