@@ -2,7 +2,8 @@
 // Starts the page: loads the library and accepts files, or shows which features the browser lacks. build.py joins this file and the
 // other files of PAGE_SCRIPTS to one script. The same script runs in the worker threads, which have no document.
 
-// A WebAssembly module with a 32-bit memory and a function that takes a 64-bit number. A browser that accepts it can run the library.
+// A WebAssembly module with a 32-bit memory and a function that takes a 64-bit number. A browser that accepts
+// it can run the library.
 const SMALLEST_MODULE = Uint8Array.of(0, 97, 115, 109, 1, 0, 0, 0, 1, 5, 1, 96, 1, 126, 0, 5, 3, 1, 0, 1);
 
 const FROM_DISK = "Save the page and open it from disk";
@@ -24,8 +25,8 @@ function showUnusable(words) {
   document.documentElement.dataset.ready = "no";
 }
 
-// Starts the page. Takes the text of its script, which the worker threads run too, and which keepSource keeps for copies of the page
-// that the visitor saves.
+// Starts the page. Takes the text of its script, which the worker threads run too, and which keepSource keeps for
+// copies of the page that the visitor saves.
 async function begin(script) {
   keepSource(script);
   const features = await missingFeatures();
@@ -41,8 +42,10 @@ async function begin(script) {
   } catch (why) {
     // A valid module fails to compile only if the content security policy of the server forbids it.
     const isForbidden = why instanceof WebAssembly.CompileError && WebAssembly.validate(module);
-    showUnusable(isForbidden ? `The server of this page forbids WebAssembly, so the page cannot verify anything. ${FROM_DISK}.`
-      : "This browser cannot run the library of this page, so the page cannot verify anything. Use a newer browser, or the program minisign.");
+    showUnusable(isForbidden
+      ? `The server of this page forbids WebAssembly, so the page cannot verify anything. ${FROM_DISK}.`
+      : "This browser cannot run the library of this page, so the page cannot verify anything. " +
+        "Use a newer browser, or the program minisign.");
     return;
   }
   enginePromise = startEngine(script);
@@ -59,7 +62,8 @@ async function begin(script) {
 // Hides the elements that ask for what the page already has. The attribute data-unless says which elements these are:
 //   key        there is a built-in key
 //   signature  there are signatures or a list in the page, or signatures in the link
-//   preset     the visitor needs only a file, or a file and its signature: the steps are not numbered, and the key is shown at the end
+//   preset     the visitor needs only a file, or a file and its signature: the steps are not numbered, and the key is
+//              shown at the end
 function hideUnneeded() {
   const has = {key: BUILT_IN_KEY !== "", signature: presetSignatures.length > 0 || BUILT_IN_LIST.length > 0};
   has.preset = has.key || key !== null && has.signature;
@@ -72,7 +76,10 @@ function hideUnneeded() {
 }
 
 function addListeners() {
-  for (const [id, onText] of [["key-text", typed => queueKeyAction(() => takeKeyText(typed))], ["signature-text", queueSignatureText]]) {
+  for (const [id, onText] of [
+    ["key-text", typed => queueKeyAction(() => takeKeyText(typed))],
+    ["signature-text", queueSignatureText],
+  ]) {
     byId(id).value = "";
     byId(id).addEventListener("input", () => onText(byId(id).value));
   }

@@ -62,7 +62,10 @@ MEMORY = 6 * 1048576
 PACKAGE = "bindings/javascript"
 # The scripts in the order in which they are in the page: modules of the JavaScript package, and then those of the page.
 PAGE_SCRIPTS = ("engine.js", "inputs.js", "messages.js", "lists.js", "page.js", "rows.js", "release.js", "begin.js")
-SCRIPTS = (*(f"{PACKAGE}/{name}" for name in ("calls.js", "ed25519.js", "verification.js")), *(f"page/{name}" for name in PAGE_SCRIPTS))
+SCRIPTS = (
+    *(f"{PACKAGE}/{name}" for name in ("calls.js", "ed25519.js", "verification.js")),
+    *(f"page/{name}" for name in PAGE_SCRIPTS),
+)
 TITLE = "Verify a download"
 # The length of a public key in base64, and of its bytes.
 KEY_LENGTH = 56
@@ -97,25 +100,27 @@ def read(path):
 
 
 def script_of(path):
-    """Returns a script in the form in which it becomes a part of the page's only script: without imports, the word `export`, comments,
-    indentation, empty lines, and line breaks inside of braces that have no meaning."""
+    """Returns a script in the form in which it becomes a part of the page's only script: without imports, the word
+    `export`, comments, indentation, empty lines, the line breaks and trailing commas next to brackets, and the spaces
+    inside of braces."""
     code = re.sub(r"(?m)^(import .*;| *//.*)?\n", "", read(path))
-    return re.sub(r"(?<=\{)\n *|\n *(?=\})|(?m:^ +|^export )", "", code)
+    return re.sub(r"(?<=[{(\[])\n *|,?\n *(?=[})\]])|\n *(?=\.\w)|(?<=\{) | (?=\})|(?m:^ +|^export )", "", code)
 
 
 def style():
-    """Returns the style in the form in which it is in the page: without comments, line breaks, and spaces that have no meaning."""
+    """Returns the style in the form in which it is in the page: without comments, line breaks, and the spaces and
+    semicolons that have no meaning."""
     without_comments = re.sub(r"(?m)^ */\*.*\*/\n", "", read("page/page.css"))
-    return re.sub(r"\n *|(?<=:) | (?=\{)", "", without_comments)
+    return re.sub(r";?\n *(?=\})|\n *|(?<=[:,]) | (?=\{)", "", without_comments)
 
 
 def sources_sum(part="page"):
     """Returns the hash of the sources of a part of dist/, as tools/sources.sh prints it."""
     command = ["sh", os.path.join(TOP, "tools", "sources.sh"), part]
-    ran = subprocess.run(command, stdin=subprocess.DEVNULL, stdout=subprocess.PIPE, stderr=subprocess.PIPE)
-    digits = ran.stdout.decode().strip()
-    if ran.returncode != 0 or not digits:
-        raise NotPossible(f"tools/sources.sh {part} failed: {ran.stderr.decode(errors='replace').strip()}")
+    result = subprocess.run(command, stdin=subprocess.DEVNULL, stdout=subprocess.PIPE, stderr=subprocess.PIPE)
+    digits = result.stdout.decode().strip()
+    if result.returncode != 0 or not digits:
+        raise NotPossible(f"tools/sources.sh {part} failed: {result.stderr.decode(errors='replace').strip()}")
     return digits
 
 
@@ -146,8 +151,8 @@ def version():
 def proved_module():
     """Proves the library, builds it, and returns the 64-bit module."""
     if shutil.which("rt") is None:
-        raise NotPossible("--prove needs the Rattle kit, whose command rt was not found. Without --prove, the script uses the WebAssembly "
-                          "module of dist/minisign.html")
+        raise NotPossible("--prove needs the Rattle kit, whose command rt was not found. Without --prove, the script uses "
+                          "the WebAssembly module of dist/minisign.html")
     print("page: building its module, after proving what is not proved yet", flush=True)
     with tempfile.TemporaryDirectory(prefix="minisign-page-") as directory:
         archive, linked = f"{directory}/lib{CRATE}.a", f"{directory}/{CRATE}.wasm"
@@ -163,18 +168,18 @@ def lowered(module):
         wide, narrow = f"{directory}/wide.wasm", f"{directory}/narrow.wasm"
         with open(wide, "wb") as file:
             file.write(module)
-        ran = subprocess.run([needs.wasm_opt(), *LOWERING, wide, "-o", narrow], stdin=subprocess.DEVNULL,
+        result = subprocess.run([needs.wasm_opt(), *LOWERING, wide, "-o", narrow], stdin=subprocess.DEVNULL,
                              stdout=subprocess.PIPE, stderr=subprocess.STDOUT, errors="replace")
-        if ran.returncode != 0:
-            raise NotPossible(f"wasm-opt failed: {ran.stdout[-300:]}")
+        if result.returncode != 0:
+            raise NotPossible(f"wasm-opt failed: {result.stdout[-300:]}")
         with open(narrow, "rb") as file:
             return file.read()
 
 
 def lowering_tool():
     """Returns the name and the version of wasm-opt, which the page shows."""
-    ran = subprocess.run([needs.wasm_opt(), "--version"], stdin=subprocess.DEVNULL, stdout=subprocess.PIPE, check=True)
-    return ran.stdout.decode().strip().split(" (")[0]
+    result = subprocess.run([needs.wasm_opt(), "--version"], stdin=subprocess.DEVNULL, stdout=subprocess.PIPE, check=True)
+    return result.stdout.decode().strip().split(" (")[0]
 
 
 def module_of_page(path):
@@ -194,7 +199,8 @@ def module_of_page(path):
         raise NotPossible(f"{path} was not built by page/build.py, or is damaged") from None
 
 
-# The packed forms of modules that came from a page. They are kept, because another version of zopfli may compress a module to other bytes.
+# The packed forms of modules that came from a page. They are kept, because another version of zopfli may compress a
+# module to other bytes.
 packed_forms = {}
 
 
@@ -205,10 +211,10 @@ def deflated(module):
         with open(path, "wb") as file:
             file.write(module)
         command = [needs.program("zopfli", "zopfli"), "--deflate", "--i50", "-c", path]
-        ran = subprocess.run(command, stdin=subprocess.DEVNULL, stdout=subprocess.PIPE, stderr=subprocess.PIPE)
-        if ran.returncode != 0:
-            raise NotPossible(f"zopfli failed: {ran.stderr[-300:]!r}")
-        return ran.stdout
+        result = subprocess.run(command, stdin=subprocess.DEVNULL, stdout=subprocess.PIPE, stderr=subprocess.PIPE)
+        if result.returncode != 0:
+            raise NotPossible(f"zopfli failed: {result.stderr[-300:]!r}")
+        return result.stdout
 
 
 def packed(module):
@@ -254,7 +260,8 @@ def checked_key(key):
     except (binascii.Error, ValueError):
         decoded = b""
     if len(key) != KEY_LENGTH or len(decoded) != KEY_BYTES or decoded[:2] != b"Ed":
-        raise NotPossible(f"{key!r:.80} is not a public key: a key is one line of {KEY_LENGTH} characters that begins with RW, or its file")
+        raise NotPossible(f"{key!r:.80} is not a public key: a key is one line of {KEY_LENGTH} characters that begins with "
+                          "RW, or its file")
     return key
 
 
@@ -289,10 +296,10 @@ def is_safe_link(link):
     return bool(LINK.fullmatch(link) and has_safe_target)
 
 
-def checked_text(text, what):
+def checked_text(text, label):
     """Returns a title, name or version without white space at its ends, if it has no misleading characters."""
     if MISLEADING.search(text.strip()):
-        raise NotPossible(f"the {what} contains a character that is invisible or changes the direction of text")
+        raise NotPossible(f"the {label} contains a character that is invisible or changes the direction of text")
     return text.strip()
 
 
@@ -315,10 +322,10 @@ def names_in_list(text):
     names = []
     for number, line in enumerate(text.split("\n"), 1):
         line = line.removesuffix("\r")
-        found = [match[1] for match in (pattern.fullmatch(line) for pattern in ENTRIES) if match]
-        if line and not line.startswith("#") and not found:
+        matches = [match[1] for match in (pattern.fullmatch(line) for pattern in ENTRIES) if match]
+        if line and not line.startswith("#") and not matches:
             raise NotPossible(f"line {number} of the list is not an entry")
-        names += found
+        names += matches
     return names
 
 
@@ -344,9 +351,9 @@ def checked_list(path, key):
 
 
 def checked_release(name, version, links, signatures, listed=()):
-    """Returns what the page shows of a release: its name, its version and its links, each a pair of file and address. `links` are the
-    arguments of --link. The release has the files of `signatures`, which are pairs of name and text, and those whose names are in
-    `listed`."""
+    """Returns what the page shows of a release: its name, its version and its links, each a pair of file and address.
+    `links` are the arguments of --link. The release has the files of `signatures`, which are pairs of name and text, and
+    those whose names are in `listed`."""
     if not signatures and not listed and (name or version or links):
         raise NotPossible("--name, --version and --link describe a release, so they need --signature or --list")
     files = [*(name_in_release(*signature) for signature in signatures), *listed]
@@ -366,8 +373,8 @@ def checked_release(name, version, links, signatures, listed=()):
 
 
 def checked_signature(path, key):
-    """Returns the text of a signature file. Raises NotPossible if it does not have the form of a signature or has another key ID than
-    the key. This script does not verify the signature; the page does."""
+    """Returns the text of a signature file. Raises NotPossible if it does not have the form of a signature or has another
+    key ID than the key. This script does not verify the signature; the page does."""
     try:
         with open(path, encoding="utf-8", newline="") as file:
             text = file.read()
@@ -395,8 +402,8 @@ def csp_hash(text):
 
 
 def policy(script, style):
-    """Returns the content security policy. It allows this script, WebAssembly, this style, and worker threads from blobs. Nothing may be
-    loaded, and no text may become markup."""
+    """Returns the content security policy. It allows this script, WebAssembly, this style, and worker threads from
+    blobs. Nothing may be loaded, and no text may become markup."""
     return "; ".join([
         "default-src 'none'", f"script-src {csp_hash(script)} 'wasm-unsafe-eval'", "worker-src blob:",
         f"style-src {csp_hash(style)}", "img-src data:", "base-uri 'none'", "form-action 'none'",
@@ -413,9 +420,9 @@ def proof_note(module, tool, sums):
     """Returns what the page says about its sources and its proof. `sums` are the hashes of the proved module and sources."""
     if sums != (sha256_of(module), sources_sum()):
         return "This page was not made from the sources and the library that dist/PROVED names, so it makes no claim about proofs."
-    return (f'Made from the sources with the SHA-256 sum <span class="letters" translate="no">{sums[1]}</span>. The library inside is '
-            f"proved as built for 64-bit WebAssembly. Its conversion to 32 bits by {html.escape(tool)}, and the page around it, are tested but "
-            "not proved.")
+    return (f'Made from the sources with the SHA-256 sum <span class="letters" translate="no">{sums[1]}</span>. The library '
+            f"inside is proved as built for 64-bit WebAssembly. Its conversion to 32 bits by {html.escape(tool)}, and the "
+            "page around it, are tested but not proved.")
 
 
 def page(module, tool, key="", title=TITLE, signatures=(), release=None, sums=None, signed_list=()):
@@ -436,7 +443,8 @@ def page(module, tool, key="", title=TITLE, signatures=(), release=None, sums=No
     script = "\n".join(['"use strict";', *constants, *map(script_of, SCRIPTS)])
     parts = {"policy": policy(script, style()), "style": style(), "script": script, "title": html.escape(title, quote=False),
              "licence": read("LICENSE").strip(), "version": version(), "proof": proof_note(module, tool, sums or named_sums())}
-    return re.sub(r"\{\{(\w+)\}\}", lambda placeholder: parts[placeholder[1]], read("page/page.html"))
+    frame = read("page/page.html").replace("\n\n", "\n")
+    return re.sub(r"\{\{(\w+)\}\}", lambda placeholder: parts[placeholder[1]], frame)
 
 
 def package_module(module, tool):
@@ -461,7 +469,8 @@ def parse_options(words):
     parser.add_argument("--key", default="", metavar="KEY", help="build in this public key, its file or its 56 characters")
     parser.add_argument("--signature", default=[], nargs="+", action="extend", metavar="FILE.minisig",
                         help="build in these signatures too, so that the page asks only for the download")
-    parser.add_argument("--list", default="", metavar="LIST", help="build in this signed list of a release, with its signature LIST.minisig")
+    parser.add_argument("--list", default="", metavar="LIST",
+                        help="build in this signed list of a release, with its signature LIST.minisig")
     parser.add_argument("--name", default="", help="the name of the program that is released")
     parser.add_argument("--version", default="", help="the version of the release")
     parser.add_argument("--link", default=[], nargs="+", action="extend", metavar="FILE=ADDRESS",

@@ -1,15 +1,16 @@
 // SPDX-License-Identifier: MIT
 // Hashes a file in three worker threads, which take turns.
 //
-// While one thread hashes a slice of the file, the others read the next slices into the memory of their modules, because reading takes
-// a browser up to twice as long as hashing. The page passes the hash states from one thread to the next. The threads run the same script
-// as the page. If the browser or the server does not allow worker threads, the page hashes in its own thread.
+// While one thread hashes a slice of the file, the others read the next slices into the memory of their modules,
+// because reading takes a browser up to twice as long as hashing. The page passes the hash states from one thread to
+// the next. The threads run the same script as the page. If the browser or the server does not allow worker threads,
+// the page hashes in its own thread.
 
 // The maximum time in milliseconds for starting the threads, and for reading a key or signature file.
 const TIMEOUT_MS = 10000;
 const THREADS = 3;
-// The number of bytes that a thread reads and hashes at a time. Each thread has two copies of a slice for a short time, and the page
-// should take at most 32 MiB more than an empty page.
+// The number of bytes that a thread reads and hashes at a time. Each thread has two copies of a slice for a short time,
+// and the page should take at most 32 MiB more than an empty page.
 const SLICE_BYTES = 3 * 1048576;
 // The maximum size of a file that is hashed in the page's own thread, which is faster than waiting for a worker thread.
 const MAX_PAGE_THREAD_BYTES = 1048576;
@@ -17,8 +18,8 @@ const MAX_PAGE_THREAD_BYTES = 1048576;
 const WARMUP_BYTES = 262144;
 const WARMUP_TIMES = 8;
 
-// True in Firefox, the only browser that has this error class. Firefox frees the memory of a buffer at once if the buffer is transferred
-// to size 0. Chromium does not.
+// True in Firefox, the only browser that has this error class. Firefox frees the memory of a buffer at once if the
+// buffer is transferred to size 0. Chromium does not.
 const IS_FIREFOX = typeof InternalError === "function";
 
 // ---- In a worker thread ----
@@ -51,8 +52,9 @@ function readSlice(threadLibrary, file, begin, end) {
   }
 }
 
-// Handles the messages of the page. When it gets {file, begin}, the thread reads the slice that begins there. When it gets {states}, it
-// feeds the slice to these hash states and posts them back, or posts null if the slice could not be read; then it reads its next slice.
+// Handles the messages of the page. When it gets {file, begin}, the thread reads the slice that begins there. When it
+// gets {states}, it feeds the slice to these hash states and posts them back, or posts null if the slice could not be
+// read; then it reads its next slice.
 async function serve() {
   const threadLibrary = await Library.load(await moduleBytes());
   const slice = Math.min(threadLibrary.pieceBytes, SLICE_BYTES);
@@ -104,8 +106,8 @@ async function bytesOfFile(file, begin, end) {
 
 // Hashes in the page's own thread.
 class PageEngine {
-  // Feeds a file to a Reading. Calls reportProgress with the number of bytes that were fed, before each slice. Returns true if all of the
-  // file was fed, and false if it could not be read or reportProgress returned false.
+  // Feeds a file to a Reading. Calls reportProgress with the number of bytes that were fed, before each slice. Returns
+  // true if all of the file was fed, and false if it could not be read or reportProgress returned false.
   async feedFile(file, reading, reportProgress) {
     const slice = reading.library.pieceBytes;
     let next = bytesOfFile(file, 0, slice);

@@ -1,12 +1,15 @@
 // SPDX-License-Identifier: MIT
-// Recognizes what a visitor has typed or added: keys, secret keys, signatures and command lines. Also parses links and trusted comments,
-// and compares file names.
+// Recognizes what a visitor has typed or added: keys, secret keys, signatures and command lines. Also parses links and
+// trusted comments, and compares file names.
 
-// The base64 of keys and signatures begins with the algorithm: "Ed" for a public key and a legacy signature (RWQ to RWT in base64), "ED"
-// for a prehashed signature (RUQ to RUT). A secret key also says if it is encrypted: "Sc" for scrypt, or two zero bytes.
+// The base64 of keys and signatures begins with the algorithm: "Ed" for a public key and a legacy signature (RWQ to
+// RWT in base64), "ED" for a prehashed signature (RUQ to RUT). A secret key also says if it is encrypted: "Sc" for
+// scrypt, or two zero bytes. Both are followed by "B2", for the checksum with BLAKE2b.
 const KEY_LINE = /^RW[Q-T][A-Za-z0-9+/]{53}$/;
 const SIGNATURE_LINE = /^R[UW][A-Za-z0-9+/]{97}=$/;
-// A part of the line of a prehashed signature, which may be as long as a key.
+// The beginning of the second line of a prehashed signature, if only a part of it was copied. The part may be as long as
+// a key, but a key never begins with RU. For a part of a legacy signature there is no such test, because it begins like
+// a key.
 const CUT_SIGNATURE_LINE = /^RU[Q-T][A-Za-z0-9+/]{20,}$/;
 const SECRET_KEY_LINE = /RW(RTY0Iy|QAAEIy)[A-Za-z0-9+/]{100}/;
 const PGP_LINE = /^-----BEGIN PGP /;
@@ -38,14 +41,18 @@ function kindOfText(text) {
   return lines[0].startsWith("untrusted comment:") && KEY_LINE.test(lines[1] ?? "") ? "key" : "";
 }
 
-// Returns the key in a text that also contains other characters or line breaks, or "" if the text does not contain exactly one key.
+// Returns the public key in a text, which may contain other characters, or line breaks within the key. Returns "" if the text
+// does not contain exactly one key.
 function keyIn(text) {
   const joined = linesOf(text).filter(line => !line.startsWith("untrusted comment:")).join("");
-  const found = new Set([joined, ...text.split(/[^A-Za-z0-9+/]+/)].filter(word => KEY_LINE.test(word)));
-  return found.size === 1 ? [...found][0] : "";
+  const keys = new Set([joined, ...text.split(/[^A-Za-z0-9+/]+/)].filter(word => KEY_LINE.test(word)));
+  return keys.size === 1 ? [...keys][0] : "";
 }
 
-// Returns the key in HINTS of the hint for a text in the field for the public key, or "" if there is no hint.
+// Returns which of HINTS is the one for a text that cannot be read as a public key, or "" if there is none: the kind of
+// the text, or where it has the public key. "bare key": it consists of only the key, but is in a file, which needs a
+// comment above the key. "among words": there are other characters around the key. "broken key": there are line breaks
+// within the key.
 function hintOf(text) {
   const lines = linesOf(text);
   const kind = kindOfText(text);
@@ -65,18 +72,18 @@ function hintOf(text) {
     return "command";
   }
   const key = keyIn(text);
-  return key === "" ? "" : text.trim() === key ? "alone" : text.includes(key) ? "words" : "broken";
+  return key === "" ? "" : text.trim() === key ? "bare key" : text.includes(key) ? "among words" : "broken key";
 }
 
-// Returns the 56 characters of a public key, as Minisign writes them, from the struct of the key. In the struct the key ID follows the
-// key.
+// Returns the 56 characters of a public key, as Minisign writes them, from the struct of the key. In the struct
+// the key ID follows the key.
 function base64OfKey(struct) {
   const {key: begin, key_id: end} = PUBLIC_KEY;
   return btoa(String.fromCharCode(0x45, 0x64, ...struct.subarray(end), ...struct.subarray(begin, end)));
 }
 
-// Decodes a part of a link, which has percent encoding. If mayBeBase64 is true, the part may also be the base64 of a text. Returns "" if
-// the part cannot be decoded.
+// Decodes a part of a link, which has percent encoding. If mayBeBase64 is true, the part may also be the base64 of a
+// text. Returns "" if the part cannot be decoded.
 function decoded(part, mayBeBase64) {
   try {
     const text = decodeURIComponent(part);
@@ -87,14 +94,14 @@ function decoded(part, mayBeBase64) {
   }
 }
 
-// Parses the part of a link after #. `signatures` are the values of sig=. `keys` are the values of key=, or if there are none, all parts
-// that do not begin with sig=. `validKey` is the only key if it has the form of a key, otherwise "".
+// Parses the part of a link after #. `signatures` are the values of sig=. `keys` are the values of key=, or if there are
+// none, all parts that do not begin with sig=. `validKey` is the only key if it has the form of a key, otherwise "".
 function partsOfLink(fragment) {
   const parts = fragment.split("&").filter(part => part !== "");
   const valuesOf = (name, mayBeBase64) =>
     parts.filter(part => part.startsWith(name)).map(part => decoded(part.slice(name.length), mayBeBase64));
-  const named = valuesOf("key=", false);
-  const keys = named.length > 0 ? named : parts.filter(part => !part.startsWith("sig=")).map(part => decoded(part, false));
+  const values = valuesOf("key=", false);
+  const keys = values.length > 0 ? values : parts.filter(part => !part.startsWith("sig=")).map(part => decoded(part, false));
   const validKey = keys.length === 1 && KEY_LINE.test(keys[0]) ? keys[0] : "";
   return {keys, validKey, signatures: valuesOf("sig=", true)};
 }
@@ -104,7 +111,8 @@ function namesIn(signatureText) {
   return fieldsOfComment((linesOf(signatureText)[2] ?? "").replace("trusted comment: ", "")).names;
 }
 
-// Returns the fields of a trusted comment that Minisign writes by default: all file names, and the time as text, or "" if there is none.
+// Returns the fields of a trusted comment that Minisign writes by default: all file names, and the time as
+// text, or "" if there is none.
 function fieldsOfComment(comment) {
   const fields = {names: [], time: ""};
   for (const part of comment.split("\t")) {
@@ -117,7 +125,7 @@ function fieldsOfComment(comment) {
   return fields;
 }
 
-// Returns a file name in lower case, without directories and without a number in parentheses, for isAlikeName.
+// Returns a file name in lower case, without directories and without a number in parentheses, for isSimilarName.
 function bareName(name) {
   return withoutDirectories(name).replace(/\s?\(\d+\)(?=(\.[^.\s]+)*$)/, "").normalize().toLowerCase();
 }
@@ -126,28 +134,31 @@ function withoutDirectories(name) {
   return name.replace(/^.*[\\/]/s, "");
 }
 
-// Returns true if a file and a signature for these names may belong together. This decides only which signature is tried; isSignedName
-// decides if the name is the signed one.
-function isAlikeName(name, other) {
+// Returns true if a file and a signature for these names may belong together. This decides only which signature is
+// tried; isSignedName decides if the name is the signed one.
+function isSimilarName(name, other) {
   return bareName(name) === bareName(other);
 }
 
-// A name with the suffix that a browser adds to the name of a second download, before the extensions: "app (1).zip", "app(1).tar.gz".
+// A name with the suffix that a browser adds to the name of a second download, before the extensions:
+// "app (1).zip", "app(1).tar.gz".
 const NAME_WITH_SUFFIX = /^(.+?)\s?\(\d{1,2}\)((?:\.[^.\s()]+)*)$/s;
 
-// Returns true if the name of a file, or this name without the suffix of a browser, is the signed name. The directories of the signed
-// name are not compared, because a browser does not show the page in which directory a file is.
+// Returns true if the name of a file, or this name without the suffix of a browser, is the signed name. The directories
+// of the signed name are not compared, because a browser does not tell the page the directory of a file.
 function isSignedName(name, signedName) {
   const fileName = name.normalize(), expected = signedName.normalize();
-  return [fileName, fileName.replace(NAME_WITH_SUFFIX, "$1$2")].some(each => each === expected || each === withoutDirectories(expected));
+  return [fileName, fileName.replace(NAME_WITH_SUFFIX, "$1$2")]
+    .some(each => each === expected || each === withoutDirectories(expected));
 }
 
-// Returns comments that the signer may have signed instead of `comment`, from which the library has removed white space at both ends:
-// the comment with the white space that is in the file, and with white space that may have been lost before.
+// Returns comments that the signer may have signed instead of `comment`, from which the library has removed white space at
+// both ends: the comment with the white space that the signature file has, and with white space that may have been lost
+// when the file was copied or pasted.
 function untrimmedComments(signatureText, comment) {
   const line = signatureText.split("\n")[2] ?? "";
-  const inFile = line.slice(line.indexOf(":") + 1).replace(/^ /, "");
+  const source = line.slice(line.indexOf(":") + 1).replace(/^ /, "");
   const spaces = [" ", "  ", "\t", "\r"];
-  return [inFile, inFile.replace(/\r$/, ""), ...spaces.map(space => comment + space), ...spaces.map(space => space + comment)]
-    .filter(other => other !== comment);
+  return [source, source.replace(/\r$/, ""), ...spaces.map(space => comment + space), ...spaces.map(space => space + comment)]
+    .filter(each => each !== comment);
 }

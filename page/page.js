@@ -2,8 +2,9 @@
 // Accepts a public key, files and signatures from the visitor, and verifies one file after another with the proved library and the
 // browser's Ed25519. build.py joins this file and the other files of PAGE_SCRIPTS to one script, so they share all names.
 //
-// A project can make a copy of the page for a release: a key, signatures and a signed list are then built into the page. This copy is
-// called the page of the release. A link to the page can also contain a key and signatures, in its part after #.
+// A project can make a copy of the page for a release: a key, signatures and a signed list are then built into
+// the page. This copy is called the page of the release. A link to the page can also contain a key and
+// signatures, in its part after #.
 
 const SIGNATURE_ENDING = ".minisig";
 const KEY_ENDING = ".pub";
@@ -30,8 +31,8 @@ let key = null;
 //   names         the names that its download may have
 //   releaseName   the name under which the page lists its download
 const presetSignatures = [];
-// The downloads by their names, in the order in which they were added. A download is a file, a signature or both: what the visitor has
-// added of a file and its signature. takeDownload says what properties it has.
+// The downloads by their names, in the order in which they were added. A download is a file, a signature or both: what
+// the visitor has added of a file and its signature. takeDownload says what properties it has.
 const downloads = new Map();
 // The downloads that have to be verified.
 const unverified = new Set();
@@ -47,8 +48,8 @@ const unfinishedActions = new Set();
 // The last action of the visitor. hasVerdict is true once a verdict that it caused was shown, hasBad once a bad one was.
 let latestAction = {hasVerdict: false, hasBad: false};
 
-// Runs an action of the visitor after all earlier ones. The downloads that it may change become unverified at once, and stay unverified
-// until it is done, because reading a key, a file or a signature from a slow disk takes seconds.
+// Runs an action of the visitor after all earlier ones. The downloads that it may change become unverified at once, and
+// stay unverified until it is done, because reading a key, a file or a signature from a slow disk takes seconds.
 function queueAction(act, mayChange = () => false) {
   // A function of its own for each action, because the set must not merge equal ones.
   const isChanging = download => mayChange(download);
@@ -77,8 +78,8 @@ function isBlocked(download) {
 
 // ---- The public key ----
 
-// Reads a public key and shows it, or shows why there is no key. The bytes are those of a key file, or of its 56 characters if isBare is
-// true.
+// Reads a public key and shows it, or shows why there is no key. The bytes are those of a key file, or of its 56
+// characters if isBare is true.
 function setKey(fileBytes, isBare, source) {
   dropKey();
   if (fileBytes.length >= TEXT_BYTES) {
@@ -170,8 +171,8 @@ function removeKey() {
   byId("key-text").focus();
 }
 
-// Loads the key and the signatures that are built into the page or part of its link. A built-in key takes precedence over one in the
-// link.
+// Loads the key and the signatures that are built into the page or part of its link. A built-in key takes
+// precedence over one in the link.
 function loadPresets() {
   const {keys, validKey, signatures} = partsOfLink(location.hash.slice(1));
   const add = (name, text, isBuiltIn) => {
@@ -197,14 +198,14 @@ function loadPresets() {
 // Returns the signatures with which a download is verified, in the order in which they are tried:
 //   1. the built-in signatures, so that an older file with its older signature does not pass for the file of this release;
 //   2. the signature that the visitor added for the file, or the signatures in the link if there is none.
-// If some of the built-in signatures are for the name of the file, only these are returned (isNamed is true), otherwise all of them. The
-// same holds for the signatures in the link.
+// If some of the built-in signatures are for the name of the file, only these are returned (isNamed is true), otherwise
+// all of them. The same holds for the signatures in the link.
 function signaturesOf({name, signature}) {
   const presetsFor = isBuiltIn => {
     const all = presetSignatures.filter(each => each.isBuiltIn === isBuiltIn);
-    const named = all.filter(each => each.names.some(other => isAlikeName(other, name)));
-    const isNamed = named.length > 0;
-    return (isNamed ? named : all).map(({file}) => ({file, isBuiltIn, isNamed}));
+    const matches = all.filter(each => each.names.some(other => isSimilarName(other, name)));
+    const isNamed = matches.length > 0;
+    return (isNamed ? matches : all).map(({file}) => ({file, isBuiltIn, isNamed}));
   };
   return [...presetsFor(true), ...(signature ? [{file: signature, isBuiltIn: false, isNamed: true}] : presetsFor(false))];
 }
@@ -217,7 +218,8 @@ async function bytesOfTextFile(file) {
   return file.size < TEXT_BYTES ? await Promise.race([bytesOfFile(file, 0, file.size), timeout]) : null;
 }
 
-// Returns the kind of a file: a result of kindOfText other than "", or "data". If the text does not show the kind, the name decides.
+// Returns the kind of a file: a result of kindOfText other than "", or "data". If the text does not show the
+// kind, the name decides.
 async function kindOfFile(file) {
   const bytes = await bytesOfTextFile(file);
   const kind = bytes === null ? "" : kindOfText(new TextDecoder().decode(bytes));
@@ -244,8 +246,8 @@ function queueFiles(files, hasDirectories = false) {
   queueAction(() => takeFiles(files, hasDirectories), ({name}) => names.has(bareName(name)));
 }
 
-// Adds files that were chosen or dropped together. Each is a public key, a signature or a download. If there is exactly one download
-// and one signature, they belong together, whatever their names are.
+// Adds files that were chosen or dropped together. Each is a public key, a signature or a download. If there is exactly
+// one download and one signature, they belong together, whatever their names are.
 async function takeFiles(files, hasDirectories = false) {
   clearMessages();
   if (hasDirectories) {
@@ -301,16 +303,16 @@ function takeSignatureText(typed) {
   }
 }
 
-// Returns the download to which a pasted signature belongs, if any. Only downloads without a signature, or with the signature that was
-// pasted before, are considered: the only one with a signed name; or else the only one for which no signature was ever pasted; or else
-// the one for which a signature was pasted last.
+// Returns the download to which a pasted signature belongs, if any. Only downloads without a signature, or with the
+// signature that was pasted before, are considered: the only one with a signed name; or else the only one for which no
+// signature was ever pasted; or else the one for which a signature was pasted last.
 function downloadOfPasted(text) {
   const names = namesIn(text);
-  const free = [...downloads.values()].filter(download => !download.signature || hasPastedSignature(download));
-  const named = free.filter(({name}) => names.some(other => isAlikeName(name, other)));
-  const [fresh, otherFresh] = free.filter(({pastedAt}) => pastedAt === 0);
-  const [last] = free.filter(({pastedAt}) => pastedAt > 0).sort((one, other) => other.pastedAt - one.pastedAt);
-  return named.length === 1 ? named[0] : fresh && !otherFresh ? fresh : last;
+  const choices = [...downloads.values()].filter(download => !download.signature || hasPastedSignature(download));
+  const matches = choices.filter(({name}) => names.some(other => isSimilarName(name, other)));
+  const [unpasted, otherUnpasted] = choices.filter(({pastedAt}) => pastedAt === 0);
+  const [last] = choices.filter(({pastedAt}) => pastedAt > 0).sort((one, other) => other.pastedAt - one.pastedAt);
+  return matches.length === 1 ? matches[0] : unpasted && !otherUnpasted ? unpasted : last;
 }
 
 // Removes the signature of a download, and the download itself if it has no data.
@@ -323,14 +325,14 @@ function removeSignature(download) {
   }
 }
 
-// Pairs files that have no signature with signatures that have no file, if their names are alike. If there is only one of each, they are
-// paired whatever their names are, unless the page or its link has signatures.
+// Pairs files that have no signature with signatures that have no file, if their names are alike. If there is only one
+// of each, they are paired whatever their names are, unless the page or its link has signatures.
 function pairLoneParts() {
   const files = downloadsWithout("signature");
   const signatures = downloadsWithout("data");
   const isPair = files.length === 1 && signatures.length === 1 && presetSignatures.length === 0;
   for (const lone of signatures) {
-    const file = files.find(other => !other.signature && (isPair || isAlikeName(other.name, lone.name)));
+    const file = files.find(other => !other.signature && (isPair || isSimilarName(other.name, lone.name)));
     if (file) {
       takeDownload(lone.signature, file.name, "signature");
       remove(lone);
@@ -349,7 +351,9 @@ async function takeKeysAmongFiles(files) {
     // If the key is preset (see hideUnneeded), it is shown below the other parts of the page.
     const side = byId("key").nextElementSibling ? "above" : "below";
     for (const file of files) {
-      const reason = key ? [`this page uses the key ${side}, `, codeBox(key.keyId), "."] : [`the text in the field ${side} ${NO_KEY_IN_FIELD}`];
+      const reason = key
+        ? [`this page uses the key ${side}, `, codeBox(key.keyId), "."]
+        : [`the text in the field ${side} ${NO_KEY_IN_FIELD}`];
       addFilesMessage(nameBox(file.name), " came with the files and was ignored: ", ...reason);
     }
   } else if (files.length > 1) {
@@ -429,7 +433,8 @@ function stop(download) {
   download.run?.stop();
 }
 
-// Returns an object for a verification that can be stopped at any time: `stop` stops it, and `stopped` is a promise that then resolves.
+// Returns an object for a verification that can be stopped at any time: `stop` stops it, and `stopped` is a
+// promise that then resolves.
 function beginRun() {
   const run = {isStopped: false, key};
   run.stopped = new Promise(resolve => {
@@ -444,7 +449,7 @@ function reviewAll() {
   byId("nothing").hidden = downloads.size > 0;
   byId("clear").hidden = downloads.size === 0;
   showBand();
-  work();
+  verifyAll();
 }
 
 // Returns the PARTS that a download lacks.
@@ -453,8 +458,9 @@ function missingParts(download) {
   return PARTS.filter((_, at) => isMissing[at]);
 }
 
-// Removes from `unverified` the next download that can be verified, and returns it, or undefined if there is none. Downloads that an
-// unfinished action may change are skipped. Downloads that lack a part are removed too: renew adds them again when they get it.
+// Removes from `unverified` the next download that can be verified, and returns it, or undefined if there is none.
+// Downloads that an unfinished action may change are skipped. Downloads that lack a part are removed too: renew adds
+// them again when they get it.
 function nextUnverified() {
   for (const download of unverified) {
     if (!isBlocked(download)) {
@@ -468,7 +474,7 @@ function nextUnverified() {
 }
 
 // Verifies the downloads one after another, because they share the buffers of one library.
-async function work() {
+async function verifyAll() {
   if (isWorking) {
     return;
   }
@@ -500,16 +506,17 @@ function rejectedVerdict(number, keyIds) {
   return {verdict, why: REASONS.get(number) ?? WENT_WRONG, number, keyIds};
 }
 
-// Returns the verdict on a download by its first valid signature, or a combined one if none is valid, or null if the run was stopped. A
-// verdict is an object with these properties, and further ones for some kinds of verdicts:
+// Returns the verdict on a download by its first valid signature, or a combined one if none is valid, or null if the
+// run was stopped. A verdict is an object with these properties, and further ones for some kinds of verdicts:
 //   verdict   a key of VERDICTS
-//   number    the error number of the library, which is 0 for a valid signature or list, and undefined if the library was not called
+//   number    the error number of the library, which is 0 for a valid signature or list, and undefined if the library
+//             was not called
 //   why       the reason, if no signature or list is valid
 //   comment   the trusted comment, if a signature or a list is valid
 async function verdictOn(download, run) {
   const signatures = signaturesOf(download);
   const lists = listsFor(download);
-  const failed = [];
+  const failures = [];
   const isRelease = BUILT_IN_LIST.length > 0 || signatures[0]?.isBuiltIn === true;
   const hashes = new Set(lists.flatMap(({entries}) => entries.map(({hash}) => hash)));
   const reading = new Reading(download.data, ["blake2b", ...hashes]);
@@ -530,20 +537,20 @@ async function verdictOn(download, run) {
       const asList = await readAsList(download.data.name, reading.smallData, signature.file, verdict.comment);
       return {...signedVerdict(verdict, download, signature.isBuiltIn, isRelease), asList};
     }
-    failed.push({...verdict, ...signature});
+    failures.push({...verdict, ...signature});
     // Other signatures do not help if the file cannot be read, or if this signature is for the file but its comment was changed.
     if (verdict.number === undefined || verdict.number === COMMENT_NOT_SIGNED) {
       return verdict;
     }
   }
-  const verdict = failedVerdict(failed, isRelease);
+  const verdict = failedVerdict(failures, isRelease);
   download.tried = verdict.file ?? null;
   return verdict;
 }
 
-// Returns the verdict on a download with a valid signature. It is good only if the file has the signed name and, on the page of a
-// release, the signature is built in. inexactNames are those signed names that differ from the name of the file. otherNames are those
-// that differ even if the suffix that a browser adds is removed.
+// Returns the verdict on a download with a valid signature. It is good only if the file has the signed name and, on the
+// page of a release, the signature is built in. inexactNames are those signed names that differ from the name of the
+// file. otherNames are those that differ even if the suffix that a browser adds is removed.
 function signedVerdict(verdict, {data, tried}, isBuiltIn, isRelease) {
   const namesInComment = fieldsOfComment(verdict.comment).names;
   const names = isBuiltIn && namesInComment.length === 0 ? [downloadName(tried.name)] : namesInComment;
@@ -554,13 +561,13 @@ function signedVerdict(verdict, {data, tried}, isBuiltIn, isRelease) {
   return {...verdict, verdict: finalVerdict, inexactNames, otherNames};
 }
 
-// Returns the verdict on a download without a valid signature, from the verdicts by all signatures that were tried. It is the verdict by
-// the signature that came with the file or the link, or else by the built-in signature for the name of the file. If there are several of
-// either kind, no single reason is given.
-function failedVerdict(failed, isRelease) {
-  const unsupported = failed.find(({verdict, isBuiltIn}) => verdict === "unsupported" && isBuiltIn === isRelease);
-  const [given, otherGiven] = failed.filter(({isBuiltIn, isNamed}) => isNamed && !isBuiltIn);
-  const [builtIn, otherBuiltIn] = failed.filter(({isBuiltIn, isNamed}) => isNamed && isBuiltIn);
+// Returns the verdict on a download without a valid signature, from the verdicts by all signatures that were tried. It
+// is the verdict by the signature that came with the file or the link, or else by the built-in signature for the name
+// of the file. If there are several of either kind, no single reason is given.
+function failedVerdict(failures, isRelease) {
+  const unsupported = failures.find(({verdict, isBuiltIn}) => verdict === "unsupported" && isBuiltIn === isRelease);
+  const [given, otherGiven] = failures.filter(({isBuiltIn, isNamed}) => isNamed && !isBuiltIn);
+  const [builtIn, otherBuiltIn] = failures.filter(({isBuiltIn, isNamed}) => isNamed && isBuiltIn);
   if (unsupported) {
     return unsupported;
   }
@@ -571,11 +578,11 @@ function failedVerdict(failed, isRelease) {
   if (builtIn && !otherBuiltIn) {
     return builtIn;
   }
-  return failed.length === 1 ? failed[0] : {verdict: "bad", why: NONE_FITS};
+  return failures.length === 1 ? failures[0] : {verdict: "bad", why: NONE_FITS};
 }
 
-// Reads and hashes the data of a download. Reading takes much longer than checking a signature, so the data is read only once for all
-// prehashed signatures and lists, and at most once more for all legacy signatures, which need the data itself.
+// Reads and hashes the data of a download. Reading takes much longer than checking a signature, so the data is read only
+// once for all prehashed signatures and lists, and at most once more for all legacy signatures, which need the data itself.
 //   states      the states of all hash functions in use, by their names
 //   legacyData  the pieces of the data, if a legacy signature needs them, otherwise null
 //   smallData   the pieces of the data, if it is small enough for a list, otherwise null
@@ -635,19 +642,19 @@ async function verdictBySignature(signature, download, run, reading) {
     return {verdict: "bad", why: "The signature file cannot be read, or is too large to be a signature. Get the signature again."};
   }
   // The key and the signature are checked before any data is read.
-  const read = library.readSignature(text), keyIds = {publicKeyId: run.key.keyId, signatureKeyId: read.keyId};
-  if (read.number !== 0) {
-    return rejectedVerdict(read.number, keyIds);
+  const fields = library.readSignature(text), keyIds = {publicKeyId: run.key.keyId, signatureKeyId: fields.keyId};
+  if (fields.number !== 0) {
+    return rejectedVerdict(fields.number, keyIds);
   }
-  const verification = new Verification(library, run.key.bytes, read, data.size <= MAX_LEGACY_BYTES);
+  const verification = new Verification(library, run.key.bytes, fields, data.size <= MAX_LEGACY_BYTES);
   if (verification.number !== 0) {
     return rejectedVerdict(verification.number, keyIds);
   }
-  const isRead = await readDownload(download, run, reading, read.isLegacy);
+  const isRead = await readDownload(download, run, reading, fields.isLegacy);
   if (isRead !== true) {
     return isRead;
   }
-  verification.takeFed(reading.states.blake2b, reading.legacyData ?? []);
+  verification.takeState(reading.states.blake2b, reading.legacyData ?? []);
   const {number, isDataValid} = await verification.end();
   if (number === 0) {
     return {verdict: "good", number, keyIds, comment: verification.comment()};

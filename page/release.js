@@ -1,11 +1,12 @@
 // SPDX-License-Identifier: MIT
-// Shows the files of the release for which the page was built. Also saves a copy of this page for another project, with the same bytes as
-// page/build.py would build it.
+// Shows the files of the release for which the page was built. Also saves a copy of this page for another project, with
+// the same bytes as page/build.py would build it.
 
 // A safe link contains only these characters. page/build.py has the same rules for links, titles and names.
 const LINK = /^[\w.~:/?#[\]@!$&'()*+,;=%-]+$/;
 // A character that a title or a name must not contain, because it is invisible or changes the direction of other text.
-const MISLEADING_CHARACTER = /[\u0000-\u001f\u007f-\u009f\u00ad\u061c\u180e\u200b-\u200f\u2028-\u202e\u2060-\u206f\ufeff\ufff9-\ufffb]/;
+const MISLEADING_CHARACTER =
+  /[\u0000-\u001f\u007f-\u009f\u00ad\u061c\u180e\u200b-\u200f\u2028-\u202e\u2060-\u206f\ufeff\ufff9-\ufffb]/;
 
 // Returns true if a link contains only safe characters, and is relative or begins with https and names a host.
 function isSafeLink(link) {
@@ -15,8 +16,8 @@ function isSafeLink(link) {
   return LINK.test(link) && hasSafeTarget;
 }
 
-// Returns the name of the file of a release that a signature is for: the name in its trusted comment if there is exactly one, otherwise
-// the name of the signature file without .minisig.
+// Returns the name of the file of a release that a signature is for: the name in its trusted comment if there is
+// exactly one, otherwise the name of the signature file without .minisig.
 function nameInRelease(signatureName, signatureText) {
   const names = namesIn(signatureText);
   return names.length === 1 ? withoutDirectories(names[0]) : downloadName(signatureName);
@@ -46,14 +47,16 @@ function listRelease() {
     byId("release-files").append(row);
   }
   const words = [name, version].filter(each => each !== "").map(each => untranslated("bdi", "", ...textNodes(each)));
-  byId("release-head").append("Files of ", ...words.length > 0 ? words.flatMap(each => [each, " "]).slice(0, -1) : ["this release"]);
+  byId("release-head").append("Files of ", ...words.length > 0
+    ? words.flatMap(each => [each, " "]).slice(0, -1)
+    : ["this release"]);
   byId("release").hidden = releaseFiles.length === 0;
   showRelease([]);
 }
 
-// Shows the state of each file of the release. A file is "good" if a download is verified by the signature of this file, or as its entry
-// in the list. Otherwise the state is the worst verdict of the downloads that have the name of the file, and of those for which its
-// signature or its entry is valid although they have another name.
+// Shows the state of each file of the release. A file is "good" if a download is verified by the signature of this
+// file, or as its entry in the list. Otherwise the state is the worst verdict of the downloads that have the name of
+// the file, and of those for which its signature or its entry is valid although they have another name.
 function showRelease(all) {
   for (const {releaseName, signature, row, state} of releaseFiles) {
     const isFor = ({tried, listedNames}) => signature ? tried === signature : listedNames.includes(releaseName);
@@ -75,8 +78,8 @@ function showRelease(all) {
 let pageSource;
 let pageScript;
 
-// Stores the page as page/build.py wrote it. Has to be called before the script changes the page, and while nothing after the script has
-// been parsed.
+// Stores the page as page/build.py wrote it. Has to be called before the script changes the page, and while nothing
+// after the script has been parsed.
 function keepSource(script) {
   const doctype = "<!doctype html>";
   const sourceOf = node => node.nodeType === Node.COMMENT_NODE ? `<!--${node.data}-->` : node.outerHTML ?? doctype;
@@ -86,8 +89,8 @@ function keepSource(script) {
 
 // Returns the line of the script that defines a constant, as page/build.py writes it.
 function constantLine(name, value) {
-  const code = unit => `\\u${unit.charCodeAt(0).toString(16).padStart(4, "0")}`;
-  return `const ${name} = ${JSON.stringify(value).replace(/[<\u007f-\uffff]/g, code)};`;
+  const escapeOf = unit => `\\u${unit.charCodeAt(0).toString(16).padStart(4, "0")}`;
+  return `const ${name} = ${JSON.stringify(value).replace(/[<\u007f-\uffff]/g, escapeOf)};`;
 }
 
 async function sha256Base64(text) {
@@ -95,7 +98,8 @@ async function sha256Base64(text) {
   return btoa(String.fromCharCode(...new Uint8Array(hash)));
 }
 
-// Returns this page with other values of these constants and another title. The content security policy gets the hash of the new script.
+// Returns this page with other values of these constants and another title. The content security policy gets
+// the hash of the new script.
 async function pageWith(constants, title) {
   const script = Object.entries(constants).reduce((text, [name, value]) =>
     text.replace(new RegExp(`^const ${name} = .*;$`, "m"), () => constantLine(name, value)), pageScript);
@@ -107,10 +111,10 @@ async function pageWith(constants, title) {
 // Thrown for input from which no page can be made. The visitor sees the message.
 class InvalidInput extends Error {}
 
-// Returns a text, which the message calls `what`, if it has no misleading characters.
-function checkText(text, what) {
+// Returns a text, which the message calls `label`, if it has no misleading characters.
+function checkText(text, label) {
   if (MISLEADING_CHARACTER.test(text)) {
-    throw new InvalidInput(`${what} contains a character that is invisible or changes the direction of text.`);
+    throw new InvalidInput(`${label} contains a character that is invisible or changes the direction of text.`);
   }
   return text;
 }
@@ -120,8 +124,8 @@ function compareNames([name], [other]) {
   return name < other ? -1 : name > other ? 1 : 0;
 }
 
-// Reads a signed list and its signature from the files that the visitor has chosen. Returns the value of BUILT_IN_LIST and the names in the
-// list. If the files are only signatures, both are empty.
+// Reads a signed list and its signature from the files that the visitor has chosen. Returns the value of BUILT_IN_LIST
+// and the names in the list. If the files are only signatures, both are empty.
 async function projectList(files) {
   const list = files.find(({name}) => !name.endsWith(SIGNATURE_ENDING));
   if (!list) {
@@ -129,16 +133,17 @@ async function projectList(files) {
   }
   const signature = files.find(({name}) => name === list.name + SIGNATURE_ENDING);
   if (!signature || files.length !== 2) {
-    throw new InvalidInput(`${escaped(list.name)} is not a signature file. If it is a signed list, add only the list and its signature.`);
+    throw new InvalidInput(`${escaped(list.name)} is not a signature file. ` +
+      "If it is a signed list, add only the list and its signature.");
   }
   const bytes = list.size <= MAX_LIST_BYTES ? await bytesOfFile(list, 0, list.size) : null;
   const signatureBytes = await bytesOfTextFile(signature);
-  const read = bytes && signatureBytes && await readList(list.name, bytes, signatureBytes);
-  if (read?.number !== 0) {
-    throw new InvalidInput(`${escaped(list.name)} cannot be used as a list. ${read ? listReason(read) : ""}`);
+  const result = bytes && signatureBytes && await readList(list.name, bytes, signatureBytes);
+  if (result?.number !== 0) {
+    throw new InvalidInput(`${escaped(list.name)} cannot be used as a list. ${result ? listReason(result) : ""}`);
   }
   const texts = [bytes, signatureBytes].map(text => new TextDecoder("utf-8", {ignoreBOM: true}).decode(text));
-  return {texts: [list.name, ...texts], names: read.entries.map(({name}) => name)};
+  return {texts: [list.name, ...texts], names: result.entries.map(({name}) => name)};
 }
 
 // Returns the names and texts of signature files with the key ID of the page's key, sorted by name.
@@ -146,11 +151,11 @@ async function projectSignatures(files) {
   const signatures = [];
   for (const file of files) {
     const bytes = await bytesOfTextFile(file);
-    const read = bytes === null ? null : library.readSignature(bytes);
-    if (!file.name.endsWith(SIGNATURE_ENDING) || read?.number !== 0) {
+    const fields = bytes === null ? null : library.readSignature(bytes);
+    if (!file.name.endsWith(SIGNATURE_ENDING) || fields?.number !== 0) {
       throw new InvalidInput(`${escaped(file.name)} is not a signature file whose name ends in ${SIGNATURE_ENDING}.`);
     }
-    if (read.keyId !== key.keyId) {
+    if (fields.keyId !== key.keyId) {
       throw new InvalidInput(`${escaped(file.name)} was made with another key.`);
     }
     if (signatures.some(([name]) => name === file.name)) {
@@ -161,13 +166,14 @@ async function projectSignatures(files) {
   return signatures.sort(compareNames);
 }
 
-// Parses lines of the form "NAME ADDRESS", where NAME is one of `names`, the files of the release. Returns pairs of name and address,
-// sorted by name.
+// Parses lines of the form "NAME ADDRESS", where NAME is one of `names`, the files of the release. Returns pairs of
+// name and address, sorted by name.
 function projectLinks(text, names) {
   const links = linesOf(text).filter(line => line !== "").map(line => {
     const [, name, link] = /^(.*\S)\s+(\S+)$/.exec(line) ?? [];
     if (!names.includes(name)) {
-      throw new InvalidInput(`The line “${escaped(line)}” does not begin with the name of a file whose signature you have added.`);
+      throw new InvalidInput(`The line “${escaped(line)}” does not begin with the name of a file whose signature ` +
+        "you have added.");
     }
     if (!isSafeLink(link)) {
       throw new InvalidInput(`The address “${escaped(link)}” has to begin with https or be relative.`);
@@ -200,7 +206,12 @@ async function projectPage() {
   if (files.length === 0 && (name || version)) {
     throw new InvalidInput("Add the signatures of the release, or leave its name and version empty.");
   }
-  const constants = {BUILT_IN_KEY: base64, BUILT_IN_SIGNATURES: signatures, BUILT_IN_LIST: list.texts, BUILT_IN_RELEASE: {name, version, links}};
+  const constants = {
+    BUILT_IN_KEY: base64,
+    BUILT_IN_SIGNATURES: signatures,
+    BUILT_IN_LIST: list.texts,
+    BUILT_IN_RELEASE: {name, version, links},
+  };
   return pageWith(constants, title);
 }
 

@@ -18,7 +18,8 @@ function verdictBox(verdict, ...more) {
 // The maximum number of files that the band names. page.css cuts off names for which there is no space.
 const MAX_NAMED_FILES = 20;
 
-// The element of a download's row has data-verdict, a key of VERDICTS, and data-number, the error number of the library if there is one.
+// The element of a download's row has data-verdict, a key of VERDICTS, and data-number, the error number of
+// the library if there is one.
 function verdictOf({row}) {
   return row.dataset.verdict;
 }
@@ -28,8 +29,8 @@ function isSigned({row}) {
   return row.dataset.number === "0";
 }
 
-// Shows in the band the worst verdict, the files that have it, and the next step. Also updates all else that depends on all downloads:
-// the order of the rows, the notice about the key, and the files of the release.
+// Shows in the band the worst verdict, the files that have it, and the next step. Also updates all else that depends on
+// all downloads: the order of the rows, the notice about the key, and the files of the release.
 function showBand() {
   const all = [...downloads.values()];
   const verdicts = new Set(all.map(verdictOf));
@@ -51,17 +52,17 @@ function showBand() {
   byId("band").replaceChildren(element("p", "", verdictBox(worst, `${count}: `, ...namesOf(files))), element("p", "", step));
 }
 
-// Moves the rows of bad files to the beginning of the list. Among bad files, and among others, the rows are in the order in which the
-// files were added. If the element with the focus is moved, it keeps the focus.
+// Moves the rows of bad files to the beginning of the list. Among bad files, and among others, the rows are in the
+// order in which the files were added. If the element with the focus is moved, it keeps the focus.
 function orderRows(all) {
   const isBad = download => verdictOf(download) === "bad";
   const focused = document.activeElement;
-  let next = byId("verdicts").firstChild;
+  let nextRow = byId("verdicts").firstChild;
   for (const {row} of [...all.filter(isBad), ...all.filter(download => !isBad(download))]) {
-    if (row === next) {
-      next = row.nextSibling;
+    if (row === nextRow) {
+      nextRow = row.nextSibling;
     } else {
-      byId("verdicts").insertBefore(row, next);
+      byId("verdicts").insertBefore(row, nextRow);
     }
   }
   if (byId("verdicts").contains(focused)) {
@@ -105,8 +106,8 @@ let drawTimer;
 // The row that has to be scrolled into view after all rows were drawn, or null.
 let rowToView = null;
 
-// Schedules the drawing of a row, at least `delay` milliseconds after rows were last drawn. The more rows there are, the less often they
-// are drawn.
+// Schedules the drawing of a row, at least `delay` milliseconds after rows were last drawn. The more rows there are,
+// the less often they are drawn.
 function draw(download, drawRow, delay = 0) {
   pendingDraws.set(download, drawRow);
   clearTimeout(drawTimer);
@@ -123,14 +124,14 @@ function drawAll() {
   drawnAt = performance.now();
 }
 
-// Replaces the content of a row by a heading with the verdict and the name, and these nodes. If an element of the row had the focus, the
-// button in the row gets the focus, or the row itself if it has no button.
-function fillRow(download, verdict, ...inside) {
+// Replaces the content of a row by a heading with the verdict and the name, and these nodes. If an element of the row
+// had the focus, the button in the row gets the focus, or the row itself if it has no button.
+function fillRow(download, verdict, ...nodes) {
   const {row} = download;
   const hadFocus = row.contains(document.activeElement);
   row.dataset.verdict = verdict;
   delete row.dataset.number;
-  row.replaceChildren(element("h3", "", verdictBox(verdict), " ", nameBox(download.name)), ...inside);
+  row.replaceChildren(element("h3", "", verdictBox(verdict), " ", nameBox(download.name)), ...nodes);
   if (hadFocus) {
     row.tabIndex = -1;
     (row.querySelector("button") ?? row).focus();
@@ -145,7 +146,8 @@ function showWaiting(download) {
     ["signature", ["Its signature is missing. Choose or drop ", nameBox(download.name + SIGNATURE_ENDING), "."]],
     ["public key", ["The public key is missing. Paste it, or choose its file."]],
   ]);
-  const [state, lines] = isBlocked(download) ? ["queued", [["It will be verified once this page has read the files that you added last."]]]
+  const [state, lines] = isBlocked(download)
+    ? ["queued", [["It will be verified once this page has read the files that you added last."]]]
     : missing.length === 0 ? ["queued", [["It will be verified after the files before it."]]]
       : ["waiting", missing.map(part => linesOfParts.get(part))];
   fillRow(download, state, partsLine(download), ...lines.map(line => element("p", "", ...line)));
@@ -173,23 +175,24 @@ function stopByHand(download) {
   announce(download, `${VERDICTS.get("stopped")[1]}.`);
 }
 
-// Shows a verdict. A valid signature by a key from a source that is not trusted is "unchecked" instead of "good". The row is scrolled
-// into view if this is the first verdict that the action of the visitor caused, or the first bad one.
+// Shows a verdict. A valid signature by a key from a source that is not trusted is "unchecked" instead of "good". The
+// row is scrolled into view if this is the first verdict that the action of the visitor caused, or the first bad one.
 function showVerdict(download, verdict, source) {
   const {why, number, keyIds, comment, otherNames = []} = verdict;
   const hasComment = comment !== undefined;
   const name = hasComment && !KEY_SOURCES.get(source.kind).isTrusted ? "unchecked" : verdict.verdict;
   const warning = name === "unlisted" ? UNLISTED : "";
   fillRow(download, name, ...(warning ? [element("p", "caution", warning)] : []), partsLine(download),
-    ...(hasComment ? signedLines(verdict, source) : rejectionLines(verdict)), ...(name === "unsupported" ? commandLines(download) : []),
-    ...listLines(verdict));
+    ...(hasComment ? signedLines(verdict, source) : rejectionLines(verdict)),
+    ...(name === "unsupported" ? commandLines(download) : []), ...listLines(verdict));
   if (number !== undefined) {
     download.row.dataset.number = number;
   }
   const [, words] = VERDICTS.get(name);
-  const before = verdict.listName === undefined ? "The signature is for a file named" : "The name of this file in the list is";
-  const names = otherNames.map(other => `${before} ${escaped(other)}.`);
-  announce(download, [`${words}.`, hasComment ? `The key is ${keyIds.publicKeyId}.` : why, warning, ...names].filter(each => each).join(" "));
+  const prefix = verdict.listName === undefined ? "The signature is for a file named" : "The name of this file in the list is";
+  const names = otherNames.map(other => `${prefix} ${escaped(other)}.`);
+  const sentences = [`${words}.`, hasComment ? `The key is ${keyIds.publicKeyId}.` : why, warning, ...names];
+  announce(download, sentences.filter(each => each).join(" "));
   const {action, row} = download;
   const isFirstBad = name === "bad" && !action.hasBad;
   if (!action.hasVerdict || isFirstBad) {
@@ -202,12 +205,13 @@ function showVerdict(download, verdict, source) {
 // A file name that a shell takes as one word, and that a program does not take as an option.
 const PLAIN_NAME = /^[A-Za-z0-9_][A-Za-z0-9_.+-]*$/;
 
-// Returns the paragraphs with the command that verifies a file which this page cannot verify. The command has FILE instead of a name
-// that a shell may misinterpret.
+// Returns the paragraphs with the command that verifies a file which this page cannot verify. The command has FILE
+// instead of a name that a shell may misinterpret.
 function commandLines({name, tried}) {
   const file = PLAIN_NAME.test(name) ? name : "FILE";
   const signature = tried?.name ?? "";
-  const option = signature === name + SIGNATURE_ENDING ? "" : ` -x ${PLAIN_NAME.test(signature) ? signature : `FILE${SIGNATURE_ENDING}`}`;
+  const option = signature === name + SIGNATURE_ENDING ? ""
+    : ` -x ${PLAIN_NAME.test(signature) ? signature : `FILE${SIGNATURE_ENDING}`}`;
   return [element("p", "", "In the folder of the file and its signature, run:"),
     element("p", "", codeBox(`minisign -Vm ${file}${option} -P ${key.base64}`))];
 }
@@ -215,12 +219,13 @@ function commandLines({name, tried}) {
 // Returns the elements that explain the verdict on a file with a valid signature, or in a valid list.
 function signedLines(verdict, source) {
   const {keyIds, comment, inexactNames = [], otherNames, listName} = verdict;
-  const what = listName === undefined ? "file" : "list";
-  const first = listName !== undefined ? listedLine(verdict, source)
-    : element("p", "", "This file is exactly what was signed with the key ", codeBox(keyIds.publicKeyId), ", ", ...sourceNodes(source), ".");
+  const kind = listName === undefined ? "file" : "list";
+  const intro = listName !== undefined ? listedLine(verdict, source)
+    : element("p", "", "This file is exactly what was signed with the key ", codeBox(keyIds.publicKeyId), ", ",
+      ...sourceNodes(source), ".");
   const names = inexactNames.map(name => nameLine(name, otherNames.includes(name)));
   if (comment === "") {
-    return [first, ...names, element("p", "", `The trusted comment, which was signed with the ${what}, is empty.`)];
+    return [intro, ...names, element("p", "", `The trusted comment, which was signed with the ${kind}, is empty.`)];
   }
   const box = untranslated("div", "comment", ...textNodes(comment));
   box.tabIndex = 0;
@@ -228,7 +233,7 @@ function signedLines(verdict, source) {
   box.ariaLabel = "Trusted comment";
   const {time} = fieldsOfComment(comment);
   return [
-    first, ...names, element("p", "", `The trusted comment, which was signed with the ${what}:`), box,
+    intro, ...names, element("p", "", `The trusted comment, which was signed with the ${kind}:`), box,
     ...(time ? [element("p", "", `According to the signer's clock, it was signed on ${time}.`)] : []),
   ];
 }
