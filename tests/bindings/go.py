@@ -38,6 +38,7 @@ import static_library
 import test_script
 from mutants import mutants_of
 from shared_cases import TOP, Program, read, run, symbols_of, write
+from wine import Wine
 
 PACKAGE = os.path.join(TOP, "bindings", "go")
 # The files that tools/bindings.py generates.
@@ -129,7 +130,7 @@ class Go:
     def run(self, directory, *words, **environment):
         return static_library.run_or_fail([self.go, *words], directory, **{**self.environment, **environment})
 
-    def begin(self, directory, package):
+    def create_module(self, directory, package):
         """Creates a module that depends on the package, as README.md says."""
         self.run(directory, "mod", "init", "user")
         self.run(directory, "mod", "edit", "-require=proved/minisign@v0.0.0", f"-replace=proved/minisign={package}")
@@ -137,7 +138,7 @@ class Go:
     def build(self, source, directory, package, *words, **environment):
         """Builds a program that uses the package from a source file of tests/bindings/go, in a new module. Returns its path."""
         os.makedirs(directory)
-        self.begin(directory, package)
+        self.create_module(directory, package)
         shutil.copy(os.path.join(HERE, "go", source), directory)
         self.run(directory, "build", "-o", "program", *words, **environment)
         return os.path.join(directory, "program")
@@ -189,16 +190,16 @@ def compare_results(program, scratch, minisign, cases):
 def verdicts(program):
     """Runs a program of go/changed_fields.go. Returns for each change its name, the error that it has to be rejected with, or
     an empty string, the verdict, and the error text."""
-    output = run([program, *shared_cases.PUBLISHED_PATHS])[1].decode()
-    return re.findall(r"^(.*): (\w*): (true|false), (.*)$", output, re.M)
+    lines = run([program, *shared_cases.PUBLISHED_PATHS])[1].decode()
+    return re.findall(r"^(.*): (\w*): (true|false), (.*)$", lines, re.M)
 
 
 def check_changed(checks, program):
     """Checks that verifying uses the fields of a key and a signature as the caller changed them."""
-    rows, texts = verdicts(program), shared_cases.error_texts()
-    checks.check(len(rows) >= 28, f"only {len(rows)} changes")
-    for name, why, verdict, error in rows:
-        expected = ("false", f"minisign: {texts[why]}") if why else ("true", "<nil>")
+    changes, texts = verdicts(program), shared_cases.error_texts()
+    checks.check(len(changes) >= 28, f"only {len(changes)} changes")
+    for name, error_name, verdict, error in changes:
+        expected = ("false", f"minisign: {texts[error_name]}") if error_name else ("true", "<nil>")
         checks.check((verdict, error) == expected, f"changed, {name}: {verdict}, {error}, expected {expected}")
 
 
@@ -207,27 +208,28 @@ def check_go_minisign(checks, go, scratch, program):
     in the tables, and that each row of the tables is needed."""
     cases = shared_cases.corpus() + shared_cases.damaged_cases(DAMAGED_COUNT) + [case for case, _ in shared_cases.vector_files()]
     go_minisign = Program(checks, go.build_with_go_minisign("verdicts.go", f"{scratch}/verdicts"))
-    ours, theirs = (each.run("verify", cases=cases)[1].decode().splitlines() for each in (program, go_minisign))
+    our_lines, their_lines = (verifier.run("verify", cases=cases)[1].decode().splitlines() for verifier in (program, go_minisign))
     checks.check(
-        len(ours) == len(theirs) == len(cases) > DAMAGED_COUNT,
-        f"{len(ours)} and {len(theirs)} verdicts on {len(cases)} cases",
+        len(our_lines) == len(their_lines) == len(cases) > DAMAGED_COUNT,
+        f"{len(our_lines)} and {len(their_lines)} verdicts on {len(cases)} cases",
     )
     differences = set()
-    for case, our_line, their_line in zip(cases, ours, theirs):
+    for case, our_line, their_line in zip(cases, our_lines, their_lines):
         if our_line.startswith("accepted") != their_line.startswith("true"):
             is_ours = our_line.startswith("rejected")
-            why, table = (
+            reason, table = (
                 (our_line.split()[1], REJECTED_ONLY_HERE)
                 if is_ours
                 else (their_line.partition(", ")[2], REJECTED_ONLY_BY_GO_MINISIGN)
             )
-            differences.add(why)
-            checks.check(why in table and table[why](case), f"{case.name}: this module: {our_line}; go-minisign: {their_line}")
+            differences.add(reason)
+            checks.check(reason in table and table[reason](case),
+                         f"{case.name}: this module: {our_line}; go-minisign: {their_line}")
     checks.check(differences == {*REJECTED_ONLY_HERE, *REJECTED_ONLY_BY_GO_MINISIGN}, f"go-minisign differs in {differences}")
-    rows = verdicts(go.build_with_go_minisign("changed_fields.go", f"{scratch}/their"))
-    checks.check(len(rows) >= 28, f"only {len(rows)} changes with go-minisign")
-    for name, why, verdict, _ in rows:
-        expected = "false" if why and name not in ACCEPTED_BY_GO_MINISIGN else "true"
+    changes = verdicts(go.build_with_go_minisign("changed_fields.go", f"{scratch}/their"))
+    checks.check(len(changes) >= 28, f"only {len(changes)} changes with go-minisign")
+    for name, reason, verdict, _ in changes:
+        expected = "false" if reason and name not in ACCEPTED_BY_GO_MINISIGN else "true"
         checks.check(verdict == expected, f"changed, {name}: go-minisign says {verdict}, expected {expected}")
 
 
@@ -271,13 +273,13 @@ def check_readme(checks, go, scratch, package, minisign):
     os.makedirs(directory)
     for number, example in enumerate(shared_cases.readme_blocks("go")):
         write(directory, f"example{number}.go", example.encode())
-    go.begin(directory, package)
+    go.create_module(directory, package)
     # Build from the directory `vendor` while the package is moved away.
     go.run(directory, "mod", "vendor")
-    moved = package + "-moved"
-    os.rename(package, moved)
+    moved_package = package + "-moved"
+    os.rename(package, moved_package)
     go.run(directory, "build", "-mod=vendor", "-o", "readme")
-    os.rename(moved, package)
+    os.rename(moved_package, package)
     for app, is_signed, *expected, error in README_CASES:
         write(directory, "app.minisig", b"")
         os.remove(os.path.join(directory, "app.minisig"))
@@ -290,12 +292,7 @@ def check_readme(checks, go, scratch, package, minisign):
     write(directory, "app-3", b"version 3")
     output = go.run(directory, "test", "-mod=mod", "-count=1", "-v", ".")
     checks.check("--- PASS: TestExamples" in output, f"the examples that sign: {output[-800:]}")
-    checks.check(
-        os.stat(os.path.join(directory, "new.key")).st_mode & 0o777 == 0o600,
-        "the mode of the key that the example generates",
-    )
-    verified = run([minisign, "-V", "-Q", "-p", "new.pub", "-m", "app-3"], directory)
-    checks.check(verified[:2] == (0, b"version:3\tfile:app\n"), f"c/minisign verifies what the example has signed: {verified}")
+    shared_cases.check_signed_example(checks, directory, minisign)
 
 
 # ---- Builds ----
@@ -323,17 +320,17 @@ def check_own_tests(checks, go, package):
 
 def check_as_c(checks, go, scratch, package, minisign):
     """Checks the module with the proved functions as C: here, for 32-bit ARM, and for Windows under wine."""
-    windows, mingw = portable.Windows(scratch), needs.program("x86_64-w64-mingw32-gcc", "gcc-mingw-w64-x86-64")
+    windows, mingw = Wine(scratch), needs.program("x86_64-w64-mingw32-gcc", "gcc-mingw-w64-x86-64")
     arm = next(kind for kind in portable.KINDS if kind.debian == "armhf")
-    for what, before, words, environment in (
+    for name, prefix, words, environment in (
             ("as C", [], ["-tags", "portable"], {}),
             ("for ARM", emulated.emulator(arm), UNOPTIMIZED, {"GOOS": "linux", "GOARCH": "arm", "CC": emulated.compiler(arm)}),
             ("for Windows", [windows.program], UNOPTIMIZED, {"GOOS": "windows", "CC": mingw})):
-        program = go.build("verifying.go", os.path.join(scratch, what.replace(" ", "-")), package, *words, **environment)
-        asked = Program(checks, *before, program, name=what, **windows.variables)
-        asked.check_verdicts(minisign, shared_cases.corpus(), (["verify"], True))
-        is_as_c = what == "for Windows" or "machine_minisign_update" in symbols_of(program)
-        checks.check(is_as_c, f"{what}: it is not built from dist/calls.c")
+        program = go.build("verifying.go", os.path.join(scratch, name.replace(" ", "-")), package, *words, **environment)
+        verifier = Program(checks, *prefix, program, name=name, **windows.variables)
+        verifier.check_verdicts(minisign, shared_cases.corpus(), (["verify"], True))
+        is_as_c = name == "for Windows" or "machine_minisign_update" in symbols_of(program)
+        checks.check(is_as_c, f"{name}: it is not built from dist/calls.c")
     windows.end()
     signing = go.build("signing.go", os.path.join(scratch, "signing-as-c"), package, "-tags", "portable")
     check_signing(Program(checks, signing, name="as C"), os.path.join(scratch, "signed-as-c"), minisign, decrypts=False)
@@ -348,17 +345,17 @@ def check_by_git(checks, scratch):
     config = write(scratch, "gitconfig", f'[url "file://{scratch}/"]\n\tinsteadOf = https://example.com/\n'.encode())
     go = Go(scratch, PATH=shared_cases.make_path_directory(scratch, *NEEDED), GIT_CONFIG_GLOBAL=config, GOSUMDB="off",
             GOFLAGS="-mod=mod -modcacherw", GOPROXY="direct")
-    untagged, files = (clone.git("rev-parse", "HEAD", at=repository).strip(), clone.git("ls-files", at=repository))
+    untagged, files = (clone.git("rev-parse", "HEAD", directory=repository).strip(), clone.git("ls-files", directory=repository))
     write(repository, ".git/config", read(repository, ".git/config") + b"[user]\n\tname = Ann\n\temail = ann@example.com\n")
     tags = f" v{shared_cases.VERSION} bindings/go/v{shared_cases.VERSION}\n"
     checks.ended("packaging/tag.sh", process.run(["sh", "packaging/tag.sh"], repository), says=tags)
-    commit, branch = (clone.git("rev-parse", name, at=repository).strip() for name in (f"v{shared_cases.VERSION}", "HEAD"))
-    added = {*clone.git("diff", "--name-only", untagged, commit, at=repository).split()}
+    commit, branch = (clone.git("rev-parse", name, directory=repository).strip() for name in (f"v{shared_cases.VERSION}", "HEAD"))
+    added = {*clone.git("diff", "--name-only", untagged, commit, directory=repository).split()}
     checks.check(
         added and all(re.fullmatch(r"bindings/go/[\w-]+\.[ach]", name) for name in added),
         f"the tagged commit adds {added}",
     )
-    after = branch, clone.git("ls-files", at=repository), clone.git("status", "--porcelain", at=repository)
+    after = branch, clone.git("ls-files", directory=repository), clone.git("status", "--porcelain", directory=repository)
     checks.check((untagged, files, "") == after, "packaging/tag.sh moved the branch or changed its index")
     status, output = process.run(["sh", "packaging/tag.sh"], repository)
     checks.check(status == 1 and "there is a tag" in output, f"a second tag: status {status}: {output}")
@@ -371,8 +368,8 @@ def check_by_git(checks, scratch):
     try:
         go.build("verifying.go", os.path.join(scratch, "without a tag"), f"example.com/repository.git/bindings/go@{untagged}")
         checks.check(False, "a commit without a tag can be built")
-    except static_library.NotBuilt as why:
-        checks.check("archive.h" in str(why), f"a commit without a tag: {why}")
+    except static_library.NotBuilt as error:
+        checks.check("archive.h" in str(error), f"a commit without a tag: {error}")
 
 
 def check_without_cgo(checks, go, scratch, package):
@@ -380,10 +377,10 @@ def check_without_cgo(checks, go, scratch, package):
     environment = {**go.environment, "CGO_ENABLED": "0"}
     error_of = lambda directory: (run([go.go, "build", "."], directory, environment)[2].splitlines() + ["", ""])[1]
     checks.check(NO_CGO in error_of(package), f"without cgo: {error_of(package)}")
-    bare = os.path.join(scratch, "without-sentence")
-    shutil.copytree(package, bare)
-    os.remove(os.path.join(bare, "cgo_needed.go"))
-    checks.check(NO_CGO not in error_of(bare), "without cgo: the sentence is in another file")
+    copied = os.path.join(scratch, "without-sentence")
+    shutil.copytree(package, copied)
+    os.remove(os.path.join(copied, "cgo_needed.go"))
+    checks.check(NO_CGO not in error_of(copied), "without cgo: the sentence is in another file")
 
 
 def with_compiled_c(go, package, scratch):
@@ -399,18 +396,18 @@ def with_compiled_c(go, package, scratch):
 
 def check_mutants(checks, go, package, scratch, minisign):
     """Checks that programs that use the package detect each mutant."""
-    def ask(checks, changed, directory, word):
+    def run_case(checks, changed, directory, case):
         build = lambda name: go.build(f"{name}.go", os.path.join(directory, name), changed, "-ldflags=-s -w")
-        if word == "sign":
+        if case == "sign":
             check_signing(Program(checks, build("signing")), os.path.join(directory, "signed"), minisign)
-        elif word == "lists":
+        elif case == "lists":
             check_lists(Program(checks, build("lists")), os.path.join(directory, "listed"), minisign)
         else:
             compare_results(Program(checks, build("verifying")), directory, minisign, shared_cases.corpus())
             check_changed(checks, build("changed_fields"))
 
     compiled = with_compiled_c(go, package, scratch)
-    shared_cases.check_mutants(checks, compiled, "bindings/go", mutants_of("bindings", "go", "mutants"), scratch, ask)
+    shared_cases.check_mutants(checks, compiled, "bindings/go", mutants_of("bindings", "go", "mutants"), scratch, run_case)
 
 
 def run_all(checks, scratch):
@@ -421,10 +418,10 @@ def run_all(checks, scratch):
 
     def programs(source, name):
         """Builds a program twice: as a user builds it, and with the race detector."""
-        ways = ("", [], Go.OPTIMIZED), ("-racing", ["-race", *UNOPTIMIZED], {})
+        variants = ("", [], Go.OPTIMIZED), ("-racing", ["-race", *UNOPTIMIZED], {})
         paths = [
-            go.build(source, os.path.join(scratch, name + what), package, *words, **environment)
-            for what, words, environment in ways
+            go.build(source, os.path.join(scratch, name + suffix), package, *words, **environment)
+            for suffix, words, environment in variants
         ]
         return [Program(checks, path, name=os.path.basename(os.path.dirname(path))) for path in paths]
 
@@ -435,10 +432,10 @@ def run_all(checks, scratch):
     )
     compare_results(program, scratch, minisign, shared_cases.all_cases(checks, minisign))
     check_errors(program)
-    few = shared_cases.corpus() + shared_cases.damaged_cases(60)
-    program.check_growth(CALLS, CALL_PAGES, few)
-    program.check_threads(few)
-    racing.check_threads(few)
+    few_cases = shared_cases.corpus() + shared_cases.damaged_cases(60)
+    program.check_growth(CALLS, CALL_PAGES, few_cases)
+    program.check_threads(few_cases)
+    racing.check_threads(few_cases)
     signing, racing = programs("signing.go", "signing")
     check_signing(signing, os.path.join(scratch, "signed"), minisign)
     signing.check_growth(KEYS, KEY_PAGES)

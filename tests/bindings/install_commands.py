@@ -31,8 +31,8 @@ from shared_cases import TOP, read, run, write
 CLONE = "minisign-in-rattle"
 # The beginning of commands that are left out, because they change the system.
 LEFT_OUT = "apt install "
-# A user's project in each language: the files that describe it, its program in tests/bindings, the path of that in the
-# project, and the command that runs it.
+# A user's project in each language: the files that describe it, its program in tests/bindings, the path of this program in
+# the project, and the command that runs it.
 USERS = {
     "go": ({"go.mod": "module user\n"}, "installed.go", "main.go", "go run ."),
     "rust": (
@@ -48,12 +48,12 @@ USERS = {
 
 def check_package(checks, package, scratch):
     """Checks that each command of a README succeeds, and that the user's program accepts a signed file and rejects another one."""
-    described, source, place, program = USERS[package]
+    project_files, source, program_path, command = USERS[package]
     readme = os.path.join("bindings", package, "README.md")
     dependencies = "".join(re.findall(r"^```toml\n(.*?)^```$", read(TOP, readme).decode(), re.M | re.S))
-    os.makedirs(os.path.dirname(os.path.join(scratch, place)))
-    shutil.copy(os.path.join(HERE, package, source), os.path.join(scratch, place))
-    for name, text in described.items():
+    os.makedirs(os.path.dirname(os.path.join(scratch, program_path)))
+    shutil.copy(os.path.join(HERE, package, source), os.path.join(scratch, program_path))
+    for name, text in project_files.items():
         write(scratch, name, (text + dependencies).encode())
     shutil.copy(shared_cases.PUBLISHED_PATHS[2], os.path.join(scratch, "app.minisig"))
     os.symlink(os.path.join("..", CLONE), os.path.join(scratch, CLONE))
@@ -83,7 +83,7 @@ def check_package(checks, package, scratch):
             )
     for data, expected in ((b"test", "true\n"), (b"another", "false\n")):
         write(scratch, "app", data)
-        status, output, errors = run(["sh", "-c", program], scratch, environment)
+        status, output, errors = run(["sh", "-c", command], scratch, environment)
         is_right = (status, output.decode()) == (0, expected)
         checks.check(is_right, f"{package}: the user's program with the data {data}: {status}, {output}, {errors[-800:]}")
 
@@ -109,8 +109,8 @@ def run_all(checks, scratch):
             print("skipped: the commands for JavaScript: there is no npm")
         else:
             check_package(checks, package, os.path.join(scratch, package))
-    changed = clone.git("status", "--porcelain", at=os.path.join(scratch, CLONE))
-    checks.check(not changed, f"the commands change files in the clone: {changed}")
+    git_status = clone.git("status", "--porcelain", directory=os.path.join(scratch, CLONE))
+    checks.check(not git_status, f"the commands change files in the clone: {git_status}")
 
 
 if __name__ == "__main__":

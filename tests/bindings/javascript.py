@@ -74,8 +74,9 @@ CALLS, CALL_GROWTH = 5_000, 800_000
 KEYS, KEY_GROWTH = 1_000, 16 * 1048576
 # The cases of streams.mjs. Each runs in a separate process, because an error event without a listener ends the process.
 STREAMS = (
-    "aborted", "cancelled", "descriptors", "late", "event", "both", "absent", "opening", "begun", "between", "web",
-    "accepted",
+    "stopsWhenSignalAborts", "cancelsWebStreams", "closesOpenFiles", "ignoresErrorAfterRejection", "rejectsAfterErrorEvent",
+    "rejectsMissingFileAndSignature", "rejectsMissingFile", "closesFileBeingOpened", "rejectsIfStreamFailsEarly",
+    "rejectsIfStreamFailsBetweenPieces", "rejectsFailedWebStreams", "closesVerifiedStreams",
 )
 # The error codes that verification can return, except those for API misuse.
 VERIFICATION_ERRORS = {8, *range(16, 33), 44, 45, 81}
@@ -102,14 +103,14 @@ def text_of_package(name):
 def check_sources(checks, user):
     """Checks that package.json names the files and the version, that only calls.js calls the module, and that the
     errors and the layout of structs match include/minisign.h."""
-    described = json.loads(text_of_package("package.json"))
-    checks.same(described["version"], shared_cases.VERSION, "the version of package.json")
+    manifest = json.loads(text_of_package("package.json"))
+    checks.same(manifest["version"], shared_cases.VERSION, "the version of package.json")
     names = {name for name in os.listdir(os.path.join(user, "node_modules", "minisign-proved")) if name.endswith((".js", ".ts"))}
-    checks.check(set(described["files"]) == names, f"package.json names {described['files']}, and there are {sorted(names)}")
+    checks.check(set(manifest["files"]) == names, f"package.json names {manifest['files']}, and there are {sorted(names)}")
     for name in sorted(names - {MODULE, SIGNING_MODULE, *GENERATED}):
-        bare = re.sub(r"/\*.*?\*/", "", GENERATED_IN_CALLS.sub("", text_of_package(name)), flags=re.S)
+        hand_written = re.sub(r"/\*.*?\*/", "", GENERATED_IN_CALLS.sub("", text_of_package(name)), flags=re.S)
         checks.check(
-            name == "calls.js" or not re.search(r"page_|WebAssembly\.|\.memory\b|\.calls\b", bare),
+            name == "calls.js" or not re.search(r"page_|WebAssembly\.|\.memory\b|\.calls\b", hand_written),
             f"{name} calls the module",
         )
     shared_cases.check_readme(checks, "javascript")
@@ -117,9 +118,10 @@ def check_sources(checks, user):
     expected, table = shared_cases.ERRORS, re.search(r"ERRORS = Object\.freeze\(\{(.*?)\}\)", text_of_package("errors.js"), re.S)[1]
     errors = {name: int(number) for name, number in re.findall(r"(\w+): (\d+)", table)}
     checks.check(errors == expected, f"errors.js has other errors than the header: {set(errors.items()) ^ set(expected.items())}")
-    typed = set(re.findall(r'"([A-Z0-9_]+)"', re.search(r"type ErrorCode =(.*?);", text_of_package("errors.d.ts"), re.S)[1]))
-    checks.check(typed == set(expected), f"errors.d.ts has other errors than the header: {typed ^ set(expected)}")
-    places = shared_cases.struct_layout(user)
+    error_type = re.search(r"type ErrorCode =(.*?);", text_of_package("errors.d.ts"), re.S)[1]
+    declared_codes = set(re.findall(r'"([A-Z0-9_]+)"', error_type))
+    checks.check(declared_codes == set(expected), f"errors.d.ts has other errors than the header: {declared_codes ^ set(expected)}")
+    layout = shared_cases.struct_layout(user)
     structs = {
         "STATE": "state",
         "KEY": "public_key",
@@ -128,34 +130,34 @@ def check_sources(checks, user):
         "LIST": "list",
         "LIST_ENTRY": "list_entry",
     }
-    found = re.findall(rf"const ({'|'.join(structs)})_BYTES = (\d+);", text_of_package("calls.js"))
-    sizes = {name: int(size) for name, size in found}
+    size_constants = re.findall(rf"const ({'|'.join(structs)})_BYTES = (\d+);", text_of_package("calls.js"))
+    sizes = {name: int(size) for name, size in size_constants}
     checks.check(
-        sizes == {name: places[f"minisign_{struct}"] for name, struct in structs.items()},
+        sizes == {name: layout[f"minisign_{struct}"] for name, struct in structs.items()},
         f"calls.js has other sizes than the header: {sizes}",
     )
     for struct, count in (("SIGNATURE", 2), ("QUESTIONS", 8), ("LIST_ENTRY", 6)):
         fields = re.search(rf"const {struct} = \{{(.*?)\}};", text_of_package("calls.js"), re.S)[1]
         offsets = {name: int(offset) for name, offset in re.findall(r"(\w+): (\d+)", fields)}
-        expected = {name: places[f"minisign_{struct.lower()}.{name}"] for name in offsets}
+        expected = {name: layout[f"minisign_{struct.lower()}.{name}"] for name in offsets}
         is_right = len(offsets) >= count and offsets == expected
         checks.check(is_right, f"calls.js has the offsets {offsets} of {struct}, and the header {expected}")
 
 
 def check_imports(checks, names):
     """Checks that no file of the package imports itself, directly or through others."""
-    imported = {name: {f"{file[:-3]}.d.ts" if name.endswith(".d.ts") else file
-                       for file in re.findall(r'(?:from|import\() ?"\./([\w.]+)"', text_of_package(name))}
-                for name in names if name not in (MODULE, SIGNING_MODULE)}
-    checks.check(sum(map(len, imported.values())) > 25, f"too few imports were found: {imported}")
+    imports_of = {name: {f"{file[:-3]}.d.ts" if name.endswith(".d.ts") else file
+                         for file in re.findall(r'(?:from|import\() ?"\./([\w.]+)"', text_of_package(name))}
+                  for name in names if name not in (MODULE, SIGNING_MODULE)}
+    checks.check(sum(map(len, imports_of.values())) > 25, f"too few imports were found: {imports_of}")
 
-    def cycle(name, before):
-        """Returns a chain of imports that continues `before` with this file and ends at a file that it already has, or None."""
-        if name in before:
-            return [*before, name]
-        return next((path for file in sorted(imported.get(name, ())) if (path := cycle(file, [*before, name]))), None)
+    def cycle(name, chain):
+        """Returns a chain of imports that continues `chain` with this file and ends at a file that it already has, or None."""
+        if name in chain:
+            return [*chain, name]
+        return next((path for file in sorted(imports_of.get(name, ())) if (path := cycle(file, [*chain, name]))), None)
 
-    for name in imported:
+    for name in imports_of:
         checks.same(cycle(name, []), None, f"{name}: imports that form a cycle")
 
 
@@ -193,28 +195,28 @@ def check_pieces(program, minisign, _):
 
 def check_arguments(program, *_):
     """Checks arguments of wrong types, the properties of a verifier, and the trusted comment before data was passed."""
-    for least, word in ((32, "wrong"), (10, "verifier"), (9, "letters")):
-        program.check_pairs(least, word, cases=[PUBLISHED])
+    for least_count, check_name in ((32, "wrongArguments"), (10, "verifier"), (9, "keyStrings")):
+        program.check_pairs(least_count, check_name, cases=[PUBLISHED])
     program.check_comments(["comment"])
 
 
 def check_streams(program, *_):
     """Checks what happens to the stream if reading it fails or the verification fails."""
-    for what in STREAMS:
-        by_node(program.checks, program.directory, "streams.mjs").check_pairs(1, what, *PUBLISHED_PATHS)
+    for check_name in STREAMS:
+        by_node(program.checks, program.directory, "streams.mjs").check_pairs(1, check_name, *PUBLISHED_PATHS)
 
 
 def check_fields(program, minisign, _):
     """Checks the key IDs and legacy flags of parsed keys and signatures, and that verifying with the parsed objects
     gives the same results."""
-    def form(fields):
+    def expected_line(fields):
         comment, = shared_cases.accepted_comments(minisign, [fields.case], allow_legacy)
-        ids = " ".join(map(shared_cases.key_id_text, (fields.key_id, fields.signature_key_id)))
+        key_ids = " ".join(map(shared_cases.key_id_text, (fields.key_id, fields.signature_key_id)))
         verdict = shared_cases.rejected_line(".*") if comment is None else shared_cases.accepted_line(comment)
-        return f"{ids} {str(fields.is_legacy).lower()} {verdict}"
+        return f"{key_ids} {str(fields.is_legacy).lower()} {verdict}"
 
     for words, allow_legacy in ((["read"], False), (["read", "legacy"], True)):
-        program.check_fields(words, form)
+        program.check_fields(words, expected_line)
         rows = [(case, name) for case, name in shared_cases.rejected_cases()
                 if case.signature != PUBLISHED.signature and not (allow_legacy and name == "LEGACY_NOT_ACCEPTED")]
         program.check_errors(words, rows, lambda name: rf"([0-9A-F]{{1,16}} [0-9A-F]{{1,16}} (true|false) )?rejected {name}")
@@ -223,21 +225,28 @@ def check_fields(program, minisign, _):
 def check_options(program, *_):
     """Checks that options must be plain objects whose own properties are known, even if Object.prototype has further properties."""
     paths = [PUBLISHED_PATHS[0], PUBLISHED_PATHS[1], os.path.join(shared_cases.CORPUS, "published-legacy.minisig")]
-    for least, word in ((120, "kinds"), (100, "polluted")):
-        by_node(program.checks, program.directory, "options.mjs").check_pairs(least, word, *paths)
+    for least_count, check_name in ((120, "acceptsPlainObjects"), (100, "ignoresPollutedPrototype")):
+        by_node(program.checks, program.directory, "options.mjs").check_pairs(least_count, check_name, *paths)
 
 
 def check_long(program, *_):
     """Checks that other tasks run while long data is verified or signed, so that an AbortSignal can stop the call."""
-    for least, word in ((6, "verifying"), (1, "signing"), (3, "timers"), (2, "same"), (8, "cut")):
-        by_node(program.checks, program.directory, "long_data.mjs").check_pairs(least, word, PUBLISHED_PATHS[0], PUBLISHED_PATHS[2])
+    for least_count, check_name in (
+        (6, "abortsVerifying"),
+        (1, "abortsSigning"),
+        (3, "runsTimers"),
+        (2, "signsLikeASigner"),
+        (8, "rejectsShortenedBuffers"),
+    ):
+        long_data = by_node(program.checks, program.directory, "long_data.mjs")
+        long_data.check_pairs(least_count, check_name, PUBLISHED_PATHS[0], PUBLISHED_PATHS[2])
 
 
 def check_writable(program, *_):
     """Checks the streams of verifiers and signers, the fields of trusted comments, the code of each error, and that
     many signatures share one instance of the signing module."""
-    for least, word in ((15, "streams"), (21, "fields"), (11, "codes"), (3, "instances")):
-        by_node(program.checks, program.directory, "writable.mjs").check_pairs(least, word, *PUBLISHED_PATHS)
+    for least_count, check_name in ((15, "streams"), (21, "fields"), (11, "codes"), (3, "instances")):
+        by_node(program.checks, program.directory, "writable.mjs").check_pairs(least_count, check_name, *PUBLISHED_PATHS)
 
 
 def check_saving(program, *_):
@@ -291,11 +300,11 @@ def check_files(checks, user, scratch, minisign):
         expected = re.sub(rb"timestamp:\d+", b"timestamp:TIME", read(scratch, "sig").split(b"\n")[2] + b"\n")
         status, output, why = program.run("comments", os.path.join(scratch, name))
         checks.check((status, output) == (0, expected), f"the default comment of {name!r}: {output} {why}, expected {expected}")
-    program.check_pairs(25, "names")
+    program.check_pairs(25, "specialNames")
     os.makedirs(os.path.join(scratch, "new"))
-    program.check_pairs(33, "new", os.path.join(scratch, "new"))
+    program.check_pairs(33, "writeNew", os.path.join(scratch, "new"))
     # With a file size limit of 0, each write fails with EFBIG. Node ignores SIGXFSZ.
-    command = ["sh", "-c", 'ulimit -f 0; exec "$@"', "sh", *program.command, "full", os.path.join(scratch, "full")]
+    command = ["sh", "-c", 'ulimit -f 0; exec "$@"', "sh", *program.command, "failedWrites", os.path.join(scratch, "full")]
     status, output, why = run(command, user, program.environment)
     checks.check((status, output) == (0, b"EFBIG\tEFBIG\n\t\n"), f"a new file that cannot be written: {status} {output} {why}")
     record = record_of(read(secret))
@@ -303,7 +312,7 @@ def check_files(checks, user, scratch, minisign):
         path = write(scratch, "other", text_of(record[:54] + number.to_bytes(8, "little") + record[62:126] + bytes(32)))
         run([minisign, "-R", "-f", "-s", path, "-p", "other.pub"], scratch)
         expected = f"{number:X}\n{read(scratch, 'other.pub').decode().splitlines()[0]}\n"
-        status, output, why = program.run("ids", path)
+        status, output, why = program.run("keyIds", path)
         checks.check((status, output.decode()) == (0, expected), f"the key ID {number:#x}: {output} {why}, expected {expected!r}")
 
 
@@ -319,20 +328,20 @@ def check_memory(checks, user, scratch, minisign):
     that clearing the key leaves at most the copies of WebCrypto."""
     run([minisign, "-G", "-W", "-s", "open", "-p", "pub"], scratch)
     write(scratch, "sealed", shared_cases.sealed(read(scratch, "open"), shared_cases.KEY_LIMITS[4][0]))
-    program, ways = by_node(checks, user, "heap.mjs"), (
+    program, commands = by_node(checks, user, "heap.mjs"), (
         ["generate"],
         ["read", f"{scratch}/open"],
         ["read", f"{scratch}/sealed", shared_cases.PASSWORD],
     )
-    for words in ways:
+    for command in commands:
         environment = dict(os.environ, **program.environment)
         for _ in range(SEARCHES):
-            counts = javascript_memory.search([*program.command, *words], user, environment, MAX_FREED)
-            (used_freed, used), (freed, cleared) = counts
-            is_clean = used_freed > 0 and used == cleared == 0 and freed <= MAX_FREED
+            counts = javascript_memory.search([*program.command, *command], user, environment, MAX_FREED)
+            (freed_in_use, live_in_use), (freed_after_clearing, live_after_clearing) = counts
+            is_clean = freed_in_use > 0 and live_in_use == live_after_clearing == 0 and freed_after_clearing <= MAX_FREED
             if is_clean:
                 break
-        checks.check(is_clean, f"{words[0]}: copies of the seed (malloc, elsewhere), in use and cleared: {counts}")
+        checks.check(is_clean, f"{command[0]}: copies of the seed (malloc, elsewhere), in use and cleared: {counts}")
 
 
 # Strings that are in a bundle only if it contains the code for signing.
@@ -342,30 +351,31 @@ ONLY_IN_SIGNING = ("pkcs8", "minisign_signed_text", "minisign_read_secret_key")
 def check_bundles(checks, user, scratch, _):
     """Checks that the bundle of a program that only verifies contains no code for signing, that the bundle of a program
     that signs contains all of it, and that both run."""
-    esbuild, of_module = needs.program("esbuild", "esbuild"), read(user, "node_modules", "minisign-proved", SIGNING_MODULE).decode()
-    of_signing = [*ONLY_IN_SIGNING, re.search('"(.*)"', of_module)[1][:1000]]
-    words = [part.hex() for part in PUBLISHED[1:]]
+    esbuild = needs.program("esbuild", "esbuild")
+    signing_module = read(user, "node_modules", "minisign-proved", SIGNING_MODULE).decode()
+    signing_code = [*ONLY_IN_SIGNING, re.search('"(.*)"', signing_module)[1][:1000]]
+    arguments = [part.hex() for part in PUBLISHED[1:]]
     for name, comment in (("bundled", "timestamp:1556193335\tfile:test"), ("bundled_signing", "signed")):
-        for form in [
+        for options in [
             [f"--format={form}", f"--platform={platform}"]
             for form in ("esm", "cjs", "iife")
             for platform in ("node", "browser", "neutral")
         ]:
-            bundle = os.path.join(scratch, "bundle.mjs" if "esm" in form[0] else "bundle.cjs")
+            bundle = os.path.join(scratch, "bundle.mjs" if "esm" in options[0] else "bundle.cjs")
             result = run(
-                [esbuild, f"{name}.mjs", "--bundle", "--minify", "--log-level=warning", f"--outfile={bundle}", *form],
+                [esbuild, f"{name}.mjs", "--bundle", "--minify", "--log-level=warning", f"--outfile={bundle}", *options],
                 user,
             )
             text = read(bundle).decode()
-            has = [part in text for part in of_signing]
-            is_right = has == [name == "bundled_signing"] * len(has)
-            checks.check(is_right, f"esbuild {name} {form}: contains code for signing: {has}, {result}")
-            status, output, errors = by_node(checks, user, bundle).run(*words)
-            checks.check((status, output.decode()) == (0, f"{comment}\n"), f"esbuild {name} {form}: {status} {output} {errors}")
+            are_present = [part in text for part in signing_code]
+            is_right = are_present == [name == "bundled_signing"] * len(are_present)
+            checks.check(is_right, f"esbuild {name} {options}: contains code for signing: {are_present}, {result}")
+            status, output, errors = by_node(checks, user, bundle).run(*arguments)
+            checks.check((status, output.decode()) == (0, f"{comment}\n"), f"esbuild {name} {options}: {status} {output} {errors}")
             if name == "bundled":
-                named = re.search(r"bundle is (\d+) kB", text_of_package("README.md"))
+                stated_size = re.search(r"bundle is (\d+) kB", text_of_package("README.md"))
                 checks.check(
-                    named and abs(len(text) - 1000 * int(named[1])) < 1000,
+                    stated_size and abs(len(text) - 1000 * int(stated_size[1])) < 1000,
                     f"README.md does not say that a bundle has {len(text)} bytes",
                 )
 
@@ -399,11 +409,11 @@ def check_readme(checks, user, scratch, minisign):
     checks.check(status == 0, f"the types of the README's examples: {output.decode()[-1500:]}{why}")
     status, output, why = run([minisign, "-V", "-q", "-p", "minisign.pub", "-m", "release.zip"], directory)
     checks.check(status != 0, "release.zip has a valid signature before the README's example made it")
-    verified = "verified, trusted comment: timestamp:1556193335\tfile:test\n"
-    streamed = r"[0-9A-F]{1,16} timestamp:\d+\tfile:release.zip\thashed\n"
-    rows = [(None, "verified: test, signed 1556193335 seconds after 1970\n", None), ("app", verified, "SIGNATURE_REFUSED"),
+    verified_output = "verified, trusted comment: timestamp:1556193335\tfile:test\n"
+    stream_output = r"[0-9A-F]{1,16} timestamp:\d+\tfile:release.zip\thashed\n"
+    rows = [(None, "verified: test, signed 1556193335 seconds after 1970\n", None), ("app", verified_output, "SIGNATURE_REFUSED"),
             ("release.zip", "version:2\tfile:SHA256SUMS\n", "DIGEST_MISMATCH"), (None, "", None),
-            ("release.zip", streamed, "SIGNATURE_REFUSED"), ("app", "test test\n", "SIGNATURE_REFUSED"),
+            ("release.zip", stream_output, "SIGNATURE_REFUSED"), ("app", "test test\n", "SIGNATURE_REFUSED"),
             ("release.zip", "", "SIGNATURE_REFUSED")]
     checks.same(len(blocks), len(rows), "the number of the README's examples")
     for number, (data, expected, reason) in enumerate(rows):
@@ -431,26 +441,26 @@ def check_readme(checks, user, scratch, minisign):
 def check_types(checks, user):
     """Checks that the type declarations need neither the DOM library nor those of Node, and accept types of the DOM library."""
     compiler = needs.program("tsc", "node-typescript")
-    for what in ("language_types", "web_types"):
+    for project in ("language_types", "web_types"):
         for kind in ("ts", "json"):
-            shutil.copy(os.path.join(HERE, "javascript", f"{what}.{kind}"), user)
-        status, output, why = run([compiler, "-p", f"{what}.json"], user)
-        checks.check(status == 0, f"types, {what}: {output.decode()[-1500:]}{why}")
+            shutil.copy(os.path.join(HERE, "javascript", f"{project}.{kind}"), user)
+        status, output, why = run([compiler, "-p", f"{project}.json"], user)
+        checks.check(status == 0, f"types, {project}: {output.decode()[-1500:]}{why}")
 
 
-def check_bare(checks, user):
+def check_required_globals(checks, user):
     """Checks that the package works in a context and in a thread whose only globals are GLOBALS, and fails if one of
     them is missing."""
     expected = ["accepted timestamp:1556193335\tfile:test"] * 4 + ["rejected SIGNATURE_REFUSED"]
     rows = [
         ("context", GLOBALS),
         ("thread", GLOBALS),
-        *(("context", [word for word in GLOBALS if word != left_out]) for left_out in GLOBALS),
+        *(("context", [name for name in GLOBALS if name != missing_name]) for missing_name in GLOBALS),
     ]
-    for where, names in rows:
-        status, output, why = by_node(checks, user, "without_globals.mjs").run(where, *names, cases=[PUBLISHED])
+    for place, names in rows:
+        status, output, why = by_node(checks, user, "without_globals.mjs").run(place, *names, cases=[PUBLISHED])
         works = output.decode().splitlines() == expected
-        checks.check(works == (names is GLOBALS), f"in a bare {where} with {names}: {output} {status} {why[-500:]}")
+        checks.check(works == (names is GLOBALS), f"in a bare {place} with {names}: {output} {status} {why[-500:]}")
 
 
 SECONDS = 600
@@ -473,15 +483,16 @@ def check_browsers(checks, user, scratch, minisign):
     """Checks the results in a page and in a worker of Chromium and of Firefox."""
     corpus, vectors = shared_cases.corpus(), [case for case, _ in shared_cases.vector_files()]
     cases = corpus + shared_cases.damaged_cases()
-    asked = {"cases": cases, "pieces": corpus, "vectors": vectors, "lists": [case for case, _ in shared_cases.list_rows(minisign)]}
-    digits = {what: [[part.hex() for part in case[1:]] for case in rows] for what, rows in asked.items()}
+    list_cases = [case for case, _ in shared_cases.list_rows(minisign)]
+    requests = {"cases": cases, "pieces": corpus, "vectors": vectors, "lists": list_cases}
+    digits = {kind: [[part.hex() for part in case[1:]] for case in rows] for kind, rows in requests.items()}
     run([minisign, "-G", "-W", "-s", "strong", "-p", "public"], scratch)
     sealed = shared_cases.sealed(read(scratch, "strong"), shared_cases.KEY_LIMITS[4][0]).decode()
     directory = os.path.join(scratch, "served")
     shutil.copytree(os.path.join(user, "node_modules", "minisign-proved"), os.path.join(directory, "minisign-proved"))
     for name in ("browser.mjs", "index.html"):
         shutil.copy(os.path.join(HERE, "javascript", name), directory)
-    write(directory, "asked.json", json.dumps({**digits, "sealed": sealed}).encode())
+    write(directory, "requests.json", json.dumps({**digits, "sealed": sealed}).encode())
     with http.server.ThreadingHTTPServer(("127.0.0.1", 0), functools.partial(Handler, directory=directory)) as server:
         threading.Thread(target=server.serve_forever, daemon=True).start()
         for start in (lambda: Firefox(needs.firefox(), scratch), lambda: Chromium(*needs.chromium(), scratch)):
@@ -489,13 +500,14 @@ def check_browsers(checks, user, scratch, minisign):
             try:
                 browser.go(f"http://127.0.0.1:{server.server_port}/")
                 browser.wait(lambda: browser.run("return document.documentElement.dataset.ready !== undefined"), SECONDS)
-                answers, what = json.loads(browser.run("return document.body.textContent")), f"{browser.name} {browser.version()}"
+                answers = json.loads(browser.run("return document.body.textContent"))
+                browser_name = f"{browser.name} {browser.version()}"
             finally:
                 browser.quit()
-            for where in ("page", "thread"):
-                if checks.check(where in answers, f"{what}, {where}: {answers}"):
-                    check_answers(checks, f"{what}, {where}", answers[where], scratch, minisign, cases)
-            print(f"bindings/javascript: in a page and in a worker of {what}", flush=True)
+            for place in ("page", "thread"):
+                if checks.check(place in answers, f"{browser_name}, {place}: {answers}"):
+                    check_answers(checks, f"{browser_name}, {place}", answers[place], scratch, minisign, cases)
+            print(f"bindings/javascript: in a page and in a worker of {browser_name}", flush=True)
         server.shutdown()
 
 
@@ -508,21 +520,21 @@ def check_answers(checks, what, answers, scratch, minisign, cases):
     program.check_vectors(["vectors"])
     rows = shared_cases.list_rows(minisign)
     program.check_lines(["lists"], [case for case, _ in rows], [re.escape(line) for _, line in rows])
-    checks.check(answers["cancelled"], f"{what}: the stream was not cancelled")
-    checks.check(answers["aborted"], f"{what}: a timer could not abort the verification of a long array")
-    checks.same(answers["comment"], "timestamp:TIME\tfile:app 1.zip\thashed", f"{what}, the default comment of a File")
-    checks.same(answers["signs"], "version:2,true,false,version:2,true,false KEY_NOT_OPENED", f"{what}, signing")
-    for name, text in zip(("sealed", "sealed.pub"), answers["pair"]):
+    checks.check(answers["isCancelled"], f"{what}: the stream was not cancelled")
+    checks.check(answers["isAborted"], f"{what}: a timer could not abort the verification of a long array")
+    checks.same(answers["defaultComment"], "timestamp:TIME\tfile:app 1.zip\thashed", f"{what}, the default comment of a File")
+    checks.same(answers["signingResults"], "version:2,true,false,version:2,true,false KEY_NOT_OPENED", f"{what}, signing")
+    for name, text in zip(("sealed", "sealed.pub"), answers["keyFiles"]):
         write(scratch, name, text.encode())
     run(
         [minisign, "-S", "-s", "sealed", "-m", "public", "-x", "sig", "-t", what],
         scratch,
         data=f"{shared_cases.PASSWORD}\n".encode(),
     )
-    verified = run([minisign, "-V", "-Q", "-p", "sealed.pub", "-m", "public", "-x", "sig"], scratch)
+    result = run([minisign, "-V", "-Q", "-p", "sealed.pub", "-m", "public", "-x", "sig"], scratch)
     checks.check(
-        verified[:2] == (0, f"{what}\n".encode()),
-        f"{what}: c/minisign cannot sign with the encrypted key of the package: {verified}",
+        result[:2] == (0, f"{what}\n".encode()),
+        f"{what}: c/minisign cannot sign with the encrypted key of the package: {result}",
     )
 
 
@@ -538,20 +550,20 @@ def new_directory(scratch, name):
 
 def check_mutants(checks, user, scratch, minisign):
     """Checks in Node that each mutant of the package fails the check that it names."""
-    def ask(checks, changed, directory, word):
+    def run_check(checks, changed_package, directory, check_name):
         """Runs the check of this name in a copy of the user's directory that has the mutant of the package."""
-        copied = shutil.copytree(user, os.path.join(directory, "user"), ignore=shutil.ignore_patterns("minisign-proved"))
-        os.symlink(changed, os.path.join(copied, "node_modules", "minisign-proved"))
-        if word == "sign":
-            check_signing(checks, copied, os.path.join(directory, "signed"), minisign, decrypts=False)
-        elif word in IN_DIRECTORIES:
-            IN_DIRECTORIES[word](checks, copied, new_directory(directory, word), minisign)
+        user_copy = shutil.copytree(user, os.path.join(directory, "user"), ignore=shutil.ignore_patterns("minisign-proved"))
+        os.symlink(changed_package, os.path.join(user_copy, "node_modules", "minisign-proved"))
+        if check_name == "sign":
+            check_signing(checks, user_copy, os.path.join(directory, "signed"), minisign, decrypts=False)
+        elif check_name in IN_DIRECTORIES:
+            IN_DIRECTORIES[check_name](checks, user_copy, new_directory(directory, check_name), minisign)
         else:
-            CASES[word](by_node(checks, copied, "verifying.mjs"), minisign, shared_cases.corpus())
+            CASES[check_name](by_node(checks, user_copy, "verifying.mjs"), minisign, shared_cases.corpus())
 
     package = os.path.join(user, "node_modules", "minisign-proved")
     all_mutants = mutants_of("bindings", "javascript", "mutants")
-    shared_cases.check_mutants(checks, package, "bindings/javascript", all_mutants, scratch, ask, {"memory"})
+    shared_cases.check_mutants(checks, package, "bindings/javascript", all_mutants, scratch, run_check, {"memory"})
 
 
 def run_all(checks, scratch):
@@ -560,20 +572,20 @@ def run_all(checks, scratch):
     check_sources(checks, user)
     cases = shared_cases.all_cases(checks, minisign)
     program = by_node(checks, user, "verifying.mjs")
-    for ask in CASES.values():
-        ask(program, minisign, cases)
+    for check_case in CASES.values():
+        check_case(program, minisign, cases)
     program.check_verdicts(minisign, cases, (["threads"], False))
     program.check_growth(CALLS, CALL_GROWTH, cases=[PUBLISHED, PUBLISHED._replace(data=b"other data")])
-    tested = {name for _, name in shared_cases.rejected_cases()} | {"BARE_PUBLIC_KEY_LENGTH", "BARE_PUBLIC_KEY_NOT_BASE64"}
+    tested_errors = {name for _, name in shared_cases.rejected_cases()} | {"BARE_PUBLIC_KEY_LENGTH", "BARE_PUBLIC_KEY_NOT_BASE64"}
     expected = {name for name, number in shared_cases.ERRORS.items() if number in VERIFICATION_ERRORS}
-    checks.check(tested == expected, f"errors without a test, or tests of other errors: {tested ^ expected}")
-    signing = check_signing(checks, user, os.path.join(scratch, "signed"), minisign)
-    if signing:
-        signing.check_growth(KEYS, KEY_GROWTH)
+    checks.check(tested_errors == expected, f"errors without a test, or tests of other errors: {tested_errors ^ expected}")
+    signing_program = check_signing(checks, user, os.path.join(scratch, "signed"), minisign)
+    if signing_program:
+        signing_program.check_growth(KEYS, KEY_GROWTH)
     for name, check in IN_DIRECTORIES.items():
         check(checks, user, new_directory(scratch, name), minisign)
     check_types(checks, user)
-    check_bare(checks, user)
+    check_required_globals(checks, user)
     check_browsers(checks, user, scratch, minisign)
     check_mutants(checks, user, scratch, minisign)
 

@@ -30,16 +30,16 @@ def areas_of(pid):
     """Yields the begin, end and name of the readable memory areas of a process, without those of the kernel."""
     with open(f"/proc/{pid}/maps", encoding="utf-8", errors="replace") as maps:
         for line in maps:
-            begin, end, mode, name = re.match(r"([0-9a-f]+)-([0-9a-f]+) (\S+) \S+ \S+ \S+ *(.*)", line).groups()
+            start, end, mode, name = re.match(r"([0-9a-f]+)-([0-9a-f]+) (\S+) \S+ \S+ \S+ *(.*)", line).groups()
             if mode.startswith("r") and not name.startswith("[v"):
-                yield int(begin, 16), int(end, 16), name
+                yield int(start, 16), int(end, 16), name
 
 
-def is_of_malloc(memory, begin, name, address):
-    """Returns True if an address is in a heap of malloc. `begin` and `name` are those of its memory area. The engine's
+def is_of_malloc(memory, start, name, address):
+    """Returns True if an address is in a heap of malloc. `start` and `name` are those of its memory area. The engine's
     heap is in other areas."""
     base = address - address % ARENA
-    if name or base < begin:
+    if name or base < start:
         return name == "[heap]"
     memory.seek(base)
     return int.from_bytes(memory.read(8), "little") % ARENA in ARENA_OFFSETS
@@ -49,14 +49,14 @@ def count_in(pid, needles):
     """Returns how often the needles are in the memory of a process: in heaps of malloc, and elsewhere."""
     counts = {True: 0, False: 0}
     with open(f"/proc/{pid}/mem", "rb", buffering=0) as memory:
-        for begin, end, name in areas_of(pid):
+        for start, end, name in areas_of(pid):
             try:
-                memory.seek(begin)
-                piece = memory.read(end - begin)
+                memory.seek(start)
+                piece = memory.read(end - start)
             except (OSError, OverflowError):
                 continue  # A guard page, or an area that was unmapped meanwhile.
             for match in (match for needle in needles for match in re.finditer(re.escape(needle), piece)):
-                counts[is_of_malloc(memory, begin, name, begin + match.start())] += 1
+                counts[is_of_malloc(memory, start, name, start + match.start())] += 1
     return counts[True], counts[False]
 
 

@@ -4,13 +4,14 @@ defaults: rustfmt, gofmt, black, and prettier.
 
     tests/bindings/layout.py
 
-Debian has the first three, which are run here, also on the files that tools/bindings.py makes. It does not have prettier,
+Debian has the first three, which are run here, also on the files that tools/bindings.py generates. It does not have prettier,
 so for JavaScript this script itself checks the width of lines, indentation, quotes, spaces inside brackets, parentheses
 around parameters, and the comma after the last item of a list. Formatters do not wrap comments and docstrings, so the
-script checks the width of all lines. Each mutant of layout_mutants is detected. It prints a line for each failure; the
-last line is `N passed, M failed`.
+script checks the width of all lines. The script must detect each mutant of layout_mutants. It prints a line for each
+failure; the last line is `N passed, M failed`.
 
-Needs Python 3.9 or later, and of Debian rustfmt, golang-go and black. It installs what is missing if it may.
+Needs Python 3.9 or later, and the Debian packages rustfmt, golang-go and black. It installs missing packages if it has
+permission.
 """
 
 import glob
@@ -73,9 +74,9 @@ def code_of(text):
 def check_script(checks, name, text):
     """Checks the layout of a JavaScript file."""
     for source, patterns in ((text, IN_LINES), (code_of(text), IN_CODE)):
-        for what, pattern in patterns.items():
+        for fault, pattern in patterns.items():
             match = re.search(pattern, source)
-            checks.check(match is None, f"{name}: {what}: {match and source[match.start():].lstrip()[:60]!r}")
+            checks.check(match is None, f"{name}: {fault}: {match and source[match.start():].lstrip()[:60]!r}")
     checks.check("\n\n\n" not in text and text.endswith("\n") and not text.endswith("\n\n"), f"{name}: too many blank lines")
 
 

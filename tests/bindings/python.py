@@ -34,7 +34,6 @@ sys.path += [HERE, *(os.path.join(HERE, "..", name) for name in ("shared", "c"))
 
 import emulated
 import needs
-import portable
 import process
 import shared_cases as shared
 import static_library
@@ -43,11 +42,16 @@ from mutants import mutants_of
 from running import build_preload
 from shared_cases import TOP, read, run, write
 from static_library import run_or_fail
+from wine import Wine
 
-USER, CHECKS, INSTALLER = (os.path.join(HERE, f"python_{name}.py") for name in ("user", "checks", "installing"))
+USER, INSTALLER = (os.path.join(HERE, f"python_{name}.py") for name in ("user", "installing"))
+# The modules of the checks that run inside Python.
+CHECKS = [os.path.join(HERE, f"python_{name}.py")
+          for name in ("checks", "key_checks", "install_checks", "argument_checks", "results")]
 PACKAGE = "minisign_proved"
 SOURCES = os.path.join(TOP, "bindings", "python")
-# Functions that run even if only other checks are selected (tests/shared/case_selection.py): building the wheel needs their results.
+# Functions that run even if only other checks are selected (tests/shared/case_selection.py), because building the wheel needs their
+# results.
 ALWAYS = ("check_builds",)
 
 
@@ -73,11 +77,11 @@ def build(sources, programs, **environment):
     """Builds the library without optimization, and a wheel. Returns the exit status, the error output, and the library's path."""
     words = ["-q", "build", "--build-lib", "built", "bdist_wheel", "--dist-dir", "made"]
     variables = {"PATH": programs, "MINISIGN_PORTABLE": "", "CFLAGS": "-O0", **environment}
-    status, _, why = run([python(), "setup.py", *words], sources, variables)
-    return status, why, os.path.join(sources, "built", PACKAGE, "libminisign.so")
+    status, _, errors = run([python(), "setup.py", *words], sources, variables)
+    return status, errors, os.path.join(sources, "built", PACKAGE, "libminisign.so")
 
 
-def check_loaded(checks, what, compiler, library, before=(), **variables):
+def check_loaded(checks, name, compiler, library, prefix=(), **variables):
     """Checks that a program can load the library and hash with it, and that the library has the installer, except on Windows."""
     program = os.path.join(os.path.dirname(library), "loaded.exe")
     run_or_fail(
@@ -92,16 +96,16 @@ def check_loaded(checks, what, compiler, library, before=(), **variables):
             os.path.join(HERE, "python", "load_library.c"),
         ]
     )
-    output = run([*before, program, library], environment=variables)[1].decode()
-    expected = rf"\d+ {hashlib.blake2b(bytes([7]) * 1000).hexdigest()} with{'out' if what == 'Windows' else ''} installer\r?\n"
-    checks.check(re.fullmatch(expected, output), f"{what}: {output}")
+    output = run([*prefix, program, library], environment=variables)[1].decode()
+    expected = rf"\d+ {hashlib.blake2b(bytes([7]) * 1000).hexdigest()} with{'out' if name == 'Windows' else ''} installer\r?\n"
+    checks.check(re.fullmatch(expected, output), f"{name}: {output}")
 
 
 def check_builds(checks, archive, scratch):
     """Builds the source distribution of the package in a path with spaces: from C sources by Debian's compiler and with
     musl, for AArch64 with dist/calls-aarch64.a, and for Windows. Checks that a compiler without GNU options is rejected
     with an error that says so."""
-    programs, arm, windows = shared.make_path_directory(scratch, *NEEDED), emulated.AARCH64, portable.Windows(scratch)
+    programs, arm, windows = shared.make_path_directory(scratch, *NEEDED), emulated.AARCH64, Wine(scratch)
 
     def unpacked(name):
         directory = os.path.join(scratch, f"sources of {name}")
@@ -109,27 +113,27 @@ def check_builds(checks, archive, scratch):
         return glob.glob(f"{glob.escape(directory)}/*")[0]
 
     gcc, mingw = needs.c_compiler(), needs.program("x86_64-w64-mingw32-gcc", "gcc-mingw-w64-x86-64")
-    for what, compiler, before, is_portable, machine in (
+    for name, compiler, prefix, is_portable, machine in (
         ("C alone", gcc, [], "1", "linux_x86_64"),
         ("musl", needs.program("musl-gcc", "musl-tools"), [], "1", "linux_x86_64"),
         ("AArch64", emulated.compiler(arm), emulated.emulator(arm), "", "linux_aarch64"),
         ("Windows", mingw, [windows.program], "", "win_amd64"),
     ):
-        sources = unpacked(what)
-        status, why, library = build(sources, programs, CC=compiler, MINISIGN_PORTABLE=is_portable)
-        if checks.check(status == 0, f"{what}: the build failed: {why[-1000:]}"):
-            check_loaded(checks, what, compiler, library, before, **windows.variables)
+        sources = unpacked(name)
+        status, errors, library = build(sources, programs, CC=compiler, MINISIGN_PORTABLE=is_portable)
+        if checks.check(status == 0, f"{name}: the build failed: {errors[-1000:]}"):
+            check_loaded(checks, name, compiler, library, prefix, **windows.variables)
             has_archive = "aarch64_minisign_update" in shared.symbols_of(library)
-            checks.check(has_archive == (what == "AArch64"), f"{what}: is linked with dist/calls-aarch64.a: {has_archive}")
+            checks.check(has_archive == (name == "AArch64"), f"{name}: is linked with dist/calls-aarch64.a: {has_archive}")
             wheel, = os.listdir(os.path.join(sources, "made"))
-            checks.check(wheel.endswith(f"-none-{machine}.whl"), f"{what}: the wheel is {wheel}")
+            checks.check(wheel.endswith(f"-none-{machine}.whl"), f"{name}: the wheel is {wheel}")
     windows.end()
-    status, why, _ = build(unpacked("another compiler"), programs, CC="cl")
-    checks.check(status != 0 and NO_COMPILER.format("cl") in why, f"a compiler without GNU options: {why[-500:]}")
+    status, errors, _ = build(unpacked("another compiler"), programs, CC="cl")
+    checks.check(status != 0 and NO_COMPILER.format("cl") in errors, f"a compiler without GNU options: {errors[-500:]}")
 
-    def run_case(checks, changed, directory, setup):
-        status, why, library = build(changed, programs, CC=gcc, MINISIGN_PORTABLE=SETUPS[setup])
-        checks.check(status == 0, why)
+    def run_case(checks, changed, directory, case):
+        status, errors, library = build(changed, programs, CC=gcc, MINISIGN_PORTABLE=SETUPS[case])
+        checks.check(status == 0, errors)
         check_loaded(checks, "a mutant", gcc, library)
 
     shared.check_mutants(
@@ -229,18 +233,18 @@ def check_headers(checks, scratch, python_path, package):
 def check_types(checks, python_path, package):
     """Checks the type annotations of the package, and its use in the tests, with mypy."""
     mypy = needs.program("mypy", "mypy")
-    status, output, why = run(
-        [mypy, "--strict", "--cache-dir=/dev/null", "--python-executable", python_path, package, USER, CHECKS]
+    status, output, errors = run(
+        [mypy, "--strict", "--cache-dir=/dev/null", "--python-executable", python_path, package, USER, *CHECKS]
     )
-    checks.check(status == 0, f"types: {output.decode()[-1000:]}{why[-300:]}")
+    checks.check(status == 0, f"types: {output.decode()[-1000:]}{errors[-300:]}")
 
 
 # ---- Results ----
 
 
-def user_of(checks, python_path, kind, changed=""):
+def user_of(checks, python_path, kind, package=""):
     """Returns the test program python_user.py, with one implementation of Ed25519, and the installed package or a changed one."""
-    return shared.Program(checks, python_path, USER, kind, name=kind, PYTHONPATH=changed, PYTHONDONTWRITEBYTECODE="1",
+    return shared.Program(checks, python_path, USER, kind, name=kind, PYTHONPATH=package, PYTHONDONTWRITEBYTECODE="1",
                           PATH=static_library.path_without_kit())
 
 
@@ -273,10 +277,10 @@ def check_examples(checks, python_path, scratch):
     write(scratch, "SHA256SUMS", digests.encode())
     for name, comment in (("app-2", "version:2\tfile:app"), ("data", "data"), ("SHA256SUMS", "file:SHA256SUMS")):
         minisign("-S", "-s", "app.key", "-m", name, "-t", comment)
-    status, _, why = run([python_path, write(scratch, "program.py", shared.readme_examples("python").encode())], scratch)
-    checks.check(status == 0 and read(scratch, "there", "app") == b"version 2", f"the examples of the README: {why[-500:]}")
-    status, _, why = minisign("-V", "-p", "new.pub", "-m", "app-3")
-    checks.check(status == 0, f"minisign verifies what the example has signed: {why}")
+    status, _, errors = run([python_path, write(scratch, "program.py", shared.readme_examples("python").encode())], scratch)
+    checks.check(status == 0 and read(scratch, "there", "app") == b"version 2", f"the examples of the README: {errors[-500:]}")
+    status, _, errors = minisign("-V", "-p", "new.pub", "-m", "app-3")
+    checks.check(status == 0, f"minisign verifies what the example has signed: {errors}")
 
 
 def check_installing(checks, python_path, scratch):
@@ -293,12 +297,12 @@ def check_installing(checks, python_path, scratch):
 
 def check_mutants(checks, python_path, package, scratch, minisign):
     """Checks that each mutant of the package is detected by the case that it names."""
-    def run_case(checks, changed, directory, word):
+    def run_case(checks, changed, directory, case):
         # libsodium is used where possible, because it loads faster.
         user = user_of(
             checks,
             python_path,
-            "cryptography" if word in ("vectors", "strict") else "libsodium",
+            "cryptography" if case in ("vectors", "strict") else "libsodium",
             os.path.dirname(changed),
         )
         cases = {"verify": lambda: user.check_errors(["verify", "reject"], shared.rejected_cases()),
@@ -309,7 +313,7 @@ def check_mutants(checks, python_path, package, scratch, minisign):
                  "verify_listed": lambda: user.check_lists(minisign),
                  "key_ids": lambda: shared.check_key_ids(user, os.path.join(directory, "ids"), minisign),
                  "sign": lambda: shared.check_signing(user, os.path.join(directory, "signed"), minisign)}
-        cases.get(word, lambda: user.check_pairs(1, word, directory))()
+        cases.get(case, lambda: user.check_pairs(1, case, directory))()
 
     shared.check_mutants(
         checks, package, f"bindings/python/src/{PACKAGE}", mutants_of("bindings", "python", "mutants"), scratch, run_case
@@ -325,16 +329,16 @@ def run_all(checks, scratch):
     check_types(checks, with_cryptography, package)
     check_examples(checks, with_libsodium, os.path.join(scratch, "examples"))
     cases = shared.all_cases(checks, minisign)
-    # The words of python_checks.py, and how many results each has at least.
+    # The steps of python_checks.py, and how many results each has at least.
     words = {"memory": 1, "threads": 3, "installing": 40, "signals": 3, "arguments": 1000, "parts": 25, "keys": 30, "writing": 40,
              "lists": 15}
-    for kind, python_path, more in (("libsodium", with_libsodium, {"passwords": 10, "documentation": 100}),
-                                    ("cryptography", with_cryptography, {})):
+    for kind, python_path, more_words in (("libsodium", with_libsodium, {"passwords": 10, "documentation": 100}),
+                                          ("cryptography", with_cryptography, {})):
         user, directory = user_of(checks, python_path, kind), os.path.join(scratch, kind)
         os.mkdir(directory)
         compare_results(user, minisign, cases)
-        for word, least in {**words, **more}.items():
-            user.check_pairs(least, word, directory)
+        for word, minimum in {**words, **more_words}.items():
+            user.check_pairs(minimum, word, directory)
         shared.check_signing(user, os.path.join(directory, "signed"), needs.minisign())
         shared.check_key_ids(user, os.path.join(directory, "ids"), minisign)
     shared.check_new_key_files(user, os.path.join(scratch, "written"))

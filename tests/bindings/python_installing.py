@@ -25,14 +25,14 @@ import test_script
 from command_lines import command_line_cases
 from interrupted_runs import INITIAL_STATES, CUTS
 from downloads import download_cases
-from installers import DOWNLOAD_AGAIN, ARGUMENT_ORDER, Signer
+from installers import (ALREADY_INSTALLED, ARGUMENT_ORDER, DOWNLOAD_AGAIN, EXPIRED, FAILED, IN_USE, MISUSED, NOT_ON_DISK,
+                        OLDER_VERSION, REJECTED, SAME_VERSION, UNRECORDED, Signer)
 from list_updates import DOWNLOAD_LIST_AGAIN, LINE_HINT, NO_LIMIT_ERROR, TWICE_HINT
 from installer_program import cases_of
 from running import expect, run_cases
 from runs import InstallerRunner
 
-FAILED, MISUSED, REJECTED, OLDER, IN_USE, NOT_ON_DISK, UNRECORDED, SAME_VERSION, EXPIRED, ALREADY_INSTALLED = range(1, 11)
-OFFERS = {minisign.Offer.NEWER: 0, minisign.Offer.THERE: ALREADY_INSTALLED, minisign.Offer.OLDER: OLDER}
+OFFERS = {minisign.Offer.NEWER: 0, minisign.Offer.THERE: ALREADY_INSTALLED, minisign.Offer.OLDER: OLDER_VERSION}
 # The options of `minisign-install`. --most is the former name of --max-size.
 OPTIONS = [
     "first", "again", "check", "must-expire", "new-key", "roll-back", "key=", "name=", "list=", "blake2b",
@@ -42,8 +42,8 @@ UNITS = {"K": 10, "M": 20}
 
 # The exit statuses of `minisign-install` for errors. For all other errors the status is that of a rejected update.
 STATUSES = {
-    minisign.OlderUpdate: OLDER, minisign.Expired: EXPIRED, minisign.TargetInUse: IN_USE, minisign.DirectoryNotSynced: NOT_ON_DISK,
-    minisign.SameNumber: SAME_VERSION,
+    minisign.OlderUpdate: OLDER_VERSION, minisign.Expired: EXPIRED, minisign.TargetInUse: IN_USE,
+    minisign.DirectoryNotSynced: NOT_ON_DISK, minisign.SameNumber: SAME_VERSION,
     **dict.fromkeys((minisign.NoRecord, minisign.DamagedRecord, minisign.KeptByTimestamp, minisign.KeptByVersion), UNRECORDED),
     **dict.fromkeys((minisign.OutOfMemory, minisign.ReadingFailed, minisign.WritingFailed, minisign.RandomSourceFailed), FAILED),
 }
@@ -107,14 +107,14 @@ HINTS_OF_CAUSES = {
 }
 
 
-def failure(why, target):
-    """Returns the error line that `minisign-install` prints for the OSError `why`, and its hint, or None if it has no hint."""
-    cause, is_own_text = why.strerror, why.strerror != os.strerror(why.errno)
-    if not is_own_text and isinstance(why, FileNotFoundError):
+def failure(error, target):
+    """Returns the error line that `minisign-install` prints for the OSError `error`, and its hint, or None if it has no hint."""
+    cause, is_own_text = error.strerror, error.strerror != os.strerror(error.errno)
+    if not is_own_text and isinstance(error, FileNotFoundError):
         cause, is_own_text = "this directory does not exist", True
-    hint = next((hint for front, hint in HINTS_OF_CAUSES.items() if cause.startswith(front)), None)
+    hint = next((hint for beginning, hint in HINTS_OF_CAUSES.items() if cause.startswith(beginning)), None)
     if cause.startswith("this is "):
-        kind = cause if why.filename == target else ""
+        kind = cause if error.filename == target else ""
         hint = (
             "use the path that it points to"
             if "symbolic link" in kind
@@ -122,11 +122,11 @@ def failure(why, target):
             if "directory" in kind
             else "remove it or move it away"
         )
-    return f"error: {why.filename}: {cause}" + ("" if is_own_text else f" (os error {why.errno})"), hint
+    return f"error: {error.filename}: {cause}" + ("" if is_own_text else f" (os error {error.errno})"), hint
 
 
 def rejection(data, signature, target, name, list_path, numbering, error):
-    """Returns the error line that `minisign-install` prints for an error of the library, and its hint, or None if it has no hint."""
+    """Returns the error line that `minisign-install` prints for an error of the library, and its hint, or None if there is none."""
     file, text = signature, WORDS.get(type(error), str(error)).format(numbering=numbering)
     if isinstance(error, minisign.TooLong) and "1 MiB" in text:
         return f"error: {list_path}: this file is larger than 1 MiB", None
@@ -159,16 +159,16 @@ def report(*errors):
     print(*(error for error, _ in errors), *hints[-1:], sep="\n", file=sys.stderr)
 
 
-def read_text(kind, word):
+def read_text(read, word):
     """Reads a public key, from a file or base64, or a signature. After an error, prints it and ends the program."""
     try:
-        return kind(word)
+        return read(word)
     except minisign.MinisignError as error:
         text, status = MALFORMED.get(type(error), str(error)).format(length=len(word)), REJECTED
         if isinstance(error, minisign.TooLong):
             text = f"this file is larger than 1 MiB\nhint: {ARGUMENT_ORDER}"
-    except OSError as why:
-        text, status = f"{why.strerror} (os error {why.errno})", FAILED
+    except OSError as error:
+        text, status = f"{error.strerror} (os error {error.errno})", FAILED
     print(f"error: {word}: {text}", file=sys.stderr)
     sys.exit(status)
 
@@ -183,10 +183,10 @@ def install(words):
     key = None if keys else paths.pop(0)
     data = None if "--check" in options else paths.pop(0)
     signature, target = paths
-    most, mode, name = options.get("--max-size", options.get("--most")), options.get("--mode"), options.get("--name")
+    max_size, mode, name = options.get("--max-size", options.get("--most")), options.get("--mode"), options.get("--name")
     numbering, list_path = options.get("--numbering", "timestamp"), options.get("--list")
-    if most is not None:
-        most = int(most.rstrip("KM")) << UNITS.get(most[-1], 0)
+    if max_size is not None:
+        max_size = int(max_size.rstrip("KM")) << UNITS.get(max_size[-1], 0)
     try:
         public_keys = [read_text(minisign.PublicKey.from_base64, text) for text in keys] or read_text(
             minisign.PublicKey.from_file, key
@@ -202,7 +202,7 @@ def install(words):
         if "--check" in options:
             return OFFERS[minisign.check(public_keys, text, target, **parameters)]
         is_new = minisign.install(public_keys, data, text, target, mode=None if mode is None else int(mode, 8),
-                                  most=most, wait=int(options.get("--wait", 0)), **parameters)
+                                  most=max_size, wait=int(options.get("--wait", 0)), **parameters)
     except minisign.MinisignError as error:
         status, cause = STATUSES.get(type(error), REJECTED), error.__cause__
         has_cause = status in (FAILED, NOT_ON_DISK) and isinstance(cause, OSError)
@@ -212,15 +212,16 @@ def install(words):
             errors = [*([] if status == FAILED else errors), failure(cause, target)]
         report(*errors)
         return status
-    except ValueError as why:
-        expect(str(why) == "most must be passed with list_path unless data is the path of a regular file", f"another ValueError: {why}")
+    except ValueError as error:
+        expected = "most must be passed with list_path unless data is the path of a regular file"
+        expect(str(error) == expected, f"another ValueError: {error}")
         sys.stderr.buffer.write(NO_LIMIT_ERROR)
         return MISUSED
-    except OSError as why:
-        if list_path is not None and why.filename == list_path:
-            print(f"error: {list_path}: {why.strerror} (os error {why.errno})", file=sys.stderr)
+    except OSError as error:
+        if list_path is not None and error.filename == list_path:
+            print(f"error: {list_path}: {error.strerror} (os error {error.errno})", file=sys.stderr)
         else:
-            report(failure(why, target))
+            report(failure(error, target))
         return FAILED
     return 0 if is_new else ALREADY_INSTALLED
 
@@ -242,7 +243,7 @@ def chosen_cases(runner):
     """Returns the cases of tests/installer that test what the functions of the package do too."""
     # Interrupted runs are tried only over the first of INITIAL_STATES, because the cases of `minisign-install` test the same C code
     # over all of them.
-    cut_off = {f"recovers from {cut}, over {begin}" for begin, *_ in INITIAL_STATES[1:] for cut, _ in CUTS}
+    cut_off = {f"recovers from {cut}, over {state}" for state, *_ in INITIAL_STATES[1:] for cut, _ in CUTS}
     # The cases of downloads are left out, because the updater script runs `minisign-install`.
     left_out = LEFT_OUT | cut_off | {name for name, *_ in (*command_line_cases, *download_cases)} - INCLUDED
     cases = [*cases_of(runner)]
@@ -258,11 +259,11 @@ def run_as_program(words, environment, descriptors):
         signal.signal(signal.SIGINT, signal.default_int_handler)
         os.environ.clear()
         os.environ.update(environment)
-        for before, after in zip((2, *descriptors), (*descriptors, os.sysconf("SC_OPEN_MAX"))):
-            os.closerange(before + 1, after)
+        for previous, following in zip((2, *descriptors), (*descriptors, os.sysconf("SC_OPEN_MAX"))):
+            os.closerange(previous + 1, following)
         status = install(words)
-    except SystemExit as why:
-        status = why.code
+    except SystemExit as error:
+        status = error.code
     except KeyboardInterrupt:
         signal.signal(signal.SIGINT, signal.SIG_DFL)
         signal.raise_signal(signal.SIGINT)
@@ -278,14 +279,15 @@ def run_all(scratch):
     runner = InstallerRunner(__file__, Signer(scratch), scratch)
     runner.preload, popen = os.environ.pop("LD_PRELOAD"), subprocess.Popen
 
-    def begin(command, preexec_fn=None, pass_fds=(), **how):
+    def start(command, preexec_fn=None, pass_fds=(), **options):
         """Starts a command as Popen does. If it is the program, the forked process runs `run_as_program` and executes nothing."""
         prepare = preexec_fn or (lambda: None)
         if command[0] == runner.program:
-            preexec_fn, how["restore_signals"] = lambda: (prepare(), run_as_program(command[1:], how["env"], pass_fds)), False
-        return popen(command, preexec_fn=preexec_fn, pass_fds=pass_fds, **how)
+            preexec_fn = lambda: (prepare(), run_as_program(command[1:], options["env"], pass_fds))
+            options["restore_signals"] = False
+        return popen(command, preexec_fn=preexec_fn, pass_fds=pass_fds, **options)
 
-    with mock.patch.object(subprocess, "Popen", begin):
+    with mock.patch.object(subprocess, "Popen", start):
         return run_cases(chosen_cases(runner))
 
 

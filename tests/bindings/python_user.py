@@ -4,7 +4,7 @@
 
 IMPLEMENTATION is the implementation of Ed25519: `libsodium` or `cryptography`. COMMAND is a function of this module.
 `verify`, `pieces`, `fields`, `verify_listed` and `entries` print a line for each case on standard input; `make`,
-`sign`, `strength`, `encrypt`, `write` and `key_ids` use one key. Any other command is a function of `python_checks.py`,
+`sign`, `strength`, `encrypt`, `write` and `key_ids` use one key. Any other command is a step of `python_checks.py`,
 which is a separate module because its imports take long.
 
 Needs Python 3.9 or later.
@@ -42,8 +42,8 @@ def result_of(verification: Callable[[], str]) -> str:
     """Returns `accepted` and the trusted comment that `verification` returns, or `rejected` and the error that it raises."""
     try:
         return f"accepted {verification().encode().hex() or '-'}"
-    except minisign.MinisignError as why:
-        return f"rejected {name_of(why)}"
+    except minisign.MinisignError as error:
+        return f"rejected {name_of(error)}"
 
 
 def verify(legacy: str) -> None:
@@ -54,11 +54,11 @@ def verify(legacy: str) -> None:
 
 def split(data: bytes, choose: random.Random) -> Iterator[bytes]:
     """Splits data into pieces of random lengths, some of them empty."""
-    begin = 0
-    while begin < len(data):
+    start = 0
+    while start < len(data):
         length = choose.choice((0, 1, 63, 64, 65, 127, 128, 129, choose.randrange(1, 70000)))
-        yield data[begin:begin + length]
-        begin += length
+        yield data[start:start + length]
+        start += length
 
 
 def pieces() -> None:
@@ -105,9 +105,9 @@ def listed_result(verification: Callable[[], Tuple[SignedList, ListEntry]]) -> s
     try:
         signed, entry = verification()
         return f"accepted {signed.trusted_comment.encode().hex()} {entry.line}"
-    except minisign.MinisignError as why:
-        has_line = str(why).startswith(f"line {why.line}: ") if why.line else not str(why).startswith("line ")
-        return f"rejected {name_of(why)} {why.line}{'' if has_line else f': {why}'}"
+    except minisign.MinisignError as error:
+        has_line = str(error).startswith(f"line {error.line}: ") if error.line else not str(error).startswith("line ")
+        return f"rejected {name_of(error)} {error.line}{'' if has_line else f': {error}'}"
 
 
 def verify_listed() -> None:
@@ -166,9 +166,9 @@ def make(directory: str, password: Optional[str] = None) -> None:
     write(directory, "public", key.public_bytes())
 
 
-def sign(key: str, data: str, to: str, comment: str, password: Optional[str] = None) -> None:
+def sign(key: str, data: str, signature_path: str, comment: str, password: Optional[str] = None) -> None:
     signature = SecretKey.from_file(key, password).sign(data, trusted_comment=comment)
-    write("", to, signature.text)
+    write("", signature_path, signature.text)
 
 
 def encrypt(operations: str, memory: str) -> None:
@@ -198,12 +198,12 @@ def outcome(call: Callable[..., None], *arguments: str) -> str:
     """Returns `OK`, or the error that a call raises."""
     try:
         call(*arguments)
-    except minisign.MinisignError as why:
-        return name_of(why)
-    except OSError as why:
-        return str(why)
-    except ValueError as why:
-        return "WEAK_LIMITS" if "_limit" in str(why) else str(why)
+    except minisign.MinisignError as error:
+        return name_of(error)
+    except OSError as error:
+        return str(error)
+    except ValueError as error:
+        return "WEAK_LIMITS" if "_limit" in str(error) else str(error)
     return "OK"
 
 
@@ -218,4 +218,4 @@ if __name__ == "__main__":
     elif command in globals():
         globals()[command](*rest)
     else:
-        getattr(importlib.import_module("python_checks"), command)(*rest)
+        importlib.import_module("python_checks").STEPS[command](*rest)

@@ -37,12 +37,12 @@ import document_commands
 import debian_crates
 import emulated
 import needs
-import portable
 import shared_cases
 import static_library
 import test_script
 from mutants import mutants_of
 from shared_cases import TOP, Program, read, record_of, run, write
+from wine import Wine
 
 CRATE, SYS = (os.path.join(TOP, "bindings", name) for name in ("rust", "rust-sys"))
 # The files of bindings/rust that are written by hand. Only those in src/raw may contain `unsafe`. The other constants
@@ -72,17 +72,17 @@ def toolchains():
     """Returns the paths of Debian's cargo and rustc, followed by those of the first cargo and rustc in PATH if they are
     different."""
     pairs = [(needs.program("cargo", "cargo"), needs.rust_compiler())]
-    first = (shutil.which("cargo"), shutil.which("rustc"))
-    if all(first) and not os.path.samefile(first[0], pairs[0][0]):
-        pairs.append(first)
+    in_path = (shutil.which("cargo"), shutil.which("rustc"))
+    if all(in_path) and not os.path.samefile(in_path[0], pairs[0][0]):
+        pairs.append(in_path)
     return pairs
 
 
-def depends_on(form, crate, unpacked=None, used=("minisign-proved-sys",)):
+def depends_on(form, crate, unpacked=None, dependencies=("minisign-proved-sys",)):
     """Returns the lines of Cargo.toml for a dependency on a crate, with patches for the packed crates that it uses.
     These are in the directory `unpacked`, by default the directory that contains the crate."""
     unpacked = unpacked or os.path.dirname(crate)
-    patches = "".join(f'{name} = {{ path = "{unpacked}/{name}-{shared_cases.VERSION}" }}\n' for name in used)
+    patches = "".join(f'{name} = {{ path = "{unpacked}/{name}-{shared_cases.VERSION}" }}\n' for name in dependencies)
     return f"{form.format(crate=crate)}\n\n[patch.crates-io]\n{patches}"
 
 
@@ -144,8 +144,9 @@ README_TOPICS = ["Licence", "C compiler", "libsodium", "Targets", "`no_std`", "W
 def check_order(checks, name):
     """Checks that the README of a crate has the sections of README_SECTIONS, and that its table has the README_TOPICS."""
     text = read(TOP, "bindings", name, "README.md").decode()
-    places = [[found.start() for found in re.finditer(f"(?m)^{part}", text)][:1] for part in README_SECTIONS]
-    checks.check(all(places) and places == sorted(places), f"{name}/README.md has the sections of README_SECTIONS at {places}")
+    positions = [[match.start() for match in re.finditer(f"(?m)^{heading}", text)][:1] for heading in README_SECTIONS]
+    checks.check(all(positions) and positions == sorted(positions),
+                 f"{name}/README.md has the sections of README_SECTIONS at {positions}")
     cells = "\n".join(re.findall(r"(?m)^\| ([^|]*) \|", text.partition("\n## Requirements and limits\n")[2]))
     missing = [word for word in README_TOPICS if not re.search(word, cells)]
     checks.check(not missing, f"{name}/README.md has no rows for {missing}")
@@ -167,13 +168,13 @@ def check_sources(checks):
     )
 
 
-def check_tests(checks, cargo, crate, least, *options):
-    """Checks that at least `least` tests of a crate pass, and none fails. The examples in its documentation are among them."""
+def check_tests(checks, cargo, crate, minimum, *options):
+    """Checks that at least `minimum` tests of a crate pass, and none fails. The examples in its documentation are among them."""
     status, output = cargo.try_to_run(crate, "test", *options, **Cargo.UNOPTIMIZED)
     passed = sum(int(count) for count in re.findall(r"(\d+) passed; 0 failed", output))
     checks.check(
-        status == 0 and passed >= least,
-        f"{os.path.basename(crate)}: {passed} tests passed, at least {least} expected: {output[-1500:]}",
+        status == 0 and passed >= minimum,
+        f"{os.path.basename(crate)}: {passed} tests passed, at least {minimum} expected: {output[-1500:]}",
     )
 
 
@@ -192,12 +193,12 @@ def check_inside(checks, cargo, crate, scratch):
     """Runs struct_layout.rs within the crate: the structs have the layout of the C structs of the header, and secret
     keys are cleared."""
     sys_crate = f"{os.path.dirname(crate)}/minisign-proved-sys-{shared_cases.VERSION}"
-    source, inside, lines = read(sys_crate, GENERATED_SYS), read(HERE, "rust", "struct_layout.rs").decode(), []
-    for place, expected in shared_cases.struct_layout(scratch).items():
-        struct, _, field = place.partition(".")
+    source, test_code, lines = read(sys_crate, GENERATED_SYS), read(HERE, "rust", "struct_layout.rs").decode(), []
+    for item, expected in shared_cases.struct_layout(scratch).items():
+        struct, _, field = item.partition(".")
         if f"pub struct {struct} " in source.decode():
             lines.append(f"        {'offset' if field else 'size'}!({struct}, {expected}{field and ', '}{field});")
-    write(sys_crate, GENERATED_SYS, source + inside.replace("        // STRUCTS", "\n".join(lines)).encode())
+    write(sys_crate, GENERATED_SYS, source + test_code.replace("        // STRUCTS", "\n".join(lines)).encode())
     status, output = cargo.try_to_run(sys_crate, "test", "--lib", **Cargo.UNOPTIMIZED)
     is_right = status == 0 and "2 passed; 0 failed" in output and len(lines) >= 15
     checks.check(is_right, f"minisign-proved-sys, {len(lines)} sizes and offsets: {output[-1500:]}")
@@ -234,8 +235,8 @@ def compare_results(program, scratch, minisign, cases):
     program.check_comments(["comment"], reason(STREAM_VARIANTS))
     program.check_fields(["read"], fields_line)
     program.check_libsodium(["accepts"])
-    of_length, of_base64 = (f"Err(InvalidEncoding(BARE_PUBLIC_KEY_{why}))" for why in ("LENGTH", "NOT_BASE64"))
-    program.check_bare_keys(*map(re.escape, ("Ok(None)", of_length, of_base64, of_length)))
+    length_error, base64_error = (f"Err(InvalidEncoding(BARE_PUBLIC_KEY_{fault}))" for fault in ("LENGTH", "NOT_BASE64"))
+    program.check_bare_keys(*map(re.escape, ("Ok(None)", length_error, base64_error, length_error)))
     # The debug output has no secrets, and has the names of reasons.
     program.check_pairs(6, "shown")
     # The traits of the types, records, bare signatures, and secret keys before they are decrypted.
@@ -301,8 +302,8 @@ def check_readme(checks, cargo, scratch, crate, minisign):
     write(directory, "src/main.rs", shared_cases.readme_examples("rust").encode())
     shutil.copy(os.path.join(HERE, "rust", "readme.rs"), os.path.join(directory, "src", "bin"))
     # RUSTFLAGS is empty because functions that the program does not call cause warnings.
-    status, why = cargo.try_to_run(directory, "build", RUSTFLAGS="", **Cargo.UNOPTIMIZED)
-    if not checks.check(status == 0, f"the examples of README.md do not compile: {why[-1500:]}"):
+    status, output = cargo.try_to_run(directory, "build", RUSTFLAGS="", **Cargo.UNOPTIMIZED)
+    if not checks.check(status == 0, f"the examples of README.md do not compile: {output[-1500:]}"):
         return
     programs = os.path.join(cargo.target, "debug")
     shutil.copy(shared_cases.PUBLISHED_PATHS[2], os.path.join(directory, "app.minisig"))
@@ -315,12 +316,7 @@ def check_readme(checks, cargo, scratch, crate, minisign):
     status, output, errors = run([f"{programs}/readme"], directory)
     is_right = (status, output.decode()) == (0, "version:3\tfile:app\n9 bytes were read\n")
     checks.check(is_right, f"the examples that sign: {status} {output} {errors}")
-    checks.check(
-        os.stat(os.path.join(directory, "new.key")).st_mode & 0o777 == 0o600,
-        "the mode of the key that the example generates",
-    )
-    verified = run([minisign, "-V", "-Q", "-p", "new.pub", "-m", "app-3"], directory)
-    checks.check(verified[:2] == (0, b"version:3\tfile:app\n"), f"c/minisign verifies the signature of the example: {verified}")
+    shared_cases.check_signed_example(checks, directory, minisign)
 
 
 class UserCrate:
@@ -337,21 +333,23 @@ class UserCrate:
         words = ["--target", target] if target else []
         return self.cargo.try_to_run(self.directory, "build", *words, **{**Cargo.UNOPTIMIZED, **environment})
 
-    def check(self, checks, what, names, before=(), target="", ending="", variables=None, **environment):
+    def check(self, checks, description, names, prefix=(), target="", ending="", variables=None, **environment):
         """Builds the crate, and runs it with the environment variables `variables`. Checks its output, and that it has
         exactly those symbols of `names` whose value is true."""
         status, output = self.build(target, **environment)
-        if not checks.check(status == 0, f"{what}: the build failed: {output[-1000:]}"):
+        if not checks.check(status == 0, f"{description}: the build failed: {output[-1000:]}"):
             return
         program, (key, _, signature) = (
             os.path.join(self.cargo.target, target, "debug", f"user{ending}"),
             shared_cases.PUBLISHED_PATHS,
         )
-        status, output, errors = run([*before, program, key, signature], environment=variables)
-        checks.check(output.decode().replace("\r", "") == messages(), f"{what}: status {status}, {output.decode()}{errors[-500:]}")
+        status, output, errors = run([*prefix, program, key, signature], environment=variables)
+        checks.check(output.decode().replace("\r", "") == messages(),
+                     f"{description}: status {status}, {output.decode()}{errors[-500:]}")
         symbols = shared_cases.symbols_of(program)
         for name, is_expected in names.items():
-            checks.check((name in symbols) == is_expected, f"{what}: the symbol {name} is {'missing' if is_expected else 'there'}")
+            checks.check((name in symbols) == is_expected,
+                         f"{description}: the symbol {name} is {'missing' if is_expected else 'there'}")
 
 
 def rust_for_arm():
@@ -366,19 +364,19 @@ def check_here(checks, programs, crate, scratch):
     """Checks builds for this system, in a path with spaces and without make and libsodium: with the archives, from C,
     with other compilers, and as a git dependency."""
     user_crate = UserCrate(programs, scratch, "a user's crate", depends_on(WITHOUT_SODIUM, crate))
-    for what, has_archives, is_portable in (("with the archives", True, ""), ("from C", False, "1")):
+    for name, has_archives, is_portable in (("with the archives", True, ""), ("from C", False, "1")):
         user_crate.check(
             checks,
-            f"without make, {what}",
+            f"without make, {name}",
             {"v3_minisign_update": has_archives, **NO_SODIUM},
             MINISIGN_PORTABLE=is_portable,
         )
-    status, why = user_crate.build(CC="cl", MINISIGN_PORTABLE="")
-    checks.check(status != 0 and NOT_GNU_ERROR in why, f"a compiler without GNU options: {why[-500:]}")
+    status, output = user_crate.build(CC="cl", MINISIGN_PORTABLE="")
+    checks.check(status != 0 and NOT_GNU_ERROR in output, f"a compiler without GNU options: {output[-500:]}")
     compiler = write(scratch, "recording", RECORDING.encode())
     os.chmod(compiler, 0o755)
-    status, why = user_crate.build(CC_x86_64_unknown_linux_gnu=compiler, MINISIGN_PORTABLE="")
-    checks.check(status == 0 and os.path.exists(f"{compiler}-calls"), f"a compiler for one target: {why[-500:]}")
+    status, output = user_crate.build(CC_x86_64_unknown_linux_gnu=compiler, MINISIGN_PORTABLE="")
+    checks.check(status == 0 and os.path.exists(f"{compiler}-calls"), f"a compiler for one target: {output[-500:]}")
     check_libsodium(checks, crate, scratch)
     dependency = f'minisign-proved = {{ git = "file://{document_commands.Clone(scratch).top}", default-features = false }}'
     user_crate = UserCrate(programs, scratch, "git dependency", dependency)
@@ -394,20 +392,20 @@ def check_libsodium(checks, crate, scratch):
     for variables, is_shared in (({}, True), ({"SODIUM_LIB_DIR": DEBIAN_LIBRARIES}, False),
                                  ({"SODIUM_LIB_DIR": DEBIAN_LIBRARIES, "SODIUM_SHARED": "1"}, True)):
         user_crate.check(checks, f"with libsodium, {variables}", {}, **variables)
-        needed = run([needs.program("readelf", "binutils"), "-d", f"{user_crate.cargo.target}/debug/user"])[1].decode()
-        checks.check(("libsodium.so" in needed) == is_shared, f"with libsodium, {variables}: {needed}")
+        dynamic_section = run([needs.program("readelf", "binutils"), "-d", f"{user_crate.cargo.target}/debug/user"])[1].decode()
+        checks.check(("libsodium.so" in dynamic_section) == is_shared, f"with libsodium, {variables}: {dynamic_section}")
     programs = shared_cases.make_path_directory(os.path.join(scratch, "for-libsodium"), *BUILD_PROGRAMS)
     without_pkg_config = UserCrate(programs, scratch, "without pkg-config", depends_on(PLAIN, crate))
-    status, why = without_pkg_config.build()
+    status, output = without_pkg_config.build()
     checks.check(
-        status != 0 and "libsodium was not found: install it" in why and "SODIUM_LIB_DIR" in why,
-        f"without pkg-config: {why[-800:]}",
+        status != 0 and "libsodium was not found: install it" in output and "SODIUM_LIB_DIR" in output,
+        f"without pkg-config: {output[-800:]}",
     )
 
 
 def check_targets(checks, programs, crate, scratch):
     """Checks the crate for Windows, under wine, and for AArch64, under qemu."""
-    wine, arm = portable.Windows(scratch), emulated.AARCH64
+    wine, arm = Wine(scratch), emulated.AARCH64
     needs.need(
         lambda: True if os.path.isdir(f"/usr/lib/rustlib/{WINDOWS}") else None,
         "Rust for Windows",
@@ -441,20 +439,20 @@ def check_mutants(checks, cargo, crate, scratch, minisign):
     users = {name: new_crate(scratch, f"mutants-{name}", depends_on(RENAMED, crate_path, os.path.dirname(crate)), f"{name}.rs")
              for name in ("verifying", "lists")}
 
-    def check_mutant(checks, changed, directory, word):
+    def check_mutant(checks, changed, directory, case):
         shutil.rmtree(crate_path, ignore_errors=True)
         os.rename(changed, crate_path)
         # cargo rebuilds files that are newer than the last build. A restored file is older than the build of the previous mutant.
         os.utime(os.path.join(crate_path, "src", "lib.rs"))
         cargo.run(
-            users["lists" if word == "lists" else "verifying"],
+            users["lists" if case == "lists" else "verifying"],
             "build",
             RUSTFLAGS="",
             CARGO_INCREMENTAL="1",
             **Cargo.UNOPTIMIZED,
         )
         program = Program(checks, f"{cargo.target}/debug/user")
-        if word == "lists":
+        if case == "lists":
             check_lists(program, os.path.join(directory, "listed"), minisign)
         else:
             compare_results(program, directory, minisign, shared_cases.corpus())

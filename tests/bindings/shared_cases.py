@@ -45,23 +45,23 @@ LINE_DAMAGED_COUNT = 150
 
 def run(command, directory=None, environment=None, data=b""):
     """Runs a command, and returns its exit status, its output, and its error output."""
-    ran = run_program(command, directory, data, SECONDS, env=dict(os.environ, **(environment or {})))
-    return ran.status, ran.stdout, ran.stderr.decode(errors="replace")
+    result = run_program(command, directory, data, SECONDS, env=dict(os.environ, **(environment or {})))
+    return result.status, result.stdout, result.stderr.decode(errors="replace")
 
 
 def pack_and_unpack(package, directory, environment=None, **make_variables):
     """Packs a package with `make -C bindings`, without the Rattle kit in PATH, unpacks its archive, and returns the
     directory of its files. For Rust there are archives of three crates, which are unpacked side by side, and the
     returned directory is that of minisign-proved."""
-    out, to = os.path.join(directory, "packed"), os.path.join(directory, "unpacked")
-    variables = {"OUT": out, "PYTHON": sys.executable, **make_variables}
+    packed, unpacked = os.path.join(directory, "packed"), os.path.join(directory, "unpacked")
+    variables = {"OUT": packed, "PYTHON": sys.executable, **make_variables}
     assignments = [f"{name}={value}" for name, value in variables.items()]
     command = [needs.program("make", "make"), "-s", "-C", os.path.join(TOP, "bindings"), package, *assignments]
     run_or_fail(command, **{"PATH": static_library.path_without_kit(), **(environment or {})})
-    archives = [name for name in os.listdir(out) if name.endswith((".crate", ".tar.gz", ".tgz"))]
+    archives = [name for name in os.listdir(packed) if name.endswith((".crate", ".tar.gz", ".tgz"))]
     for archive in archives:
-        shutil.unpack_archive(os.path.join(out, archive), to, "gztar")
-    return os.path.join(to, f"minisign-proved-{VERSION}" if package == "rust" else os.listdir(to)[0])
+        shutil.unpack_archive(os.path.join(packed, archive), unpacked, "gztar")
+    return os.path.join(unpacked, f"minisign-proved-{VERSION}" if package == "rust" else os.listdir(unpacked)[0])
 
 
 def make_path_directory(directory, *names):
@@ -116,14 +116,23 @@ def check_readme(checks, package):
     """Checks that a package's README has the same sections as the others and an example of verification, and that all its keys and
     signatures are the published ones."""
     text = read(TOP, "bindings", package, "README.md").decode()
-    parts = re.findall(r"^## (What is different from|.*)", text, re.M)
+    sections = re.findall(r"^## (What is different from|.*)", text, re.M)
     expected = RUST_README_SECTIONS if package == "rust" else README_SECTIONS
-    checks.check([part for part in parts if part in expected] == expected,
-                 f"README.md has the sections {parts}, expected {expected}")
+    checks.check([section for section in sections if section in expected] == expected,
+                 f"README.md has the sections {sections}, expected {expected}")
     checks.check(re.search(r"^## Verify\n.*?^```\w+\n.+?^```", text, re.M | re.S), "README.md has no example in section Verify")
     published = (PUBLISHED.key + b"\n" + PUBLISHED.signature).decode().split("\n")
     for letters in re.findall(r"\bR[UW][A-Za-z0-9+/=]{54,}", text):
         checks.check(letters in published, f"README.md has a key or signature that is not the published one: {letters}")
+
+
+def check_signed_example(checks, directory, minisign):
+    """Checks the files that the signing examples of a README have written into a directory: only the owner can read the
+    key new.key, and `c/minisign` accepts the signature of app-3."""
+    mode = os.stat(os.path.join(directory, "new.key")).st_mode & 0o777
+    checks.check(mode == 0o600, f"the key that the example generates has the mode {mode:o}, expected 600")
+    result = run([minisign, "-V", "-Q", "-p", "new.pub", "-m", "app-3"], directory)
+    checks.check(result[:2] == (0, b"version:3\tfile:app\n"), f"c/minisign verifies the signature of the example: {result}")
 
 
 # ---- Cases ----
@@ -187,8 +196,8 @@ def damaged_cases(count=DAMAGED_COUNT):
 def line_damaged_cases():
     """Returns a random sample of cases in which the data, or a line, a character or the end of a file is changed. It is
     the same in each run."""
-    undamaged = next(case for case in kept_cases() if case.data and case.sig.count(b"\n") == 4)
-    return as_cases(random.Random(LINE_DAMAGED_COUNT).sample(minisign_cases.damaged(undamaged), LINE_DAMAGED_COUNT))
+    valid_case = next(case for case in kept_cases() if case.data and case.sig.count(b"\n") == 4)
+    return as_cases(random.Random(LINE_DAMAGED_COUNT).sample(minisign_cases.damaged(valid_case), LINE_DAMAGED_COUNT))
 
 
 def rejected_cases():
@@ -228,11 +237,12 @@ SHORT_KEY_IDS = [0xABCDEF012345678, 0x620F1842B41F0A, 0x123456789, 0xB, 0]
 def with_key_id(case, number):
     """Returns the case with another key ID in its key and its signature. The signature is still valid, because key IDs
     are not signed."""
-    def changed(text):
+    def with_changed_record(text):
         record = record_of(text)
         return text.replace(*map(base64.b64encode, (record, record[:2] + number.to_bytes(8, "little") + record[10:])))
 
-    return case._replace(name=f"the key ID {number:X}", key=changed(case.key), signature=changed(case.signature))
+    key, signature = with_changed_record(case.key), with_changed_record(case.signature)
+    return case._replace(name=f"the key ID {number:X}", key=key, signature=signature)
 
 
 # ---- Signed lists ----
@@ -311,8 +321,9 @@ def list_rows(minisign):
         def rejected(error, line=0):
             return f"rejected {error} {line}"
 
-        good = signed(text)
-        case = ListCase("", read(directory, "ours.pub"), text, good, LIST_NAME.encode(), b"sha512", b"app", LISTED_FILES["app"])
+        signature = signed(text)
+        case = ListCase("", read(directory, "ours.pub"), text, signature, LIST_NAME.encode(), b"sha512", b"app",
+                        LISTED_FILES["app"])
         line_numbers = {entry[1]: number for number, (_, entry) in enumerate(LIST_LINES, 1) if entry}
         listed_once = [(name, data) for name, data in LISTED_FILES.items() if name != "twice"]
         rows = [(case._replace(name=name.encode(), data=data), accepted(line_numbers[name])) for name, data in listed_once]
@@ -323,7 +334,7 @@ def list_rows(minisign):
                  (case._replace(long_digest=b"blake2b", name=b"long", data=LISTED_FILES["long"]), rejected("DIGEST_MISMATCH")),
                  (case._replace(list_name=b""), accepted(3)), (case._replace(list_name=b"SHA256SUM"), rejected("OTHER_LIST")),
                  (case._replace(text=text + b"\n"), rejected("SIGNATURE_REFUSED")),
-                 (case._replace(signature=good.replace(b"version:2", b"version:3")), rejected("COMMENT_SIGNATURE_REFUSED")),
+                 (case._replace(signature=signature.replace(b"version:2", b"version:3")), rejected("COMMENT_SIGNATURE_REFUSED")),
                  (case._replace(signature=signed(text, key="theirs")), rejected("DIFFERENT_KEY_IDS")),
                  (case._replace(signature=signed(text, "-l")), rejected("LEGACY_NOT_ACCEPTED")),
                  (case._replace(signature=b"none"), rejected("MISSING_SIGNATURE")),
@@ -333,9 +344,10 @@ def list_rows(minisign):
                  for name in (b"../app", b"/app", b"", b"a/", b"new\\nline", b"new\nline", b"a\0", b".")]
         rows += [(case._replace(name=b"\xff"), rejected("NOT_UTF8")),
                  (case._replace(text=b"# \xff\n" + text, signature=signed(b"# \xff\n" + text)), rejected("NOT_UTF8"))]
-        rows += [(case._replace(text=other, signature=signed(other)), rejected("MALFORMED_LINE", 2)) for other in MALFORMED_LISTS]
+        rows += [(case._replace(text=malformed_text, signature=signed(malformed_text)), rejected("MALFORMED_LINE", 2))
+                 for malformed_text in MALFORMED_LISTS]
         rows += [(case._replace(text=b"", signature=signed(b"")), rejected("NOT_LISTED"))]
-    return [(each._replace(title=f"{each.name} of a list, {expected}"), expected) for each, expected in rows]
+    return [(list_case._replace(title=f"{list_case.name} of a list, {expected}"), expected) for list_case, expected in rows]
 
 
 def listed_entries():
@@ -372,7 +384,7 @@ def accepted_comments(minisign, cases, allow_legacy):
 @functools.lru_cache(maxsize=None)
 def large_cases(minisign):
     """Returns two cases: 300,000 bytes of data that `c/minisign` has signed, and the same data with its last byte changed."""
-    data = bytes(at * at % 251 for at in range(300_000))
+    data = bytes(index * index % 251 for index in range(300_000))
     with tempfile.TemporaryDirectory(prefix="large-") as directory:
         write(directory, "data", data)
         run([minisign, "-G", "-W", "-p", "pub", "-s", "key"], directory)
@@ -519,7 +531,7 @@ class Program:
 
     def check_growth(self, count, max_growth, cases=()):
         """Checks that the memory of the program grows by at most `max_growth` from the first tenth of `count` calls to
-        the last call. The program reports its memory in pages or bytes, as it likes."""
+        the last call. `max_growth` has the unit in which the program reports its memory: pages or bytes."""
         status, output, errors = self.run("growth", str(count), cases=cases)
         self.checks.check(
             status == 0 and int(output) <= max_growth,
@@ -572,31 +584,32 @@ def check_signing(program, directory, minisign, spell_error=str, success="OK", t
     def output_of(*arguments):
         return program.run(*arguments)[1].decode().strip()
 
-    def by_c(*arguments):
+    def run_minisign(*arguments):
         return run([minisign, *arguments], directory, data=f"{PASSWORD}\n".encode())
 
-    def verified(name):
-        return by_c("-V", "-H", "-Q", "-p", f"{name}/public", "-m", "data", "-x", "sig")
+    def verify(name):
+        return run_minisign("-V", "-H", "-Q", "-p", f"{name}/public", "-m", "data", "-x", "sig")
 
     for name in names[:2]:
         output = output_of("make", os.path.join(directory, name), *([PASSWORD] if name == "sealed" else []))
         checks.check(output == success, f"making a key, {name}: {output!r}")
-        by_c("-S", "-s", f"{name}/secret", "-m", "data", "-x", "sig", "-t", "t")
-        result = verified(name)
+        run_minisign("-S", "-s", f"{name}/secret", "-m", "data", "-x", "sig", "-t", "t")
+        result = verify(name)
         checks.check(result[:2] == (0, b"t\n"), f"c/minisign with the key {name}: {result}")
-        by_c("-R", "-s", f"{name}/secret", "-p", f"{name}/recreated")
+        run_minisign("-R", "-s", f"{name}/secret", "-p", f"{name}/recreated")
         checks.check(read(directory, name, "public") == read(directory, name, "recreated"),
                      f"c/minisign writes another public key for {name}")
     records = [record_of(read(directory, name, "public")) for name in names[:2]]
-    checks.check(all(records[0][at:at + 8] != records[1][at:at + 8] for at in (2, 10)), "two keys have one key ID, or are the same")
-    by_c("-G", "-W", "-s", "by-c/secret", "-p", "by-c/public")
+    is_different = all(records[0][offset:offset + 8] != records[1][offset:offset + 8] for offset in (2, 10))
+    checks.check(is_different, "two keys have the same key ID, or are the same")
+    run_minisign("-G", "-W", "-s", "by-c/secret", "-p", "by-c/public")
     for name, comment, password, error in (row for row in SIGNING_CASES if row[0] in names):
         os.remove(sig)
         output, expected = output_of("sign", f"{directory}/{name}/secret", data, sig, comment,
                                      *password), spell_error(error) if error else success
         checks.check(output == expected, f"signing, {name}, {comment!r}: {output!r}, expected {expected}")
         if error is None:
-            result = verified(name)
+            result = verify(name)
             checks.check(result[:2] == (0, f"{comment}\n".encode()), f"c/minisign verifies a signature of {name}: {result}")
         else:
             checks.check(not os.path.exists(sig), f"signing, {name}, {comment!r}: a file was written")
@@ -660,11 +673,11 @@ def check_new_key_files(program, directory, success="OK"):
         """Returns the content of each file in the directory, or True for a link."""
         return {name: os.path.islink(os.path.join(directory, name)) or read(directory, name) for name in os.listdir(directory)}
 
-    def write_key(what, succeeds, *before, text=KEY_FILE_CONTENT, mask="022"):
-        limited = Program(checks, *before, "sh", "-c", LIMITED_SHELL, mask, *program.command, **program.environment)
+    def write_key(description, succeeds, *prefix, text=KEY_FILE_CONTENT, mask="022"):
+        limited = Program(checks, *prefix, "sh", "-c", LIMITED_SHELL, mask, *program.command, **program.environment)
         status, output, errors = limited.run("write", path, text)
         is_expected = (output.decode().strip() == success) == succeeds and status == 0
-        checks.check(is_expected, f"{program.name}, {what}: status {status}, {output}, {errors[-500:]}, "
+        checks.check(is_expected, f"{program.name}, {description}: status {status}, {output}, {errors[-500:]}, "
                                   f"expected {'success' if succeeds else 'an error'}")
 
     for mask in ("777", "277", "022", "000"):
@@ -711,8 +724,8 @@ def check_new_key_files(program, directory, success="OK"):
 class StopAtFailure(Checks):
     """Like `Checks`, but raises a `Failure` for the first check that fails."""
 
-    def check(self, holds, *what):
-        expect(holds, *what)
+    def check(self, holds, *message):
+        expect(holds, *message)
         return True
 
 
@@ -743,13 +756,13 @@ def check_mutants(checks, package, source_directory, package_mutants, directory,
         checks.check(not is_detected(package, directory, run_checks, case), f"{case}: fails for a copy without a mutant")
     for mutant in package_mutants:
         try:
-            tries = SEARCHES if mutant.case in searching else 1
+            max_runs = SEARCHES if mutant.case in searching else 1
             is_failing = any(
-                is_detected(package, directory, run_checks, mutant.case, mutant, source_directory) for _ in range(tries)
+                is_detected(package, directory, run_checks, mutant.case, mutant, source_directory) for _ in range(max_runs)
             )
             checks.check(is_failing, f"{mutant.case} does not detect the mutant {mutant.name}")
-        except Failure as why:
-            checks.check(False, str(why))
+        except Failure as error:
+            checks.check(False, str(error))
 
 
 # ---- The errors and structs of the header ----

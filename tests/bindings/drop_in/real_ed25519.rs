@@ -1,6 +1,6 @@
-//! Replaces the module `crypto::ed25519` of the crate minisign with calls of libsodium, because the sources of the
-//! crate that the test uses lack its curve arithmetic. Like the original, `verify` reads 64 bytes of the signature, and
-//! panics if it is shorter.
+//! Replaces the module `crypto::ed25519` of the original crate minisign with calls to libsodium. The copy of the crate's
+//! sources that drop_in.py uses has no `crypto::curve25519`, which the original module needs. Like the original,
+//! `verify` reads 64 bytes of the signature, and panics if it is shorter.
 
 extern "C" {
     fn crypto_sign_seed_keypair(public_key: *mut u8, secret_key: *mut u8, seed: *const u8) -> i32;

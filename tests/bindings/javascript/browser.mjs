@@ -1,5 +1,5 @@
 // A test program that uses the package in a browser, in a page and in a worker. index.html runs it in both, with the cases of
-// asked.json.
+// requests.json.
 
 import {
   clearSecretKey, generateSecretKey, MinisignError, readSecretKey, sign, verify, verifyList, writePublicKey, writeSecretKey,
@@ -59,20 +59,20 @@ function isCancelled() {
 
 // Signs and verifies with a generated key that was written and read again, and with an encrypted key. Returns the results, and the
 // error of signing with a cleared key.
-async function signs(encrypted) {
+async function signingResults(encrypted) {
   const generated = await generateSecretKey(), results = [];
   const decrypted = await readSecretKey(encrypted, {password: "pass word", lowMemory: true});
   for (const [key, original] of [[await readSecretKey(await writeSecretKey(generated, null)), generated], [decrypted, decrypted]]) {
     const signature = await sign(new Blob(["data"]), key, {trustedComment: "version:2"});
-    const verified = await verify(new Blob(["data"]), signature, await writePublicKey(original));
-    results.push(verified.trustedComment, verified.keyId === original.keyId && key.keyId === original.keyId, key.isWeak);
+    const result = await verify(new Blob(["data"]), signature, await writePublicKey(original));
+    results.push(result.trustedComment, result.keyId === original.keyId && key.keyId === original.keyId, key.isWeak);
   }
   clearSecretKey(generated);
   return `${results} ${await sign(new Blob(["data"]), generated).catch(why => why.code)}`;
 }
 
 // Generates a key, and returns the encrypted secret key file and the public key file.
-async function pair() {
+async function newKeyFiles() {
   const key = await generateSecretKey();
   return [await writeSecretKey(key, "pass word", {lowMemory: true}), await writePublicKey(key)];
 }
@@ -81,11 +81,11 @@ async function pair() {
 async function isAborted() {
   const data = new Uint8Array(2 ** 28), key = await generateSecretKey(), controller = new AbortController();
   const texts = [await sign(new Uint8Array(1), key), await writePublicKey(key)];
-  let read = 0;
-  const options = {signal: controller.signal, progress: bytes => { read = bytes; }};
+  let bytesRead = 0;
+  const options = {signal: controller.signal, progress: bytes => { bytesRead = bytes; }};
   setTimeout(() => controller.abort("gone"), 30);
   const reason = await verify(data, ...texts, options).catch(why => why);
-  return reason === "gone" && read > 0 && read < data.length;
+  return reason === "gone" && bytesRead > 0 && bytesRead < data.length;
 }
 
 // Returns the default trusted comment of a file.
@@ -113,9 +113,9 @@ async function answerOfList([key, text, signature, listName, long, name, data]) 
 
 async function answersOf({cases, pieces, vectors, lists, sealed}) {
   const answers = {
-    legacy: [], strict: [], pieces: [], vectors: [], cancelled: await isCancelled(), aborted: await isAborted(),
-    comment: await commentOfFile(),
-    signs: await signs(sealed), pair: await pair(), lists: [],
+    legacy: [], strict: [], pieces: [], vectors: [], lists: [],
+    isCancelled: await isCancelled(), isAborted: await isAborted(), defaultComment: await commentOfFile(),
+    signingResults: await signingResults(sealed), keyFiles: await newKeyFiles(),
   };
   for (const parts of lists) {
     answers.lists.push(await answerOfList(parts.map(bytesOf)));
@@ -133,16 +133,16 @@ async function answersOf({cases, pieces, vectors, lists, sealed}) {
   return answers;
 }
 
-const asked = async () => answersOf(await (await fetch("asked.json")).json());
+const answersToRequests = async () => answersOf(await (await fetch("requests.json")).json());
 
 if (typeof document === "undefined") {
-  asked().then(postMessage);
+  answersToRequests().then(postMessage);
 } else {
   const worker = new Worker("browser.mjs", {type: "module"});
-  const inWorker = new Promise(
+  const workerAnswers = new Promise(
     (resolve, reject) => Object.assign(worker, {onmessage: event => resolve(event.data), onerror: reject})
   );
-  const answers = await Promise.all([asked(), inWorker]).then(
+  const answers = await Promise.all([answersToRequests(), workerAnswers]).then(
     ([page, thread]) => ({page, thread}),
     why => ({why: String(why.message ?? why)})
   );

@@ -1,13 +1,13 @@
-// Checks how the package handles files, in Node. javascript.py copies this program into a user's directory, beside `node_modules`.
+// Checks how the package handles files, in Node. javascript.py copies this program into a project directory, beside `node_modules`.
 //
 //     node files.mjs comments FILE OTHER ..    prints the default trusted comments of these files, without the time, for
 //                                              each form of data
-//     node files.mjs names                     checks the default trusted comments for names that are not those of regular files
-//     node files.mjs new DIRECTORY             checks writing new files in this directory
-//     node files.mjs full DIRECTORY            checks writing a new file while the file size limit is 0
-//     node files.mjs ids KEY                   prints the key ID of a secret key, and the first line of its public key
+//     node files.mjs specialNames              checks the default trusted comments for names that are not those of regular files
+//     node files.mjs writeNew DIRECTORY        checks writing new files in this directory
+//     node files.mjs failedWrites DIRECTORY    checks writing a new file while the file size limit is 0
+//     node files.mjs keyIds KEY                prints the key ID of a secret key, and the first line of its public key
 //
-// The lines of `names`, `new` and `full` have the expected result, a tab, and the actual result.
+// The lines of `specialNames`, `writeNew` and `failedWrites` have the expected result, a tab, and the actual result.
 
 import {File} from "node:buffer";
 import {
@@ -30,7 +30,7 @@ import {
 } from "minisign-proved";
 import {writeNew} from "minisign-proved/node";
 
-const [what, ...words] = process.argv.slice(2);
+const [command, ...words] = process.argv.slice(2);
 
 const commentOf = text => text.split("\n")[2].replace(/timestamp:\d{10,}\t/, "timestamp:TIME\t");
 
@@ -51,33 +51,41 @@ async function comments(paths) {
 // Returns a stream of Node whose property `path` has this value.
 const streamOf = path => Object.assign(Readable.from([new Uint8Array(1)]), {path});
 
-async function names() {
+async function specialNames() {
   const secretKey = await generateSecretKey(), lines = [], bytes = new Uint8Array(1), {platform} = process;
   const outcome = (data, options) => sign(data, secretKey, options).then(commentOf, why => `${why.name}: ${why.message}`);
-  const unnamed = "trusted comment: timestamp:TIME\thashed";
-  const named = name => `trusted comment: timestamp:TIME\tfile:${name}\thashed`;
-  const rejected = why => `TypeError: a file name ${why} cannot be in the default trusted comment; pass a trustedComment`;
+  const unnamedComment = "trusted comment: timestamp:TIME\thashed";
+  const namedComment = name => `trusted comment: timestamp:TIME\tfile:${name}\thashed`;
+  const errorOfName = why => `TypeError: a file name ${why} cannot be in the default trusted comment; pass a trustedComment`;
   const signer = await createSigner(secretKey);
-  lines.push([unnamed, commentOf(await signer.end())]);
+  lines.push([unnamedComment, commentOf(await signer.end())]);
   const rows = [
-    [unnamed, bytes], [unnamed, bytes.buffer], [unnamed, [bytes]], [unnamed, new Blob([bytes])],
-    [unnamed, new Blob([bytes]).stream()],
-    [unnamed, Readable.from([bytes])], [unnamed, new File([bytes], "")], [unnamed, Object.assign([bytes], {path: "a", name: "a"})],
-    [unnamed, Object.assign(new Uint8Array(1), {path: "a", name: "a"})], [unnamed, streamOf(null)],
-    [unnamed, streamOf(7)], [unnamed, streamOf("a/")],
-    [named("é 1.zip"), new File([bytes], "é 1.zip")], [named("b"), new File([bytes], "a/b")],
-    [named("a\\b"), new File([bytes], "a\\b")],
-    [named("b"), streamOf("/a/b")], [named("a\\b"), streamOf("a\\b")], [named("\uFEFFb"), streamOf(Buffer.from("a/\uFEFFb"))],
-    [rejected("with a line break"), new File([bytes], "a\nb")], [rejected("with a line break"), streamOf("a\rb")],
-    [rejected("that is not UTF-8"), streamOf(Buffer.of(255))],
+    [unnamedComment, bytes],
+    [unnamedComment, bytes.buffer],
+    [unnamedComment, [bytes]],
+    [unnamedComment, new Blob([bytes])],
+    [unnamedComment, new Blob([bytes]).stream()],
+    [unnamedComment, Readable.from([bytes])],
+    [unnamedComment, new File([bytes], "")],
+    [unnamedComment, Object.assign([bytes], {path: "a", name: "a"})],
+    [unnamedComment, Object.assign(new Uint8Array(1), {path: "a", name: "a"})],
+    [unnamedComment, streamOf(null)],
+    [unnamedComment, streamOf(7)],
+    [unnamedComment, streamOf("a/")],
+    [namedComment("é 1.zip"), new File([bytes], "é 1.zip")], [namedComment("b"), new File([bytes], "a/b")],
+    [namedComment("a\\b"), new File([bytes], "a\\b")],
+    [namedComment("b"), streamOf("/a/b")], [namedComment("a\\b"), streamOf("a\\b")],
+    [namedComment("\uFEFFb"), streamOf(Buffer.from("a/\uFEFFb"))],
+    [errorOfName("with a line break"), new File([bytes], "a\nb")], [errorOfName("with a line break"), streamOf("a\rb")],
+    [errorOfName("that is not UTF-8"), streamOf(Buffer.of(255))],
   ];
   for (const [expected, data] of rows) {
     lines.push([expected, await outcome(data)]);
   }
   lines.push(["trusted comment: chosen", await outcome(new File([bytes], "a\nb"), {trustedComment: "chosen"})]);
   Object.defineProperty(process, "platform", {value: "win32"});
-  lines.push([named("b"), await outcome(streamOf("C:\\a\\b"))], [named("c"), await outcome(streamOf("C:\\a/c"))],
-             [named("a\\b"), await outcome(new File([bytes], "a\\b"))]);
+  lines.push([namedComment("b"), await outcome(streamOf("C:\\a\\b"))], [namedComment("c"), await outcome(streamOf("C:\\a/c"))],
+             [namedComment("a\\b"), await outcome(new File([bytes], "a\\b"))]);
   Object.defineProperty(process, "platform", {value: platform});
   return lines.map(line => line.map(JSON.stringify));
 }
@@ -86,11 +94,11 @@ async function names() {
 const result = promise => promise.then(() => "written", why => why?.code === "INVALID_ARGUMENT" ? why.name : why.code ?? why.name);
 const modeOf = path => (statSync(path).mode & 0o7777).toString(8);
 
-async function newFiles([directory]) {
-  const text = await writeSecretKey(await generateSecretKey(), null), lines = [], at = name => join(directory, name);
+async function writeNewFiles([directory]) {
+  const text = await writeSecretKey(await generateSecretKey(), null), lines = [], inDirectory = name => join(directory, name);
   for (const [umask, mode] of [[0, "600"], [0o22, "600"], [0o77, "600"], [0o277, "600"], [0o777, "600"]]) {
     process.umask(umask);
-    const path = at(`mode-${umask}`);
+    const path = inDirectory(`mode-${umask}`);
     lines.push(
       ["written", await result(writeNew(path, text))],
       [mode, modeOf(path)],
@@ -99,44 +107,50 @@ async function newFiles([directory]) {
   }
   process.umask(0o22);
   const bytes = new TextEncoder().encode(text);
-  lines.push(["written", await result(writeNew(pathToFileURL(at("by-url")), bytes))]);
-  lines.push(["true 600", `${readFileSync(at("by-url")).equals(bytes)} ${modeOf(at("by-url"))}`]);
+  lines.push(["written", await result(writeNew(pathToFileURL(inDirectory("by-url")), bytes))]);
+  lines.push(["true 600", `${readFileSync(inDirectory("by-url")).equals(bytes)} ${modeOf(inDirectory("by-url"))}`]);
   // The bytes of the caller are not cleared.
   lines.push(["true", String(bytes.some(byte => byte !== 0))]);
-  writeFileSync(at("there"), "kept", {mode: 0o644});
-  symlinkSync("nowhere", at("link"));
-  symlinkSync("there", at("link-to-there"));
-  for (const name of ["there", "link", "link-to-there", ""]) {
-    lines.push(["EEXIST", await result(writeNew(at(name), text))]);
+  writeFileSync(inDirectory("existing"), "old content", {mode: 0o644});
+  symlinkSync("nowhere", inDirectory("link"));
+  symlinkSync("existing", inDirectory("link-to-existing"));
+  for (const name of ["existing", "link", "link-to-existing", ""]) {
+    lines.push(["EEXIST", await result(writeNew(inDirectory(name), text))]);
   }
-  lines.push(["kept 644", `${readFileSync(at("there"), "utf8")} ${modeOf(at("there"))}`], ["nowhere", readlinkSync(at("link"))]);
-  lines.push(["false", String(existsSync(at("nowhere")))], ["true", String(lstatSync(at("link-to-there")).isSymbolicLink())]);
-  lines.push(["ENOENT", await result(writeNew(at("none/key"), text))], ["ENOTDIR", await result(writeNew(at("there/key"), text))]);
-  const wrongArguments = [[at("no"), 7], [at("no"), undefined], [at("no"), "x".repeat(65536)], [7, text], [{}, text],
-                          [new URL("https://example.com/key"), text]];
-  for (const wrong of wrongArguments) {
-    const error = await writeNew(...wrong).catch(why => why);
+  const existingContent = readFileSync(inDirectory("existing"), "utf8");
+  lines.push(["old content 644", `${existingContent} ${modeOf(inDirectory("existing"))}`]);
+  lines.push(["nowhere", readlinkSync(inDirectory("link"))]);
+  lines.push(["false", String(existsSync(inDirectory("nowhere")))]);
+  lines.push(["true", String(lstatSync(inDirectory("link-to-existing")).isSymbolicLink())]);
+  lines.push(["ENOENT", await result(writeNew(inDirectory("none/key"), text))]);
+  lines.push(["ENOTDIR", await result(writeNew(inDirectory("existing/key"), text))]);
+  const wrongArguments = [
+    [inDirectory("no"), 7], [inDirectory("no"), undefined], [inDirectory("no"), "x".repeat(65536)], [7, text], [{}, text],
+    [new URL("https://example.com/key"), text],
+  ];
+  for (const argumentsOfCall of wrongArguments) {
+    const error = await writeNew(...argumentsOfCall).catch(why => why);
     lines.push(["true", String(error instanceof TypeError)]);
   }
-  lines.push(["false", String(existsSync(at("no")))]);
+  lines.push(["false", String(existsSync(inDirectory("no")))]);
   // Only one of 20 concurrent calls with the same path writes the file.
-  const results = await Promise.all(Array.from({length: 20}, () => result(writeNew(at("one"), text))));
+  const results = await Promise.all(Array.from({length: 20}, () => result(writeNew(inDirectory("one"), text))));
   lines.push(["1 19", `${results.filter(each => each === "written").length} ${results.filter(each => each === "EEXIST").length}`]);
   return lines;
 }
 
-async function full([directory]) {
+async function failedWrites([directory]) {
   const text = await writeSecretKey(await generateSecretKey(), null), path = join(directory, "key"), lines = [];
   lines.push(["EFBIG", await result(writeNew(path, text))], ["", readdirSync(directory).join()]);
   return lines;
 }
 
-async function ids([path]) {
+async function keyIds([path]) {
   const secretKey = await readSecretKey(readFileSync(path)), publicKey = await writePublicKey(secretKey);
-  const signed = await readSignature(await sign(new Uint8Array(1), secretKey));
-  const read = [await readPublicKey(publicKey), signed].map(({keyId}) => keyId);
-  return [[...new Set([secretKey.keyId, ...read])].join(" and "), publicKey.split("\n")[0]];
+  const parsedSignature = await readSignature(await sign(new Uint8Array(1), secretKey));
+  const otherKeyIds = [await readPublicKey(publicKey), parsedSignature].map(({keyId}) => keyId);
+  return [[...new Set([secretKey.keyId, ...otherKeyIds])].join(" and "), publicKey.split("\n")[0]];
 }
 
-const lines = await {comments, names, new: newFiles, full, ids}[what](words);
+const lines = await {comments, specialNames, writeNew: writeNewFiles, failedWrites, keyIds}[command](words);
 process.stdout.write(lines.map(line => `${[line].flat().join("\t")}\n`).join(""));

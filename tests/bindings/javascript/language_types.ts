@@ -1,5 +1,6 @@
-// Checks that the package's type declarations need only the types of the language. `tests/bindings/javascript.py`
-// compiles this program.
+// Uses all types that the package declares. `tests/bindings/javascript.py` only compiles this program, without the types
+// of browsers (DOM) and of Node, to check that the declarations need only the types of JavaScript itself. Each
+// `@ts-expect-error` checks that the misuse in the next line is a type error.
 
 import {
   clearSecretKey, createSigner, createVerifier, ERRORS, generateSecretKey, MinisignError, parseTrustedComment,
@@ -51,7 +52,7 @@ export async function listed(text: string): Promise<ListEntry> {
   const other: SignedList = await verifyListFile("SHA256SUMS", text, { longDigest: "none" });
   // @ts-expect-error: a stream cannot be hashed by WebCrypto
   await other.verifyListedTrustingWebCrypto(pieces(), words);
-  // @ts-expect-error: not a meaning of 128 digits
+  // @ts-expect-error: a digest of 128 digits can be of SHA-512 or BLAKE2b ("blake2b") or be rejected ("none")
   await verifyList(text, text, text, "SHA256SUMS", { longDigest: "sha256" });
   // @ts-expect-error: the name of the list must be given
   await verifyList(text, text, text);

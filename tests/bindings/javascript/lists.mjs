@@ -1,4 +1,4 @@
-// Tests verifying files against signed lists. javascript.py copies this program into a user's directory, beside `node_modules`.
+// Tests verifying files against signed lists. javascript.py copies this program into a project directory, beside `node_modules`.
 //
 //     node lists.mjs verify_listed        verifies the file of each case, passing its data in every form that the package accepts
 //     node lists.mjs entries              prints the entries of the list of each case
@@ -116,7 +116,7 @@ const check = async (expected, call) => results.push([expected, await resultOf(c
 
 async function checkArguments() {
   const [[key, text, signature, listName, , name, data]] = await cases();
-  const verifyWith = changed => verifyList(...Object.values({text, signature, key, listName, ...changed}));
+  const verifyWith = changedArguments => verifyList(...Object.values({text, signature, key, listName, ...changedArguments}));
   const list = await verifyWith();
   await check("INVALID_ARGUMENT: text must be a string or bytes, not number", () => verifyWith({text: 1}));
   await check("INVALID_ARGUMENT: text must have at most 1048576 bytes", () => verifyWith({text: "#".repeat(1048577)}));
@@ -173,9 +173,9 @@ async function checkArguments() {
   await check("LATE", () => list.verifyListed(endless(), name, {signal: controller.signal}));
   // Changing the buffer after the call has no effect, and the returned objects are frozen.
   const buffer = text.slice();
-  const verifying = verifyList(buffer, signature, key, listName);
+  const listPromise = verifyList(buffer, signature, key, listName);
   buffer.fill(0);
-  await check(3, async () => (await verifying).find(name));
+  await check(3, async () => (await listPromise).find(name));
   results.push([true, Object.isFrozen(list) && Object.isFrozen(list.find(name)) && Object.isFrozen(list.entries()[0])]);
   // The tab of the comment is replaced, because a tab separates the expected result from the actual one.
   const comment = list.trustedComment.replace("\t", " ");
@@ -185,56 +185,56 @@ async function checkArguments() {
 
 async function checkFiles(directory) {
   mkdirSync(directory, {recursive: true});
-  const at = name => join(directory, name);
-  const secret = await generateSecretKey();
-  const key = await writePublicKey(secret);
+  const pathOf = name => join(directory, name);
+  const secretKey = await generateSecretKey();
+  const key = await writePublicKey(secretKey);
   const digest = createHash("sha512").update("data").digest("hex");
   const writeList = async (name, text, trustedComment) => {
-    writeFileSync(at(name), text);
-    writeFileSync(at(`${name}.minisig`), await sign(Buffer.from(text), secret, {trustedComment}));
+    writeFileSync(pathOf(name), text);
+    writeFileSync(pathOf(`${name}.minisig`), await sign(Buffer.from(text), secretKey, {trustedComment}));
   };
   await writeList("SHA512SUMS", `${digest}  app\n${digest}  other\n${digest}  sub/app\n`, "version:1\tfile:SHA512SUMS");
   for (const [name, text] of [["app", "data"], ["other", "other data"], ["renamed", "data"]]) {
-    writeFileSync(at(name), text);
+    writeFileSync(pathOf(name), text);
   }
-  const list = await verifyListFile(at("SHA512SUMS"), key);
-  await check(1, () => verifyListedFile(at("app"), list));
+  const list = await verifyListFile(pathOf("SHA512SUMS"), key);
+  await check(1, () => verifyListedFile(pathOf("app"), list));
   await check(
     1,
     async () =>
-      verifyListedFile(pathToFileURL(at("app")), await verifyListFile(pathToFileURL(at("SHA512SUMS")), key))
+      verifyListedFile(pathToFileURL(pathOf("app")), await verifyListFile(pathToFileURL(pathOf("SHA512SUMS")), key))
   );
-  await check("DIGEST_MISMATCH", () => verifyListedFile(at("other"), list));
-  await check("NOT_LISTED", () => verifyListedFile(at("renamed"), list));
-  await check(3, () => verifyListedFile(at("renamed"), list, {name: "sub/app"}));
-  await check("ENOENT", () => verifyListedFile(at("absent"), list, {name: "app"}));
+  await check("DIGEST_MISMATCH", () => verifyListedFile(pathOf("other"), list));
+  await check("NOT_LISTED", () => verifyListedFile(pathOf("renamed"), list));
+  await check(3, () => verifyListedFile(pathOf("renamed"), list, {name: "sub/app"}));
+  await check("ENOENT", () => verifyListedFile(pathOf("absent"), list, {name: "app"}));
   await check("INVALID_ARGUMENT: path must be a string or a URL, not number", () => verifyListedFile(1, list));
   await check(
     "INVALID_ARGUMENT: list must be the result of verifyList, not string",
-    () => verifyListedFile(at("app"), at("SHA512SUMS"))
+    () => verifyListedFile(pathOf("app"), pathOf("SHA512SUMS"))
   );
-  await check("INVALID_ARGUMENT: unknown option mode", () => verifyListedFile(at("app"), list, {mode: 1}));
+  await check("INVALID_ARGUMENT: unknown option mode", () => verifyListedFile(pathOf("app"), list, {mode: 1}));
   await check("INVALID_ARGUMENT: path must be a string or a URL, not object", () => verifyListFile({}, key));
-  await check("ENOENT", () => verifyListFile(at("app"), key));
-  await check("ENOENT", () => verifyListFile(at("absent"), key));
+  await check("ENOENT", () => verifyListFile(pathOf("app"), key));
+  await check("ENOENT", () => verifyListFile(pathOf("absent"), key));
   await check(
     "DIGEST_MISMATCH",
     async () =>
-      verifyListedFile(at("app"), await verifyListFile(at("SHA512SUMS"), key, {longDigest: "blake2b"}))
+      verifyListedFile(pathOf("app"), await verifyListFile(pathOf("SHA512SUMS"), key, {longDigest: "blake2b"}))
   );
-  copyFileSync(at("SHA512SUMS"), at("OTHER"));
-  copyFileSync(at("SHA512SUMS.minisig"), at("OTHER.minisig"));
-  await check("OTHER_LIST", () => verifyListFile(at("OTHER"), key));
+  copyFileSync(pathOf("SHA512SUMS"), pathOf("OTHER"));
+  copyFileSync(pathOf("SHA512SUMS.minisig"), pathOf("OTHER.minisig"));
+  await check("OTHER_LIST", () => verifyListFile(pathOf("OTHER"), key));
   await writeList("LARGE", `${"#".repeat(1048575)}\n`, "file:LARGE");
-  await check(0, async () => (await verifyListFile(at("LARGE"), key)).entries().length);
+  await check(0, async () => (await verifyListFile(pathOf("LARGE"), key)).entries().length);
   await writeList("LARGE", `${"#".repeat(1048576)}\n`, "file:LARGE");
-  await check(`INVALID_ARGUMENT: ${at("LARGE")} has more than 1048576 bytes`, () => verifyListFile(at("LARGE"), key));
+  await check(`INVALID_ARGUMENT: ${pathOf("LARGE")} has more than 1048576 bytes`, () => verifyListFile(pathOf("LARGE"), key));
   // A list of the maximum size that consists of the shortest entries.
   const line = index => `${digest.slice(0, 64)}  ${String(index).padStart(5, "0")}\n`;
   const count = Math.floor(1048576 / line(0).length);
   await writeList("MANY", Array.from({length: count}, (_, index) => line(index)).join(""), "file:MANY");
-  const many = (await verifyListFile(at("MANY"), key)).entries();
-  results.push([`${count} ${count} 00000`, `${many.length} ${many.at(-1).line} ${many[0].name}`]);
+  const entries = (await verifyListFile(pathOf("MANY"), key)).entries();
+  results.push([`${count} ${count} 00000`, `${entries.length} ${entries.at(-1).line} ${entries[0].name}`]);
 }
 
 const [command, directory] = process.argv.slice(2);

@@ -1,5 +1,5 @@
 // Checks that `saveVerified` in Node writes the target only after the data was verified, and that after any error the old file is
-// unchanged and no temporary file is left. javascript.py copies this program into a user's directory, beside `node_modules`.
+// unchanged and no temporary file is left. javascript.py copies this program into a project directory, beside `node_modules`.
 //
 //     node saving.mjs DIRECTORY KEY DATA SIGNATURE
 //
@@ -28,7 +28,7 @@ const [key, data, signature] = paths.map(path => readFileSync(path));
 const target = join(directory, "app"), results = [];
 // Returns "saved", or the error with which saving failed.
 const outcomeOf = promise => promise.then(
-  () => "saved", why => why instanceof TypeError ? `${why.name} ${why.code}` : why.code ?? why.name ?? why
+  () => "outcome", why => why instanceof TypeError ? `${why.name} ${why.code}` : why.code ?? why.name ?? why
 );
 const modeOf = path => (statSync(path).mode & 0o777).toString(8);
 const namesInDirectory = () => readdirSync(directory).join(" ");
@@ -55,7 +55,7 @@ async function* failingPieces() {
 }
 
 results.push(["SIGNATURE_REFUSED none []", `${await save(checkedPieces(data, Buffer.from("x")))} ${state()}`]);
-results.push(["saved test [app] 644", `${await save(checkedPieces(data.subarray(0, 2), data.subarray(2)))} ${state()} ${
+results.push(["outcome test [app] 644", `${await save(checkedPieces(data.subarray(0, 2), data.subarray(2)))} ${state()} ${
   modeOf(target)}`]);
 const writeOldFile = () => { writeFileSync(target, "old"); chmodSync(target, 0o711); };
 // After an error, the old file has the same content and mode as before, and the directory has no other file.
@@ -86,12 +86,12 @@ for (const milliseconds of [0, 30]) {
   results.push(["ABORTED old [app]", `${result} ${state()}`]);
 }
 writeOldFile();
-const saved = await outcomeOf(saveVerified(createReadStream(paths[1]), pathToFileURL(target), signature, key));
-results.push(["saved test [app] 711", `${saved} ${state()} ${modeOf(target)}`]);
+const outcome = await outcomeOf(saveVerified(createReadStream(paths[1]), pathToFileURL(target), signature, key));
+results.push(["outcome test [app] 711", `${outcome} ${state()} ${modeOf(target)}`]);
 writeOldFile();
-results.push(["saved test [app] 755", `${await save(new Blob([data]), {mode: 0o755})} ${state()} ${modeOf(target)}`]);
-const changing = Buffer.from(data);
-results.push(["saved test [app]", `${await save((function* () { yield changing; changing.fill(0); })())} ${state()}`]);
+results.push(["outcome test [app] 755", `${await save(new Blob([data]), {mode: 0o755})} ${state()} ${modeOf(target)}`]);
+const changingData = Buffer.from(data);
+results.push(["outcome test [app]", `${await save((function* () { yield changingData; changingData.fill(0); })())} ${state()}`]);
 // Directories and symbolic links are not replaced.
 mkdirSync(join(directory, "d"));
 symlinkSync(target, join(directory, "l"));

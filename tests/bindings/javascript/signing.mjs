@@ -1,16 +1,17 @@
-// A test program that makes keys and signatures, in Node. javascript.py copies it into a user's directory, beside `node_modules`.
+// A test program that makes keys and signatures, in Node. javascript.py copies it into a project directory, beside `node_modules`.
 //
 //     node signing.mjs make DIRECTORY [PASSWORD]                   writes a key pair there
-//     node signing.mjs sign KEY DATA TO COMMENT [PASSWORD]         signs a file, passing its data in each form
+//     node signing.mjs sign KEY DATA SIGNATURE COMMENT [PASSWORD]  signs a file, passing its data in each form
 //     node signing.mjs strength KEY [PASSWORD]                     prints `weak` or `strong`
-//     node signing.mjs growth COUNT                                makes COUNT keys; prints by how many bytes memory grows after
+//     node --expose-gc signing.mjs growth COUNT                    makes COUNT keys; prints by how many bytes memory grows after
 //                                                                  a tenth of them
-//     node signing.mjs threads                                     prints whether three threads can sign at once
+//     node signing.mjs threads                                     prints `true` if three threads can sign at once
 //
 //     node signing.mjs checks DATA
 //
-// `checks` prints a line for each check: the expected result, a tab, and the actual result. It checks that a key shows no secret
-// and is cleared; arguments of wrong types; progress; the signal; and streams that fail. DATA has four bytes.
+// `checks` prints a line for each check: the expected result, a tab, and the actual result. It checks that the text forms of a
+// key show no secret, that a cleared key cannot be used, that arguments of wrong types are rejected, how progress is reported,
+// and the errors for streams that fail or are aborted (AbortSignal). DATA has four bytes.
 
 import {createReadStream, readFileSync, writeFileSync} from "node:fs";
 import {inspect} from "node:util";
@@ -24,11 +25,13 @@ import {
 } from "minisign-proved";
 
 const UNTRUSTED_COMMENT = "from a program in JavaScript";
+// The offsets of the seed in the decoded second line of an unencrypted secret key file.
+const SEED_BEGIN = 62, SEED_END = 94;
 
 // Returns the code of an error, or its text if it has none.
 const codeOf = why => why instanceof MinisignError ? why.code : String(why);
 
-async function make(directory, password = null) {
+async function makeKeys(directory, password = null) {
   const key = await generateSecretKey();
   const text = await writeSecretKey(key, password);
   writeFileSync(`${directory}/secret`, text);
@@ -36,16 +39,16 @@ async function make(directory, password = null) {
   return "OK";
 }
 
-async function signFile(file, data, to, trustedComment, password) {
+async function signFile(file, path, signaturePath, trustedComment, password) {
   const key = await readSecretKey(readFileSync(file), {password, mostRows: 2 ** 20});
-  const options = {trustedComment, untrustedComment: UNTRUSTED_COMMENT}, bytes = readFileSync(data);
+  const options = {trustedComment, untrustedComment: UNTRUSTED_COMMENT}, bytes = readFileSync(path);
   const expected = await sign(bytes, key, options);
   const blob = new Blob([bytes]);
-  const forms = [createReadStream(data), blob, blob.stream(), [bytes.subarray(0, 7), bytes.subarray(7)],
+  const forms = [createReadStream(path), blob, blob.stream(), [bytes.subarray(0, 7), bytes.subarray(7)],
                  vm.runInNewContext("Uint8Array.from(bytes).buffer", {bytes: [...bytes]})];
   for (const [index, form] of forms.entries()) {
     if (await sign(form, key, options) !== expected) {
-      throw new Error(`the data in form ${index} gets another signature than bytes`);
+      throw new Error(`data in form ${index} gets another signature than bytes`);
     }
   }
   const signer = await createSigner(key, options);
@@ -56,21 +59,22 @@ async function signFile(file, data, to, trustedComment, password) {
   if (results[0] !== expected || results[1] !== bytes.length || results[2] !== "NOT_BEGUN") {
     throw new Error(`a signer: ${results}, expected ${expected},${bytes.length},NOT_BEGUN`);
   }
-  writeFileSync(to, expected);
-  const verified = await verify(bytes, readFileSync(to), await writePublicKey(key));
-  const hasComments = verified.trustedComment === trustedComment
+  writeFileSync(signaturePath, expected);
+  const result = await verify(bytes, readFileSync(signaturePath), await writePublicKey(key));
+  const hasComments = result.trustedComment === trustedComment
     && expected.startsWith(`untrusted comment: ${UNTRUSTED_COMMENT}\n`);
-  return hasComments ? "OK" : `other comments: ${verified.trustedComment}, ${expected}`;
+  return hasComments ? "OK" : `other comments: ${result.trustedComment}, ${expected}`;
 }
 
 async function strength(file, password) {
   return (await readSecretKey(readFileSync(file), {password, lowMemory: true})).isWeak ? "weak" : "strong";
 }
 
-// Checks that no text form of a key or a signer shows the secret, and that a cleared key cannot be used.
-async function shown() {
+// Checks that no text form of a key or a signer shows the secret, that a cleared key cannot be used, and that the default
+// trusted comment holds the time.
+async function secrecyLines() {
   const key = await generateSecretKey(), digits = (await writeSecretKey(key, null)).split("\n")[1];
-  const secret = Buffer.from(digits, "base64").subarray(62, 94);
+  const secret = Buffer.from(digits, "base64").subarray(SEED_BEGIN, SEED_END);
   const forms = [
     inspect(key, {showHidden: true, depth: 9}),
     JSON.stringify(key),
@@ -78,20 +82,20 @@ async function shown() {
     Object.entries(structuredClone(key)).join()
   ];
   const beginnings = [...["hex", "base64"].map(encoding => secret.toString(encoding).slice(0, 8)), [...secret].join()];
-  const hides = form => !beginnings.some(text => form.includes(text));
-  const lines = [forms.every(hides), forms[0] === inspect({keyId: key.keyId, isWeak: false}), Object.isFrozen(key)];
+  const hidesSecret = form => !beginnings.some(text => form.includes(text));
+  const lines = [forms.every(hidesSecret), forms[0] === inspect({keyId: key.keyId, isWeak: false}), Object.isFrozen(key)];
   const signer = await createSigner(key);
-  lines.push(hides(inspect(signer, {showHidden: true, depth: 9})));
+  lines.push(hidesSecret(inspect(signer, {showHidden: true, depth: 9})));
   clearSecretKey(key);
   const [, , line] = (await sign(new Uint8Array(1), await generateSecretKey())).split("\n");
   lines.push(/^trusted comment: timestamp:\d{10,}\thashed$/.test(line));
-  const cleared = [
+  const callsWithClearedKey = [
     () => signer.end(),
     () => sign(new Uint8Array(1), key),
     () => writeSecretKey(key, null),
     () => writePublicKey(key)
   ];
-  return [...lines.map(line => `true\t${line}`), ...await outcomes(cleared.map(run => ["KEY_NOT_OPENED", run]))];
+  return [...lines.map(line => `true\t${line}`), ...await outcomes(callsWithClearedKey.map(run => ["KEY_NOT_OPENED", run]))];
 }
 
 // Returns a line for each call: the expected result, a tab, and the actual result.
@@ -99,7 +103,7 @@ function outcomes(rows) {
   return Promise.all(rows.map(async ([expected, run]) => `${expected}\t${await run().then(() => "accepted", codeOf)}`));
 }
 
-async function wrong() {
+async function wrongArgumentLines() {
   const key = await generateSecretKey(), bytes = new Uint8Array(1), text = await writeSecretKey(key, null);
   // The beginnings of the error messages about each argument.
   const KEY = "TypeError: secretKey must be a secret key from this package, not";
@@ -136,22 +140,23 @@ async function wrong() {
   ]);
 }
 
-async function streams(path) {
-  const key = await generateSecretKey(), lines = [], seen = [], bytes = readFileSync(path);
-  const gone = Object.assign(new Error(), {code: "GONE"});
-  await sign(bytes, key, {progress: (...reported) => seen.push(reported)});
-  await sign([bytes, bytes], key, {progress: (...reported) => seen.push(reported)});
-  lines.push(`[[4,4],[4,null],[8,null]]\t${JSON.stringify(seen)}`);
+// Checks the reports of progress (the bytes that were signed, and the length of the data or null), and the errors for a
+// missing file, a stream whose signing is aborted, and a stream that is passed with a wrong key. A stream that is not read
+// to its end must be cancelled.
+async function streamLines(path) {
+  const key = await generateSecretKey(), lines = [], reports = [], bytes = readFileSync(path);
+  const reason = Object.assign(new Error(), {code: "GONE"});
+  await sign(bytes, key, {progress: (...report) => reports.push(report)});
+  await sign([bytes, bytes], key, {progress: (...report) => reports.push(report)});
+  lines.push(`[[4,4],[4,null],[8,null]]\t${JSON.stringify(reports)}`);
   lines.push(`ENOENT\t${await sign(createReadStream(`${path}.absent`), key).catch(why => why.code)}`);
-  const controller = new AbortController(), stopped = {cancelled: null};
-  const stream = new ReadableStream({
-    cancel: why => { stopped.cancelled = why?.code === "INVALID_ARGUMENT" ? why.name : why.code; }
-  });
-  const signing = sign(stream, key, {signal: controller.signal}).catch(why => why.code);
-  setTimeout(() => controller.abort(gone), 50);
-  lines.push(`GONE GONE\t${await signing} ${stopped.cancelled}`);
-  const unused = new ReadableStream({cancel: why => { stopped.cancelled = why.name; }});
-  lines.push(`TypeError TypeError\t${await sign(unused, "no key").catch(why => why.name)} ${stopped.cancelled}`);
+  const controller = new AbortController(), record = {cancelled: null};
+  const stream = new ReadableStream({cancel: why => { record.cancelled = why?.code; }});
+  const error = sign(stream, key, {signal: controller.signal}).catch(why => why.code);
+  setTimeout(() => controller.abort(reason), 50);
+  lines.push(`GONE GONE\t${await error} ${record.cancelled}`);
+  const unusedStream = new ReadableStream({cancel: why => { record.cancelled = why.name; }});
+  lines.push(`TypeError TypeError\t${await sign(unusedStream, "no key").catch(why => why.name)} ${record.cancelled}`);
   return lines;
 }
 
@@ -164,15 +169,15 @@ async function memoryAfterCollection() {
   return process.memoryUsage().rss;
 }
 
-async function growth(count) {
-  let early = 0;
-  for (let number = 0; number < count; number += 1) {
-    await sign(new Uint8Array(number % 1000), await generateSecretKey());
-    if (number === Math.floor(count / 10)) {
-      early = await memoryAfterCollection();
+async function memoryGrowth(keyCount) {
+  let earlyMemory = 0;
+  for (let count = 0; count < keyCount; count += 1) {
+    await sign(new Uint8Array(count % 1000), await generateSecretKey());
+    if (count === Math.floor(keyCount / 10)) {
+      earlyMemory = await memoryAfterCollection();
     }
   }
-  return await memoryAfterCollection() - early;
+  return await memoryAfterCollection() - earlyMemory;
 }
 
 // Signs and verifies 50 times concurrently. Resolves to true if all signatures are valid.
@@ -188,13 +193,13 @@ async function signsConcurrently() {
 }
 
 if (isMainThread) {
-  const [what, ...words] = process.argv.slice(2);
+  const [command, ...words] = process.argv.slice(2);
   const threads = async () => {
     const workers = [1, 2].map(() => new Promise(resolve => new Worker(new URL(import.meta.url)).on("message", resolve)));
     return (await Promise.all([signsConcurrently(), ...workers])).every(Boolean);
   };
-  const checks = async path => [...await shown(), ...await wrong(), ...await streams(path)];
-  const run = {make, sign: signFile, strength, checks, growth, threads}[what];
+  const checks = async path => [...await secrecyLines(), ...await wrongArgumentLines(), ...await streamLines(path)];
+  const run = {make: makeKeys, sign: signFile, strength, checks, growth: memoryGrowth, threads}[command];
   const lines = await run(...words).catch(codeOf);
   console.log([lines].flat().join("\n"));
 } else {

@@ -1,4 +1,4 @@
-// A test program that verifies with the package. javascript.py copies it into a user's directory, beside `node_modules`, and
+// A test program that verifies with the package. javascript.py copies it into a project directory, beside `node_modules`, and
 // compares what it prints.
 //
 // These commands verify the cases on standard input, one on each line, and print a line for each. With `legacy`, legacy signatures
@@ -8,15 +8,16 @@
 //     node verifying.mjs pieces [legacy]   passes the data in each form that the package accepts
 //     node verifying.mjs read [legacy]     prints the fields of the parsed key and signature, and verifies with these objects
 //     node verifying.mjs threads           verifies in four threads, which must print the same
-//     node verifying.mjs growth COUNT      verifies COUNT times; prints by how many bytes memory grows after the first tenth
+//     node --expose-gc verifying.mjs growth COUNT
+//                                          verifies COUNT times; prints by how many bytes memory grows after the first tenth
 //     node verifying.mjs comment           verifies only the trusted comment, before there is data
 //
 // These commands use the published signature, whose data has four bytes. Each line has the expected result, a tab, and the actual
 // result:
 //
-//     node verifying.mjs verifier          checks the properties and methods of a verifier
-//     node verifying.mjs wrong             checks the errors for arguments of wrong types and for unknown options
-//     node verifying.mjs letters           checks which strings are accepted as the base64 of a key
+//     node verifying.mjs verifier           checks the properties and methods of a verifier
+//     node verifying.mjs wrongArguments     checks the errors for arguments of wrong types and for unknown options
+//     node verifying.mjs keyStrings         checks which strings are accepted as the base64 of a key
 
 import {Readable} from "node:stream";
 import {runInNewContext} from "node:vm";
@@ -142,15 +143,15 @@ async function answersInThreads(text) {
   return results.every(each => each.join() === results[0].join()) ? results[0] : ["the threads differ"];
 }
 
-async function growth(count, [[key, data, signature], [, other]]) {
+async function memoryGrowth(count, [[key, data, signature], [, otherData]]) {
   const verifyBoth = async () => {
-    if (await answerOf(data, signature, key) === await answerOf(other, signature, key)) {
+    if (await answerOf(data, signature, key) === await answerOf(otherData, signature, key)) {
       throw new Error("the same result for different data");
     }
   };
   // Verifies this many times. Returns the memory in use afterwards.
-  const memoryAfter = async times => {
-    for (let done = 0; done < times; done += 50) {
+  const memoryAfter = async count => {
+    for (let callCount = 0; callCount < count; callCount += 50) {
       await Promise.all(Array.from({length: 25}, verifyBoth));
     }
     // The buffers that the first collection finds are freed before the second one ends. `external` includes the memory of the
@@ -160,8 +161,8 @@ async function growth(count, [[key, data, signature], [, other]]) {
     const {heapUsed, external} = process.memoryUsage();
     return heapUsed + external;
   };
-  const early = await memoryAfter(count / 10);
-  return [await memoryAfter(count - count / 10) - early];
+  const earlyMemory = await memoryAfter(count / 10);
+  return [await memoryAfter(count - count / 10) - earlyMemory];
 }
 
 // The beginnings of messages about arguments of wrong types.
@@ -169,8 +170,8 @@ const DATA = "data must be bytes, a Blob, a stream or an iterable of bytes, not"
 const SIGNATURE = "signature must be a string or bytes, not", KEY = "key must be a string or bytes, not";
 
 // Makes calls that must reject with a TypeError that names the argument.
-async function wrongAnswers([[key, data, signature]]) {
-  const parsed = await readSignature(signature), {signal} = new AbortController();
+async function wrongArgumentAnswers([[key, data, signature]]) {
+  const parsedSignature = await readSignature(signature), {signal} = new AbortController();
   const verifyWith = options => verify(data, signature, key, options);
   const calls = [
     [`${DATA} string`, verify("text", signature, key)], [`${DATA} number`, verify(7, signature, key)],
@@ -184,10 +185,10 @@ async function wrongAnswers([[key, data, signature]]) {
     ["key must have fewer than 65536 bytes", verify(data, signature, "x".repeat(65536))],
     [`${SIGNATURE} number`, readSignature(7)], [`${SIGNATURE} null`, readSignature(null)],
     [`${SIGNATURE} undefined`, readSignature(undefined)],
-    [`${SIGNATURE} object`, readSignature({})], [`${SIGNATURE} object`, readSignature(parsed)],
+    [`${SIGNATURE} object`, readSignature({})], [`${SIGNATURE} object`, readSignature(parsedSignature)],
     ["signature must have fewer than 65536 bytes", readSignature(new Uint8Array(65536))],
     [`${KEY} number`, readPublicKey(7)], [`${KEY} null`, readPublicKey(null)], [`${KEY} object`, readPublicKey({})],
-    [`${KEY} object`, readPublicKey(parsed)],
+    [`${KEY} object`, readPublicKey(parsedSignature)],
     ["options must be a plain object, not null", verifyWith(null)], ["options must be a plain object, not number", verifyWith(7)],
     ["unknown option allowlegacy", verifyWith({allowlegacy: true})], ["unknown option toString", verifyWith({toString: true})],
     ["allowLegacy must be true or false, not number", verifyWith({allowLegacy: 1})],
@@ -206,7 +207,7 @@ async function wrongAnswers([[key, data, signature]]) {
 async function verifierAnswers([[key, data, signature]]) {
   const answers = [];
   const check = async (expected, run) => answers.push(`${expected}\t${await (async () => run())().catch(nameOf)}`);
-  const verifier = await createVerifier(signature, key), reported = [];
+  const verifier = await createVerifier(signature, key), reports = [];
   await check("E7620F1842B4E81F false 0", () => `${verifier.keyId} ${verifier.isLegacy} ${verifier.bytes}`);
   await check("TypeError", () => verifier.update("text"));
   for (const piece of split(data, [1])) {
@@ -222,41 +223,41 @@ async function verifierAnswers([[key, data, signature]]) {
   }
   await check("TypeError", () => { "use strict"; verifier.keyId = "another"; });
   for (const form of [data, new Blob([data]), [...split(data, [1])]]) {
-    await verify(form, signature, key, {progress: (...progress) => reported.push(progress)});
+    await verify(form, signature, key, {progress: (...progress) => reports.push(progress)});
   }
-  await check("[[4,4],[4,4],[1,null],[2,null],[3,null],[4,null]]", () => JSON.stringify(reported));
+  await check("[[4,4],[4,4],[1,null],[2,null],[3,null],[4,null]]", () => JSON.stringify(reports));
   await check("RangeError", () => verify(data, signature, key, {progress: () => { throw new RangeError(); }}));
   return answers;
 }
 
 // Checks which strings are accepted as keys. A string of one line must be the base64 of a key.
-async function letterAnswers([[key, data, signature]]) {
-  const text = Buffer.from(key).toString(), letters = text.split("\n")[1], good = "E7620F1842B4E81F false";
+async function keyStringAnswers([[key, data, signature]]) {
+  const text = Buffer.from(key).toString(), base64 = text.split("\n")[1], accepted = "E7620F1842B4E81F false";
   const strings = [
-    [good, letters], [good, `${letters}\n`], [good, `${letters}\r\n`], [good, text],
-    ["BARE_PUBLIC_KEY_LENGTH", letters.slice(0, -1)], ["BARE_PUBLIC_KEY_LENGTH", ""],
-    ["BARE_PUBLIC_KEY_NOT_BASE64", `-${letters.slice(1)}`],
-    ["BARE_PUBLIC_KEY_NOT_BASE64", ` ${letters}`], ["PUBLIC_KEY_LENGTH", `x\n${letters.slice(0, -1)}\n`],
+    [accepted, base64], [accepted, `${base64}\n`], [accepted, `${base64}\r\n`], [accepted, text],
+    ["BARE_PUBLIC_KEY_LENGTH", base64.slice(0, -1)], ["BARE_PUBLIC_KEY_LENGTH", ""],
+    ["BARE_PUBLIC_KEY_NOT_BASE64", `-${base64.slice(1)}`],
+    ["BARE_PUBLIC_KEY_NOT_BASE64", ` ${base64}`], ["PUBLIC_KEY_LENGTH", `x\n${base64.slice(0, -1)}\n`],
   ];
-  const answer = string => verify(data, Buffer.from(signature).toString(), string)
+  const answerOfKey = string => verify(data, Buffer.from(signature).toString(), string)
     .then(({keyId, isLegacy}) => `${keyId} ${isLegacy}`, why => why.code);
-  return Promise.all(strings.map(async ([expected, string]) => `${expected}\t${await answer(string)}`));
+  return Promise.all(strings.map(async ([expected, string]) => `${expected}\t${await answerOfKey(string)}`));
 }
 
 if (isMainThread) {
-  const [what, word] = process.argv.slice(2);
+  const [command, argument] = process.argv.slice(2);
   const text = await textOfInput();
   const run = {
-    cases: () => answersOf(casesOf(text), {allowLegacy: word === "legacy"}),
-    pieces: () => answersInPieces(casesOf(text), {allowLegacy: word === "legacy"}),
-    read: () => readAnswers(casesOf(text), {allowLegacy: word === "legacy"}),
+    cases: () => answersOf(casesOf(text), {allowLegacy: argument === "legacy"}),
+    pieces: () => answersInPieces(casesOf(text), {allowLegacy: argument === "legacy"}),
+    read: () => readAnswers(casesOf(text), {allowLegacy: argument === "legacy"}),
     threads: () => answersInThreads(text),
-    growth: () => growth(Number(word), casesOf(text)),
+    growth: () => memoryGrowth(Number(argument), casesOf(text)),
     comment: () => Promise.all(casesOf(text).map(([key, data, signature]) => commentOf(data, signature, key))),
     verifier: () => verifierAnswers(casesOf(text)),
-    wrong: () => wrongAnswers(casesOf(text)),
-    letters: () => letterAnswers(casesOf(text)),
-  }[what];
+    wrongArguments: () => wrongArgumentAnswers(casesOf(text)),
+    keyStrings: () => keyStringAnswers(casesOf(text)),
+  }[command];
   process.stdout.write((await run()).map(line => `${line}\n`).join(""));
 } else {
   parentPort.postMessage(await answersOf(casesOf(workerData)));

@@ -54,7 +54,7 @@ async function inThread(names) {
 // Classes that the test itself needs after the globals were deleted.
 const SavedBlob = Blob, SavedStream = ReadableStream;
 
-async function answers({verify, MinisignError}, [key, data, signature]) {
+async function resultLines({verify, MinisignError}, [key, data, signature]) {
   const pieces = () => [data.subarray(0, 1), data.subarray(1)];
   const start = controller => {
     pieces().forEach(piece => controller.enqueue(piece));
@@ -72,15 +72,15 @@ async function answers({verify, MinisignError}, [key, data, signature]) {
 }
 
 if (isMainThread) {
-  const [where, ...names] = process.argv.slice(2);
-  const [key, ...rest] = readFileSync(0, "utf8").trim().split(" ").map(digits => Buffer.from(digits, "hex"));
-  const read = [key.toString(), ...rest.map(part => new Uint8Array(part))];
-  if (where === "context") {
-    console.log((await answers(await inContext(names), read)).join("\n"));
+  const [place, ...names] = process.argv.slice(2);
+  const [key, ...otherParts] = readFileSync(0, "utf8").trim().split(" ").map(digits => Buffer.from(digits, "hex"));
+  const fields = [key.toString(), ...otherParts.map(part => new Uint8Array(part))];
+  if (place === "context") {
+    console.log((await resultLines(await inContext(names), fields)).join("\n"));
   } else {
-    new Worker(new URL(import.meta.url), {workerData: {names, read}}).on("message", lines => console.log(lines.join("\n")));
+    new Worker(new URL(import.meta.url), {workerData: {names, fields}}).on("message", lines => console.log(lines.join("\n")));
   }
 } else {
   const post = parentPort.postMessage.bind(parentPort);
-  post(await answers(await inThread(workerData.names), workerData.read));
+  post(await resultLines(await inThread(workerData.names), workerData.fields));
 }

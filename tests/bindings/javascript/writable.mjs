@@ -18,7 +18,7 @@ import {
   writePublicKey
 } from "minisign-proved";
 
-const [what, ...paths] = process.argv.slice(2);
+const [checkName, ...paths] = process.argv.slice(2);
 const [key, data, signature] = paths.map(path => readFileSync(path));
 const COMMENT = "timestamp:1556193335\tfile:test";
 
@@ -33,55 +33,58 @@ const streamOf = (...pieces) => new ReadableStream({start: controller => {
 }});
 
 // Pipes these pieces into a verifier. Resolves to the outcomes of `pipeTo` and of `end` after it, and the number of bytes.
-async function piped(...pieces) {
+async function outcomesOfPiping(...pieces) {
   const verifier = await createVerifier(signature, key);
   return `${await outcome(streamOf(...pieces).pipeTo(verifier.writable))}, ${await outcome(verifier.end())}, ${verifier.bytes}`;
 }
 
 async function streams() {
   const rows = [
-    [`accepted, ${COMMENT}, 4`, await piped(data)],
-    [`accepted, ${COMMENT}, 4`, await piped(data.subarray(0, 1), data.subarray(1))],
+    [`accepted, ${COMMENT}, 4`, await outcomesOfPiping(data)],
+    [`accepted, ${COMMENT}, 4`, await outcomesOfPiping(data.subarray(0, 1), data.subarray(1))],
     [
       `accepted, ${COMMENT}, 4`,
-      await piped(data.buffer.slice(data.byteOffset, data.byteOffset + data.length))
+      await outcomesOfPiping(data.buffer.slice(data.byteOffset, data.byteOffset + data.length))
     ],
-    ["SIGNATURE_REFUSED, SIGNATURE_REFUSED, 5", await piped(data, Uint8Array.of(0))],
-    ["SIGNATURE_REFUSED, SIGNATURE_REFUSED, 0", await piped()],
-    ["TypeError INVALID_ARGUMENT, TypeError INVALID_ARGUMENT, 4", await piped(data, "text")]
+    ["SIGNATURE_REFUSED, SIGNATURE_REFUSED, 5", await outcomesOfPiping(data, Uint8Array.of(0))],
+    ["SIGNATURE_REFUSED, SIGNATURE_REFUSED, 0", await outcomesOfPiping()],
+    ["TypeError INVALID_ARGUMENT, TypeError INVALID_ARGUMENT, 4", await outcomesOfPiping(data, "text")]
   ];
   // A stream is split with `tee`, to verify the data and to store it.
-  const verifier = await createVerifier(signature, key), [first, second] = streamOf(data).tee();
-  const [, stored] = await Promise.all([first.pipeTo(verifier.writable), new Response(second).text()]);
-  rows.push([`${COMMENT} test`, `${(await verifier.end()).trustedComment} ${stored}`], [COMMENT, await outcome(verifier.end())]);
+  const verifier = await createVerifier(signature, key), [verifiedStream, storedStream] = streamOf(data).tee();
+  const [, storedText] = await Promise.all([verifiedStream.pipeTo(verifier.writable), new Response(storedStream).text()]);
+  rows.push([`${COMMENT} test`, `${(await verifier.end()).trustedComment} ${storedText}`]);
+  rows.push([COMMENT, await outcome(verifier.end())]);
   // The error NOT_BEGUN also means that the verifier has already ended.
   rows.push(["NOT_BEGUN", await outcome((async () => verifier.update(data))())]);
   rows.push([true, verifier.writable === verifier.writable]);
-  const aborted = await createVerifier(signature, key), gone = Object.assign(new Error(), {code: "GONE"});
-  aborted.update(data);
-  await aborted.writable.abort(gone);
-  rows.push(["GONE", await outcome(aborted.end())]);
+  const abortedVerifier = await createVerifier(signature, key), reason = Object.assign(new Error(), {code: "GONE"});
+  abortedVerifier.update(data);
+  await abortedVerifier.writable.abort(reason);
+  rows.push(["GONE", await outcome(abortedVerifier.end())]);
   // If the source fails, the verifier's stream is aborted.
-  const failing = await createVerifier(signature, key);
-  const source = new ReadableStream({pull: controller => controller.error(gone)});
-  rows.push(["GONE, GONE", `${await outcome(source.pipeTo(failing.writable))}, ${await outcome(failing.end())}`]);
-  const open = await createVerifier(signature, key);
-  await streamOf(data).pipeTo(open.writable, {preventClose: true});
-  rows.push([`${COMMENT}, NOT_BEGUN`, `${await outcome(open.end())}, ${await outcome(open.end())}`]);
+  const verifierWithFailingSource = await createVerifier(signature, key);
+  const source = new ReadableStream({pull: controller => controller.error(reason)});
+  const pipeOutcome = await outcome(source.pipeTo(verifierWithFailingSource.writable));
+  rows.push(["GONE, GONE", `${pipeOutcome}, ${await outcome(verifierWithFailingSource.end())}`]);
+  const verifierWithOpenStream = await createVerifier(signature, key);
+  await streamOf(data).pipeTo(verifierWithOpenStream.writable, {preventClose: true});
+  const endOutcomes = [await outcome(verifierWithOpenStream.end()), await outcome(verifierWithOpenStream.end())];
+  rows.push([`${COMMENT}, NOT_BEGUN`, endOutcomes.join(", ")]);
   // While a long piece is verified, other tasks run, and a timer fires after most of its 64 slices. If the piece were hashed
   // at once, the timer would fire only in the few other tasks that the stream needs.
-  const long = await createVerifier(signature, key), times = [];
-  const timer = setInterval(() => times.push(0), 1);
-  await outcome(streamOf(new Uint8Array(64 * 1048576)).pipeTo(long.writable));
+  const verifierOfLongData = await createVerifier(signature, key), timerCalls = [];
+  const timer = setInterval(() => timerCalls.push(0), 1);
+  await outcome(streamOf(new Uint8Array(64 * 1048576)).pipeTo(verifierOfLongData.writable));
   clearInterval(timer);
-  rows.push([true, times.length > 16]);
+  rows.push([true, timerCalls.length > 16]);
   const secretKey = await generateSecretKey(), signer = await createSigner(secretKey, {trustedComment: "t"});
   await streamOf(data).pipeTo(signer.writable);
   rows.push(["t", await outcome(verify(data, await signer.end(), await writePublicKey(secretKey)))]);
   const { WritableStream } = globalThis;
   delete globalThis.WritableStream;
-  const late = await createVerifier(signature, key);
-  rows.push(["UNSUPPORTED_PLATFORM", await outcome((async () => late.writable)())]);
+  const verifierWithoutStreams = await createVerifier(signature, key);
+  rows.push(["UNSUPPORTED_PLATFORM", await outcome((async () => verifierWithoutStreams.writable)())]);
   globalThis.WritableStream = WritableStream;
   return rows;
 }
@@ -99,27 +102,27 @@ async function fields() {
     [{hashed: false, timestamp: 9007199254740991}, "timestamp:9007199254740991"], [{hashed: false}, "timestamp:9007199254740992"],
     [{hashed: false, file: "x"}, "__proto__:y\tfile:x"], [{hashed: false}, "nothashed"],
   ].map(([expected, comment]) => [JSON.stringify(expected), parse(comment)]);
-  const verified = await verify(data, signature, key);
-  rows.push([JSON.stringify({hashed: false, file: "test", timestamp: 1556193335}), JSON.stringify(verified.fields)]);
-  rows.push([true, Object.isFrozen(verified.fields)]);
+  const result = await verify(data, signature, key);
+  rows.push([JSON.stringify({hashed: false, file: "test", timestamp: 1556193335}), JSON.stringify(result.fields)]);
+  rows.push([true, Object.isFrozen(result.fields)]);
   rows.push(["TypeError INVALID_ARGUMENT", await outcome((async () => parseTrustedComment(7))())]);
   return rows;
 }
 
 // Each error has a code, even one about an argument.
 async function codes() {
-  const coded = promise => promise.then(() => "accepted", why => `${why.name} ${why.code}`);
+  const nameAndCode = promise => promise.then(() => "accepted", why => `${why.name} ${why.code}`);
   const verifier = await createVerifier(signature, key), rows = [
-    ["TypeError INVALID_ARGUMENT", await coded(verify(7, signature, key))],
-    ["TypeError INVALID_ARGUMENT", await coded(verify(data, 7, key))],
-    ["TypeError INVALID_ARGUMENT", await coded(verify(data, signature, key, null))],
-    ["TypeError INVALID_ARGUMENT", await coded(verify(data, signature, key, new Map()))],
-    ["TypeError INVALID_ARGUMENT", await coded(verify(data, signature, key, {legacy: true}))],
-    ["TypeError INVALID_ARGUMENT", await coded(verify(data, new Uint8Array(65536), key))],
-    ["TypeError INVALID_ARGUMENT", await coded((async () => verifier.update("x"))())],
-    ["TypeError INVALID_ARGUMENT", await coded(createSigner({}))],
-    ["MinisignError SIGNATURE_REFUSED", await coded(verify(Uint8Array.of(1), signature, key))],
-    ["MinisignError MISSING_UNTRUSTED_COMMENT", await coded(verify(data, "", key))],
+    ["TypeError INVALID_ARGUMENT", await nameAndCode(verify(7, signature, key))],
+    ["TypeError INVALID_ARGUMENT", await nameAndCode(verify(data, 7, key))],
+    ["TypeError INVALID_ARGUMENT", await nameAndCode(verify(data, signature, key, null))],
+    ["TypeError INVALID_ARGUMENT", await nameAndCode(verify(data, signature, key, new Map()))],
+    ["TypeError INVALID_ARGUMENT", await nameAndCode(verify(data, signature, key, {legacy: true}))],
+    ["TypeError INVALID_ARGUMENT", await nameAndCode(verify(data, new Uint8Array(65536), key))],
+    ["TypeError INVALID_ARGUMENT", await nameAndCode((async () => verifier.update("x"))())],
+    ["TypeError INVALID_ARGUMENT", await nameAndCode(createSigner({}))],
+    ["MinisignError SIGNATURE_REFUSED", await nameAndCode(verify(Uint8Array.of(1), signature, key))],
+    ["MinisignError MISSING_UNTRUSTED_COMMENT", await nameAndCode(verify(data, "", key))],
     [true, await verify(data, "", key).catch(why => why instanceof MinisignError)],
   ];
   return rows;
@@ -130,25 +133,27 @@ async function codes() {
 async function instances() {
   const COUNT = 1000, {Instance} = WebAssembly, instantiate = WebAssembly.instantiate;
   let count = 0;
-  const counted = run => new Proxy(run, {construct: (target, words) => (count += 1, new target(...words)),
-                                         apply: (target, itself, words) => (count += 1, target.apply(itself, words))});
+  const counting = run => new Proxy(run, {
+    construct: (target, callArguments) => (count += 1, new target(...callArguments)),
+    apply: (target, receiver, callArguments) => (count += 1, target.apply(receiver, callArguments)),
+  });
   const secretKey = await generateSecretKey(), publicKey = await writePublicKey(secretKey);
-  Object.assign(WebAssembly, {Instance: counted(Instance), instantiate: counted(instantiate)});
+  Object.assign(WebAssembly, {Instance: counting(Instance), instantiate: counting(instantiate)});
   const status = () => readFileSync("/proc/self/status", "latin1");
-  const reserved = () => Number(/VmPeak:\s*(\d+) kB/.exec(status())[1]) / 1048576, before = reserved();
+  const reservedGib = () => Number(/VmPeak:\s*(\d+) kB/.exec(status())[1]) / 1048576, reservedBefore = reservedGib();
   const { sign } = await import("minisign-proved");
   const signatures = await Promise.all(
     Array.from({length: COUNT}, (_, at) => sign(Uint8Array.of(at), secretKey, {trustedComment: `${at}`}))
   );
-  const grown = reserved() - before;
+  const growthGib = reservedGib() - reservedBefore;
   const comments = await Promise.all(
     signatures.map((text, at) => verify(Uint8Array.of(at), text, publicKey).then(each => each.trustedComment))
   );
-  return [[true, count <= 1 || `${count} instances`], [true, grown < 32 || `${grown} GiB more`],
+  return [[true, count <= 1 || `${count} instances`], [true, growthGib < 32 || `${growthGib} GiB more`],
     [COUNT, comments.filter((comment, at) => comment === `${at}`).length]];
 }
 
 const CHECKS = {streams, fields, codes, instances};
 // The tab in COMMENT is replaced, because a tab separates the expected result from the actual one.
-const lines = (await CHECKS[what]()).map(([expected, actual]) => `${expected}\t${actual}`);
+const lines = (await CHECKS[checkName]()).map(([expected, actual]) => `${expected}\t${actual}`);
 console.log(lines.join("\n").replaceAll(COMMENT, COMMENT.replace("\t", " ")));
