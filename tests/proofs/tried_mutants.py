@@ -1,9 +1,10 @@
 #!/usr/bin/env python3
-"""Computes and records a digest for each crate with mutants, so that CI has to try only the mutants of changed
-crates. As a script, it checks that the digest of a crate changes with everything on which the rejection of its
-mutants depends.
+"""Checks that the digest of a crate changes with everything on which the rejection of its mutants depends.
 
     tests/proofs/tried_mutants.py
+
+As a module, this file computes and records these digests for the scripts that try mutants, so that CI has to try only
+the mutants of changed crates.
 
 The digest covers the kit's logic, the crate's mutants, and the sources, definitions and proofs of the crate and of
 all crates on which it depends. It ignores lines that consist only of a comment. `wrong_bodies.py --record` writes
@@ -49,13 +50,13 @@ def digest(crate, crates, top, logic, mutants=MUTANTS):
     """Returns a digest of everything on which the rejection of a crate's mutants depends. `logic` is the result of
     `kit()`. `mutants` is the name of the crate's directory of mutants, or "" for a digest without mutants."""
     sha256 = hashlib.sha256(logic.encode())
-    for each in (*crates[crate].dependencies, crate):
-        sha256.update(f"\0{each} {crates[each].direct_dependencies} {crates[each].kit_dependencies}".encode())
-        for part in (*PARTS, *([mutants] if mutants and each == crate else [])):
-            directory = os.path.join(top, "crates", each, part)
+    for covered in (*crates[crate].dependencies, crate):
+        sha256.update(f"\0{covered} {crates[covered].direct_dependencies} {crates[covered].kit_dependencies}".encode())
+        for part in (*PARTS, *([mutants] if mutants and covered == crate else [])):
+            directory = os.path.join(top, "crates", covered, part)
             paths = sorted(
-                os.path.relpath(os.path.join(at, name), directory)
-                for at, _, names in os.walk(directory)
+                os.path.relpath(os.path.join(parent, name), directory)
+                for parent, _, names in os.walk(directory)
                 for name in names
             )
             for path in paths:
@@ -99,7 +100,7 @@ def check_digests(checks, scratch):
     for line in CRATE_LINES:
         crates[line.partition(":")[0]] = proved.Crate(line, crates)
 
-    def put(path, text):
+    def write_file(path, text):
         path = os.path.join(scratch, "crates", path)
         os.makedirs(os.path.dirname(path), exist_ok=True)
         write("", path, text)
@@ -109,28 +110,28 @@ def check_digests(checks, scratch):
 
     # The last file of CHANGES is a new one.
     for path, _ in CHANGES[:-1]:
-        put(path, b"before")
+        write_file(path, b"before")
     before = all_digests()
     checks.same(all_digests(), before, "the digests of the same files")
     for path, expected in CHANGES:
-        put(path, b"after\n")
+        write_file(path, b"after\n")
         after = all_digests()
         checks.same({name for name in crates if after[name] != before[name]}, expected, f"crates whose digest changes with {path}")
         before = after
-    put("low/src/new.rt", b"after\n// a comment\n    /// another one\n")
-    put("middle/specs/Words.antt", b"-- == A heading ==\nafter\n")
+    write_file("low/src/new.rt", b"after\n// a comment\n    /// another one\n")
+    write_file("middle/specs/Words.antt", b"-- == A heading ==\nafter\n")
     checks.same(all_digests(), before, "the digests after a change of comments")
-    put("low/src/new.rt", b"after // a comment\n")
+    write_file("low/src/new.rt", b"after // a comment\n")
     checks.check(all_digests()["low"] != before["low"], "a comment after code did not change the digest")
     before = all_digests()
     os.rename(os.path.join(scratch, "crates/low/src/new.rt"), os.path.join(scratch, "crates/low/src/other.rt"))
     checks.check(not {*all_digests().values()} & {*before.values()}, "a renamed file did not change the digest of each crate")
     checks.check(not {*all_digests("another kit").values()} & {*all_digests().values()}, "another kit did not change each digest")
-    without = digest("low", crates, scratch, "the kit", mutants="")
-    put("low/wrong-bodies/one.edit", b"again")
+    without_mutants = digest("low", crates, scratch, "the kit", mutants="")
+    write_file("low/wrong-bodies/one.edit", b"again")
     checks.same(
         digest("low", crates, scratch, "the kit", mutants=""),
-        without,
+        without_mutants,
         "the digest without mutants after a change of a mutant",
     )
     record({"low": "1", "high": "2"}, crates, "record", scratch)

@@ -22,8 +22,9 @@ How edits are tried:
   * Many edits are tried in one run of the prover. The wrong body is added after the function, under another name, with the
     same contract and a copy of the written proof, so that the callers of the function need not be proved again. A method of a
     trait's impl cannot have a second name; it is changed in place.
-  * `why:` names the clause that is false. If the prover proves this clause by search, without a written proof, then the copy
-    ensures only this clause and has no written proof, so that nothing else can be the reason for the rejection.
+  * `why:` names the clause that is false for the wrong body, which is called the mutant there. If the prover proves this clause
+    by search, without a written proof, then the copy ensures only this clause and has no written proof, so that nothing else
+    can be the reason for the rejection.
   * All other bodies of the crate are replaced by endless loops, and their proofs by holes, so that the prover has to check
     only the wrong bodies. An edit that is not rejected in its group is tried again by itself.
   * The unchanged crate must be proved. In CI, `rt ci` has proved it (tests/shared/proved.py). Otherwise, the script checks
@@ -31,14 +32,14 @@ How edits are tried:
 
 An edit passes if the search for a proof of one of the function's own goals ends without a proof. It fails
 
-  * if the search gave up at one of its limits, so that the goal may be true, or if only the written proof no longer fits the
-    function. Both happen with correct bodies too. A line `by:` in the edit can allow one of the two;
+  * if the proof search stops at one of its limits, so that the goal may be true, or if only the written proof no longer fits
+    the function. Both happen with correct bodies too. A line `by:` in the edit can allow one of the two;
   * if the function is proved, or if the prover could not decide;
   * if the only result is that the prover stopped at a limit in a written proof;
   * if `why:` names a clause that the function does not have.
 
-Some limits are times, which are reached sooner on a busy machine. Therefore an edit whose search gave up is tried
-again after all others, and CI runs this script last. tests/proofs/wrong_bodies.txt has the number of edits of each
+Some limits are times, which are reached sooner on a busy machine. Therefore an edit whose search stopped at a limit is
+tried again after all others, and CI runs this script last. tests/proofs/wrong_bodies.txt has the number of edits of each
 crate; if a number differs, the script fails too. The last line is `N passed, M failed`. Needs Python 3.9 or later
 and the kit.
 """
@@ -68,10 +69,10 @@ HERE_TRIED, KIT_TRIED = "wrong-bodies", "must-fail"
 # The memory that checking one of these crates takes at most, in bytes.
 MEMORY = 3_000_000_000
 # The outcomes of a wrong body. GAVE_UP and PROOF_ONLY are rejections that say nothing about the contract; a line `by:`
-# of an edit may quote them, without the words `rejected by`. PROVED is the expected outcome with --unchanged.
+# of an edit may quote them, without the beginning `rejected: `. PROVED is the expected outcome with --unchanged.
 REJECTED = "rejected"
-GAVE_UP = "rejected by a search that gave up at a limit"
-PROOF_ONLY = "rejected by its written proof alone"
+GAVE_UP = "rejected: the proof search stops at its limit (no counterexample)"
+PROOF_ONLY = "rejected: only the written proof no longer fits"
 FAILED = "FAILED"
 PROVED = "proved, unchanged"
 # The maximum number of wrong bodies that are tried in one run of the prover.
@@ -91,7 +92,7 @@ UNPROVED = re.compile(r"a call of `(\w+)::([^`]+)`, which has no proof")
 # The beginnings of the prover's verdict on a proved function. (The proofs of functions that it calls may be holes.)
 PROVED_VERDICTS = ("proved", "no holes", "depends on a hole in")
 # The clause that a line `why:` names as false.
-FALSE = re.compile(r"`(\w+)` is false")
+FALSE = re.compile(r"the clause `(\w+)` is false")
 # The form of an edit file, its fields, and its changes.
 FORM = re.compile(r"why: .+\n(?:(?:file|fn|by): .+\n|old: .+\nnew:.*\n)+")
 FIELD, CHANGE = re.compile(r"(?m)^(why|file|fn|by): (.*)$"), re.compile(r"(?m)^old: (.*)\nnew: ?(.*)$")
@@ -106,7 +107,7 @@ STOPPED = re.compile(r"may hold\b|could not tell|stopped at its own limit|step l
 class WrongBody:
     """A must-fail edit: its name, the function that must be rejected, and the changes of its body.
 
-    With `is_unchanged`, each change replaces the old text by the same text. `why_not` is the error in the edit, or
+    With `is_unchanged`, each change replaces the old text by the same text. `edit_error` is the error in the edit, or
     empty."""
 
     def __init__(self, crate, file, number=0, is_unchanged=False):
@@ -117,42 +118,42 @@ class WrongBody:
         fields, self.is_unchanged = dict(FIELD.findall(text)), is_unchanged
         self.changes = [(old, old if is_unchanged else new) for old, new in CHANGE.findall(text)]
         self.path, self.function, self.by = (fields.get(key, "") for key in ("file", "fn", "by"))
-        # `named` is the clause that the edit names as false. `clause` is the same if the copy ensures only this
+        # `false_clause` is the clause that the edit names as false. `clause` is the same if the copy ensures only this
         # clause, otherwise empty.
-        self.named = (FALSE.match(fields.get("why", "")) or ["", ""])[1]
+        self.false_clause = (FALSE.match(fields.get("why", "")) or ["", ""])[1]
         proof = f"{ROOT}/crates/{crate}/proofs/{self.function.replace('::', '/')}"
-        self.clause, self.why_not = self.named if is_searched(proof, self.named) else "", ""
+        self.clause, self.edit_error = self.false_clause if is_searched(proof, self.false_clause) else "", ""
         if not (file.endswith(".edit") and FORM.fullmatch(text) and text.count("\nfn: ") == 1 and self.path and self.changes):
-            self.why_not = (
+            self.edit_error = (
                 "it must be named *.edit, begin with `why:`, and have one `fn:`, a `file:`, and pairs of `old:` and"
                 " `new:`"
             )
-        if self.by and f"rejected by {self.by}" not in (GAVE_UP, PROOF_ONLY):
-            self.why_not = f"`by: {self.by}` is none of the outcomes `{GAVE_UP}` and `{PROOF_ONLY}`"
-        if not self.why_not and not os.path.isfile(f"{ROOT}/crates/{crate}/{self.path}"):
-            self.why_not = f"the crate has no file {self.path}"
+        if self.by and f"rejected: {self.by}" not in (GAVE_UP, PROOF_ONLY):
+            self.edit_error = f"`by: {self.by}` is none of the outcomes `{GAVE_UP}` and `{PROOF_ONLY}`"
+        if not self.edit_error and not os.path.isfile(f"{ROOT}/crates/{crate}/{self.path}"):
+            self.edit_error = f"the crate has no file {self.path}"
         # The changes: begin and end, as offsets in the file, and the new text.
-        self.places = [] if self.why_not else self.find_places(read_source(f"crates/{crate}/{self.path}"))
+        self.places = [] if self.edit_error else self.find_places(read_source(f"crates/{crate}/{self.path}"))
 
     def find_places(self, source):
         """Returns the changes as begin, end and new text. Sets the function that they change, or the error in the edit."""
-        places, left = [], source.text
+        places, remaining = [], source.text
         for old, new in self.changes:
-            at, times = left.find(old), left.count(old)
-            left = left.replace(old, "\0" * len(old))
-            function = next((item for item in functions_in(source) if item.body < at < item.end), None)
+            offset, times = remaining.find(old), remaining.count(old)
+            remaining = remaining.replace(old, "\0" * len(old))
+            function = next((item for item in functions_in(source) if item.body < offset < item.end), None)
             ensured = [clause.name for clause in function.clauses if clause.kind == "ensures"] if function else []
             if times != 1:
-                self.why_not = f"the old text `{old}` occurs {times} times in {self.path}, expected once"
+                self.edit_error = f"the old text `{old}` occurs {times} times in {self.path}, expected once"
             elif not function or function.name != self.function.rpartition("::")[2]:
-                self.why_not = f"it changes text outside the body of {self.function}"
-            elif self.named and self.named not in ensured:
-                self.why_not = f"the function {function.name} has no clause `{self.named}`"
+                self.edit_error = f"it changes text outside the body of {self.function}"
+            elif self.false_clause and self.false_clause not in ensured:
+                self.edit_error = f"the function {function.name} has no clause `{self.false_clause}`"
             # A method of a trait's impl cannot have a second name, so it is changed in place.
             self.copied = function if function and not function.trait else None
             if self.copied and self.clause not in ensured:
                 self.clause = ""
-            places.append((at, at + len(old), new))
+            places.append((offset, offset + len(old), new))
         return places
 
     @property
@@ -166,46 +167,47 @@ class WrongBody:
         function = self.copied
         if not function:
             return self.places
-        others = [(clause.begin, clause.end, "") for clause in function.clauses
-                  if self.clause and clause.kind == "ensures" and clause.name != self.clause]
-        copy = replaced(text[:function.end], [*self.places, (function.named, function.named, self.suffix), *others])
+        other_clauses = [(clause.begin, clause.end, "") for clause in function.clauses
+                         if self.clause and clause.kind == "ensures" and clause.name != self.clause]
+        suffix = (function.name_end, function.name_end, self.suffix)
+        copy = replace_pieces(text[:function.end], [*self.places, suffix, *other_clauses])
         return [(function.end, function.end, "\n\n" + copy[function.begin:])]
 
     def copy_proof(self, directory):
         """Copies the written proof of the function for the changed copy, if there is a written proof and the copy
         needs it. `directory` is the directory of the crate."""
-        proof, copy = (f"{directory}/proofs/{each.replace('::', '/')}" for each in (self.function, self.checked))
+        proof, copy = (f"{directory}/proofs/{function.replace('::', '/')}" for function in (self.function, self.checked))
         if not self.copied or self.clause or not os.path.isdir(proof):
             return
         shutil.copytree(proof, copy)
-        named = re.compile(rf"\b{re.escape(self.function.replace('::', '.'))}\b")
+        qualified_name = re.compile(rf"\b{re.escape(self.function.replace('::', '.'))}\b")
         for path in files_below(copy):
-            write("", path, named.sub(self.checked.replace("::", "."), read(path)).encode())
+            write("", path, qualified_name.sub(self.checked.replace("::", "."), read(path)).encode())
 
 
 class Verdict:
     """The outcome for a wrong body, and the reason.
 
-    `is_well` is true if the outcome is the expected one: a search ended without a proof, or the body was rejected
+    `is_expected` is true if the outcome is the expected one: a search ended without a proof, or the body was rejected
     as its line `by:` says. `is_unclear` is true if the edit should be tried again, because a search gave up."""
 
-    def __init__(self, body, outcome, why):
-        self.body, self.outcome, self.why = body, outcome, why[:240]
-        self.is_well = outcome in (REJECTED, PROVED, f"rejected by {body.by}")
-        self.is_unclear = outcome == GAVE_UP and not self.is_well
+    def __init__(self, body, outcome, reason):
+        self.body, self.outcome, self.why = body, outcome, reason[:240]
+        self.is_expected = outcome in (REJECTED, PROVED, f"rejected: {body.by}")
+        self.is_unclear = outcome == GAVE_UP and not self.is_expected
         self.text = f"wrong body {body.label}: {outcome}: {self.why}"
 
 
 def bodies_of(crate, is_unchanged):
     """Returns the wrong bodies of a crate."""
-    files = [file for place in (HERE_TRIED, KIT_TRIED) for file in sorted(glob.glob(f"crates/{crate}/{place}/*"))]
+    files = [file for directory in (HERE_TRIED, KIT_TRIED) for file in sorted(glob.glob(f"crates/{crate}/{directory}/*"))]
     return [WrongBody(crate, file, number, is_unchanged) for number, file in enumerate(files)]
 
 
 def free_memory():
     """Returns the available memory in bytes."""
-    available = re.search(r"MemAvailable:\s+(\d+)", read("/proc/meminfo"))
-    return 1024 * int(available[1]) if available else 0
+    match = re.search(r"MemAvailable:\s+(\d+)", read("/proc/meminfo"))
+    return 1024 * int(match[1]) if match else 0
 
 
 def assume(directory, crate, functions):
@@ -235,25 +237,25 @@ def is_searched(directory, clause):
 
 def functions_in(source):
     """Returns the functions of a source file that have a body."""
-    return [item for item in source.items if item.what == "fn" and item.body]
+    return [item for item in source.items if item.keyword == "fn" and item.body]
 
 
 def loops(source, changed):
     """Returns the replacements, as begin, end and new text, that turn the functions of a file into endless loops.
     Functions that are changed in place, at the offsets `changed`, are left out."""
     return [(item.body, item.end, LOOP) for item in functions_in(source)
-            if "const fn " not in item.header and not any(item.body < at < item.end for at in changed)]
+            if "const fn " not in item.header and not any(item.body < offset < item.end for offset in changed)]
 
 
-class Places:
+class ProverSlots:
     """Limits the number of provers that run at the same time, by the number of processors and the available memory."""
 
     def __init__(self):
-        self.most = max(1, min(len(os.sched_getaffinity(0)), free_memory() // MEMORY))
-        self.free = threading.Semaphore(self.most)
+        self.count = max(1, min(len(os.sched_getaffinity(0)), free_memory() // MEMORY))
+        self.free = threading.Semaphore(self.count)
 
     @contextmanager
-    def place(self):
+    def slot(self):
         """Waits until another prover may run. It may run during the body of the `with` statement."""
         with self.free:
             yield
@@ -262,30 +264,33 @@ class Places:
 class Trial:
     """Tries the wrong bodies of a crate, in copies of the crate."""
 
-    def __init__(self, crate, places=None):
-        self.crate, self.places = crate, places
+    def __init__(self, crate, slots=None):
+        self.crate, self.slots = crate, slots
         # The functions that are proved in the unchanged crate.
         self.proved = []
 
     def begin(self, bodies, pool):
         """Makes sure that the unchanged crate is proved, and starts to try the groups. Returns the verdicts that
         are already known, and the futures of the others."""
-        whole = [body for body in bodies if not body.why_not]
-        why = proved.build_libraries(proved.crates()[self.crate].dependencies) or self.lacks_proof(whole)
-        verdicts = [Verdict(body, FAILED, f"bad edit: {body.why_not}" if body.why_not else f"not tried: {why}")
-                    for body in bodies if body.why_not or why]
-        return verdicts, {pool.submit(self.try_group, group) for group in ([] if why else groups_of(whole))}
+        valid = [body for body in bodies if not body.edit_error]
+        reason = proved.build_libraries(proved.crates()[self.crate].dependencies) or self.lacks_proof(valid)
+        verdicts = [Verdict(body, FAILED, f"bad edit: {body.edit_error}" if body.edit_error else f"not tried: {reason}")
+                    for body in bodies if body.edit_error or reason]
+        return verdicts, {pool.submit(self.try_group, group) for group in ([] if reason else groups_of(valid))}
 
     def lacks_proof(self, bodies):
         """Returns the reason why the unchanged crate is not proved, or an empty string if it is. If `rt ci` has not
         proved it, or reported none of its functions, this method checks the functions that these bodies change."""
         is_proved, output = proved.were_proved([self.crate]), proved.ci_output()
-        words = [word for each in sorted({body.function for body in bodies}) for word in ("--only", each)]
+        words = [word for function in sorted({body.function for body in bodies}) for word in ("--only", function)]
         # `rt ci` reports no functions of a crate that an earlier run had proved.
         if not output or is_proved and not proved.functions_of(self.crate, output):
-            place = f"crates/{self.crate}"
-            ran = proved.rattle("check", self.crate, place, *words) if output else proved.run(["rt", "check", *words], place)
-            output, is_proved = ran.stdout, re.search(r"(?m)^only=(\d+) proved=\1$", ran.stdout)
+            directory = f"crates/{self.crate}"
+            if output:
+                process = proved.rattle("check", self.crate, directory, *words)
+            else:
+                process = proved.run(["rt", "check", *words], directory)
+            output, is_proved = process.stdout, re.search(r"(?m)^only=(\d+) proved=\1$", process.stdout)
         self.proved = proved.functions_of(self.crate, output)
         return "" if is_proved else f"the unchanged crate is not proved: {proved.first_error(output)}"
 
@@ -298,7 +303,7 @@ class Trial:
             source = read_source(f"crates/{self.crate}/{path}")
             pieces = [piece for body in group if body.path == path for piece in body.pieces(source.text)]
             in_place = [begin for body in group if body.path == path and not body.copied for begin, _, _ in body.places]
-            write(directory, path, replaced(source.text, [*pieces, *loops(source, in_place)]).encode())
+            write(directory, path, replace_pieces(source.text, [*pieces, *loops(source, in_place)]).encode())
 
     def try_group(self, group):
         """Tries a group of wrong bodies, and then each one that was not rejected by itself. Returns the verdicts
@@ -318,7 +323,7 @@ class Trial:
             self.copy_into(scratch, group)
             for body in group:
                 body.copy_proof(scratch)
-            assume(scratch, self.crate, [each for each in self.proved if each not in checked])
+            assume(scratch, self.crate, [function for function in self.proved if function not in checked])
             output = self.check(scratch, checked)
         # If `rt ci` did not report the functions of the crate, a wrong body may call a function that is not known
         # to be proved. Such a function is then assumed to satisfy its contract. This cannot cause a rejection.
@@ -330,7 +335,7 @@ class Trial:
         function that is not proved, the prover starts a second time, and uses the results of the first time, which
         are in the directory `--incremental`.)"""
         words = [word for function in sorted(functions) for word in ("--only", function)]
-        with self.places.place(), tempfile.TemporaryDirectory(prefix="wrong-bodies-results-") as results:
+        with self.slots.slot(), tempfile.TemporaryDirectory(prefix="wrong-bodies-results-") as results:
             words += ["--allow-holes", "--incremental", results]
             return proved.rattle("check", self.crate, directory, *words).stdout
 
@@ -340,33 +345,33 @@ class Trial:
         verdict_line = re.search(rf"(?m)^fn {re.escape(f'{self.crate}::{body.checked}')}: (.*)$", output)
         if not verdict_line or not re.search(r"(?m)^only=", output):
             return Verdict(body, FAILED, f"bad edit: it did not reach the prover: {proved.first_error(output)}")
-        line, before = verdict_line[1], f"\nfn \n{output[:verdict_line.start()]}".rpartition("\nfn ")[2]
+        line, text_above = verdict_line[1], f"\nfn \n{output[:verdict_line.start()]}".rpartition("\nfn ")[2]
         if line.startswith(PROVED_VERDICTS) or body.is_unchanged:
-            is_well = line.startswith(PROVED_VERDICTS) and body.is_unchanged
-            return Verdict(body, PROVED if is_well else FAILED, f"the function is {line}")
-        above = [note for note in re.findall(r"(?m)^note: .*", before) if SEARCHED.search(note)]
+            is_expected = line.startswith(PROVED_VERDICTS) and body.is_unchanged
+            return Verdict(body, PROVED if is_expected else FAILED, f"the function is {line}")
+        notes = [note for note in re.findall(r"(?m)^note: .*", text_above) if SEARCHED.search(note)]
         proof = f"./proofs/{body.checked.replace('::', '/')}/"
         # The indented lines after an error are its details.
-        of_proof = "\n".join(re.findall(rf"(?m)^{re.escape(proof)}.*(?:\n  .*)*", output)).split("\n")
-        errors = [line for line in of_proof if line.startswith(proof) and ": error: " in line]
+        proof_lines = "\n".join(re.findall(rf"(?m)^{re.escape(proof)}.*(?:\n  .*)*", output)).split("\n")
+        errors = [line for line in proof_lines if line.startswith(proof) and ": error: " in line]
         if body.clause:
             # Notes about the precondition of a call, or about an invariant, are ignored.
-            above = [line for line in above if ENSURED in line]
-        is_searched = bool(above or not body.clause and SEARCHED.search(line))
-        ended = [line for line in above if AT_LIMIT not in line]
-        if is_searched and (ended or not above) and "could not tell" not in line:
-            return Verdict(body, REJECTED, (ended or [line])[0])
-        stopped = next((error for error in (line, *errors, *of_proof) if STOPPED.search(error)), "")
+            notes = [line for line in notes if ENSURED in line]
+        is_searched = bool(notes or not body.clause and SEARCHED.search(line))
+        ended_searches = [line for line in notes if AT_LIMIT not in line]
+        if is_searched and (ended_searches or not notes) and "could not tell" not in line:
+            return Verdict(body, REJECTED, (ended_searches or [line])[0])
+        stopped = next((error for error in (line, *errors, *proof_lines) if STOPPED.search(error)), "")
         if stopped:
             return Verdict(body, FAILED, f"the prover could not tell, or stopped at a limit: {stopped}")
         if is_searched:
-            return Verdict(body, GAVE_UP, (above or [line])[0])
+            return Verdict(body, GAVE_UP, (notes or [line])[0])
         if errors or line.startswith("not proved") and "it calls `" not in line:
             return Verdict(body, PROOF_ONLY, (errors or [line])[0])
         return Verdict(body, FAILED, f"not rejected for a goal of the function itself: {line}")
 
 
-def replaced(text, pieces):
+def replace_pieces(text, pieces):
     """Returns the text with these replacements, which are given as begin, end and new text."""
     for begin, end, new in sorted(pieces, reverse=True):
         text = text[:begin] + new + text[end:]
@@ -385,9 +390,9 @@ def groups_of(bodies):
 def try_all(tasks):
     """Tries the wrong bodies of each crate as soon as the unchanged crate is proved, and yields the verdicts.
     Bodies whose search gave up are tried again at the end, one at a time."""
-    places, gave_up = Places(), []
-    trials = {crate: Trial(crate, places) for crate in tasks}
-    with ThreadPoolExecutor(len(tasks) + places.most) as pool:
+    slots, gave_up = ProverSlots(), []
+    trials = {crate: Trial(crate, slots) for crate in tasks}
+    with ThreadPoolExecutor(len(tasks) + slots.count) as pool:
         futures = {pool.submit(trials[crate].begin, bodies, pool) for crate, bodies in tasks.items()}
         while futures:
             done, futures = wait(futures, return_when=FIRST_COMPLETED)
@@ -403,18 +408,19 @@ def try_all(tasks):
 def wrong_numbers(bodies, names):
     """Returns a failure for each crate whose number of edits differs from the number in LIST. If there are names,
     only their crates are compared."""
-    listed = {crate: int(edits) for crate, edits in re.findall(r"(?m)^(\w+): (\d+)$", read(LIST))}
-    compared = {name.partition("/")[0] for name in names} or {*listed, *bodies}
-    numbers = [(crate, listed.get(crate, 0), len(bodies.get(crate, []))) for crate in sorted({*listed, *bodies} & compared)]
+    listed_numbers = {crate: int(edits) for crate, edits in re.findall(r"(?m)^(\w+): (\d+)$", read(LIST))}
+    compared = {name.partition("/")[0] for name in names} or {*listed_numbers, *bodies}
+    numbers = [(crate, listed_numbers.get(crate, 0), len(bodies.get(crate, [])))
+               for crate in sorted({*listed_numbers, *bodies} & compared)]
     return [f"{crate} has {actual} edits, but {LIST} lists {expected}" for crate, expected, actual in numbers if expected != actual]
 
 
-def record_rejected(tasks, bodies, skipped, digests, well, is_recorded):
+def record_rejected(tasks, bodies, skipped, digests, passed, is_recorded):
     """Records the crates whose edits are all rejected: the skipped ones, and those whose edits were all tried and
-    passed. `well` has the number of passed edits of each crate."""
-    whole = [crate for crate in tasks if well[crate] == len(tasks[crate])
-             and all(body.is_for_kit or body in tasks[crate] for body in bodies[crate])]
-    rejected = {crate: digests[crate] for crate in (*skipped, *whole)}
+    passed. `passed` has the number of passed edits of each crate."""
+    complete = [crate for crate in tasks if passed[crate] == len(tasks[crate])
+                and all(body.is_for_kit or body in tasks[crate] for body in bodies[crate])]
+    rejected = {crate: digests[crate] for crate in (*skipped, *complete)}
     tried_mutants.record(rejected, bodies, tried_mutants.TRIED_HERE)
     if is_recorded:
         tried_mutants.record(rejected, bodies)
@@ -426,13 +432,13 @@ def main(words):
         raise SystemExit(__doc__)
     is_unchanged = "--unchanged" in flags
     os.chdir(ROOT)
-    bodies = {crate: of_crate for crate in proved.crates() for of_crate in [bodies_of(crate, is_unchanged)] if of_crate}
+    bodies = {crate: crate_bodies for crate in proved.crates() for crate_bodies in [bodies_of(crate, is_unchanged)] if crate_bodies}
     known = {name for crate in bodies for name in (crate, *(body.label for body in bodies[crate]))}
-    wrong = wrong_numbers(bodies, names) + [f"no crate or edit is named {name}" for name in names if name not in known]
+    failures = wrong_numbers(bodies, names) + [f"no crate or edit is named {name}" for name in names if name not in known]
     digests, recorded_digests = tried_mutants.digests(bodies), tried_mutants.recorded()
     if "--record" in flags:
-        here = tried_mutants.recorded(tried_mutants.TRIED_HERE)
-        recorded_digests = {**recorded_digests, **{crate: tried for crate, tried in here.items() if tried == digests.get(crate)}}
+        recorded_here = tried_mutants.recorded(tried_mutants.TRIED_HERE)
+        recorded_digests |= {crate: tried for crate, tried in recorded_here.items() if tried == digests.get(crate)}
     # The crates that need not be tried again.
     skipped = (
         set()
@@ -445,24 +451,24 @@ def main(words):
         and (crate in names or not names and crate not in skipped)
     )
     tasks = {crate: tried for crate in bodies if (tried := [body for body in bodies[crate] if is_tried(crate, body)])}
-    outcomes, well = {crate: Counter() for crate in tasks}, Counter()
+    outcomes, passed_by_crate = {crate: Counter() for crate in tasks}, Counter()
     for crate in skipped:
         print(f"{crate}: not tried, because nothing has changed since all its wrong bodies were rejected")
     for verdict in try_all(tasks):
         print(verdict.text, flush=True)
         outcomes[verdict.body.crate][verdict.outcome] += 1
-        well[verdict.body.crate] += verdict.is_well
-        if verdict.outcome in (GAVE_UP, PROOF_ONLY) and not verdict.is_well:
-            wrong.append(f"{verdict.body.label} is {verdict.outcome}: change a smaller function instead")
-    for crate, counted in outcomes.items():
+        passed_by_crate[verdict.body.crate] += verdict.is_expected
+        if verdict.outcome in (GAVE_UP, PROOF_ONLY) and not verdict.is_expected:
+            failures.append(f"{verdict.body.label}: {verdict.outcome}. Change a smaller function instead")
+    for crate, counts in outcomes.items():
         kinds = (PROVED, FAILED) if is_unchanged else (REJECTED, GAVE_UP, PROOF_ONLY, FAILED)
-        print(f"{crate}: " + ", ".join(f"{counted[kind]} {kind}" for kind in kinds))
-    for failure in wrong:
+        print(f"{crate}: " + ", ".join(f"{counts[kind]} {kind}" for kind in kinds))
+    for failure in failures:
         print(f"FAILED: {failure}")
-    failed = sum(counted[FAILED] for counted in outcomes.values()) + len(wrong)
-    if not is_unchanged and not wrong:
-        record_rejected(tasks, bodies, skipped, digests, well, "--record" in flags)
-    passed = sum(well.values()) + len(skipped)
+    failed = sum(counts[FAILED] for counts in outcomes.values()) + len(failures)
+    if not is_unchanged and not failures:
+        record_rejected(tasks, bodies, skipped, digests, passed_by_crate, "--record" in flags)
+    passed = sum(passed_by_crate.values()) + len(skipped)
     print(f"{passed} passed, {failed} failed")
     return 1 if failed or not passed else 0
 

@@ -68,20 +68,20 @@ class Facts:
         statement = STATEMENT.match(text)
         if not statement:
             return ""
-        if wrong := self.changed(statement["right"]):
+        if wrong := self.with_last_literal_changed(statement["right"]):
             return text[:statement.start("right")] + wrong + text[statement.end("right"):]
         for value in reversed([word for word in re.findall(r"\w+", statement[0]) if word in self.texts and word != name]):
             line, _, rest = self.texts[value].partition("\n")
-            if wrong := self.changed(rest):
+            if wrong := self.with_last_literal_changed(rest):
                 copy = re.sub(rf"\b{value}\b", f"wrong_{name}", f"{line}\n{wrong}")
                 before, after = statement[0].rsplit(value, 1)
                 return f"{copy}\n\n{before}wrong_{name}{after}{text[statement.end():]}"
         return ""
 
-    def changed(self, value):
+    def with_last_literal_changed(self, value):
         """Returns the text of a value with its last literal changed, or an empty string if it has no literal."""
-        last = ([*LITERAL.finditer(value)] or [None])[-1]
-        return value[:last.start()] + self.other_literal(last[0]) + value[last.end():] if last else ""
+        match = ([*LITERAL.finditer(value)] or [None])[-1]
+        return value[:match.start()] + self.other_literal(match[0]) + value[match.end():] if match else ""
 
     def other_literal(self, literal):
         """Returns a different literal of the same kind."""
@@ -94,7 +94,7 @@ class Facts:
         imported = re.findall(r"\w+", " ".join(IMPORTED.findall(self.text))) or ["OutOfMemory", "ReadingFailed"]
         return next(name for name in imported if name != literal)
 
-    def written(self):
+    def with_wrong_facts(self):
         """Returns the text of the file in which all facts with a value are wrong."""
         text = self.text
         for right, wrong in self.wrong.values():
@@ -111,7 +111,7 @@ def try_facts(report, crate):
     if not facts.wrong:
         return
     error = proved.build_libraries(proved.crates()[crate].dependencies)
-    path = next(os.path.relpath(at, f"crates/{crate}/proofs") for at, _, files in sorted(os.walk(f"crates/{crate}/proofs"))
+    path = next(os.path.relpath(parent, f"crates/{crate}/proofs") for parent, _, files in sorted(os.walk(f"crates/{crate}/proofs"))
                 if "Answers.antt" in files)
     *_, function = names = path.split(os.sep)
     hole = HOLE.format(path=".".join([crate, "proofs", *names]), name=function)
@@ -122,7 +122,7 @@ def try_facts(report, crate):
         for file in files_below(f"{scratch}/proofs/{path}"):
             os.remove(file)
         write(scratch, f"proofs/{path}/Proof.antt", f"use Rattle.{crate}.proofs.Facts\n{hole}".encode())
-        write(scratch, FACTS, facts.written().encode())
+        write(scratch, FACTS, facts.with_wrong_facts().encode())
         flags = ("--allow-holes", "--only", "::".join(names))
         output = proved.rattle("check", crate, scratch, *flags, before=("nice", "-n", "19")).stdout
     for name, (_, wrong) in facts.wrong.items():
@@ -131,10 +131,10 @@ def try_facts(report, crate):
 
 def main(names):
     os.chdir(proved.ROOT)
-    report, with_facts = Checks(), [crate for crate in proved.crates() if os.path.exists(f"crates/{crate}/{FACTS}")]
+    report, crates_with_facts = Checks(), [crate for crate in proved.crates() if os.path.exists(f"crates/{crate}/{FACTS}")]
     for name in names:
-        report.check(name in with_facts, f"crates/{name} has no {FACTS}")
-    for crate in with_facts:
+        report.check(name in crates_with_facts, f"crates/{name} has no {FACTS}")
+    for crate in crates_with_facts:
         if not names or crate in names:
             try_facts(report, crate)
     return report.end()
