@@ -104,13 +104,13 @@ class Copy:
             os.makedirs(os.path.dirname(self.path(directory, name)), exist_ok=True)
             write(self.path(directory), name, b"of others\n")
 
-    def run(self, *command, at=""):
-        """Runs a command in the directory `at` of the copy. Returns its exit status and its output."""
-        return run(command, self.path(at), seconds=900, **self.environment)
+    def run(self, *command, directory=""):
+        """Runs a command in the directory `directory` of the copy. Returns its exit status and its output."""
+        return run(command, self.path(directory), seconds=900, **self.environment)
 
-    def ended(self, *command, at="", says=""):
+    def ended(self, *command, directory="", says=""):
         """Runs a command, and checks that it succeeds and prints the text `says`. Returns its output."""
-        return self.checks.ended(" ".join(command), self.run(*command, at=at), says=says)
+        return self.checks.ended(" ".join(command), self.run(*command, directory=directory), says=says)
 
     def make(self, directory, *arguments, says=""):
         """Runs make in a directory of the copy, like `ended`."""
@@ -136,23 +136,24 @@ def check_readme_commands(checks, tree):
     ):
         start, processor_start = time.monotonic(), processor_seconds()
         outputs = [checks.ended(command, tree.run(command)) for command in commands]
-    seconds, used = time.monotonic() - start, processor_seconds() - processor_start
+    seconds, processor_time = time.monotonic() - start, processor_seconds() - processor_start
     checks.same(outputs[1], VERIFIED, commands[1])
-    print(f"at hand: built, and verified a download, in {seconds:.1f} s, {used:.1f} s of them processor time")
+    print(f"build-and-install: built, and verified a download, in {seconds:.1f} s, {processor_time:.1f} s of them processor time")
     is_busy = os.getloadavg()[0] > os.cpu_count()
-    checks.check((used if is_busy else seconds) <= SECONDS,
-                 f"building and verifying took {seconds:.1f} s, {used:.1f} s of them processor time, expected at most {SECONDS} s")
+    checks.check((processor_time if is_busy else seconds) <= SECONDS,
+                 f"building and verifying took {seconds:.1f} s, {processor_time:.1f} s of them processor time, "
+                 f"expected at most {SECONDS} s")
     status, output = tree.run(
         "c/out/minisign -Vm tests/corpus/hello -p tests/corpus/published.pub -x tests/corpus/published.minisig"
     )
     checks.check(status != 0, f"a signature was accepted for another file: {output}")
 
 
-def expect_stop(checks, tree, what, message, *more_commands):
+def expect_stop(checks, tree, description, message, *more_commands):
     """Checks that make stops with this error message and installs nothing."""
     for command in (MAKE, f"{MAKE} install-library DESTDIR=../installed", f"{MAKE} install DESTDIR=../installed", *more_commands):
-        checks.ended(f"{what}, {command}", tree.run(command), status=2, says=message)
-    checks.check(not os.path.exists(os.path.join(tree.top, "installed")), f"{what}: something was installed")
+        checks.ended(f"{description}, {command}", tree.run(command), status=2, says=message)
+    checks.check(not os.path.exists(os.path.join(tree.top, "installed")), f"{description}: something was installed")
 
 
 def check_changed_sources(checks, tree):
@@ -229,7 +230,7 @@ def check_built_programs(checks, copy):
     copy.make("c", "test", says=" 0 failed")
     example = ("run", "--quiet", "--manifest-path", copy.path("bindings/rust/Cargo.toml"),
                "--target-dir", copy.path("an example"), "--example", "verify")
-    copy.ended(copy.cargo, *example, "--", *PUBLISHED, at="tests/corpus", says="timestamp:1556193335")
+    copy.ended(copy.cargo, *example, "--", *PUBLISHED, directory="tests/corpus", says="timestamp:1556193335")
     copy.ended(sys.executable, "page/build.py", "--from", copy.path("dist/minisign.html"), "--key", KEY, "a page.html")
     checks.check(os.path.exists(copy.path("a page.html")), "no page was built")
 
@@ -246,11 +247,11 @@ def check_install(checks, copy):
             installed.installed_files(checks, root)
             program, flags = copy.path("verify"), installed.flags_of(root, copy.top, "--cflags", "--libs")
             copy.ended(needs.c_compiler(), "c/examples/verify.c", "-o", program, *flags, "-lsodium")
-            copy.ended("env", f"LD_LIBRARY_PATH={root}/lib", program, *PUBLISHED, at="tests/corpus")
+            copy.ended("env", f"LD_LIBRARY_PATH={root}/lib", program, *PUBLISHED, directory="tests/corpus")
             copy.put(root, *others)
-        found = {path for path in files_below(root) - others if re.search(r"/minisign(-proved)?(\.1)?$", path)}
+        programs = {path for path in files_below(root) - others if re.search(r"/minisign(-proved)?(\.1)?$", path)}
         expected = {f"bin/{name}", f"share/man/man1/{name}.1"} if name else set()
-        checks.same(found, expected, f"files installed under the name '{name}'")
+        checks.same(programs, expected, f"files installed under the name '{name}'")
         copy.make("c", "uninstall", *variables)
         checks.check(files_below(root) == others, f"uninstall leaves {files_below(root)}")
     prefix = copy.path("pre fix")
@@ -270,7 +271,7 @@ def check_packages(checks, copy):
     archives = filter(re.compile(r"\.tar\.gz$").search, files_below(copy.path("bindings/out")))
     module, archive = sorted(archives, key=lambda name: "go" not in name)
     copy.ended("tar", "-xf", copy.path("bindings/out", module), "--one-top-level=a module", "--strip-components=1")
-    copy.ended(copy.go, "test", at="a module", says="ok")
+    copy.ended(copy.go, "test", directory="a module", says="ok")
     copy.ended(
         copy.python, "-m", "pip", "wheel", "-q", "--no-index", "--no-build-isolation", "--no-deps", "-w",
         copy.path("a wheel"),
@@ -290,8 +291,8 @@ def check_clean(checks, copy):
         out = os.path.relpath("named", directory)
         copy.make(directory, *arguments.split(), f"OUT={out}", f"CARGO={copy.cargo}")
         checks.check(files_below(copy.path("named")) > FOREIGN_FILES, f"make -C {directory} OUT={out} builds nothing there")
-        for each in ("named", "never"):
-            copy.make(directory, "clean", f"OUT={os.path.relpath(each, directory)}")
+        for name in ("named", "never"):
+            copy.make(directory, "clean", f"OUT={os.path.relpath(name, directory)}")
         checks.check(files_below(copy.path("named")) == FOREIGN_FILES,
                      f"after make clean in {directory} there is {files_below(copy.path('named'))}")
     checks.check(files_below(copy.path("never")) == FOREIGN_FILES | FILES_WITH_OUR_NAMES,
@@ -308,10 +309,10 @@ def run_all(checks, scratch):
         check(checks, copy)
     for name in NEIGHBOURS:
         checks.check(FOREIGN_FILE in files_below(os.path.join(scratch, name)), f"the file of others in {name} was removed")
-    found = {*os.listdir(scratch)} | {f"a b/{name}" for name in os.listdir(os.path.join(scratch, "a b"))}
+    names = {*os.listdir(scratch)} | {f"a b/{name}" for name in os.listdir(os.path.join(scratch, "a b"))}
     checks.check(
-        found == {".cargo", "a", "a b", "a b/c", "a b/c d", "bin", "tem p"},
-        f"unexpected files next to the copy: {sorted(found)}",
+        names == {".cargo", "a", "a b", "a b/c", "a b/c d", "bin", "tem p"},
+        f"unexpected files next to the copy: {sorted(names)}",
     )
 
 

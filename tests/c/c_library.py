@@ -58,28 +58,29 @@ LIBRARIES = {"both copies": ([], ([], SANITIZED)), "for x86-64-v2": ([f"V3={stat
              "without threads": (["C_CALLS=", f"CPPFLAGS=-D_FORTIFY_SOURCE=2 {NO_THREADS}"], ([NO_THREADS],))}
 
 
-def compiled(checks, what, name, compiler, library, *flags):
+def compiled(checks, description, name, compiler, library, *flags):
     """Builds a program in this directory with a library, and returns its path, which is in the directory of the
-    library. `what` names the library in failures."""
+    library. `description` names the library in failures."""
     program, source = os.path.join(os.path.dirname(library), name), os.path.join(HERE, f"{name}.c")
     command = [compiler, "-std=c11", *STRICT, "-O1", "-I", INCLUDE, "-o", program, source, library, *flags]
-    checks.ended(f"{what}: {name}.c", run(command))
+    checks.ended(f"{description}: {name}.c", run(command))
     return program
 
 
-def check_programs(checks, what, programs, compiler, library, *flags, prefix=()):
+def check_programs(checks, description, programs, compiler, library, *flags, prefix=()):
     """Builds and runs programs, and adds the numbers of their checks. `prefix` is the command of an emulator.
     `programs` maps the names of programs to their linker flags."""
     for name, linking in programs.items():
-        status, output, errors = run_with_stderr([*prefix, compiled(checks, what, name, compiler, library, *flags, *linking)])
-        output = checks.ended(f"{what}: {name}", (status, output.replace("\r\n", "\n") + errors), says=" passed, 0 failed\n")
+        program = compiled(checks, description, name, compiler, library, *flags, *linking)
+        status, output, errors = run_with_stderr([*prefix, program])
+        output = checks.ended(f"{description}: {name}", (status, output.replace("\r\n", "\n") + errors), says=" passed, 0 failed\n")
         checks.passed += int((re.findall(r"(?m)^(\d+) passed, 0 failed$", output) or [0])[-1])
 
 
 def check_declarations(checks, scratch):
     """Checks that the headers declare the exports, and that the structs have the layout of the crates in C and C++."""
-    wrong, layout = exports.wrong_declarations(), exports.write_layout(scratch)
-    checks.check(not wrong, *wrong)
+    wrong_declarations, layout = exports.wrong_declarations(), exports.write_layout(scratch)
+    checks.check(not wrong_declarations, *wrong_declarations)
     for command in ([needs.c_compiler(), "-x", "c", "-std=c11"], [needs.cpp_compiler(), "-x", "c++", "-std=c++11"]):
         checks.ended(f"layout.c by {command[-1]}", run([*command, *STRICT, "-I", INCLUDE, "-fsyntax-only", layout]))
 
@@ -88,22 +89,22 @@ def run_all(checks, scratch):
     compiler = needs.c_compiler()
     if case_selection.is_selected("declarations"):
         check_declarations(checks, scratch)
-    for number, (what, (variables, flag_sets)) in enumerate(LIBRARIES.items()):
+    for number, (library_name, (variables, flag_sets)) in enumerate(LIBRARIES.items()):
         if os.environ.get("UNPROVED") and any("dist" in variable for variable in variables):
-            print(f"skipped with UNPROVED: {what}")
+            print(f"skipped with UNPROVED: {library_name}")
             continue
-        programs = {name: linking for name, linking in PROGRAMS.items() if case_selection.is_selected(what, name)}
+        programs = {name: linking for name, linking in PROGRAMS.items() if case_selection.is_selected(library_name, name)}
         if not programs:
             continue
         library = static_library.library(os.path.join(scratch, str(number)), *variables)
         thread_functions = {*re.findall(r"\w*pthread\w*", run([needs.program("nm", "binutils"), "--undefined-only", library])[1])}
-        checks.check(bool(thread_functions) != (what == "without threads"),
-                     f"{what}: the library calls the thread functions {thread_functions}")
+        checks.check(bool(thread_functions) != (library_name == "without threads"),
+                     f"{library_name}: the library calls the thread functions {thread_functions}")
         for flags in flag_sets:
             if flags == SANITIZED and not needs.compiles(compiler, needs.HELLO, SANITIZED):
                 print("skipped: the programs with sanitizers, because the compiler does not support them")
             else:
-                check_programs(checks, what, programs, compiler, library, *flags)
+                check_programs(checks, library_name, programs, compiler, library, *flags)
 
 
 if __name__ == "__main__":

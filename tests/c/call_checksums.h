@@ -20,7 +20,7 @@
 #include "texts_for_tests.h"
 
 /* The number of objects of each type on which the calls work, and the size of a buffer. */
-enum { COPIES = 4, SIZE = 4096 };
+enum { OBJECT_COUNT = 4, BUFFER_BYTES = 4096 };
 enum { MAX_FUNCTIONS = 64, MAX_RESULTS = 256, STEP = 1000 };
 
 /* ---- Random numbers ---- */
@@ -47,9 +47,9 @@ static int one_in(uint32_t times)
     return random_below(times) == 0;
 }
 
-static int any_copy(void)
+static int any_object(void)
 {
-    return (int) random_below(COPIES);
+    return (int) random_below(OBJECT_COUNT);
 }
 
 static void fill(uint8_t *bytes, size_t len)
@@ -64,10 +64,10 @@ static uint64_t edge_number(void)
 {
     static const uint64_t edges[] = { 0, 1, 5, 16, 256, 32768, 65536, 524288, 1048576, 16777216, 33554432, UINT64_C(1) << 30,
                                       UINT64_C(1) << 31, UINT64_C(1) << 32, UINT64_C(1) << 40, UINT64_C(1) << 63 };
-    uint64_t edge = edges[random_below(LENGTH(edges))], beside = edge + random_below(3) - 1;
-    uint64_t any = random_number();
+    uint64_t edge = edges[random_below(LENGTH(edges))], near_edge = edge + random_below(3) - 1;
+    uint64_t number = random_number();
 
-    return one_in(4) ? any >> random_below(64) : beside;
+    return one_in(4) ? number >> random_below(64) : near_edge;
 }
 
 /* Returns a result of Ed25519: mostly yes, and sometimes a number that is not a valid result. */
@@ -145,18 +145,18 @@ static uint32_t add_result(const char *name, uint32_t result)
 /* Calls a function that returns an error number, or another small number. */
 #define CALL(function, ...) add_result(#function, (uint32_t) function(__VA_ARGS__))
 /* Records the call of a function that returns nothing, or a result that is added to the checksum separately. */
-#define CALLED(function) add_result(#function, 0)
+#define RECORD_CALL(function) add_result(#function, 0)
 
 /* ---- Texts ---- */
 
 struct text {
-    uint8_t bytes[SIZE];
+    uint8_t bytes[BUFFER_BYTES];
     size_t len;
 };
 
 static void set_text(struct text *text, const void *bytes, size_t len)
 {
-    if (len <= SIZE) {
+    if (len <= BUFFER_BYTES) {
         memcpy(text->bytes, bytes, len);
         text->len = len;
     }
@@ -164,7 +164,7 @@ static void set_text(struct text *text, const void *bytes, size_t len)
 
 static void append(struct text *text, const void *bytes, size_t len)
 {
-    if (text->len + len <= SIZE) {
+    if (text->len + len <= BUFFER_BYTES) {
         memcpy(text->bytes + text->len, bytes, len);
         text->len += len;
     }
@@ -196,12 +196,12 @@ static void remove_bytes(struct text *text, size_t at, size_t len)
 
 /* Damages one line: replaces one of its first characters by another base64 character, removes its last characters, or
  * removes the line. */
-static void change_line(struct text *text)
+static void damage_line(struct text *text)
 {
     static const char base64[] = "ABCDEFGHIJKLMNOPQRSTUVWXYZabcdefghijklmnopqrstuvwxyz0123456789+/";
-    uint32_t line = random_below(4), change = random_below(4), more = 4 * (1 + random_below(4));
+    uint32_t line = random_below(4), change = random_below(4), removed = 4 * (1 + random_below(4));
     size_t begin = 0, end, at = random_below(4);
-    char other = base64[random_below(64)];
+    char replacement = base64[random_below(64)];
 
     while (line > 0 && begin < text->len) {
         line -= text->bytes[begin++] == '\n';
@@ -210,12 +210,12 @@ static void change_line(struct text *text)
     }
     if (change == 0) {
         remove_bytes(text, begin, end - begin + (end < text->len));
-    } else if (change == 1 && more <= end - begin) {
-        remove_bytes(text, end - more, more);
+    } else if (change == 1 && removed <= end - begin) {
+        remove_bytes(text, end - removed, removed);
     } else if (change == 2) {
         text->len = begin;
     } else if (begin + at < end) {
-        text->bytes[begin + at] = (uint8_t) other;
+        text->bytes[begin + at] = (uint8_t) replacement;
     }
 }
 
@@ -230,15 +230,15 @@ static void pad_last_line(struct text *text, size_t count)
 }
 
 /* Returns one of the texts: mostly unchanged, and sometimes with CR LF, or with a damaged, missing or additional byte. */
-static struct text any_text(const struct text texts[COPIES])
+static struct text any_text(const struct text texts[OBJECT_COUNT])
 {
-    struct text text = texts[random_below(COPIES)];
+    struct text text = texts[random_below(OBJECT_COUNT)];
     size_t at = random_below((uint32_t) text.len + 1), end = 0;
 
     if (one_in(8)) {
         struct text copy = text;
 
-        for (size_t i = 0; i < copy.len && end + 2 < SIZE; i++) {
+        for (size_t i = 0; i < copy.len && end + 2 < BUFFER_BYTES; i++) {
             if (copy.bytes[i] == '\n') {
                 text.bytes[end++] = '\r';
             }
@@ -246,7 +246,7 @@ static struct text any_text(const struct text texts[COPIES])
         }
         text.len = end;
     }
-    if (!one_in(3) || at >= text.len || text.len + 1 >= SIZE) {
+    if (!one_in(3) || at >= text.len || text.len + 1 >= BUFFER_BYTES) {
         return text;
     }
     switch (random_below(12)) {
@@ -260,7 +260,7 @@ static struct text any_text(const struct text texts[COPIES])
         break;
     case 5: text.bytes[text.len++] = (uint8_t) random_number(); break;
     case 6: pad_last_line(&text, 1 + random_below(4)); break;
-    default: change_line(&text); break;
+    default: damage_line(&text); break;
     }
     return text;
 }
@@ -299,10 +299,10 @@ static struct text any_comment(void)
         append(&comment, part, *part == 0 ? 1 : strlen(part));
     }
     if (one_in(60)) {
-        size_t more = 900 + random_below(200);
+        size_t added = 900 + random_below(200);
 
-        memset(comment.bytes + comment.len, 'y', more);
-        comment.len += more;
+        memset(comment.bytes + comment.len, 'y', added);
+        comment.len += added;
     }
     return comment;
 }

@@ -73,13 +73,13 @@ class Checksums:
             self.expected[header] = checksums_in(output)
             self.check_functions(header, output)
 
-    def run_program(self, header, what, compiler, library, *flags, prefix=()):
-        """Builds the program for a header with a library, runs it, and returns its output. `what` names the build
+    def run_program(self, header, build_name, compiler, library, *flags, prefix=()):
+        """Builds the program for a header with a library, runs it, and returns its output. `build_name` names the build
         in failures, and `prefix` is an emulator's command."""
         name, calls, fewer_calls = PROGRAMS[header]
-        program = compiled(self.checks, what, name, compiler, library, *flags)
+        program = compiled(self.checks, build_name, name, compiler, library, *flags)
         status, output, errors = run_with_stderr([*prefix, program, str(self.seed), str(fewer_calls if prefix else calls)])
-        self.checks.check(status == 0, f"{what}: {name}: status {status}: {output[-300:]}{errors[-300:]}")
+        self.checks.check(status == 0, f"{build_name}: {name}: status {status}: {output[-300:]}{errors[-300:]}")
         return output.replace("\r\n", "\n")
 
     def check_functions(self, header, output):
@@ -106,16 +106,16 @@ class Checksums:
             operations = {int(number) for number in OPERATION.findall(read(INCLUDE, header).decode())}
             self.checks.same(returned["minisign_install_due"], operations, "the operations that were due")
 
-    def check(self, what, *build, prefix=()):
+    def check(self, build_name, *build, prefix=()):
         """Checks that the functions of another build of the library return the same bytes. `build` is the compiler,
-        the library and flags; `what` and `prefix` are those of `run_program`."""
+        the library and flags; `build_name` and `prefix` are those of `run_program`."""
         for header, expected in self.expected.items():
             program, *counts = PROGRAMS[header]
-            checksums = checksums_in(self.run_program(header, what, *build, prefix=prefix))
-            same = next((at for at, pair in enumerate(zip(checksums, expected)) if pair[0] != pair[1]), len(checksums))
-            self.checks.check(same == len(checksums) == counts[bool(prefix)] // CALLS_PER_CHECKSUM,
-                              f"{what}: {program} with the seed {self.seed}: of {len(checksums)} checksums, "
-                              f"only the first {same} are those of the archives")
+            checksums = checksums_in(self.run_program(header, build_name, *build, prefix=prefix))
+            equal_count = next((index for index, pair in enumerate(zip(checksums, expected)) if pair[0] != pair[1]), len(checksums))
+            self.checks.check(equal_count == len(checksums) == counts[bool(prefix)] // CALLS_PER_CHECKSUM,
+                              f"{build_name}: {program} with the seed {self.seed}: of {len(checksums)} checksums, "
+                              f"only the first {equal_count} are those of the archives")
 
 
 # ---- Mutants of machine.h ----
@@ -187,7 +187,7 @@ class MutantRunner:
 
         With `case`, the name of a processor, only the mutants for this processor are tried. Otherwise, only the
         mutants for all processors are tried, and mutants that do not change the object files are skipped."""
-        checks, tried = self.checksums.checks, []
+        checks, tried_names = self.checksums.checks, []
         difference = "" if case else self.difference(self.unchanged_objects)
         checks.check(not difference, f"without a mutant: {difference}")
         for mutant in all_mutants:
@@ -197,9 +197,9 @@ class MutantRunner:
             if not case and all(map(filecmp.cmp, objects, self.unchanged_objects, [False] * len(objects))):
                 continue
             difference = self.difference(objects)
-            tried.append(mutant.name)
+            tried_names.append(mutant.name)
             if mutant.name in SAME_RESULTS:
                 checks.check(not difference, f"the mutant {mutant.name} is noticed, although it is in SAME_RESULTS: {difference}")
             else:
                 checks.check(difference, f"no program notices the mutant {mutant.name}")
-        return tried
+        return tried_names

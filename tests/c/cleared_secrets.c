@@ -38,15 +38,15 @@ static minisign_signed_parts parts = { .trusted_comment = COMMENT, .trusted_comm
 #define PAINT 0xa5
 
 struct range {
-    const void *at;
+    const void *start;
     size_t len;
 };
 
 /* The caller's variables, which may contain secrets. */
-static const struct range own[] = { { new_key.secret, sizeof new_key.secret }, { password, sizeof password },
-                                    { unsealed, sizeof unsealed },     { &key, sizeof key },
-                                    { &opened, sizeof opened },        { &unopened, sizeof unopened },
-                                    { secret_record, sizeof secret_record } };
+static const struct range allowed_ranges[] = { { new_key.secret, sizeof new_key.secret }, { password, sizeof password },
+                                               { unsealed, sizeof unsealed },     { &key, sizeof key },
+                                               { &opened, sizeof opened },        { &unopened, sizeof unopened },
+                                               { secret_record, sizeof secret_record } };
 
 static const uint8_t *frame;
 static size_t depth;
@@ -54,8 +54,8 @@ static size_t depth;
 static int place_of(const uint8_t *at, bool is_undumped)
 {
     (void) is_undumped;
-    for (size_t i = 0; i < sizeof own / sizeof *own; i++) {
-        if (is_within(at, own[i].at, own[i].len)) {
+    for (size_t i = 0; i < sizeof allowed_ranges / sizeof *allowed_ranges; i++) {
+        if (is_within(at, allowed_ranges[i].start, allowed_ranges[i].len)) {
             return OWN;
         }
     }
@@ -77,12 +77,12 @@ static void look(void)
 }
 
 /* Fills the stack below the frame of the caller with the byte PAINT. */
-__attribute__((noinline)) static void paint(void)
+__attribute__((noinline)) static void fill_stack(void)
 {
-    volatile uint8_t painted[PAINTED_BYTES];
+    volatile uint8_t filled[PAINTED_BYTES];
 
-    for (size_t i = 0; i < sizeof painted; i++) {
-        painted[i] = PAINT;
+    for (size_t i = 0; i < sizeof filled; i++) {
+        filled[i] = PAINT;
     }
 }
 
@@ -93,13 +93,13 @@ struct step {
     const char *name;
     enum minisign_error (*call)(void);
     uint64_t operations, memory, keep_every;
-    enum { WITH_PASSWORD, IN_PLACE } how;
+    enum { WITH_PASSWORD, IN_PLACE } method;
     bool is_damaged, has_signals;
 };
 
 static const struct step *step;
 
-static enum minisign_error take(void)
+static enum minisign_error take_secret_key(void)
 {
     minisign_take_secret_key(&new_key, &key);
     return MINISIGN_OK;
@@ -158,7 +158,7 @@ static enum minisign_error encode(void)
 
 /* The memory for opening a key in place. No secrets may be left in it, because the library must clear it. */
 static uint32_t words[256 * (4096 + 3)];
-static uint8_t room_of_parts[1024];
+static uint8_t parts_buffer[1024];
 
 /* When a signal arrives, the system writes the registers to the stack. */
 static void ignore_signal(int number)
@@ -169,7 +169,7 @@ static void ignore_signal(int number)
 /* Opens the encrypted key. If its checksum is wrong, the error is found after the key was decrypted. */
 static enum minisign_error open_sealed(void)
 {
-    struct itimerval often = { { 0, 200 }, { 0, 200 } }, never = { { 0, 0 }, { 0, 0 } };
+    struct itimerval frequent = { { 0, 200 }, { 0, 200 } }, stopped = { { 0, 0 }, { 0, 0 } };
     enum minisign_error error;
 
     memcpy(damaged, sealed, sealed_len);
@@ -180,14 +180,14 @@ static enum minisign_error open_sealed(void)
     }
     if (step->has_signals) {
         signal(SIGALRM, ignore_signal);
-        setitimer(ITIMER_REAL, &often, NULL);
+        setitimer(ITIMER_REAL, &frequent, NULL);
     }
-    error = step->how == WITH_PASSWORD
+    error = step->method == WITH_PASSWORD
                 ? minisign_open_sealed_key(&unopened, password, password_len, rows, MINISIGN_ANY_ROWS, &opened)
                 : minisign_open_sealed_key_in_place(&unopened, password, password_len, rows, MINISIGN_ANY_ROWS, words,
-                                                    sizeof words / sizeof *words, room_of_parts, sizeof room_of_parts, &opened);
+                                                    sizeof words / sizeof *words, parts_buffer, sizeof parts_buffer, &opened);
     if (step->has_signals) {
-        setitimer(ITIMER_REAL, &never, NULL);
+        setitimer(ITIMER_REAL, &stopped, NULL);
     }
     return !step->is_damaged ? error : error == MINISIGN_WRONG_PASSWORD ? MINISIGN_OK : MINISIGN_NOT_DUE;
 }
@@ -208,7 +208,7 @@ static enum minisign_error sign(void)
 /* Leaves a secret on the stack, in a register and elsewhere, which the search has to find. */
 volatile uint8_t elsewhere[256];
 
-static enum minisign_error leave_all(void)
+static enum minisign_error leave_secret(void)
 {
     volatile uint8_t left[256];
 
@@ -231,37 +231,37 @@ static enum minisign_error leave_all(void)
 }
 
 static const struct step steps[] = {
-    { "taking a key", .call = take },
+    { "taking a key", .call = take_secret_key },
     { "getting a public key", .call = get_public_key },
     { "writing a public key", .call = make_public },
     { "encrypting a key", make_sealed, 32768, 1 << 20, .keep_every = MINISIGN_KEEP_EVERY_ROW },
     { "opening a key", .call = open_sealed },
     { "opening a key with a wrong checksum", .call = open_sealed, .is_damaged = true },
-    { "opening a key in place", .call = open_sealed, .how = IN_PLACE },
-    { "opening a key with a wrong checksum in place", .call = open_sealed, .how = IN_PLACE, .is_damaged = true },
+    { "opening a key in place", .call = open_sealed, .method = IN_PLACE },
+    { "opening a key with a wrong checksum in place", .call = open_sealed, .method = IN_PLACE, .is_damaged = true },
     { "encrypting a key with more work", make_sealed, 131072, 4 << 20, .keep_every = MINISIGN_KEEP_EVERY_ROW },
     { "opening a key with more work", .call = open_sealed },
     { "opening a key with signals", .call = open_sealed, .has_signals = true },
-    { "opening a key in place with signals", .call = open_sealed, .how = IN_PLACE, .has_signals = true },
+    { "opening a key in place with signals", .call = open_sealed, .method = IN_PLACE, .has_signals = true },
     { "encrypting a key with few rows", make_sealed, 32768, 1 << 20, .keep_every = MINISIGN_KEEP_FEW_ROWS },
     { "opening a key with few rows", .call = open_sealed },
-    { "opening a key with few rows in place", .call = open_sealed, .how = IN_PLACE },
+    { "opening a key with few rows in place", .call = open_sealed, .method = IN_PLACE },
     { "writing a key without a password", .call = make_unsealed },
     { "opening a key without a password", .call = open_unsealed },
     { "writing a record", .call = make_record },
     { "opening a record", .call = open_record },
     { "encoding an unopened key", .call = encode },
     { "writing a signature", .call = sign },
-    { "leaving a secret on purpose", .call = leave_all },
+    { "leaving a secret on purpose", .call = leave_secret },
 };
 
 /* Makes a call and searches. Returns true if the call succeeded. */
-__attribute__((noinline)) static bool search_after(void)
+__attribute__((noinline)) static bool call_and_search(void)
 {
     enum minisign_error error;
 
     frame = __builtin_frame_address(0);
-    paint();
+    fill_stack();
     error = step->call();
     TRAP();
     if (error != MINISIGN_OK) {
@@ -276,7 +276,7 @@ __attribute__((noinline)) static bool search_after(void)
 
 int main(void)
 {
-    bool is_well = true;
+    bool all_succeeded = true;
 
     install_trap();
     for (size_t i = 0; i < needles[0].len; i++) {
@@ -288,7 +288,7 @@ int main(void)
     /* With a buffer of its own, printing does not overwrite freed memory. */
     setvbuf(stdout, malloc(65536), _IOFBF, 65536);
     for (step = steps; step < steps + sizeof steps / sizeof *steps; step++) {
-        is_well &= search_after();
+        all_succeeded &= call_and_search();
     }
-    return is_well ? 0 : 1;
+    return all_succeeded ? 0 : 1;
 }

@@ -78,21 +78,21 @@ def searched_secrets():
 class Run:
     """Runs cleared_secrets.c and parses its output.
 
-    `found` maps the step and the needle to four counts: how often the needle was found in registers, on the stack,
+    `counts` maps the step and the needle to four counts: how often the needle was found in registers, on the stack,
     elsewhere, and in the caller's variables. `depths` maps a step to the number of bytes of the stack that were
     written. `wrong` are errors and other lines."""
 
     def __init__(self, command):
         status, output = run(command)
         lines = output.splitlines()
-        self.found = dict(needles.parse_counts(line) for line in lines if line.count("\t") == 5)
+        self.counts = dict(needles.parse_counts(line) for line in lines if line.count("\t") == 5)
         self.depths = {step: int(depth) for step, depth in re.findall(r"(?m)^deepest\t(.*)\t(\d+)$", output)}
         self.wrong = [f"status {status}"] * (status != 0) + [line for line in lines if line.count("\t") not in (2, 5)]
 
     def leftovers(self):
         """Returns the counts of the needles that were found outside the caller's variables, except those left on
         purpose."""
-        return {key: counts[:3] for key, counts in self.found.items() if any(counts[:3]) and key[0] != LEFT_ON_PURPOSE}
+        return {key: counts[:3] for key, counts in self.counts.items() if any(counts[:3]) and key[0] != LEFT_ON_PURPOSE}
 
 
 class Builder:
@@ -102,13 +102,13 @@ class Builder:
         self.scratch = scratch
         write(scratch, "needles.h", needles.header_text(searched_secrets()).encode())
 
-    def copy(self, name, old, new):
-        """Copies the sources and replaces the pattern `old` by `new` in the file c/`name`. Returns the path of the
-        copy."""
+    def copy(self, name, pattern, replacement):
+        """Copies the sources and replaces the matches of `pattern` by `replacement` in the file c/`name`. Returns the
+        path of the copy."""
         top = copy_sources(self.scratch, "c", "include", "dist", "tools")
-        text, count = re.subn(old, new, read(top, "c", name).decode())
+        text, count = re.subn(pattern, replacement, read(top, "c", name).decode())
         if not count:
-            raise static_library.NotBuilt(f"c/{name} has no match for {old!r}")
+            raise static_library.NotBuilt(f"c/{name} has no match for {pattern!r}")
         write(top, f"c/{name}", text.encode())
         return top
 
@@ -135,24 +135,26 @@ def cleared_bytes():
     return int(re.search(r"(?m)^#define CLEARED_BYTES (\d+)$", header)[1])
 
 
-def check_run(checks, what, run):
+def check_run(checks, description, run):
     """Checks that no secrets were left, and that the search found the secrets that must be there."""
-    steps, none = {step for step, _ in run.found}, (0,) * 4
-    is_complete = len(steps) == STEP_COUNT and len(run.found) == STEP_COUNT * len(searched_secrets())
-    checks.check(not run.wrong and is_complete, f"{what}: {run.wrong[:5]}, {len(steps)} steps, expected {STEP_COUNT}")
-    checks.check(not run.leftovers(), f"{what}: secrets are left (counts in registers, on the stack, elsewhere): {run.leftovers()}")
+    steps, no_counts = {step for step, _ in run.counts}, (0,) * 4
+    is_complete = len(steps) == STEP_COUNT and len(run.counts) == STEP_COUNT * len(searched_secrets())
+    checks.check(not run.wrong and is_complete, f"{description}: {run.wrong[:5]}, {len(steps)} steps, expected {STEP_COUNT}")
+    checks.check(not run.leftovers(),
+                 f"{description}: secrets are left (counts in registers, on the stack, elsewhere): {run.leftovers()}")
     for needle in ALWAYS_FOUND:
-        is_seen = all(run.found.get((step, needle), none)[3] > 0 for step in steps)
-        checks.check(is_seen, f"{what}: the {needle} was not found in the caller's variables")
-    found = run.found.get((LEFT_ON_PURPOSE, "half of the seed"), none)
-    checks.check(all(found[:3]), f"{what}: the secret left on purpose was found with the counts {found} (in registers, on the "
-                                 "stack, elsewhere, in the caller's variables), expected all of the first three")
+        is_found = all(run.counts.get((step, needle), no_counts)[3] > 0 for step in steps)
+        checks.check(is_found, f"{description}: the {needle} was not found in the caller's variables")
+    counts = run.counts.get((LEFT_ON_PURPOSE, "half of the seed"), no_counts)
+    checks.check(all(counts[:3]),
+                 f"{description}: the secret left on purpose was found with the counts {counts} (in registers, on the stack, "
+                 "elsewhere, in the caller's variables), expected all of the first three")
     # The clearing begins below the frames of the functions that call it, for which 1 KiB is allowed. Steps with signals
     # are not checked: if a signal comes while the stack is being cleared, the kernel saves the registers on the stack
     # below the cleared part.
     deep = {step: depth for step, depth in run.depths.items() if depth >= cleared_bytes() + 1024 and "signals" not in step}
     checks.check(len(run.depths) == STEP_COUNT and not deep,
-                 f"{what}: more of the stack was written than is cleared: {deep}, in {len(run.depths)} steps")
+                 f"{description}: more of the stack was written than is cleared: {deep}, in {len(run.depths)} steps")
 
 
 def check_builds(checks, builder):
@@ -212,8 +214,8 @@ class SearchedProgram:
         preloaded = f"{self.search_library} {self.fixed_random if arguments[0] == '-G' else ''}"
         with tempfile.TemporaryDirectory(dir=self.scratch) as directory:
             put_files(directory, self.files)
-            ran = self.run(directory, arguments, typed, LD_PRELOAD=preloaded, SEARCH_SAYS=f"{directory}/found")
-            return ran, needles.read_results(directory)
+            result = self.run(directory, arguments, typed, LD_PRELOAD=preloaded, SEARCH_RESULTS=f"{directory}/found")
+            return result, needles.read_results(directory)
 
 
 def misplaced(results):
@@ -227,17 +229,20 @@ def check_program(checks, builder):
     for level in LEVELS:
         searched = SearchedProgram(builder, level)
         for arguments, typed in ENCRYPTING + NOT_ENCRYPTING:
-            what, (ran, results) = f"minisign, {level}, {' '.join(arguments)}", searched.search(arguments, typed)
-            checks.check(ran.status == 0, f"{what}: {ran}")
-            checks.check(not misplaced(results), f"{what}: {misplaced(results)}")
-            events, seen = {event for (event, _), _ in results}, {needle for (_, needle), counts in results if counts[3]}
-            checks.check(events == {"open", "write", "close", "end"}, f"{what}: it was searched only at {events}")
-            checks.check("seed" in seen, f"{what}: the seed was not found, only {seen}")
-    for old, new in ((r"sodium_malloc\(sizeof \*secrets\)", "malloc(sizeof *secrets)"), (r"clean_at_end\(clear_secrets\);", "")):
-        searched = SearchedProgram(builder, "-O0", builder.copy("minisign/keys.c", old, new))
-        wrong = [misplaced(searched.search(arguments, typed)[1]) for arguments, typed in NOT_ENCRYPTING]
-        checks.check(all(wrong), f"minisign with {new!r} in place of {old!r}: expected misplaced secrets for each command line, "
-                                 f"found {wrong}")
+            description, (result, results) = f"minisign, {level}, {' '.join(arguments)}", searched.search(arguments, typed)
+            checks.check(result.status == 0, f"{description}: {result}")
+            checks.check(not misplaced(results), f"{description}: {misplaced(results)}")
+            events = {event for (event, _), _ in results}
+            needles_in_pages = {needle for (_, needle), counts in results if counts[3]}
+            checks.check(events == {"open", "write", "close", "end"}, f"{description}: it was searched only at {events}")
+            checks.check("seed" in needles_in_pages, f"{description}: the seed was not found, only {needles_in_pages}")
+    for pattern, replacement in ((r"sodium_malloc\(sizeof \*secrets\)", "malloc(sizeof *secrets)"),
+                                 (r"clean_at_end\(clear_secrets\);", "")):
+        searched = SearchedProgram(builder, "-O0", builder.copy("minisign/keys.c", pattern, replacement))
+        misplaced_secrets = [misplaced(searched.search(arguments, typed)[1]) for arguments, typed in NOT_ENCRYPTING]
+        checks.check(all(misplaced_secrets),
+                     f"minisign with {replacement!r} in place of {pattern!r}: expected misplaced secrets for each command line, "
+                     f"found {misplaced_secrets}")
 
 
 # Mutations of the library. For each, the file, a pattern, its replacement, and the place where secrets are then
@@ -249,19 +254,21 @@ MUTATIONS = {
     NOTHING_CLEARED: ("library/boundary.c", r"    minisign_clear_used\(\);\n", "", STACK),
     "too little of the stack is cleared": ("library/clearing.h", r"CLEARED_BYTES 16384", "CLEARED_BYTES 256", STACK),
     "registers are not cleared": ("library/clearing.c", r'"(?:pxor|vpxorq|vzeroall)[^"]*"', '""', REGISTERS),
-    "freed memory is not cleared": ("library/allocation.c", r"    clear\(block, front\.len\);\n", "    (void) clear;\n", ELSEWHERE),
+    "freed memory is not cleared": (
+        "library/allocation.c", r"    clear\(block, heading\.len\);\n", "    (void) clear;\n", ELSEWHERE,
+    ),
 }
 
 
 def check_mutations(checks, builder):
     """Checks that secrets are found in builds that do not clear memory. Also prints how much of the stack the
     functions use, as measured in the build that does not clear it: clearing writes CLEARED_BYTES of the stack."""
-    for what, (*change, place) in MUTATIONS.items():
+    for description, (*change, index) in MUTATIONS.items():
         run = Run([builder.program(needs.c_compiler(), "-O2", "C_CALLS=", top=builder.copy(*change))])
         leftovers = run.leftovers()
-        checks.check(not run.wrong and any(counts[place] for counts in leftovers.values()),
-                     f"if {what}, no secret was found {PLACES[place]}: {run.wrong[:5]}, left: {leftovers}")
-        if what == NOTHING_CLEARED:
+        checks.check(not run.wrong and any(counts[index] for counts in leftovers.values()),
+                     f"if {description}, no secret was found {PLACES[index]}: {run.wrong[:5]}, left: {leftovers}")
+        if description == NOTHING_CLEARED:
             # Steps with signals are left out, because the signal handlers use the stack too.
             depths = {step: depth for step, depth in run.depths.items() if "signals" not in step}
             deepest = max(depths, key=depths.get)
@@ -284,16 +291,16 @@ def header_kibibytes():
 def check_stack_use(checks, builder):
     """Checks that no build of the proved functions uses more of the stack than the header says. The stack use is
     measured without clearing, which itself writes CLEARED_BYTES of the stack."""
-    top, clang = builder.copy(*MUTATIONS[NOTHING_CLEARED][:3]), needs.program("clang", "clang")
-    # (with C_CALLS given, make does not use an object that was compiled before)
-    c_calls = ["PORTABLE=1", f"C_CALLS={top}/dist/calls.c"]
+    sources, clang = builder.copy(*MUTATIONS[NOTHING_CLEARED][:3]), needs.program("clang", "clang")
+    # If C_CALLS is given, make does not use the cached object file of dist/calls.c, which the change would not affect.
+    c_calls = ["PORTABLE=1", f"C_CALLS={sources}/dist/calls.c"]
     for compiler, level, words, limit in (
         (needs.c_compiler(), "-O2", BUILDS_OF_FUNCTIONS[0], 0),
         (needs.c_compiler(), "-O2", c_calls, 1),
         (needs.c_compiler(), "-O0", c_calls, 1),
         (clang, "-O2", c_calls, 1),
     ):
-        run = Run([builder.program(compiler, level, *words, top=top)])
+        run = Run([builder.program(compiler, level, *words, top=sources)])
         depths = {step: depth for step, depth in run.depths.items() if "signals" not in step}
         checks.check(not run.wrong and 0 < max(depths.values(), default=0) < 1024 * header_kibibytes()[limit] < cleared_bytes(),
                      f"{compiler} {level} {words}: more of the stack is used than minisign.h says: {run.wrong[:5]} {depths}")

@@ -16,14 +16,14 @@
 #include "minisign.h"
 #include "secret_texts.h"
 
-#define HIDE(bytes, len) ((void) VALGRIND_MAKE_MEM_UNDEFINED(bytes, len))
-#define SHOW(bytes, len) ((void) VALGRIND_MAKE_MEM_DEFINED(bytes, len))
-#define MOST_ROWS (1 << 20)
+#define MARK_SECRET(bytes, len) ((void) VALGRIND_MAKE_MEM_UNDEFINED(bytes, len))
+#define MARK_PUBLIC(bytes, len) ((void) VALGRIND_MAKE_MEM_DEFINED(bytes, len))
+#define MAX_ROWS (1 << 20)
 #define TEXT(words) (const uint8_t *) (words), sizeof(words) - 1
 
-static uint8_t text[4096], password[sizeof PASSWORD], out[4096];
+static uint8_t text[4096], password[sizeof PASSWORD], output[4096];
 static minisign_new_key new_key;
-static size_t text_len, out_len;
+static size_t text_len, output_len;
 static minisign_unopened_key unopened;
 static minisign_secret_key key;
 static minisign_public_key public_key;
@@ -39,60 +39,60 @@ static void require_ok(enum minisign_error error)
 
 /* ---- Preparing a call ---- */
 
-static void take_text(const unsigned char *bytes, size_t len)
+static void set_text(const unsigned char *bytes, size_t len)
 {
     memcpy(text, bytes, len);
     text_len = len;
 }
 
 /* Marks the base64 characters that encode these bytes of the record as undefined. */
-static void hide_record(size_t from, size_t to)
+static void mark_record_secret(size_t from, size_t to)
 {
     const size_t first = from / 3 * 4, end = (to + 2) / 3 * 4;
 
-    HIDE(text + FIRST_LINE + first, end - first);
+    MARK_SECRET(text + FIRST_LINE + first, end - first);
 }
 
 static void read_text(const unsigned char *bytes, size_t len)
 {
-    take_text(bytes, len);
+    set_text(bytes, len);
     require_ok(minisign_read_secret_key(text, text_len, &unopened));
 }
 
-static void hide_password(void)
+static void mark_password_secret(void)
 {
-    HIDE(password, sizeof password);
+    MARK_SECRET(password, sizeof password);
 }
 
 /* Makes the secret key. The first half of its secret is marked as undefined; the second half is the public key. */
-static void take_key(void)
+static void make_key(void)
 {
     minisign_take_secret_key(&new_key, &key);
-    HIDE(key.secret, 32);
+    MARK_SECRET(key.secret, 32);
 }
 
 /* ---- The calls ---- */
 
 static enum minisign_error read_unsealed(void)
 {
-    take_text(UNSEALED, sizeof UNSEALED);
-    hide_record(62, 94);
-    hide_record(126, 158);
+    set_text(UNSEALED, sizeof UNSEALED);
+    mark_record_secret(62, 94);
+    mark_record_secret(126, 158);
     return minisign_read_secret_key(text, text_len, &unopened);
 }
 
 static enum minisign_error read_sealed(void)
 {
-    take_text(SEALED, sizeof SEALED);
-    hide_record(54, 158);
+    set_text(SEALED, sizeof SEALED);
+    mark_record_secret(54, 158);
     return minisign_read_secret_key(text, text_len, &unopened);
 }
 
 static enum minisign_error open_text(const unsigned char *bytes, size_t len)
 {
     read_text(bytes, len);
-    HIDE(unopened.bytes + 62, 32);
-    HIDE(unopened.bytes + 126, 32);
+    MARK_SECRET(unopened.bytes + 62, 32);
+    MARK_SECRET(unopened.bytes + 126, 32);
     return minisign_open_unsealed_key(&unopened, &key);
 }
 
@@ -112,31 +112,31 @@ static enum minisign_error open_wrong_last(void)
     return open_text(UNSEALED_WRONG_LAST, sizeof UNSEALED_WRONG_LAST);
 }
 
-static enum minisign_error open_by(const unsigned char *bytes, size_t len, uint64_t keep_every)
+static enum minisign_error open_with_password(const unsigned char *bytes, size_t len, uint64_t keep_every)
 {
     read_text(bytes, len);
-    hide_password();
-    return minisign_open_sealed_key(&unopened, password, sizeof password, keep_every, MOST_ROWS, &key);
+    mark_password_secret();
+    return minisign_open_sealed_key(&unopened, password, sizeof password, keep_every, MAX_ROWS, &key);
 }
 
 static enum minisign_error open_sealed(void)
 {
-    return open_by(SEALED, sizeof SEALED, MINISIGN_KEEP_EVERY_ROW);
+    return open_with_password(SEALED, sizeof SEALED, MINISIGN_KEEP_EVERY_ROW);
 }
 
 static enum minisign_error open_sealed_few_rows(void)
 {
-    return open_by(SEALED, sizeof SEALED, MINISIGN_KEEP_FEW_ROWS);
+    return open_with_password(SEALED, sizeof SEALED, MINISIGN_KEEP_FEW_ROWS);
 }
 
 static enum minisign_error open_sealed_wrong_first(void)
 {
-    return open_by(SEALED_WRONG_FIRST, sizeof SEALED_WRONG_FIRST, MINISIGN_KEEP_EVERY_ROW);
+    return open_with_password(SEALED_WRONG_FIRST, sizeof SEALED_WRONG_FIRST, MINISIGN_KEEP_EVERY_ROW);
 }
 
 static enum minisign_error open_sealed_wrong_last(void)
 {
-    return open_by(SEALED_WRONG_LAST, sizeof SEALED_WRONG_LAST, MINISIGN_KEEP_EVERY_ROW);
+    return open_with_password(SEALED_WRONG_LAST, sizeof SEALED_WRONG_LAST, MINISIGN_KEEP_EVERY_ROW);
 }
 
 static enum minisign_error open_in_place(void)
@@ -147,14 +147,14 @@ static enum minisign_error open_in_place(void)
     uint8_t *bytes;
 
     read_text(SEALED, sizeof SEALED);
-    minisign_opening_memory(&unopened, MINISIGN_KEEP_EVERY_ROW, MOST_ROWS, &words_wanted, &bytes_wanted);
+    minisign_opening_memory(&unopened, MINISIGN_KEEP_EVERY_ROW, MAX_ROWS, &words_wanted, &bytes_wanted);
     words = malloc(words_wanted * sizeof *words);
     bytes = malloc(bytes_wanted);
     if (words == NULL || bytes == NULL) {
         exit(2);
     }
-    hide_password();
-    error = minisign_open_sealed_key_in_place(&unopened, password, sizeof password, MINISIGN_KEEP_EVERY_ROW, MOST_ROWS,
+    mark_password_secret();
+    error = minisign_open_sealed_key_in_place(&unopened, password, sizeof password, MINISIGN_KEEP_EVERY_ROW, MAX_ROWS,
                                               words, words_wanted, bytes, bytes_wanted, &key);
     free(words);
     free(bytes);
@@ -163,7 +163,7 @@ static enum minisign_error open_in_place(void)
 
 static enum minisign_error take(void)
 {
-    HIDE(new_key.secret, 32);
+    MARK_SECRET(new_key.secret, 32);
     minisign_take_secret_key(&new_key, &key);
     return MINISIGN_OK;
 }
@@ -172,17 +172,17 @@ static enum minisign_error make_public_key(void)
 {
     enum minisign_error error;
 
-    take_key();
+    make_key();
     error = minisign_public_key_of(&key, &public_key);
-    memcpy(out, &public_key, sizeof public_key);
-    out_len = sizeof public_key;
+    memcpy(output, &public_key, sizeof public_key);
+    output_len = sizeof public_key;
     return error;
 }
 
 static enum minisign_error write_public_key(void)
 {
-    take_key();
-    return minisign_public_key_text(&key, TEXT("a comment"), out, sizeof out, &out_len);
+    make_key();
+    return minisign_public_key_text(&key, TEXT("a comment"), output, sizeof output, &output_len);
 }
 
 static enum minisign_error write_signature(void)
@@ -192,22 +192,22 @@ static enum minisign_error write_signature(void)
     static uint8_t message[64 + 7], digest[64];
     static minisign_state state;
 
-    take_key();
+    make_key();
     require_ok(minisign_public_key_of(&key, &public_key));
     minisign_init(&state);
     require_ok(minisign_update(&state, TEXT("data")));
     require_ok(minisign_digest(&state, digest));
     require_ok(minisign_comment_message(parts.signature, parts.trusted_comment, parts.trusted_comment_len, message,
                                         sizeof message));
-    return minisign_signed_text(&public_key, &parts, out, sizeof out, &out_len);
+    return minisign_signed_text(&public_key, &parts, output, sizeof output, &output_len);
 }
 
 static enum minisign_error write_key(uint32_t with_password)
 {
-    take_key();
-    hide_password();
+    make_key();
+    mark_password_secret();
     return minisign_secret_key_text_with_any_limits(&key, with_password, password, sizeof password, &sealing,
-                                                    MINISIGN_KEEP_EVERY_ROW, TEXT("a comment"), out, sizeof out, &out_len);
+                                                    MINISIGN_KEEP_EVERY_ROW, TEXT("a comment"), output, sizeof output, &output_len);
 }
 
 static enum minisign_error write_unsealed(void)
@@ -225,16 +225,16 @@ static enum minisign_error leak(void)
 {
     static const uint8_t table[256] = { 1 };
 
-    HIDE(new_key.secret, 2);
+    MARK_SECRET(new_key.secret, 2);
     if (new_key.secret[0] > 7) {
-        out[0] = table[new_key.secret[1]];
+        output[0] = table[new_key.secret[1]];
     }
-    return out[0] == 77 ? MINISIGN_OK : MINISIGN_NO_ROOM;
+    return output[0] == 77 ? MINISIGN_OK : MINISIGN_NO_ROOM;
 }
 
 static const struct {
     const char *name;
-    enum minisign_error (*make)(void);
+    enum minisign_error (*call)(void);
 } calls[] = {
     { "read_unsealed", read_unsealed },
     { "read_sealed", read_sealed },
@@ -258,12 +258,12 @@ static const struct {
 /* Prints the offset of the first byte that depends on a secret, or `public`. */
 static void print_public(const uint8_t *bytes, size_t len)
 {
-    const uintptr_t found = VALGRIND_CHECK_MEM_IS_DEFINED(bytes, len);
+    const uintptr_t undefined = VALGRIND_CHECK_MEM_IS_DEFINED(bytes, len);
 
-    if (found == 0) {
+    if (undefined == 0) {
         puts("public");
     } else {
-        printf("secret from byte %lu\n", (unsigned long) (found - (uintptr_t) bytes));
+        printf("secret from byte %lu\n", (unsigned long) (undefined - (uintptr_t) bytes));
     }
 }
 
@@ -277,11 +277,11 @@ int main(int argc, char **argv)
     memset(sealing.salt, 7, sizeof sealing.salt);
     for (size_t i = 0; argc == 2 && i < sizeof calls / sizeof *calls; i++) {
         if (strcmp(argv[1], calls[i].name) == 0) {
-            error = calls[i].make();
-            SHOW(&error, sizeof error);
-            SHOW(&out_len, sizeof out_len);
+            error = calls[i].call();
+            MARK_PUBLIC(&error, sizeof error);
+            MARK_PUBLIC(&output_len, sizeof output_len);
             printf("result %d\n", (int) error);
-            print_public(out, out_len);
+            print_public(output, output_len);
             return 0;
         }
     }

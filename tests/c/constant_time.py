@@ -71,7 +71,7 @@ LEAK = "leak"
 
 # A place in the code that depends on a secret: the function, the line or the address of the instruction, and True
 # for a branch or False for a memory access.
-Place = namedtuple("Place", "function at is_branch")
+Place = namedtuple("Place", "function location is_branch")
 # The outcome of a call under valgrind: its result, True if valgrind considers its output public, the places, how
 # often each place was reached, and an error message if the run failed.
 Outcome = namedtuple("Outcome", "result public places times failure")
@@ -135,11 +135,11 @@ def function_of(frames):
     innermost proved function, or the innermost function if none of them is proved. Names from the archives are
     written as in dist/calls.c, with `_` for characters that C does not allow."""
     names = [re.sub(r"\.(part|constprop|isra|cold)\b.*", "", frame.findtext("fn") or "") for frame in frames]
-    for at, name in enumerate(names):
-        found = re.fullmatch(r"do_(\w+)|(?:machine|v2|v3)_(minisign_\w+)|(\w+::.*)", name)
-        if found:
+    for index, name in enumerate(names):
+        match = re.fullmatch(r"do_(\w+)|(?:machine|v2|v3)_(minisign_\w+)|(\w+::.*)", name)
+        if match:
             # The end of the name is cut off: the arguments of a generic function, or a hash.
-            return re.sub(r"\W+", "_", re.sub(r"::<.*|_[0-9a-f]{16}$", "", next(filter(None, found.groups())))), at
+            return re.sub(r"\W+", "_", re.sub(r"::<.*|_[0-9a-f]{16}$", "", next(filter(None, match.groups())))), index
     return names[0] if names else "nothing", 0
 
 
@@ -148,9 +148,9 @@ def places_in(report):
     times, places = Counter(), {}
     for error in report.iter("error"):
         frames = error.findall("stack/frame")
-        function, at = function_of(frames)
+        function, index = function_of(frames)
         # In code from dist/calls.c, a place is a line, because the instructions depend on the compiler.
-        line = frames[at].findtext("line") if frames else None
+        line = frames[index].findtext("line") if frames else None
         is_branch = error.findtext("kind") == "UninitCondition"
         places[error.findtext("unique")] = Place(function, line or frames[0].findtext("ip"), is_branch)
     for pair in report.iter("pair"):
@@ -189,13 +189,13 @@ def copies_here():
 # ---- The list ----
 
 # A line of the list: the maximum number of places in an archive and in dist/calls.c, and the reason.
-Allowed = namedtuple("Allowed", "archives c why")
+Allowed = namedtuple("Allowed", "archives c reason")
 
 
 def read_list():
     """Maps the functions in the list to their `Allowed`."""
     lines = re.findall(r"(?m)^(\w+) +(\d+) +(\d+) +(\S.*)$", read(HERE, LIST).decode())
-    return {name: Allowed(int(archives), int(c), why) for name, archives, c, why in lines}
+    return {name: Allowed(int(archives), int(c), reason) for name, archives, c, reason in lines}
 
 
 def counts_of(places):
@@ -223,14 +223,14 @@ def outcomes_over(builder, copy, pool, top=cleared_secrets.proved.ROOT, names=No
 def check_calls(checks, copy, outcomes, listed):
     """Checks that all calls have the expected result, and depend on secrets only as the list allows."""
     for name, outcome in outcomes.items():
-        what = f"{copy.name}: {name}"
+        description = f"{copy.name}: {name}"
         expected = ERRORS.get(name, 0)
         checks.check(not outcome.failure and outcome.result == expected,
-                     f"{what}: result {outcome.result}, expected {expected} {outcome.failure}")
+                     f"{description}: result {outcome.result}, expected {expected} {outcome.failure}")
         if name != LEAK:
-            more = places_over_limit(outcome.places, copy.is_c, listed)
-            checks.check(not more, f"{what}: more places depend on a secret than the list allows (found, allowed): {more}: "
-                         f"{sorted(outcome.places)[:20]}")
+            excess = places_over_limit(outcome.places, copy.is_c, listed)
+            checks.check(not excess, f"{description}: more places depend on a secret than the list allows (found, allowed): "
+                         f"{excess}: {sorted(outcome.places)[:20]}")
     # For valgrind, a value that was looked up at a secret index is public. So these calls must have no places at all.
     for name in PUBLIC:
         checks.check(
@@ -270,20 +270,20 @@ PLANTED = {
 
 def check_planted_dependences(checks, builder, pool, listed):
     """Checks that each mutation of PLANTED is found."""
-    for what, (file, pattern, text, copy, name) in PLANTED.items():
-        top = builder.copy(file, pattern, lambda found, text=text: found[0] + text)
+    for description, (file, pattern, text, copy, name) in PLANTED.items():
+        top = builder.copy(file, pattern, lambda match, text=text: match[0] + text)
         # With C_CALLS, make compiles dist/calls.c again, instead of using the cached object file.
         planted = copy._replace(variables=(*copy.variables, f"C_CALLS={top}/dist/calls.c")) if copy.is_c else copy
         outcome = outcomes_over(builder, planted, pool, top, [name])[name]
         checks.check(not outcome.failure and places_over_limit(outcome.places, copy.is_c, listed),
-                     f"{what} is not found by {name}: {outcome.failure} {outcome.places}")
+                     f"{description} is not found by {name}: {outcome.failure} {outcome.places}")
 
 
-def print_list(found):
+def print_list(outcomes_by_copy):
     """Prints a line for each function, with the maximum number of places in one call, for the archives and for
     dist/calls.c."""
     maximum = defaultdict(lambda: [0, 0])
-    for copy, outcomes in found.items():
+    for copy, outcomes in outcomes_by_copy.items():
         for name, outcome in outcomes.items():
             for function, count in counts_of(outcome.places).items() if name != LEAK else ():
                 maximum[function][copy.is_c] = max(maximum[function][copy.is_c], count)
@@ -291,28 +291,29 @@ def print_list(found):
         print(f"{function:<40} {archives:>3} {c:>3}")
 
 
-def check_list(checks, found, listed):
+def check_list(checks, outcomes_by_copy, listed):
     """Checks that each function in the list has a place that depends on a secret."""
-    seen = {
+    functions = {
         place.function
-        for outcomes in found.values()
+        for outcomes in outcomes_by_copy.values()
         for name, outcome in outcomes.items()
         if name != LEAK
         for place in outcome.places
     }
-    checks.check(not {*listed} - seen, f"no place depends on a secret in {sorted({*listed} - seen)}, which the list names")
+    superfluous = sorted({*listed} - functions)
+    checks.check(not superfluous, f"no place depends on a secret in {superfluous}, which the list names")
 
 
 def run_all(checks, scratch):
     builder, listed = Builder(scratch), read_list()
     with concurrent.futures.ThreadPoolExecutor(os.cpu_count() or 1) as pool:
-        found = {copy: outcomes_over(builder, copy, pool) for copy in copies_here()}
+        outcomes_by_copy = {copy: outcomes_over(builder, copy, pool) for copy in copies_here()}
         if "--list" in sys.argv[1:]:
-            print_list(found)
-        for copy, outcomes in found.items():
+            print_list(outcomes_by_copy)
+        for copy, outcomes in outcomes_by_copy.items():
             check_calls(checks, copy, outcomes, listed)
             check_checksum_is_compared_whole(checks, copy, outcomes)
-        check_list(checks, found, listed)
+        check_list(checks, outcomes_by_copy, listed)
         check_planted_dependences(checks, builder, pool, listed)
 
 

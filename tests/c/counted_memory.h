@@ -9,63 +9,63 @@
 #include <string.h>
 
 /* The numbers of the first and of the last request that fail, or 0 if none fails. Requests are counted from 1. */
-static volatile long refused_from, refused_to;
+static volatile long first_failing_request, last_failing_request;
 /* Requests for more bytes than this fail. */
 static volatile size_t max_request = SIZE_MAX;
 /* The number of requests, and the number of blocks that are currently allocated. */
 static volatile long requests, allocated_blocks;
 
-/* LOOK_AT is called with each block before it is freed. New blocks are filled with zeros if LOOK_AT checks that blocks
+/* BEFORE_FREE is called with each block before it is freed. New blocks are filled with zeros if BEFORE_FREE checks that blocks
  * were cleared, and otherwise with other bytes. */
-#ifndef LOOK_AT
-#define LOOK_AT(block, len)
-#define FILLED_WITH 0xa5
+#ifndef BEFORE_FREE
+#define BEFORE_FREE(block, len)
+#define FILL_BYTE 0xa5
 #else
-#define FILLED_WITH 0
+#define FILL_BYTE 0
 #endif
 
 /* The size of the header in front of each block: its length, and its inverted length. 16 bytes, so that blocks are aligned
  * like those of malloc. */
-#define FRONT 16
+#define HEADER_BYTES 16
 
 void *__real_malloc(size_t size);
 void __real_free(void *block);
 
 void *__wrap_malloc(size_t size)
 {
-    const size_t front[2] = { size, ~size };
-    char *taken;
+    const size_t header[2] = { size, ~size };
+    char *allocation;
 
     requests++;
-    if (size > max_request || (refused_from <= requests && requests <= refused_to)) {
+    if (size > max_request || (first_failing_request <= requests && requests <= last_failing_request)) {
         return NULL;
     }
-    taken = __real_malloc(size + FRONT);
+    allocation = __real_malloc(size + HEADER_BYTES);
     allocated_blocks++;
-    memset(taken, FILLED_WITH, size + FRONT);
-    memcpy(taken, front, sizeof front);
-    return taken + FRONT;
+    memset(allocation, FILL_BYTE, size + HEADER_BYTES);
+    memcpy(allocation, header, sizeof header);
+    return allocation + HEADER_BYTES;
 }
 
 /* The library never calls realloc: it allocates a new block instead. */
-void *__wrap_realloc(void *old, size_t size)
+void *__wrap_realloc(void *block, size_t size)
 {
-    (void) old, (void) size;
+    (void) block, (void) size;
     abort();
 }
 
 void __wrap_free(void *block)
 {
-    size_t front[2];
+    size_t header[2];
 
     if (block != NULL) {
         allocated_blocks--;
-        memcpy(front, (char *) block - FRONT, sizeof front);
-        if (front[1] != ~front[0]) {
+        memcpy(header, (char *) block - HEADER_BYTES, sizeof header);
+        if (header[1] != ~header[0]) {
             abort();
         }
-        LOOK_AT(block, front[0]);
-        __real_free((char *) block - FRONT);
+        BEFORE_FREE(block, header[0]);
+        __real_free((char *) block - HEADER_BYTES);
     }
 }
 

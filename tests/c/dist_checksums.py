@@ -81,8 +81,8 @@ class Copy:
         copy_tree(self.top)
         os.mkdir(self.programs)
         self.cargo, self.rustc = needs.program("cargo", "cargo"), needs.rust_compiler()
-        more = ("cc", "date", "gcc", "gzip", "head", "mktemp", "mv", "tar", "test", "touch", "pkg-config")
-        for name in {*BASE, *TOOLS, *more} - {"sha256sum"}:
+        other_programs = ("cc", "date", "gcc", "gzip", "head", "mktemp", "mv", "tar", "test", "touch", "pkg-config")
+        for name in {*BASE, *TOOLS, *other_programs} - {"sha256sum"}:
             os.symlink(needs.program(name, "make", "binutils", "gcc", "pkg-config"), f"{self.programs}/{name}")
 
     def put(self, programs):
@@ -119,30 +119,30 @@ def sha256_of(path):
     return hashlib.sha256(read(path)).hexdigest()
 
 
-def check_scripts(checks, copy, what, can_hash):
+def check_scripts(checks, copy, case, can_hash):
     """Checks that tools/sha256.sh prints the same as sha256sum, and tools/sources.sh the hashes in dist/PROVED. If
     no program works, both must fail."""
     names = ["LICENSE", "dist/calls.c"]
     expected = "".join(f"{sha256_of(os.path.join(copy.top, name))}  {name}\n" for name in names)
     status, output = copy.run("sh", "tools/sha256.sh", *names)
     checks.check((status, output) == (0, expected) if can_hash else status == 1 and NO_PROGRAM in output,
-                 f"{what}, tools/sha256.sh: {status}: {output}")
+                 f"{case}, tools/sha256.sh: {status}: {output}")
     status, output = copy.run("sh", "-c", "printf abc | sh tools/sha256.sh")
-    typed = f"{hashlib.sha256(b'abc').hexdigest()}  -\n"
+    expected_line = f"{hashlib.sha256(b'abc').hexdigest()}  -\n"
     checks.check(
-        (status, output) == (0, typed) if can_hash else status == 1 and NO_PROGRAM in output,
-        f"{what}, tools/sha256.sh: {status}: {output}",
+        (status, output) == (0, expected_line) if can_hash else status == 1 and NO_PROGRAM in output,
+        f"{case}, tools/sha256.sh: {status}: {output}",
     )
     proved = read(copy.top, "dist/PROVED").decode()
     status, output = copy.run("sh", "tools/sources.sh", "calls")
     is_proved = re.fullmatch(r"[0-9a-f]{64}\n", output) and f"sources of the calls: {output}" in proved
     checks.check(
         status == 0 and is_proved if can_hash else status != 0 and NO_PROGRAM in output,
-        f"{what}, tools/sources.sh: {status}: {output}",
+        f"{case}, tools/sources.sh: {status}: {output}",
     )
 
 
-def check_make(checks, copy, what, can_hash):
+def check_make(checks, copy, case, can_hash):
     """Checks that make builds the library, and an archive with its hash. If no program works, make must say which
     programs are missing."""
     out = f"{copy.scratch}/out"
@@ -153,56 +153,56 @@ def check_make(checks, copy, what, can_hash):
             if can_hash
             else status != 0 and NO_PROGRAM in output and "dist/" not in output.replace(NO_PROGRAM, "")
         )
-        checks.check(is_expected, f"{what}, make -C {directory} {goal}: {status}: {output[-600:]}")
+        checks.check(is_expected, f"{case}, make -C {directory} {goal}: {status}: {output[-600:]}")
     if can_hash:
         archive, = (name for name in os.listdir(out) if name.startswith("minisign-in-rattle") and name.endswith(".tar.gz"))
         checks.same(
             read(out, "SHA256SUMS").decode(),
             f"{sha256_of(os.path.join(out, archive))}  {archive}\n",
-            f"{what}, SHA256SUMS",
+            f"{case}, SHA256SUMS",
         )
     else:
         built = [name for name in os.listdir(out) if name.endswith((".a", ".gz")) or ".so" in name] if os.path.exists(out) else []
-        checks.check(not built, f"{what}: make has built {built}")
+        checks.check(not built, f"{case}: make has built {built}")
     shutil.rmtree(out, ignore_errors=True)
 
 
-def check_page(checks, copy, what, can_hash):
+def check_page(checks, copy, case, can_hash):
     """Checks that page/build.py writes the hash of the sources into the page. If no program works, it must write no
     page."""
     page = f"{copy.scratch}/page.html"
     status, output = copy.run(sys.executable, "page/build.py", "--from", "dist/minisign.html", "--key", KEY, page)
     if can_hash:
-        found = re.search(r"^sources of the page: (\w+)$", read(copy.top, "dist/PROVED").decode(), re.M)[1]
-        checks.check(status == 0 and found in read(page).decode(), f"{what}, page/build.py: {status}: {output[-600:]}")
+        sources_hash = re.search(r"^sources of the page: (\w+)$", read(copy.top, "dist/PROVED").decode(), re.M)[1]
+        checks.check(status == 0 and sources_hash in read(page).decode(), f"{case}, page/build.py: {status}: {output[-600:]}")
         os.remove(page)
     else:
         is_expected = status != 0 and NO_PROGRAM in output and "Traceback" not in output and not os.path.exists(page)
-        checks.check(is_expected, f"{what}, page/build.py: {status}: {output[-600:]}")
+        checks.check(is_expected, f"{case}, page/build.py: {status}: {output[-600:]}")
 
 
-def check_crate(checks, copy, what, can_hash, crate):
+def check_crate(checks, copy, case, can_hash, crate):
     """Checks that cargo builds the crate. If no program works, build.rs must say which programs are missing."""
     status, output = copy.build_crate(crate)
-    checks.check(status == 0 if can_hash else status != 0 and NO_PROGRAM in output, f"{what}, cargo: {status}: {output[-800:]}")
+    checks.check(status == 0 if can_hash else status != 0 and NO_PROGRAM in output, f"{case}, cargo: {status}: {output[-800:]}")
     if can_hash:
         # Otherwise cargo would not run build.rs again.
         shutil.rmtree(f"{crate}/target")
 
 
-def check_changed(checks, copy, place, name, change, errors, runs_make):
+def check_changed(checks, copy, directory, name, change, errors, runs_make):
     """Changes a file with the function `change`, or removes it if `change` is None. Checks that cargo then rejects
     the crate and, with `runs_make`, that make builds nothing."""
-    crate, data = f"{copy.top}/bindings/rust" if runs_make else place, read(place, name)
-    os.remove(os.path.join(place, name))
+    crate, data = f"{copy.top}/bindings/rust" if runs_make else directory, read(directory, name)
+    os.remove(os.path.join(directory, name))
     if change:
-        write(place, name, change(data))
+        write(directory, name, change(data))
     status, output = copy.build_crate(crate)
     checks.check(status != 0 and errors["cargo"] in output,
                  f"cargo with {name} changed: status {status}, expected {errors['cargo']}: {output[-800:]}")
     if runs_make:
         checks.ended(f"make with {name} changed", copy.make("-C", "c", "current"), status=2, says=errors["make"])
-    write(place, name, data)
+    write(directory, name, data)
 
 
 def check_rejected(checks, copy, packed):
@@ -248,18 +248,18 @@ def packed_crate(copy):
 def run_all(checks, scratch):
     debian_crates.use(scratch)
     copy = Copy(scratch)
-    own, crate = f"{copy.top}/bindings/rust", packed_crate(copy)
+    repository_crate, crate = f"{copy.top}/bindings/rust", packed_crate(copy)
     checks.check(not os.path.exists(f"{crate}/library/crates"), "a packed crate has sources of the proved calls")
     # The crates to build in a case; by default both. cargo has already built the packed crate with shasum, when it
     # packed it.
-    built = {"shasum only": [own], "sha256 only": [crate], "a silent sha256sum and shasum": []}
-    for what, (programs, can_hash) in PATHS.items():
+    built = {"shasum only": [repository_crate], "sha256 only": [crate], "a silent sha256sum and shasum": []}
+    for case, (programs, can_hash) in PATHS.items():
         copy.put(programs)
-        check_scripts(checks, copy, what, can_hash)
-        check_make(checks, copy, what, can_hash)
-        check_page(checks, copy, what, can_hash)
-        for crate_to_build in built.get(what, [own, crate]):
-            check_crate(checks, copy, what, can_hash, crate_to_build)
+        check_scripts(checks, copy, case, can_hash)
+        check_make(checks, copy, case, can_hash)
+        check_page(checks, copy, case, can_hash)
+        for crate_to_build in built.get(case, [repository_crate, crate]):
+            check_crate(checks, copy, case, can_hash, crate_to_build)
     copy.put(PATHS["sha256 only"][0])
     check_rejected(checks, copy, crate)
     check_incomplete(checks, copy)

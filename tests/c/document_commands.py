@@ -41,9 +41,11 @@ SKIPPED = {
 }
 # For the beginnings of commands, the expected exit status and output. (--check prints the version number and the
 # trusted comment.) Other commands must succeed, and their output is not compared.
-EXPECTED_ENDS = {"../c/out/minisign-install --check ": (10, "2\r\nversion:2\tfile:app\r\n"),
-        "../c/out/minisign-install --numbering version there/release.pub ": (10, ""),
-        **dict.fromkeys(("mkdir ", "cp ", "echo ", "cd ", "../c/out/minisign-install "), (0, ""))}
+EXPECTED_ENDS = {
+    "../c/out/minisign-install --check ": (10, "2\r\nversion:2\tfile:app\r\n"),
+    "../c/out/minisign-install --numbering version there/release.pub ": (10, ""),
+    **dict.fromkeys(("mkdir ", "cp ", "echo ", "cd ", "../c/out/minisign-install "), (0, "")),
+}
 # Files that the commands must leave, and their content. For version records, only the first line is compared; the
 # other two have a key and a digest.
 EXPECTED_FILES = {
@@ -115,11 +117,11 @@ class Clone:
         author = ("-c", "user.name=Ann", "-c", "user.email=ann@example.com")
         for arguments in (["init", "-q"], ["add", "-A"], [*author, "commit", "-q", "-m", "current files"],
                           ["clone", "-q", origin, self.top]):
-            self.git(*arguments, at=origin)
+            self.git(*arguments, directory=origin)
 
-    def git(self, *arguments, at=None):
-        """Runs git in the clone, or in the directory `at`, and returns its output."""
-        return static_library.run_or_fail([needs.git(), *arguments], at or self.top,
+    def git(self, *arguments, directory=None):
+        """Runs git in this directory, by default in the clone, and returns its output."""
+        return static_library.run_or_fail([needs.git(), *arguments], directory or self.top,
                                           GIT_CONFIG_GLOBAL=os.devnull, GIT_CONFIG_NOSYSTEM="1")
 
 
@@ -134,11 +136,12 @@ def check_commands(checks, clone, scratch):
     for command, reason in SKIPPED.items():
         print(f"commands: skipped because {reason}: {command}")
         checks.check(any(line.startswith(command) for line in commands), f"no document has the command {command}")
-    run = [command for command in commands if not command.startswith(tuple(SKIPPED))]
+    commands_to_run = [command for command in commands if not command.startswith(tuple(SKIPPED))]
     with static_library.cached_object({"CC": needs.compiler_with_libsodium(), "OUT": os.path.join(clone.top, "c", "out")}):
-        for command, status, output in run_in_shell(clone.top, run, scratch):
-            expected_status, expected = next((end for beginning, end in EXPECTED_ENDS.items() if command.startswith(beginning)),
-                                             (0, output))
+        for command, status, output in run_in_shell(clone.top, commands_to_run, scratch):
+            expected_status, expected = next(
+                (result for beginning, result in EXPECTED_ENDS.items() if command.startswith(beginning)), (0, output)
+            )
             checks.check(status == expected_status, f"{command}: status {status}, expected {expected_status}: {output[-600:]}")
             checks.check(output == expected, f"{command}: the output is {output[-600:]!r}, expected {expected!r}")
 
@@ -150,10 +153,10 @@ def check_left_files(checks, clone):
         if name.endswith(".number"):
             content = content.partition(b"\n")[0]
         checks.check(content == expected, f"{name} contains {content}, expected {expected}")
-    new = clone.git("status", "--porcelain")
-    checks.check(not new, f"git finds new files in the clone: {new}")
-    new = files_below(clone.top) - {*clone.git("ls-files").splitlines()}
-    keys = {name for name in new if not name.startswith(".git/") and is_secret_key(os.path.join(clone.top, name))}
+    git_status = clone.git("status", "--porcelain")
+    checks.check(not git_status, f"git finds new files in the clone: {git_status}")
+    new_files = files_below(clone.top) - {*clone.git("ls-files").splitlines()}
+    keys = {name for name in new_files if not name.startswith(".git/") and is_secret_key(os.path.join(clone.top, name))}
     checks.check(keys == SECRET_KEYS, f"secret keys are at {sorted(keys)}, expected {sorted(SECRET_KEYS)}")
 
 

@@ -144,17 +144,18 @@ def check_libsodium(checks):
         checks.check(not sodium.accepts(signature[:32] + encode_point(larger), message, public),
                      f"libsodium accepts S + the order for {message}")
     points = [
-        encode_point(y + more, sign)
+        encode_point(y + offset, sign)
         for y in SMALL_ORDER_Y
-        for more in (0, FIELD_PRIME)
-        if y + more < 2**255
+        for offset in (0, FIELD_PRIME)
+        if y + offset < 2**255
         for sign in (0, 1)
     ]
     for point in points:
         for second_point in (*points, public):
-            found = [message for message in MESSAGES[:40] if sodium.accepts(second_point + bytes(32), message, point)
-                     or sodium.accepts(point + bytes(32), message, second_point)]
-            checks.check(not found, f"libsodium accepts S = 0 under {point.hex()} and {second_point.hex()}: {found[:3]}")
+            accepted_messages = [message for message in MESSAGES[:40] if sodium.accepts(second_point + bytes(32), message, point)
+                                 or sodium.accepts(point + bytes(32), message, second_point)]
+            checks.check(not accepted_messages,
+                         f"libsodium accepts S = 0 under {point.hex()} and {second_point.hex()}: {accepted_messages[:3]}")
 
 
 def check_openssl(checks):

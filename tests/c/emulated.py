@@ -135,8 +135,8 @@ class Emulated:
 
     def ended(self, name, *words, status=0, typed=b""):
         """Runs a program of c/ under the emulator and checks its exit status. Returns its output."""
-        ran = run([*self.emulator, f"{self.out}/{name}", *words], self.directory, typed)
-        return self.checks.ended(f"{self.kind.name}: {name} {' '.join(words)}", ran, status)
+        result = run([*self.emulator, f"{self.out}/{name}", *words], self.directory, typed)
+        return self.checks.ended(f"{self.kind.name}: {name} {' '.join(words)}", result, status)
 
 
 def check_keys(checks, built):
@@ -164,8 +164,9 @@ def check_installing(checks, built):
     for number in "12":
         write(built.directory, number, f"version {number}\n".encode())
         built.ended("minisign", "-S", "-s", "b.key", "-m", number, "-t", f"version:{number}\tfile:app")
-    for number, first, status, installed in (("1", ["--first"], 0, "1"), ("2", [], 0, "2"), ("1", [], 4, "2"), ("2", [], 10, "2")):
-        built.ended("minisign-install", *first, "--numbering", "version", "b.pub", number, f"{number}.minisig", "installed/app",
+    for number, options, status, installed in (
+            ("1", ["--first"], 0, "1"), ("2", [], 0, "2"), ("1", [], 4, "2"), ("2", [], 10, "2")):
+        built.ended("minisign-install", *options, "--numbering", "version", "b.pub", number, f"{number}.minisig", "installed/app",
                     status=status)
         content = read(built.directory, "installed", "app")
         checks.same(content, f"version {installed}\n".encode(), f"{built.kind.name}: installing {number}")

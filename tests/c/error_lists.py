@@ -1,5 +1,5 @@
 #!/usr/bin/env python3
-"""Checks the errors and the versions that the headers and the packages document for each call.
+"""Checks that the headers and the packages document the right errors and versions for each call.
 
     tests/c/error_lists.py               runs the checks
     tests/c/error_lists.py --released    after a release: writes last_release.txt from the headers
@@ -143,9 +143,9 @@ PHRASES = {"the errors that `Signature` lists": "minisign_read_signature"}
 def exports():
     """Returns the library, and a dictionary of the exports of the crate, with their sources, by name."""
     library = sources.Library()
-    found = {item.name: (item, source) for source in library.crate_sources(CRATE) for item in source.items
-             if item.what == "fn" and item.name.startswith("minisign_")}
-    return library, found
+    functions = {item.name: (item, source) for source in library.crate_sources(CRATE) for item in source.items
+                 if item.keyword == "fn" and item.name.startswith("minisign_")}
+    return library, functions
 
 
 def name_in_c(variant):
@@ -153,25 +153,25 @@ def name_in_c(variant):
     return header.Number(0, variant, "").name
 
 
-def reached_errors(library, text, imports, definitions, seen):
-    """Returns the errors that a text in specs/ names, directly or through definitions. `seen` collects the
+def reached_errors(library, text, imports, definitions, followed):
+    """Returns the errors that a text in specs/ names, directly or through definitions. `followed` collects the
     definitions that were followed."""
     errors = set()
     for _, module, name, definition in library.named_in(text, imports, definitions):
-        origins = [(place.split("."), each) for place, each in library.chain(module, name)]
-        variant = next((each for place, each in origins if place[-1:] == ["TheVariants"] and place[-2] in ENUMS), None)
+        origins = [(path.split("."), origin_name) for path, origin_name in library.chain(module, name)]
+        variant = next((origin_name for path, origin_name in origins if path[-1:] == ["TheVariants"] and path[-2] in ENUMS), None)
         if variant or name == WEAK[0]:
             errors.add(name_in_c(variant) if variant else WEAK[1])
         elif (
             isinstance(definition, sources.Definition)
             and library.is_in_repository(definition.file)
-            and definition not in seen
+            and definition not in followed
             and definition.kind == "word"
         ):
-            seen.add(definition)
+            followed.add(definition)
             if not MAPS.search(definition.file):
                 inside = sources.read_module(definition.file)
-                errors |= reached_errors(library, definition.text, inside.imports, inside.definitions, seen)
+                errors |= reached_errors(library, definition.text, inside.imports, inside.definitions, followed)
     return errors
 
 
@@ -189,8 +189,8 @@ def by_event(library, event):
 @functools.lru_cache(maxsize=None)
 def by_contract(call):
     """Returns the errors that the clauses of a call name, directly or through definitions."""
-    library, found = exports()
-    item, source = found.get(call, (None, None))
+    library, functions = exports()
+    item, source = functions.get(call, (None, None))
     clauses = item.clauses if item else ()
     if call in EVENTS:
         misuses = {name_in_c(name) for clause in clauses for name in re.findall(r"misuse_number (\w+)", clause.text)}
@@ -208,13 +208,13 @@ def returned_errors(call):
     return by_contract(call).difference(*(errors_in_row(row, by_contract) for row in NEVER_RETURNED.get(call, ())))
 
 
-def named_errors(calls, call, errors, seen=()):
+def named_errors(calls, call, errors, visited=()):
     """Returns the errors that the comment of a call names, and those that it includes by the words "those of" another call."""
-    found = {*re.findall(r"MINISIGN_(\w+)", calls[call].comment)} & errors
+    names = {*re.findall(r"MINISIGN_(\w+)", calls[call].comment)} & errors
     for referenced in re.findall(r"those of (minisign_\w+)", calls[call].comment):
-        if referenced in calls and referenced not in seen:
-            found |= named_errors(calls, referenced, errors, (*seen, call))
-    return found
+        if referenced in calls and referenced not in visited:
+            names |= named_errors(calls, referenced, errors, (*visited, call))
+    return names
 
 
 def stated_errors(calls, call, errors):
@@ -226,8 +226,8 @@ def check_lists(checks, calls, errors):
     """Checks that the comments name the errors in the contracts, and that the tables have no superfluous rows."""
     checks.check({*exports()[1]} == {*calls} - {"minisign_version"}, "the headers do not declare the exports of minisign_c")
     for call in calls:
-        found, expected = stated_errors(calls, call, errors), returned_errors(call)
-        superfluous, missing = sorted(found - expected), sorted(expected - found)
+        stated, expected = stated_errors(calls, call, errors), returned_errors(call)
+        superfluous, missing = sorted(stated - expected), sorted(expected - stated)
         checks.check(not missing, f"{call} can return {', '.join(missing)}, which its comment does not name")
         checks.check(not superfluous, f"the comment of {call} names {', '.join(superfluous)}, which its contract does not allow")
     for table, whole in ((NEVER_RETURNED, by_contract), (NAMED_APART, lambda call: named_errors(calls, call, errors))):
@@ -235,12 +235,12 @@ def check_lists(checks, calls, errors):
             for row in rows:
                 checks.check(row[0].startswith("minisign_") or errors_in_row(row, by_contract) <= whole(call),
                              f"{call}: superfluous row {row[0]} in NEVER_RETURNED or NAMED_APART")
-    every = set().union(*map(returned_errors, calls))
+    returned = set().union(*map(returned_errors, calls))
     checks.check(
-        errors <= every,
-        f"no call returns {', '.join(sorted(errors - every))}: list it in NOT_RETURNED of tools/header.py",
+        errors <= returned,
+        f"no call returns {', '.join(sorted(errors - returned))}: list it in NOT_RETURNED of tools/header.py",
     )
-    checks.check(every <= errors, f"the headers do not declare {', '.join(sorted(every - errors))}: run tools/header.py")
+    checks.check(returned <= errors, f"the headers do not declare {', '.join(sorted(returned - errors))}: run tools/header.py")
 
 
 def check_texts(checks, errors):
@@ -257,13 +257,14 @@ def check_packages(checks, errors):
     in_c = {name.replace("_", "").lower(): name for name in errors}
     misuses = {number.name for number in header.misuses()} | {"OUT_OF_MEMORY"}
 
-    def check_text(place, text, word, calls):
-        found = {in_c[each.replace("_", "").lower()] for each in re.findall(word, text) if each.replace("_", "").lower() in in_c}
-        found = found.union(*(returned_errors(call) for words, call in PHRASES.items() if words in text)) - misuses
+    def check_text(location, text, pattern, calls):
+        words = {word.replace("_", "").lower() for word in re.findall(pattern, text)}
+        documented = {in_c[word] for word in words if word in in_c}
+        documented = documented.union(*(returned_errors(call) for phrase, call in PHRASES.items() if phrase in text)) - misuses
         expected = set().union(*map(returned_errors, calls)) - misuses
         checks.check(
-            found == expected,
-            f"{place} wrongly names {sorted(found - expected)}, and does not name {sorted(expected - found)}",
+            documented == expected,
+            f"{location} wrongly names {sorted(documented - expected)}, and does not name {sorted(expected - documented)}",
         )
 
     tree = ast.parse(read(TOP, PYTHON))
@@ -277,8 +278,8 @@ def check_packages(checks, errors):
     for name, calls in IN_PYTHON.items():
         check_text(f"{PYTHON}: {name}", " ".join(ast.get_docstring(texts[name]).split()), r"\b[A-Z][a-z]\w+", calls)
     for name, calls in IN_JAVASCRIPT.items():
-        above = read(TOP, JAVASCRIPT).decode().partition(f"export function {name}(")[0].rpartition("/**")[2]
-        check_text(f"{JAVASCRIPT}: {name}", above, r"\b[A-Z][A-Z0-9_]+", calls)
+        comment = read(TOP, JAVASCRIPT).decode().partition(f"export function {name}(")[0].rpartition("/**")[2]
+        check_text(f"{JAVASCRIPT}: {name}", comment, r"\b[A-Z][A-Z0-9_]+", calls)
 
 
 # ---- Since ----
@@ -311,10 +312,10 @@ def since_of(call):
 def check_since(checks, calls, errors, version):
     """Checks the version after "Since" in the comment of each call."""
     _, *lines = read(HERE, "last_release.txt").decode().split("\n")
-    rows = ((line, *more.split()) for line, more in zip(lines[::2], lines[1::2]))
+    rows = ((line, *details.split()) for line, details in zip(lines[::2], lines[1::2]))
     released = {
-        re.search(r"(minisign_\w+)\(", line)[1]: (since.rstrip(":"), line, {*its_errors})
-        for line, since, *its_errors in rows
+        re.search(r"(minisign_\w+)\(", line)[1]: (since.rstrip(":"), line, {*errors_of_call})
+        for line, since, *errors_of_call in rows
     }
     checks.check(len(released) > 20, "last_release.txt has no calls")
     for name, call in calls.items():
@@ -332,8 +333,8 @@ def check_since(checks, calls, errors, version):
 def all_of_headers():
     """Returns the calls of all headers by name, the names of the errors, and the version."""
     headers = c_header.all_headers()
-    numbers = dict(headers.numbers)
-    version = f"{numbers['VERSION_MAJOR']}.{numbers['VERSION_MINOR']}"
+    constants = dict(headers.numbers)
+    version = f"{constants['VERSION_MAJOR']}.{constants['VERSION_MINOR']}"
     return {call.name: call for call in headers.calls}, {error.name for error in headers.errors}, version
 
 

@@ -130,7 +130,7 @@ static enum minisign_kind expected_kind(uint32_t number)
 
 int main(void)
 {
-    char whole[MINISIGN_ERROR_TEXT_BYTES], cut[MINISIGN_ERROR_TEXT_BYTES];
+    char complete[MINISIGN_ERROR_TEXT_BYTES], truncated[MINISIGN_ERROR_TEXT_BYTES];
 
     for (uint32_t number = 0; number <= MAX_ERROR; number++) {
         if (texts[number] == NULL && number > 63) {
@@ -139,15 +139,16 @@ int main(void)
         const char *text = texts[number] != NULL ? texts[number] : "unknown error";
         size_t len = strlen(text);
 
-        memset(whole, 0xaa, sizeof whole);
-        check(minisign_error_text(number, whole, sizeof whole) == len, "error %u: wrong length", number);
-        check(len < sizeof whole && memcmp(whole, text, len + 1) == 0, "error %u: wrong text, expected: %s", number, text);
-        for (size_t room = 0; room <= len; room++) {
-            memset(cut, 0xaa, sizeof cut);
-            check(minisign_error_text(number, cut, room) == len, "error %u: wrong length for a buffer of %zu bytes", number, room);
-            check(room == 0 || (memcmp(cut, text, room - 1) == 0 && cut[room - 1] == 0),
-                  "error %u: wrongly truncated to %zu bytes", number, room);
-            check(cut[room] == (char) 0xaa, "error %u: written beyond %zu bytes", number, room);
+        memset(complete, 0xaa, sizeof complete);
+        check(minisign_error_text(number, complete, sizeof complete) == len, "error %u: wrong length", number);
+        check(len < sizeof complete && memcmp(complete, text, len + 1) == 0, "error %u: wrong text, expected: %s", number, text);
+        for (size_t capacity = 0; capacity <= len; capacity++) {
+            memset(truncated, 0xaa, sizeof truncated);
+            check(minisign_error_text(number, truncated, capacity) == len, "error %u: wrong length for a buffer of %zu bytes",
+                  number, capacity);
+            check(capacity == 0 || (memcmp(truncated, text, capacity - 1) == 0 && truncated[capacity - 1] == 0),
+                  "error %u: wrongly truncated to %zu bytes", number, capacity);
+            check(truncated[capacity] == (char) 0xaa, "error %u: written beyond %zu bytes", number, capacity);
         }
     }
     for (uint32_t number = 0; number <= 300; number++) {
@@ -155,6 +156,7 @@ int main(void)
               (int) minisign_error_kind(number), (int) expected_kind(number));
     }
     check(minisign_error_kind(UINT32_MAX) == MINISIGN_KIND_NONE, "error %u: wrong kind", UINT32_MAX);
-    check(minisign_error_text(UINT32_MAX, whole, sizeof whole) == strlen("unknown error"), "error %u: wrong length", UINT32_MAX);
-    return ended();
+    check(minisign_error_text(UINT32_MAX, complete, sizeof complete) == strlen("unknown error"), "error %u: wrong length",
+          UINT32_MAX);
+    return print_summary();
 }

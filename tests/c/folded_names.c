@@ -31,7 +31,7 @@ static const char *const decompositions[][2] = {
 };
 
 /* True for each file descriptor that was opened with the name in OTHER_NUMBER. */
-static bool is_by_other_name[MAX_DESCRIPTORS];
+static bool has_other_number[MAX_DESCRIPTORS];
 
 struct path {
     char bytes[PATH_MAX];
@@ -81,28 +81,28 @@ static struct path folded(const char *path)
 /* ---- Inode numbers ---- */
 
 /* Returns true if the path is the name in OTHER_NUMBER, or the path in /proc of a descriptor that was opened with this name. */
-static bool is_other_name(const char *path)
+static bool is_name_with_other_number(const char *path)
 {
-    const char *other = getenv("OTHER_NUMBER");
+    const char *name = getenv("OTHER_NUMBER");
     int fd = strncmp(path, "/proc/self/fd/", 14) == 0 ? atoi(path + 14) : -1;
 
-    return other != NULL && (fd >= 0 && fd < MAX_DESCRIPTORS ? is_by_other_name[fd] : strcmp(last_part(path), other) == 0);
+    return name != NULL && (fd >= 0 && fd < MAX_DESCRIPTORS ? has_other_number[fd] : strcmp(last_part(path), name) == 0);
 }
 
 /* Records if a new descriptor was opened with the name in OTHER_NUMBER. Returns the descriptor. */
-static int opened(const char *path, int fd)
+static int record_descriptor(const char *path, int fd)
 {
     if (fd >= 0 && fd < MAX_DESCRIPTORS) {
-        is_by_other_name[fd] = is_other_name(path);
+        has_other_number[fd] = is_name_with_other_number(path);
     }
     return fd;
 }
 
-/* Changes the inode number of a file that was found by the name in OTHER_NUMBER. Returns `result`, the result of stat. */
-static int inspected(bool is_other, int result, struct stat *found)
+/* Changes the inode number of a file that was looked up by the name in OTHER_NUMBER. Returns `result`, the result of stat. */
+static int change_inode_number(bool is_changed, int result, struct stat *status)
 {
-    if (result == 0 && is_other && S_ISREG(found->st_mode)) {
-        found->st_ino ^= (ino_t) 1 << 40;
+    if (result == 0 && is_changed && S_ISREG(status->st_mode)) {
+        status->st_ino ^= (ino_t) 1 << 40;
     }
     return result;
 }
@@ -111,13 +111,13 @@ static int inspected(bool is_other, int result, struct stat *found)
 
 int openat(int directory, const char *path, int flags, ...)
 {
-    va_list more;
+    va_list arguments;
     mode_t mode;
 
-    va_start(more, flags);
-    mode = (flags & (O_CREAT | O_TMPFILE)) != 0 ? va_arg(more, mode_t) : 0;
-    va_end(more);
-    return opened(path, REAL(openat)(directory, folded(path).bytes, flags, mode));
+    va_start(arguments, flags);
+    mode = (flags & (O_CREAT | O_TMPFILE)) != 0 ? va_arg(arguments, mode_t) : 0;
+    va_end(arguments);
+    return record_descriptor(path, REAL(openat)(directory, folded(path).bytes, flags, mode));
 }
 
 int __openat_2(int directory, const char *path, int flags)
@@ -127,12 +127,12 @@ int __openat_2(int directory, const char *path, int flags)
 
 int open(const char *path, int flags, ...)
 {
-    va_list more;
+    va_list arguments;
     mode_t mode;
 
-    va_start(more, flags);
-    mode = (flags & (O_CREAT | O_TMPFILE)) != 0 ? va_arg(more, mode_t) : 0;
-    va_end(more);
+    va_start(arguments, flags);
+    mode = (flags & (O_CREAT | O_TMPFILE)) != 0 ? va_arg(arguments, mode_t) : 0;
+    va_end(arguments);
     return openat(AT_FDCWD, path, flags, mode);
 }
 
@@ -141,24 +141,25 @@ int __open_2(const char *path, int flags)
     return openat(AT_FDCWD, path, flags);
 }
 
-int stat(const char *path, struct stat *found)
+int stat(const char *path, struct stat *status)
 {
-    return inspected(is_other_name(path), REAL(stat)(folded(path).bytes, found), found);
+    return change_inode_number(is_name_with_other_number(path), REAL(stat)(folded(path).bytes, status), status);
 }
 
-int lstat(const char *path, struct stat *found)
+int lstat(const char *path, struct stat *status)
 {
-    return inspected(is_other_name(path), REAL(lstat)(folded(path).bytes, found), found);
+    return change_inode_number(is_name_with_other_number(path), REAL(lstat)(folded(path).bytes, status), status);
 }
 
-int fstat(int fd, struct stat *found)
+int fstat(int fd, struct stat *status)
 {
-    return inspected(fd >= 0 && fd < MAX_DESCRIPTORS && is_by_other_name[fd], REAL(fstat)(fd, found), found);
+    return change_inode_number(fd >= 0 && fd < MAX_DESCRIPTORS && has_other_number[fd], REAL(fstat)(fd, status), status);
 }
 
-int fstatat(int directory, const char *path, struct stat *found, int flags)
+int fstatat(int directory, const char *path, struct stat *status, int flags)
 {
-    return inspected(is_other_name(path), REAL(fstatat)(directory, folded(path).bytes, found, flags), found);
+    return change_inode_number(is_name_with_other_number(path), REAL(fstatat)(directory, folded(path).bytes, status, flags),
+                               status);
 }
 
 int linkat(int from_directory, const char *from, int directory, const char *path, int flags)

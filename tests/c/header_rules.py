@@ -48,26 +48,26 @@ ATTRIBUTES = re.compile(r"/\* Attributes, made by tools/header\.py\. \*/\n.*?/\*
 def pointers(call):
     """Yields the index of each pointer parameter of a call, and True if its length is the next parameter."""
     parameters = call.parameters
-    for at, parameter in enumerate(parameters):
+    for index, parameter in enumerate(parameters):
         if parameter.star or parameter.count:
-            after = parameters[at + 1] if at + 1 < len(parameters) else None
+            following = parameters[index + 1] if index + 1 < len(parameters) else None
             is_counted = parameter.kind in COUNTED and not parameter.count
-            yield at, bool(is_counted and after and after.kind == "size_t" and not after.star)
+            yield index, bool(is_counted and following and following.kind == "size_t" and not following.star)
 
 
 def call_text(name, call, wrong_arguments):
     """Returns the source of a C function `name` that makes a call. `wrong_arguments` replaces correct arguments, by
     index."""
-    declarations, arguments, counted = [], [], dict(pointers(call))
-    for at, parameter in enumerate(call.parameters):
-        if at in wrong_arguments:
-            arguments.append(wrong_arguments[at])
-        elif at in counted:
-            size = f"[{parameter.count or ELEMENTS}]" if parameter.count or counted[at] else ""
-            declarations.append(f"    static {'uint8_t' if parameter.kind == 'void' else parameter.kind} p{at}{size};\n")
-            arguments.append(f"p{at}" if size else f"&p{at}")
+    declarations, arguments, pointer_parameters = [], [], dict(pointers(call))
+    for index, parameter in enumerate(call.parameters):
+        if index in wrong_arguments:
+            arguments.append(wrong_arguments[index])
+        elif index in pointer_parameters:
+            size = f"[{parameter.count or ELEMENTS}]" if parameter.count or pointer_parameters[index] else ""
+            declarations.append(f"    static {'uint8_t' if parameter.kind == 'void' else parameter.kind} p{index}{size};\n")
+            arguments.append(f"p{index}" if size else f"&p{index}")
         else:
-            arguments.append(str(ELEMENTS) if counted.get(at - 1) else f"({parameter.kind}) 1")
+            arguments.append(str(ELEMENTS) if pointer_parameters.get(index - 1) else f"({parameter.kind}) 1")
     statement = f"{'' if call.answer == 'void' else '(void) !'}{call.name}({', '.join(arguments)});"
     return f"void {name}(void);\nvoid {name}(void)\n{{\n{''.join(declarations)}    {statement}\n}}\n"
 
@@ -82,10 +82,10 @@ def mistakes(calls):
     with NULL. Each maps a name to the declaration of the call and the wrong arguments."""
     too_long, null = {}, {}
     for call in calls:
-        for at, is_counted in pointers(call):
-            null[f"null_{call.name}_{at}"] = (call, {at: "NULL"})
+        for index, is_counted in pointers(call):
+            null[f"null_{call.name}_{index}"] = (call, {index: "NULL"})
             if is_counted:
-                too_long[f"long_{call.name}_{at}"] = (call, {at + 1: str(ELEMENTS + 1)})
+                too_long[f"long_{call.name}_{index}"] = (call, {index + 1: str(ELEMENTS + 1)})
     return too_long, null
 
 
@@ -99,11 +99,11 @@ def functions_with_warnings(scratch, compiler, functions, include):
     if status:
         return [output[-500:]]
     lines = text.split("\n")
-    numbers = {int(number) for number in re.findall(r"mistakes\.c:(\d+):\d+: warning:", output)}
+    line_numbers = {int(number) for number in re.findall(r"mistakes\.c:(\d+):\d+: warning:", output)}
     # Finds the function that contains each line with a warning.
     return {
-        next(found[1] for line in reversed(lines[:number]) if (found := re.match(r"void (\w+)\(void\)$", line)))
-        for number in numbers
+        next(match[1] for line in reversed(lines[:number]) if (match := re.match(r"void (\w+)\(void\)$", line)))
+        for number in line_numbers
     }
 
 
@@ -138,8 +138,8 @@ def check_correct_calls(checks, scratch, calls):
     """Checks that compilers do not warn of correct calls, and that compilers that do not define __GNUC__ get no
     attributes."""
     functions = [call_text(f"right_{call.name}", call, {}) for call in calls]
-    functions += [call_text(f"empty_{call.name}_{at}", call, {at: "NULL", at + 1: "0"})
-                  for call in calls for at, is_counted in pointers(call) if is_counted]
+    functions += [call_text(f"empty_{call.name}_{index}", call, {index: "NULL", index + 1: "0"})
+                  for call in calls for index, is_counted in pointers(call) if is_counted]
     text = program(functions)
     for name, package, *flags in (("gcc", "gcc", "-std=c99", "-O2"), ("g++", "g++", "-std=c++11", "-O2"),
                                   ("clang", "clang", "-std=c99", "-O2"), ("clang++", "clang", "-std=c++17", "-O2"),
@@ -155,8 +155,9 @@ def check_correct_calls(checks, scratch, calls):
     for name in HEADERS:
         command = [needs.program("gcc", "gcc"), "-U__GNUC__", "-E", "-P", f"{INCLUDE}/{name}"]
         output = checks.ended(f"{name} for another compiler", run(command))
-        own = output[output.find("minisign"):]
-        checks.check("__attribute__" not in own and "__typeof__" not in own and "minisign" in own, f"{name}: {own[:300]}")
+        declarations = output[output.find("minisign"):]
+        has_attributes = "__attribute__" in declarations or "__typeof__" in declarations
+        checks.check(declarations.startswith("minisign") and not has_attributes, f"{name}: {declarations[:300]}")
 
 
 # Local variables of these types must be set to zeros before their first use. Static variables are zero already.

@@ -29,6 +29,7 @@ import mutants
 import needs
 import static_library
 import test_script
+from c_library import STRICT
 from needles import SEED_AT
 from process import run, run_with_stderr
 from running import read, write
@@ -36,7 +37,6 @@ from texts import CORPUS, Limits, flip_bit, record_of, seal_record, text_of
 
 EXAMPLES = os.path.join(static_library.DIRECTORY, "examples")
 README = os.path.join(HERE, "..", "..", "README.md")
-STRICT = ["-Wall", "-Wextra", "-Wpedantic", "-Werror"]
 
 # The installed files, except the shared library, whose name contains its version.
 INSTALLED_FILES = [
@@ -57,15 +57,15 @@ COMMENT = "version 2 \u00e9"
 
 def installed_files(checks, root):
     """Checks that the right files are installed, and that the libraries define only the names of the headers."""
-    found = {os.path.relpath(os.path.join(at, name), root) for at, _, names in os.walk(root) for name in names}
-    versions = [name for name in found if re.fullmatch(r"lib/libminisign\.so\.\d+\.\d+(?:\.\d+)?", name)]
+    files = {os.path.relpath(os.path.join(parent, name), root) for parent, _, names in os.walk(root) for name in names}
+    versions = [name for name in files if re.fullmatch(r"lib/libminisign\.so\.\d+\.\d+(?:\.\d+)?", name)]
     pages = {page: {call.name for call in c_header.parsed(read(root, "include", f"{page}.h").decode()).calls}
              for page in ("minisign", "minisign_install", "minisign_list")}
     names = set().union(*pages.values())
     links = {f"share/man/man3/{name}.3": page for page, calls in pages.items() for name in calls}
     links["share/man/man3/minisign_install_file.3"] = "minisign_installing"
-    checks.check(len(versions) == 2 and found == {*INSTALLED_FILES, *versions, *links},
-                 f"installed files that differ: {sorted(found ^ {*INSTALLED_FILES, *versions, *links})}")
+    checks.check(len(versions) == 2 and files == {*INSTALLED_FILES, *versions, *links},
+                 f"installed files that differ: {sorted(files ^ {*INSTALLED_FILES, *versions, *links})}")
     is_led = all(read(root, link) == f".so man3/{page}.3\n".encode() for link, page in links.items())
     checks.check(is_led, "a manual page of a call leads to another page")
     checks.check(all(len(calls) >= 9 for calls in pages.values()), f"a header has only these calls: {pages}")
@@ -77,7 +77,7 @@ def installed_files(checks, root):
     _, output = run([needs.program("readelf", "binutils"), "-d", f"{root}/lib/libminisign.so"])
     # Before version 1.0, a program that was built for another minor version must not start.
     soname = re.search(r"\(SONAME\).*\[(libminisign\.so\.0\.\d+)\]", output)
-    checks.check(soname and f"lib/{soname[1]}" in found, f"no file has the soname: {output}")
+    checks.check(soname and f"lib/{soname[1]}" in files, f"no file has the soname: {output}")
     checks.check("TEXTREL" not in output, "the shared library has text relocations")
     for page in (name for name in INSTALLED_FILES if "/man/" in name):
         status, _, output = run_with_stderr([needs.program("groff", "groff"), "-man", "-ww", "-Tutf8", f"{root}/{page}"])
@@ -151,21 +151,21 @@ def verifying_cases(installed):
               "trusted comment": sig.index(COMMENT.encode())}
     yield "good", *good, COMMENT
     yield "no data", key, b"", read(installed.scratch, "empty.sig"), "t"
-    for what, at, wrong in (
+    for description, index, wrong_content in (
             ("another key", 0, read(installed.scratch, "other.pub")), ("the key changed", 0, flip_bit(key, key.index(b"\n") + 30)),
             ("no key", 0, b""), ("a key that is not there", 0, None), ("a file that is not there", 1, None),
             ("other data", 1, flip_bit(data, 100000)), ("data cut short", 1, data[:-1]), ("no signature", 2, b""),
             ("a key as the signature", 2, key), ("a legacy signature", 2, read(installed.scratch, "legacy")),
             ("no UTF-8", 2, sig[:19] + b"\xff" + sig[19:]),
-            *((f"the {what} changed", 2, flip_bit(sig, place)) for what, place in offsets.items())):
-        yield what, *good[:at], wrong, *good[at + 1:], None
+            *((f"the {description} changed", 2, flip_bit(sig, offset)) for description, offset in offsets.items())):
+        yield description, *good[:index], wrong_content, *good[index + 1:], None
 
 
 def check_verifiers(checks, installed):
     """Checks that each program accepts and rejects the `verifying_cases`, and prints the trusted comment."""
-    for what, *files, comment in verifying_cases(installed):
-        paths = [installed.path("nothing") if data is None else write(installed.scratch, f"given{at}", data)
-                 for at, data in enumerate(files)]
+    for description, *files, comment in verifying_cases(installed):
+        paths = [installed.path("nothing") if data is None else write(installed.scratch, f"given{index}", data)
+                 for index, data in enumerate(files)]
         for name, program in installed.verifiers.items():
             environment = {"LD_LIBRARY_PATH": f"{installed.root}/lib"} if "shared" in name else {}
             status, output, errors = run_with_stderr([*program, *paths], **environment)
@@ -173,7 +173,7 @@ def check_verifiers(checks, installed):
                 holds = status in (1, 2) and not output and errors
             else:
                 holds = status == 0 and output == comment + "\n" and not errors
-            checks.check(holds, f"{name}, {what}: status {status}, {output!r}, {errors!r}")
+            checks.check(holds, f"{name}, {description}: status {status}, {output!r}, {errors!r}")
 
 
 def check_signing(checks, installed, program, cases):
@@ -181,19 +181,21 @@ def check_signing(checks, installed, program, cases):
     signature. A case has the key file, the data, the comment, a password file if the key is encrypted, and the
     expected error or an empty string."""
     signature_path = installed.path("made")
-    for what, (secret, data, comment, *password), rejected in cases:
+    for description, (secret, data, comment, *password), expected_error in cases:
         if os.path.exists(signature_path):
             os.remove(signature_path)
         status, _, errors = run_with_stderr([*program, secret, data, signature_path, comment, *password])
-        if rejected:
-            has_error = errors in (f"sign: {rejected}\n", f"stream: {rejected}\n")
-            checks.check(status == 1 and has_error, f"{program}, {what}: status {status}, {errors!r}, expected {rejected}")
-            checks.check(not os.path.exists(signature_path), f"{program}, {what}: a signature was written")
+        if expected_error:
+            has_error = errors in (f"sign: {expected_error}\n", f"stream: {expected_error}\n")
+            checks.check(status == 1 and has_error,
+                         f"{program}, {description}: status {status}, {errors!r}, expected {expected_error}")
+            checks.check(not os.path.exists(signature_path), f"{program}, {description}: a signature was written")
         else:
-            checks.check(status == 0 and not errors, f"{program}, {what}: status {status}, {errors!r}")
+            checks.check(status == 0 and not errors, f"{program}, {description}: status {status}, {errors!r}")
             if secret == installed.path("key.key"):
                 output = installed.run_minisign("-Q", "-V", "-p", "key.pub", "-m", data, "-x", signature_path)
-                checks.check(output == comment + "\n", f"{program}, {what}: minisign prints {output!r}, expected {comment!r}")
+                checks.check(output == comment + "\n",
+                             f"{program}, {description}: minisign prints {output!r}, expected {comment!r}")
 
 
 def check_signers(checks, installed):
@@ -209,8 +211,8 @@ def check_signers(checks, installed):
     long, shorter = (write(installed.scratch, f"{count}.password", b"p" * count + b"\n") for count in (1024, 1023))
     # Keys with a changed byte in each half, and with a changed last byte, which belongs to the checksum. (Minisign
     # writes zeros as the checksum of an unencrypted key.)
-    mismatched_keys = [write(installed.scratch, f"half{number}.key", text_of(flip_bit(record, at)))
-              for number, at in enumerate((SEED_AT + 32, SEED_AT, SEED_AT + 63))]
+    mismatched_keys = [write(installed.scratch, f"half{number}.key", text_of(flip_bit(record, offset)))
+              for number, offset in enumerate((SEED_AT + 32, SEED_AT, SEED_AT + 63))]
     two_lines = "a comment contains a line break, or the trusted comment begins or ends with white space"
     too_long = "a comment is too long for Minisign, or contains a zero byte or a carriage return"
     mismatched, cannot_open = "the key does not sign: its halves do not belong together", "a file cannot be opened"
@@ -236,14 +238,16 @@ def check_signers(checks, installed):
     example = installed.build_c("sign", f"{EXAMPLES}/sign.c")
     check_signing(checks, installed, example, cases)
     check_signing(checks, installed, installed.verifiers["stream"],
-                  [(what, case, stream_messages.get(rejected, rejected)) for what, case, rejected in cases if len(case) == 3])
-    for signature_path, rejected in ((f"{nothing}/made", cannot_open), ("/dev/full", "the signature cannot be written")):
-        checks.same(run([*example, key, data, signature_path, COMMENT]), (1, f"sign: {rejected}\n"), f"signing to {signature_path}")
+                  [(description, case, stream_messages.get(expected_error, expected_error))
+                   for description, case, expected_error in cases if len(case) == 3])
+    for signature_path, expected_error in ((f"{nothing}/made", cannot_open), ("/dev/full", "the signature cannot be written")):
+        result = run([*example, key, data, signature_path, COMMENT])
+        checks.same(result, (1, f"sign: {expected_error}\n"), f"signing to {signature_path}")
 
 
-def with_changed_character(text, at):
+def with_changed_character(text, index):
     """Returns a file in base64 with the character at this index replaced by another one of base64."""
-    return text[:at] + (b"B" if text[at:at + 1] == b"A" else b"A") + text[at + 1:]
+    return text[:index] + (b"B" if text[index:index + 1] == b"A" else b"A") + text[index + 1:]
 
 
 def outcomes(installed, program):
@@ -251,10 +255,12 @@ def outcomes(installed, program):
     paths = [os.path.join(CORPUS, name) for name in ("published.pub", "test", "published.minisig")]
     key, data, sig, signature_path = *map(installed.path, ("key.pub", "data", "sig")), installed.path("made-by-a-mutant")
     text = read(sig)
-    wrong = [write(installed.scratch, f"{at}.sig", with_changed_character(text, text.index(text.split(b"\n")[number]) + at))
-             for number, at in ((1, 41), (3, 42))]
+    wrong_signatures = []
+    for line_number, offset in ((1, 41), (3, 42)):
+        index = text.index(text.split(b"\n")[line_number]) + offset
+        wrong_signatures.append(write(installed.scratch, f"{offset}.sig", with_changed_character(text, index)))
     yield run([*program, "misuse", *paths])
-    for path in wrong:
+    for path in wrong_signatures:
         yield run([*program, key, data, path])
     for secret in ("half0.key", "key.key"):
         yield run([*program, installed.path(secret), data, signature_path, COMMENT])
@@ -287,19 +293,19 @@ int main(int argc, char **argv)
 
 def check_readme(checks, installed):
     """Compiles the function in README.md, and runs it with a valid signature and with invalid input."""
-    (shown,) = re.findall(r"(?ms)^```c\n(.*?)^```$", read(README).decode())
-    readme = installed.build_c("readme", write(installed.scratch, "readme.c", (shown + CALLING_README).encode()))
+    (example,) = re.findall(r"(?ms)^```c\n(.*?)^```$", read(README).decode())
+    readme = installed.build_c("readme", write(installed.scratch, "readme.c", (example + CALLING_README).encode()))
     good, signature = (os.path.join(CORPUS, name) for name in ("test", "published.minisig"))
-    for what, data, sig, status in (("valid", good, signature, 0), ("other data", signature, signature, 1),
-                                    ("no signature", good, good, 1), ("a directory", installed.scratch, signature, 1)):
-        checks.same(run([*readme, data, sig]), (status, ""), f"README.md, {what}")
+    for description, data, sig, status in (("valid", good, signature, 0), ("other data", signature, signature, 1),
+                                           ("no signature", good, good, 1), ("a directory", installed.scratch, signature, 1)):
+        checks.same(run([*readme, data, sig]), (status, ""), f"README.md, {description}")
 
 
 def check_updater(checks, installed):
     """Runs the example of an updater, with the published key, and with a key that has signed an empty file. A file
     that cannot be read must not be treated as an empty file."""
     good, signature = (os.path.join(CORPUS, name) for name in ("test", "published.minisig"))
-    changed, long = write(installed.scratch, "other-test", flip_bit(read(good), 0)), write(
+    changed, long_file = write(installed.scratch, "other-test", flip_bit(read(good), 0)), write(
         installed.scratch, "long", bytes(1 << 24)
     )
     missing, empty, empty_signature = map(installed.path, ("nothing", "empty", "empty.sig"))
@@ -308,21 +314,21 @@ def check_updater(checks, installed):
     check_published, check_empty = installed.build_c("check", source), installed.build_c(
         "check-under", write(installed.scratch, "check-under.c", source_with_key)
     )
-    for what, check, arguments, status in (
+    for description, check, arguments, status in (
         ("good", check_published, (good, signature), 0),
         ("other data", check_published, (changed, signature), 1),
         ("no signature", check_published, (good, good), 1),
         ("no data", check_published, (missing, signature), 2),
         ("no signature file", check_published, (good, missing), 2),
-        ("too long a signature file", check_published, (good, long), 2),
+        ("too long a signature file", check_published, (good, long_file), 2),
         ("an empty file", check_empty, (empty, empty_signature), 0),
         ("other data than none", check_empty, (good, empty_signature), 1),
         ("no data for an empty file", check_empty, (missing, empty_signature), 2),
         ("a directory for an empty file", check_empty, (installed.scratch, empty_signature), 2),
-        ("a long file for an empty one", check_empty, (long, empty_signature), 1),
+        ("a long file for an empty one", check_empty, (long_file, empty_signature), 1),
     ):
         comment = {good: "timestamp:1556193335\tfile:test", empty: "t"}[arguments[0]] + "\n" if status == 0 else ""
-        checks.same(run([*check, *arguments]), (status, comment), f"check, {what}")
+        checks.same(run([*check, *arguments]), (status, comment), f"check, {description}")
     published_paths = (os.path.join(CORPUS, "published.pub"), good, signature)
     checks.same(run([*installed.verifiers["stream"], "misuse", *published_paths]), (0, ""), "misuse of the stream calls")
 
@@ -367,14 +373,14 @@ def check_installing(checks, installed):
         installed.path("app-1"),
         *version_2[2:],
     ]
-    for what, arguments, expected_status, expected_errors in (
+    for description, arguments, expected_status, expected_errors in (
             ("a newer update", version_2, 0, ""), ("the same update", version_2, 10, ""),
             ("an older update", version_1, 4, f"error: {installed.path('app-1')}: the update is older than the recorded version\n"),
             ("a file that is no signature", [*version_2[:2], version_2[1], version_2[3]], 3, f"error: {version_2[1]}: "),
             ("a missing file", [version_2[0], installed.path("none"), version_2[2], installed.path("there/tool")], 1, "error: ")):
         status, errors = run([*install, *arguments], **libraries)
         holds = status == expected_status and errors.startswith(expected_errors) and bool(errors) == bool(expected_errors)
-        checks.check(holds, f"install, {what}: got {status}, {errors!r}, expected {expected_status}, {expected_errors!r}")
+        checks.check(holds, f"install, {description}: got {status}, {errors!r}, expected {expected_status}, {expected_errors!r}")
     os.remove(installed.path("there/app"))
     checks.check(
         run([*install, *other_data], **libraries)[0] == 3 and not os.path.exists(installed.path("there/app")),
@@ -438,20 +444,20 @@ def check_agent(checks, installed):
         output = installed.run_minisign("-Q", "-V", "-p", "first.minisign.pub", "-m", data, "-x", signature_path)
         checks.same(output, f"{COMMENT}\n", "the signature of an agent")
         os.remove(signature_path)
-        ran = run_with_stderr([*program, installed.path("second.minisign.pub"), *commands[1:]], **environment)
-        checks.same(ran, (1, "", "agent_sign: Signature verification failed\n"), "an agent without the key")
-    false = "00000053" "0e" "0000004f" "0000000b" + b"ssh-ed25519".hex() + "00000040" + "07" * 64
-    for what, answer in (("a false signature", false), ("a short answer", "00000001" "05"), ("no answer", "")):
+        result = run_with_stderr([*program, installed.path("second.minisign.pub"), *commands[1:]], **environment)
+        checks.same(result, (1, "", "agent_sign: Signature verification failed\n"), "an agent without the key")
+    false_answer = "00000053" "0e" "0000004f" "0000000b" + b"ssh-ed25519".hex() + "00000040" + "07" * 64
+    for description, answer in (("a false signature", false_answer), ("a short answer", "00000001" "05"), ("no answer", "")):
         with running_agent(
-            [sys.executable, "-c", LYING_AGENT, scratch(f"false {what}"), answer], scratch(f"false {what}")
+            [sys.executable, "-c", LYING_AGENT, scratch(f"false {description}"), answer], scratch(f"false {description}")
         ) as environment:
             output = run_with_stderr([*program, *commands], **environment)
-            checks.same(output, (1, "", "agent_sign: Signature verification failed\n"), f"an agent, {what}")
-    for what, environment in (
+            checks.same(output, (1, "", "agent_sign: Signature verification failed\n"), f"an agent, {description}")
+    for description, environment in (
         ("no agent", {"SSH_AUTH_SOCK": scratch("nothing")}),
         ("too long a path", {"SSH_AUTH_SOCK": "a" * 200}),
     ):
-        checks.check(run_with_stderr([*program, *commands], **environment)[0] == 1, what)
+        checks.check(run_with_stderr([*program, *commands], **environment)[0] == 1, description)
     checks.check(not os.path.exists(signature_path), "a signature file was left after an error")
 
 

@@ -1,5 +1,11 @@
-// Verifies from C++, with the installed header and pkg-config's flags, for installed.py. installed_verify PUBLIC_KEY
-// DATA SIGNATURE ends like the example in C.
+// Verifies a file from C++. installed.py compiles this program with the installed header and pkg-config's flags, to check
+// that the header can be used from C++.
+//
+//     installed_verify PUBLIC_KEY DATA SIGNATURE
+//
+// Like c/examples/verify.c: if the signature is valid, prints the trusted comment and exits with status 0. Otherwise
+// prints an error and exits with status 1. The library does not contain Ed25519: minisign_ask returns two signatures to
+// check (minisign_questions), the program checks them with libsodium, and passes the two results to minisign_verdict.
 #include <cstdio>
 #include <fstream>
 #include <iterator>
@@ -23,6 +29,7 @@ bool read(const char *name, std::string &text)
     return file.good() || file.eof();
 }
 
+// Returns the result of one check with Ed25519, for minisign_verdict.
 minisign_answer answer(const std::uint8_t *signature, const std::uint8_t *message, std::size_t len, const std::uint8_t *key)
 {
     return crypto_sign_verify_detached(signature, message, len, key) == 0 ? MINISIGN_ANSWER_YES : MINISIGN_ANSWER_NO;
@@ -38,7 +45,11 @@ int main(int argc, char **argv)
     minisign_state state;
     minisign_questions q;
 
-    if (argc != 4 || sodium_init() < 0 || !read(argv[1], key) || !read(argv[2], data) || !read(argv[3], signature)) {
+    if (argc != 4 || sodium_init() < 0) {
+        std::fputs("usage: installed_verify PUBLIC_KEY DATA SIGNATURE\n", stderr);
+        return 1;
+    }
+    if (!read(argv[1], key) || !read(argv[2], data) || !read(argv[3], signature)) {
         std::fputs("a file cannot be read\n", stderr);
         return 1;
     }
@@ -49,7 +60,9 @@ int main(int argc, char **argv)
         error = minisign_read_signature(bytes(signature), signature.size(), &read_signature);
     }
     if (error == MINISIGN_OK) {
-        error = minisign_ask(&state, &pk, &read_signature, bytes(signature), signature.size(), 0, &q,
+        const std::uint32_t allow_legacy = 0;
+
+        error = minisign_ask(&state, &pk, &read_signature, bytes(signature), signature.size(), allow_legacy, &q,
                              reinterpret_cast<std::uint8_t *>(&message[0]), message.size());
     }
     if (error == MINISIGN_OK) {
@@ -63,9 +76,9 @@ int main(int argc, char **argv)
                                  answer(q.comment_signature, bytes(message), q.message_len, q.public_key));
     }
     if (error != MINISIGN_OK) {
-        char why[MINISIGN_ERROR_TEXT_BYTES];
-        minisign_error_text(error, why, sizeof why);
-        std::fprintf(stderr, "%s\n", why);
+        char error_text[MINISIGN_ERROR_TEXT_BYTES];
+        minisign_error_text(error, error_text, sizeof error_text);
+        std::fprintf(stderr, "%s\n", error_text);
         return 1;
     }
     std::printf("%.*s\n", static_cast<int>(q.comment_len), message.data() + q.comment_offset);

@@ -1,7 +1,7 @@
 //! Verifies from Rust, with its own declarations of the calls. `tests/c/installed.py` builds it
-//! over the library that `make -C c install` installs. `installed_verify PUBLIC_KEY DATA SIGNATURE`
-//! ends like the example in C: with status 0 and the trusted comment if the signature is valid,
-//! otherwise with 1, or with 2 if a file cannot be read.
+//! over the library that `make -C c install` installs. Like c/examples/verify.c,
+//! `installed_verify PUBLIC_KEY DATA SIGNATURE` prints the trusted comment and exits with status 0
+//! if the signature is valid. Otherwise it exits with status 1, or with 2 if a file cannot be read.
 
 use std::fs::{self, File};
 use std::io::{self, Read, Write};

@@ -91,13 +91,13 @@ def rows_and_module(has_constants):
     list(wasm_translation.add_memory(module, random.Random(0)))
     rows = []
     for name in wasm_to_c.IN_C:
-        what = re.match(r"load|store|", name.split(".")[1])[0]
-        rows.append((f"machine_{name.replace('.', '_')}", name, OFFSETS.get(what, 0), None))
+        access = re.match(r"load|store|", name.split(".")[1])[0]
+        rows.append((f"machine_{name.replace('.', '_')}", name, OFFSETS.get(access, 0), None))
     for kind, bits in wasm_to_c.BITS.items() if has_constants else ():
         for shift in SHIFTS:
-            for by in range(bits):
-                module.add(f"{kind}_{shift}_by_{by}", [kind], kind, f"local.get 0 {kind}.const {by} {kind}.{shift}")
-                rows.append((f"machine_{kind}_{shift}_by_{by}", f"{kind}.{shift}", 0, by))
+            for distance in range(bits):
+                module.add(f"{kind}_{shift}_by_{distance}", [kind], kind, f"local.get 0 {kind}.const {distance} {kind}.{shift}")
+                rows.append((f"machine_{kind}_{shift}_by_{distance}", f"{kind}.{shift}", 0, distance))
     return rows, module
 
 
@@ -127,14 +127,15 @@ class Proofs:
         functions with new IR."""
         rows, module = rows_and_module(has_constants)
         bodies, ir_file = compile_to_ir(self.scratch, module, machine, form)
-        new = [row for row in rows if (row[0], bodies[row[0]]) not in self.verdicts]
-        listed = write(os.path.dirname(ir_file), "rows.json", json.dumps(new).encode())
-        output = run_or_fail([python(), PROVER, ir_file, listed])
+        new_rows = [row for row in rows if (row[0], bodies[row[0]]) not in self.verdicts]
+        rows_file = write(os.path.dirname(ir_file), "rows.json", json.dumps(new_rows).encode())
+        output = run_or_fail([python(), PROVER, ir_file, rows_file])
         verdicts = dict(line.split("\t", 1) for line in output.splitlines())
-        for name, *_ in new:
+        for name, *_ in new_rows:
             self.verdicts[name, bodies[name]] = verdicts.get(name, "the prover printed nothing about it")
-        found = {name: self.verdicts[name, bodies[name]] for name, *_ in rows}
-        return {name: verdict for name, verdict in found.items() if verdict != "proved"}, [*found], len(new)
+        verdicts_of_rows = {name: self.verdicts[name, bodies[name]] for name, *_ in rows}
+        unproved = {name: verdict for name, verdict in verdicts_of_rows.items() if verdict != "proved"}
+        return unproved, [*verdicts_of_rows], len(new_rows)
 
 
 def types_text():
@@ -158,8 +159,8 @@ def wrong_types(scratch):
     source = write(scratch, "types.c", types_text().encode())
     machine = ["-I", f"{TOP}/c/library/portable"]
     status, output = run([needs.program("clang", "clang"), "-std=c11", "-ferror-limit=0", "-fsyntax-only", "-w", *machine, source])
-    found = re.findall(r'static_assert failed[^"]*"([\w.]+)"', output)
-    return found if found or status == 0 else [output[-300:]]
+    wrong_names = re.findall(r'static_assert failed[^"]*"([\w.]+)"', output)
+    return wrong_names if wrong_names or status == 0 else [output[-300:]]
 
 
 # ---- Checks ----
@@ -168,8 +169,8 @@ def wrong_types(scratch):
 def check_rows(checks, proofs):
     """Checks that each row is proved and has the right type."""
     for form in FORMS:
-        unproved, names, new = proofs.unproved(form=form, has_constants=True)
-        print(f"{form}: {new} new functions, of {len(wasm_to_c.IN_C)} rows and of shifts by constants")
+        unproved, names, new_count = proofs.unproved(form=form, has_constants=True)
+        print(f"{form}: {new_count} new functions, of {len(wasm_to_c.IN_C)} rows and of shifts by constants")
         checks.same(len(names), len(wasm_to_c.IN_C) + len(SHIFTS) * sum(wasm_to_c.BITS.values()), "the number of functions")
         for name in names:
             checks.check(name not in unproved, f"{form}: {name}: {unproved.get(name)}")
@@ -186,9 +187,9 @@ def check_mutants(checks, proofs):
         with mock.patch.dict(wasm_to_c.IN_C, {name: text}):
             checks.same(wrong_types(proofs.scratch), [name], f"rows with a wrong type, with {text} as the C for {name}")
     for mutant in mutants_of("c", "machine_mutants"):
-        unproved, _, new = proofs.unproved(applied_to(wasm_translation.MACHINE, mutant))
+        unproved, _, new_count = proofs.unproved(applied_to(wasm_translation.MACHINE, mutant))
         checks.check(
-            unproved or (mutant.name in NO_ROW_CHANGED and new == 0),
+            unproved or (mutant.name in NO_ROW_CHANGED and new_count == 0),
             f"all rows are proved with the mutant {mutant.name} of machine.h",
         )
 

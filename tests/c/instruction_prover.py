@@ -82,22 +82,24 @@ def division_facts(operation, a, b):
     if operation not in ("div_s", "rem_s"):
         return
     # clang divides 32-bit numbers as 32-bit or as 64-bit numbers.
-    wide, more = [z3.SignExt(64 - x.size(), x) if x.size() < 64 else x for x in (a, b)], 64 - a.size()
-    narrow = [z3.ZeroExt(more, absolute(x)) if more else absolute(x) for x in (a, b)]
-    for x, y in ([*map(absolute, wide)], narrow):
-        most = z3.If(y == 1, QUOTIENT(x, y) == x, z3.ULE(QUOTIENT(x, y), z3.LShR(x, 1)))
-        yield z3.If(y == 0, z3.And(QUOTIENT(x, y) == 0, REMAINDER(x, y) == 0), z3.And(most, z3.ULT(REMAINDER(x, y), y)))
+    extra_bits = 64 - a.size()
+    wide_operands = [z3.SignExt(extra_bits, operand) if extra_bits else operand for operand in (a, b)]
+    narrow_operands = [z3.ZeroExt(extra_bits, absolute(operand)) if extra_bits else absolute(operand) for operand in (a, b)]
+    for dividend, divisor in ([*map(absolute, wide_operands)], narrow_operands):
+        ratio, rest = QUOTIENT(dividend, divisor), REMAINDER(dividend, divisor)
+        ratio_bound = z3.If(divisor == 1, ratio == dividend, z3.ULE(ratio, z3.LShR(dividend, 1)))
+        yield z3.If(divisor == 0, z3.And(ratio == 0, rest == 0), z3.And(ratio_bound, z3.ULT(rest, divisor)))
 
 
-def proof_of(claim, *given):
+def proof_of(claim, *assumptions):
     """Returns "proved" if z3 proves the claim from these assumptions, and otherwise the reason."""
     solver = z3.Solver()
     solver.set("timeout", MILLISECONDS)
-    solver.add(*given, z3.Not(claim))
-    answer = solver.check()
-    if answer == z3.unsat:
+    solver.add(*assumptions, z3.Not(claim))
+    result = solver.check()
+    if result == z3.unsat:
         return "proved"
-    if answer == z3.unknown:
+    if result == z3.unknown:
         return f"z3 gave up: {solver.reason_unknown()}"
     model = solver.model()
     return "differs for " + ", ".join(sorted(f"{name} = {model[name]}" for name in model.decls() if z3.is_bv(model[name])))
@@ -109,10 +111,10 @@ def number_verdict(function, kind, operation, second):
     bits = int(operand_bits[1]) if operand_bits else int(kind[1:])
     a, b = z3.BitVecs("a b", bits)
     b = b if second is None else z3.BitVecVal(second, bits)
-    given = [a] if operation in UNARY else [a, b]
+    operands = [a] if operation in UNARY else [a, b]
     contents = memory()
-    outcome = execute(function, given if second is None else [a], contents)
-    expected = (UNARY if operation in UNARY else BINARY)[operation](*given)
+    outcome = execute(function, operands if second is None else [a], contents)
+    expected = (UNARY if operation in UNARY else BINARY)[operation](*operands)
     traps = trap(operation, a, b)
     is_same = z3.And(z3.Not(outcome.undefined), outcome.memory == contents, outcome.result == expected)
     return proof_of(z3.And(outcome.ends == traps, z3.Implies(z3.Not(traps), is_same)), *division_facts(operation, a, b))
@@ -120,17 +122,18 @@ def number_verdict(function, kind, operation, second):
 
 def memory_verdict(function, kind, operation, offset):
     """Returns the verdict on a load or a store, at an address plus an offset."""
-    what, size, sign = re.fullmatch(r"(load|store)(\d*)_?([us]?)", operation).groups()
+    access, size, sign = re.fullmatch(r"(load|store)(\d*)_?([us]?)", operation).groups()
     bits, contents, address = int(kind[1:]), memory(), z3.BitVec("a", ADDRESS_BITS)
-    narrow, value, extra = int(size or bits), z3.BitVec("b", bits), z3.BitVec("other", ADDRESS_BITS)
+    memory_bits, value, unused = int(size or bits), z3.BitVec("b", bits), z3.BitVec("other", ADDRESS_BITS)
     # wasm_translation.py gives the function of a load a second parameter, which is not used.
-    outcome = execute(function, [address, value if what == "store" else extra], contents)
-    ends = z3.And(z3.Not(outcome.ends), z3.Not(outcome.undefined))
-    if what == "store":
-        return proof_of(z3.And(ends, outcome.memory == store(contents, address + offset, z3.Extract(narrow - 1, 0, value))))
-    found = load(contents, address + offset, narrow // 8)
-    expected = found if narrow == bits else (z3.SignExt if sign == "s" else z3.ZeroExt)(bits - narrow, found)
-    return proof_of(z3.And(ends, outcome.result == expected, outcome.memory == contents))
+    outcome = execute(function, [address, value if access == "store" else unused], contents)
+    terminates_normally = z3.And(z3.Not(outcome.ends), z3.Not(outcome.undefined))
+    if access == "store":
+        stored = store(contents, address + offset, z3.Extract(memory_bits - 1, 0, value))
+        return proof_of(z3.And(terminates_normally, outcome.memory == stored))
+    loaded = load(contents, address + offset, memory_bits // 8)
+    expected = loaded if memory_bits == bits else (z3.SignExt if sign == "s" else z3.ZeroExt)(bits - memory_bits, loaded)
+    return proof_of(z3.And(terminates_normally, outcome.result == expected, outcome.memory == contents))
 
 
 def verdict(function, instruction, offset, second):
@@ -140,8 +143,8 @@ def verdict(function, instruction, offset, second):
         if operation.startswith(("load", "store")):
             return memory_verdict(function, kind, operation, offset)
         return number_verdict(function, kind, operation, second)
-    except Unsupported as why:
-        return f"not read: {why}"
+    except Unsupported as error:
+        return f"not read: {error}"
 
 
 def main(module, rows):

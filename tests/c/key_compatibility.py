@@ -80,7 +80,7 @@ class Keys:
         environment = {**os.environ, "LD_PRELOAD": preloaded}
         return run_measured(command, self.directory, typed, stderr=subprocess.DEVNULL, env=environment)
 
-    def ours(self, *arguments):
+    def run_ours(self, *arguments):
         """Runs keys.c. Returns its output, or the number of an error of the library, and the peak memory."""
         status, output, memory = self.run(self.program, *arguments)
         return (output if status == 0 else int(output) if status == 1 else f"status {status}: {output!r}"), memory
@@ -88,23 +88,23 @@ class Keys:
     def secret(self, secret=SECRET, *password, key_id=KEY_ID, salt=SALT, limits=LOW_LIMITS, keep_every=1, comment=SECRET_COMMENT):
         """Returns a secret key file that the library writes. It is encrypted if there is a password."""
         numbers = map(str, (limits.operations, limits.memory, keep_every))
-        return self.ours("secret", key_id.hex(), secret.hex(), salt.hex(), *numbers, comment, *password)[0]
+        return self.run_ours("secret", key_id.hex(), secret.hex(), salt.hex(), *numbers, comment, *password)[0]
 
     def public(self, secret=SECRET, key_id=KEY_ID, comment=None):
         """Returns a public key file that the library writes, by default with the comment that Minisign writes."""
         comment = f"minisign public key {int.from_bytes(key_id, 'little'):X}" if comment is None else comment
-        return self.ours("public", key_id.hex(), secret.hex(), comment)[0]
+        return self.run_ours("public", key_id.hex(), secret.hex(), comment)[0]
 
-    def opened(self, text, *password, keep_every=1, max_rows=USUAL_ROWS, how="open"):
-        """Decrypts a key file with the library; with how="place", in memory of the caller. Returns the key ID and
+    def opened(self, text, *password, keep_every=1, max_rows=USUAL_ROWS, command="open"):
+        """Decrypts a key file with the library; with command="place", in memory of the caller. Returns the key ID and
         the secret key, or the number of the error, and the peak memory."""
-        result, memory = self.ours(how, str(keep_every), str(max_rows), text, *password)
+        result, memory = self.run_ours(command, str(keep_every), str(max_rows), text, *password)
         return (tuple(map(bytes.fromhex, result.decode().split())) if isinstance(result, bytes) else result), memory
 
     def memory(self, text, keep_every=1):
         """Returns the memory that the caller must provide for decrypting a key in place: a number of words and a
         number of bytes."""
-        return tuple(map(int, self.ours("memory", str(keep_every), text)[0].split()))
+        return tuple(map(int, self.run_ours("memory", str(keep_every), text)[0].split()))
 
     def generated(self, name, password="", preloaded=""):
         """Returns the secret and the public key file that Minisign generates. The key is encrypted if there is a
@@ -125,18 +125,19 @@ class Keys:
 
 def makes_same_files(keys):
     """Checks that the library writes the same key files as Minisign if both use the same random bytes."""
-    theirs, their_public = keys.generated("sealed", "pw", keys.fixed_random)
+    their_secret, their_public = keys.generated("sealed", "pw", keys.fixed_random)
     unsealed, unsealed_public = keys.generated("unsealed", preloaded=keys.fixed_random)
     secret = record_of(unsealed)[62:126]
-    keys.check(record_of(theirs)[6:38] == SALT and record_of(unsealed)[54:62] == KEY_ID and secret[:32] == SEED,
+    keys.check(record_of(their_secret)[6:38] == SALT and record_of(unsealed)[54:62] == KEY_ID and secret[:32] == SEED,
                "Minisign did not use the fixed random bytes")
-    keys.check(keys.secret(secret, "pw", limits=USUAL_LIMITS) == theirs,
+    keys.check(keys.secret(secret, "pw", limits=USUAL_LIMITS) == their_secret,
                "an encrypted key file differs from Minisign's")
     keys.check(keys.public(secret) == their_public == unsealed_public, "a public key file differs from Minisign's")
-    ours = keys.secret(secret)
-    keys.check(ours.splitlines()[0] == unsealed.splitlines()[0] and record_of(ours) == with_checksum(record_of(unsealed)),
+    our_secret = keys.secret(secret)
+    is_same = record_of(our_secret) == with_checksum(record_of(unsealed))
+    keys.check(our_secret.splitlines()[0] == unsealed.splitlines()[0] and is_same,
                "an unencrypted key file differs from Minisign's")
-    keys.check(keys.is_used(ours, their_public), "Minisign does not use an unencrypted key")
+    keys.check(keys.is_used(our_secret, their_public), "Minisign does not use an unencrypted key")
     expected = b"untrusted comment: " + b"c" * 40 + b"\n" + their_public.splitlines()[1] + b"\n"
     keys.check(keys.public(secret, comment="c" * 40) == expected,
                "the public key file with a longer comment is wrong")
@@ -144,10 +145,10 @@ def makes_same_files(keys):
 
 def reencrypts_keys(keys):
     """Checks that the library can encrypt a key of `minisign -G` with another password, and recreate its public key."""
-    theirs, their_public = keys.generated("random", "old")
-    key_id_and_secret, few_rows_kib = keys.opened(theirs, "old", keep_every=16)
-    key_with_all_rows, all_rows_kib = keys.opened(theirs, "old")
-    in_place, in_place_kib = keys.opened(theirs, "old", keep_every=16, how="place")
+    their_secret, their_public = keys.generated("random", "old")
+    key_id_and_secret, few_rows_kib = keys.opened(their_secret, "old", keep_every=16)
+    key_with_all_rows, all_rows_kib = keys.opened(their_secret, "old")
+    in_place, in_place_kib = keys.opened(their_secret, "old", keep_every=16, command="place")
     keys.check(max(few_rows_kib, in_place_kib) < 80 << 10,
                f"decrypting with few rows takes {few_rows_kib} KiB, and in place {in_place_kib} KiB")
     keys.check(all_rows_kib > 1 << 20, f"decrypting with all rows takes only {all_rows_kib} KiB")
@@ -171,15 +172,15 @@ def seals_with_other_limits(keys):
     password."""
     for limits, password, keep_every_values in ((LOW_LIMITS, "pässword", KEEP_EVERY), (FOUR_PARTS, "pässword", KEEP_EVERY),
                                                 (LOW_LIMITS, "", (1,))):
-        what, expected = f"{limits}, {password!r}", seal_record(RECORD, password.encode(), limits, SALT)
+        description, expected = f"{limits}, {password!r}", seal_record(RECORD, password.encode(), limits, SALT)
         for keep_every in (1, 16):
             text = keys.secret(SECRET, password, limits=limits, keep_every=keep_every)
             keys.check(record_of(text) == expected,
-                       f"{what}: the key file is wrong with every {keep_every}th row stored")
-        keys.check(keys.opened(text, "another")[0] == WRONG_PASSWORD, f"{what}: another password is not rejected")
-        for how, keep_every in itertools.product(("open", "place"), keep_every_values):
-            result, _ = keys.opened(text, password, keep_every=keep_every, max_rows=limits.parts * ROWS, how=how)
-            keys.check(result == (KEY_ID, SECRET), f"{what}, {how}, every {keep_every}th row stored: got {result}")
+                       f"{description}: the key file is wrong with every {keep_every}th row stored")
+        keys.check(keys.opened(text, "another")[0] == WRONG_PASSWORD, f"{description}: another password is not rejected")
+        for command, keep_every in itertools.product(("open", "place"), keep_every_values):
+            result, _ = keys.opened(text, password, keep_every=keep_every, max_rows=limits.parts * ROWS, command=command)
+            keys.check(result == (KEY_ID, SECRET), f"{description}, {command}, every {keep_every}th row stored: got {result}")
 
 
 def respects_limits(keys):
@@ -201,12 +202,12 @@ def respects_limits(keys):
         keys.check(ROWS // 16 * 256 <= words <= (ROWS // 16 + 3) * 256 and byte_count == 1024 * times,
                    f"{times} times the rows: {words} words and {byte_count} bytes")
     # For keys that cannot be decrypted in place, no memory is needed.
-    for what, key in (
+    for description, key in (
         (f"limits {TOO_HIGH}", with_limits(text, TOO_HIGH)),
         (f"limits {NOT_ALLOWED}", with_limits(text, NOT_ALLOWED)),
         ("an unencrypted key", keys.secret()),
     ):
-        keys.check(keys.memory(key) == (0, 0), f"{what}: the memory is {keys.memory(key)}, expected none")
+        keys.check(keys.memory(key) == (0, 0), f"{description}: the memory is {keys.memory(key)}, expected none")
 
 
 def writes_longest_comment(keys):

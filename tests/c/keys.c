@@ -51,7 +51,7 @@ static int status_of(uint32_t error)
 }
 
 /* Prints a secret key file, which is encrypted if there is a password, or a public key file. */
-static int make(int argc, char **argv, int is_secret)
+static int print_key_file(int argc, char **argv, int is_secret)
 {
     static uint8_t text[4096];
     const char *password = argc > 9 ? argv[9] : "", *comment = argv[is_secret ? 8 : 4];
@@ -82,24 +82,24 @@ static int make(int argc, char **argv, int is_secret)
 }
 
 /* Allocates `len` bytes and fills them with a value other than 0. */
-static void *filled(uint64_t len)
+static void *allocate_filled(uint64_t len)
 {
-    void *at = malloc((size_t) len);
+    void *block = malloc((size_t) len);
 
-    return at == NULL ? NULL : memset(at, 0x5a, (size_t) len);
+    return block == NULL ? NULL : memset(block, 0x5a, (size_t) len);
 }
 
-static uint32_t open_in_place(const minisign_unopened_key *unopened, const char *password, uint64_t every, uint64_t rows,
+static uint32_t open_in_place(const minisign_unopened_key *unopened, const char *password, uint64_t keep_every, uint64_t rows,
                               minisign_secret_key *key)
 {
     uint64_t words_wanted, bytes_wanted;
     uint32_t *words, error;
     uint8_t *parts;
 
-    minisign_opening_memory(unopened, every, rows, &words_wanted, &bytes_wanted);
-    words = filled(words_wanted * sizeof *words);
-    parts = filled(bytes_wanted);
-    error = minisign_open_sealed_key_in_place(unopened, bytes_of(password), strlen(password), every, rows, words,
+    minisign_opening_memory(unopened, keep_every, rows, &words_wanted, &bytes_wanted);
+    words = allocate_filled(words_wanted * sizeof *words);
+    parts = allocate_filled(bytes_wanted);
+    error = minisign_open_sealed_key_in_place(unopened, bytes_of(password), strlen(password), keep_every, rows, words,
                                               (size_t) words_wanted, parts, (size_t) bytes_wanted, key);
     if (!is_zeros(words, (size_t) words_wanted * sizeof *words) || !is_zeros(parts, (size_t) bytes_wanted)) {
         printf("the memory was not cleared\n");
@@ -125,15 +125,15 @@ static int print_memory(char **argv)
 
 static int open_key(int argc, char **argv)
 {
-    const uint64_t every = number_of(argv[2]), rows = number_of(argv[3]);
+    const uint64_t keep_every = number_of(argv[2]), rows = number_of(argv[3]);
     const char *password = argc > 5 ? argv[5] : "";
     minisign_unopened_key unopened;
     minisign_secret_key key;
     uint32_t error = minisign_read_secret_key(bytes_of(argv[4]), strlen(argv[4]), &unopened);
 
     if (error == MINISIGN_OK) {
-        error = strcmp(argv[1], "place") == 0 ? open_in_place(&unopened, password, every, rows, &key)
-                : argc > 5 ? minisign_open_sealed_key(&unopened, bytes_of(password), strlen(password), every, rows, &key)
+        error = strcmp(argv[1], "place") == 0 ? open_in_place(&unopened, password, keep_every, rows, &key)
+                : argc > 5 ? minisign_open_sealed_key(&unopened, bytes_of(password), strlen(password), keep_every, rows, &key)
                            : (uint32_t) minisign_open_unsealed_key(&unopened, &key);
     }
     if (error == MINISIGN_OK) {
@@ -145,11 +145,11 @@ static int open_key(int argc, char **argv)
 
 int main(int argc, char **argv)
 {
-    const char *how = argc > 1 ? argv[1] : "";
+    const char *command = argc > 1 ? argv[1] : "";
 
-    return argc >= 9 && strcmp(how, "secret") == 0                                ? make(argc, argv, 1)
-           : argc == 5 && strcmp(how, "public") == 0                              ? make(argc, argv, 0)
-           : argc >= 5 && (strcmp(how, "open") == 0 || strcmp(how, "place") == 0) ? open_key(argc, argv)
-           : argc == 4 && strcmp(how, "memory") == 0                              ? print_memory(argv)
-                                                                                  : 2;
+    return argc >= 9 && strcmp(command, "secret") == 0                                    ? print_key_file(argc, argv, 1)
+           : argc == 5 && strcmp(command, "public") == 0                                  ? print_key_file(argc, argv, 0)
+           : argc >= 5 && (strcmp(command, "open") == 0 || strcmp(command, "place") == 0) ? open_key(argc, argv)
+           : argc == 4 && strcmp(command, "memory") == 0                                  ? print_memory(argv)
+                                                                                          : 2;
 }

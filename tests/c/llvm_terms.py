@@ -30,13 +30,13 @@ def memory():
 
 def load(contents, address, size):
     """Returns the little-endian number of `size` bytes at an address."""
-    return z3.simplify(z3.Concat([contents[address + at] for at in reversed(range(size))]) if size > 1 else contents[address])
+    return z3.simplify(z3.Concat([contents[address + index] for index in reversed(range(size))]) if size > 1 else contents[address])
 
 
 def store(contents, address, value):
     """Returns the memory after a little-endian number was stored."""
-    for at in range(value.size() // 8):
-        contents = z3.Store(contents, address + at, z3.Extract(8 * at + 7, 8 * at, value))
+    for index in range(value.size() // 8):
+        contents = z3.Store(contents, address + index, z3.Extract(8 * index + 7, 8 * index, value))
     return contents
 
 
@@ -44,14 +44,14 @@ def store(contents, address, value):
 
 
 def count_ones(x):
-    return z3.Sum([z3.ZeroExt(x.size() - 1, z3.Extract(at, at, x)) for at in range(x.size())])
+    return z3.Sum([z3.ZeroExt(x.size() - 1, z3.Extract(index, index, x)) for index in range(x.size())])
 
 
 def zeros(x, positions):
     """Returns the number of zero bits before the first one bit, in the order of these positions."""
     term = z3.BitVecVal(x.size(), x.size())
-    for count, at in reversed([*enumerate(positions)]):
-        term = z3.If(z3.Extract(at, at, x) == 1, z3.BitVecVal(count, x.size()), term)
+    for count, index in reversed([*enumerate(positions)]):
+        term = z3.If(z3.Extract(index, index, x) == 1, z3.BitVecVal(count, x.size()), term)
     return term
 
 
@@ -69,8 +69,10 @@ QUOTIENT, REMAINDER = (z3.Function(name, *[z3.BitVecSort(64)] * 3) for name in (
 
 
 def divide(function, a, b):
-    more = 64 - a.size()
-    return function(a, b) if more == 0 else z3.Extract(a.size() - 1, 0, function(z3.ZeroExt(more, a), z3.ZeroExt(more, b)))
+    extra_bits = 64 - a.size()
+    if extra_bits == 0:
+        return function(a, b)
+    return z3.Extract(a.size() - 1, 0, function(z3.ZeroExt(extra_bits, a), z3.ZeroExt(extra_bits, b)))
 
 
 def quotient(a, b):
@@ -105,11 +107,13 @@ COMPARISONS = {
 }
 
 
-def funnel(a, b, by, is_left):
+def funnel(a, b, distance, is_left):
     """Computes llvm.fshl or llvm.fshr: the concatenation of two numbers, shifted."""
-    bits, both = a.size(), z3.Concat(a, b)
-    by = z3.ZeroExt(bits, z3.URem(by, z3.BitVecVal(bits, bits)))
-    return z3.Extract(2 * bits - 1, bits, both << by) if is_left else z3.Extract(bits - 1, 0, z3.LShR(both, by))
+    bits, concatenated = a.size(), z3.Concat(a, b)
+    distance = z3.ZeroExt(bits, z3.URem(distance, z3.BitVecVal(bits, bits)))
+    if is_left:
+        return z3.Extract(2 * bits - 1, bits, concatenated << distance)
+    return z3.Extract(bits - 1, 0, z3.LShR(concatenated, distance))
 
 
 INTRINSICS = {
@@ -150,18 +154,18 @@ class Execution:
         result, contents, ends = self.block("entry", None, values, contents, ALWAYS, ())
         self.outcome = Outcome(result, contents, ends, z3.Or(NEVER, *self.undefined))
 
-    def block(self, name, before, values, contents, reached, above):
-        """Executes a block and the blocks that follow it. `before` is the name of the block from which it was reached,
-        for phi; `reached` the condition under which this path is taken; `above` the names of all blocks on the path.
-        Returns the result, the memory, and the condition under which the function calls abort."""
-        if name in above:
+    def block(self, name, previous_block, values, contents, path_condition, path):
+        """Executes a block and the blocks that follow it. `previous_block` is the name of the block from which it was
+        reached, for phi; `path_condition` is the condition under which this path is taken; `path` has the names of all
+        blocks on the path. Returns the result, the memory, and the condition under which the function calls abort."""
+        if name in path:
             raise Unsupported(f"a loop at {name}")
-        values, above = dict(values), (*above, name)
+        values, path = dict(values), (*path, name)
         for line in self.function.blocks[name]:
             target, _, text = line.rpartition(" = ") if line.startswith("%") else ("", "", line)
             word = text.split()[0]
             if word == "br":
-                return self.branch(text, name, values, contents, reached, above)
+                return self.branch(text, name, values, contents, path_condition, path)
             if word == "ret":
                 match = re.fullmatch(r"ret i(\d+) (\S+)", text)
                 if not match and text != "ret void":
@@ -174,24 +178,28 @@ class Execution:
             if word == "store":
                 contents = self.store_term(text, values, contents)
             elif target:
-                values[target[1:]] = self.term(text, before, values, contents, reached)
+                values[target[1:]] = self.term(text, previous_block, values, contents, path_condition)
             elif text != "tail call void @abort()":
                 raise Unsupported(line)
         raise Unsupported(f"the block {name} has no terminator")
 
-    def branch(self, text, name, values, contents, reached, above):
+    def branch(self, text, name, values, contents, path_condition, path):
         """Executes a branch instruction at the end of a block, like `block`."""
         match = re.fullmatch(r"br label %([\w.]+)", text)
         if match:
-            return self.block(match[1], name, values, contents, reached, above)
+            return self.block(match[1], name, values, contents, path_condition, path)
         match = re.fullmatch(r"br i1 (\S+), label %([\w.]+), label %([\w.]+)", text)
         if not match:
             raise Unsupported(text)
         condition = self.value(values, match[1], 1) == 1
-        yes = self.block(match[2], name, values, contents, z3.And(reached, condition), above)
-        no = self.block(match[3], name, values, contents, z3.And(reached, z3.Not(condition)), above)
-        result = no[0] if yes[0] is None else yes[0] if no[0] is None else z3.If(condition, yes[0], no[0])
-        return result, z3.If(condition, yes[1], no[1]), z3.If(condition, yes[2], no[2])
+        if_true = self.block(match[2], name, values, contents, z3.And(path_condition, condition), path)
+        if_false = self.block(match[3], name, values, contents, z3.And(path_condition, z3.Not(condition)), path)
+        # A branch that ends with `unreachable` has no result.
+        if if_true[0] is None:
+            result = if_false[0]
+        else:
+            result = if_true[0] if if_false[0] is None else z3.If(condition, if_true[0], if_false[0])
+        return result, z3.If(condition, if_true[1], if_false[1]), z3.If(condition, if_true[2], if_false[2])
 
     @staticmethod
     def value(values, word, bits):
@@ -207,28 +215,28 @@ class Execution:
             raise Unsupported(text)
         return store(contents, self.value(values, match[3], ADDRESS_BITS), self.value(values, match[2], int(match[1])))
 
-    def term(self, text, before, values, contents, reached):
+    def term(self, text, previous_block, values, contents, path_condition):
         """Returns the value of an instruction."""
         for pattern, translate in self.FORMS:
             match = re.fullmatch(pattern, text)
             if match:
-                return translate(self, match, values, reached, before, contents)
+                return translate(self, match, values, path_condition, previous_block, contents)
         raise Unsupported(text)
 
     # Each of the following methods returns the value of an instruction of one of the FORMS. `match` is the match of
     # its pattern.
 
-    def binary_term(self, match, values, reached, *_):
+    def binary_term(self, match, values, path_condition, *_):
         operation, flags, bits = match[1], match[2].split(), int(match[3])
         a, b = (self.value(values, word, bits) for word in match.group(4, 5))
         for flag in flags:
             if (operation, flag) not in POISON_CONDITIONS:
                 raise Unsupported(match[0])
-            self.undefined.append(z3.And(reached, POISON_CONDITIONS[operation, flag](a, b)))
+            self.undefined.append(z3.And(path_condition, POISON_CONDITIONS[operation, flag](a, b)))
         if operation in ("shl", "lshr", "ashr"):
-            self.undefined.append(z3.And(reached, z3.UGE(b, bits)))
+            self.undefined.append(z3.And(path_condition, z3.UGE(b, bits)))
         if operation in ("udiv", "urem"):
-            self.undefined.append(z3.And(reached, b == 0))
+            self.undefined.append(z3.And(path_condition, b == 0))
         return BINARY[operation](a, b)
 
     def comparison_term(self, match, values, *_):
@@ -236,16 +244,16 @@ class Execution:
         return z3.If(COMPARISONS[match[1]](a, b), z3.BitVecVal(1, 1), z3.BitVecVal(0, 1))
 
     def cast_term(self, match, values, *_):
-        bits, more = int(match[2]), int(match[4]) - int(match[2])
+        bits, extra_bits = int(match[2]), int(match[4]) - int(match[2])
         value = self.value(values, match[3], bits)
-        return {"zext": lambda: z3.ZeroExt(more, value), "sext": lambda: z3.SignExt(more, value),
+        return {"zext": lambda: z3.ZeroExt(extra_bits, value), "sext": lambda: z3.SignExt(extra_bits, value),
                 "trunc": lambda: z3.Extract(int(match[4]) - 1, 0, value)}[match[1]]()
 
     def select_term(self, match, values, *_):
         a, b = (self.value(values, word, int(match[2])) for word in match.group(3, 4))
         return z3.If(self.value(values, match[1], 1) == 1, a, b)
 
-    def call_term(self, match, values, reached, *_):
+    def call_term(self, match, values, path_condition, *_):
         bits, name = int(match[1]), match[2]
         if name not in INTRINSICS:
             raise Unsupported(match[0])
@@ -254,12 +262,12 @@ class Execution:
             for kind, word in re.findall(r"i(\d+) (?:noundef )?(\S+?)(?:,|$)", match[3])
         ]
         if name in POISON_INPUTS:
-            self.undefined.append(z3.And(reached, arguments[0] == POISON_INPUTS[name](bits), arguments[1] == 1))
+            self.undefined.append(z3.And(path_condition, arguments[0] == POISON_INPUTS[name](bits), arguments[1] == 1))
         return INTRINSICS[name](*arguments)
 
-    def phi_term(self, match, values, _, before, *__):
+    def phi_term(self, match, values, _, previous_block, *__):
         values_by_block = dict((block, word) for word, block in re.findall(r"\[ (\S+), %([\w.]+) \]", match[2]))
-        return self.value(values, values_by_block[before], int(match[1]))
+        return self.value(values, values_by_block[previous_block], int(match[1]))
 
     def load_term(self, match, values, _, __, contents):
         return load(contents, self.value(values, match[2], ADDRESS_BITS), int(match[1]) // 8)

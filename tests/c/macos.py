@@ -127,8 +127,8 @@ def check_linking(checks, scratch, directory, header_flags):
         ]
         checks.ended(f"make install for {target}", run([needs.program("make", "make"), "-s", "-C", C, *arguments, "install"]))
         installed = {
-            os.path.relpath(os.path.join(at, name), f"{root}/usr/local")
-            for at, _, names in os.walk(root)
+            os.path.relpath(os.path.join(parent, name), f"{root}/usr/local")
+            for parent, _, names in os.walk(root)
             for name in names
         }
         libraries = {name for name in installed if name.startswith("lib/") and not name.startswith("lib/pkgconfig/")}
@@ -147,17 +147,17 @@ def check_linking(checks, scratch, directory, header_flags):
         exported = {f"_{name}" for name in (*names, "minisign_version")}
         checks.check(status == 0 and set(output.split()) == exported, f"{target}: the library exports {output.split()[:50]}")
         checks.ended(f"make uninstall for {target}", run([needs.program("make", "make"), "-s", "-C", C, *arguments, "uninstall"]))
-        left = [name for _, _, names in os.walk(root) for name in names]
-        checks.check(not left, f"{target}: `make uninstall` leaves {left}")
+        remaining = [name for _, _, names in os.walk(root) for name in names]
+        checks.check(not remaining, f"{target}: `make uninstall` leaves {remaining}")
 
 
 def signals_handled_by(program, scratch):
     """Returns the signals that a program handles while it waits for a password."""
     with subprocess.Popen([program, "-G", "-p", "a.pub", "-s", "a.key"], cwd=scratch, stdin=subprocess.PIPE, stdout=subprocess.PIPE,
-                          stderr=subprocess.DEVNULL) as result:
-        result.stdout.read(1)
-        mask = int(re.search(r"(?m)^SigCgt:\s*(\w+)$", macos_headers.read_text(f"/proc/{result.pid}/status"))[1], 16)
-        result.kill()
+                          stderr=subprocess.DEVNULL) as process:
+        process.stdout.read(1)
+        mask = int(re.search(r"(?m)^SigCgt:\s*(\w+)$", macos_headers.read_text(f"/proc/{process.pid}/status"))[1], 16)
+        process.kill()
     return {number for number in signal.valid_signals() if mask >> (number - 1) & 1}
 
 
@@ -209,8 +209,8 @@ class Folding:
 def check_pair(check, folding, public, secret, other_name):
     """Checks runs in which `public` and `secret` are two names of the same file. The file has the same inode number by all
     names, except by `other_name`, unless this is None."""
-    ran_alone, texts = folding.run(["-G", "-W", "-p", "p", "-s", "s"], {})
-    check(ran_alone.status == 0 and sorted(texts) == ["p", "s"], f"two other names: {ran_alone}")
+    result_for_pair, texts = folding.run(["-G", "-W", "-p", "p", "-s", "s"], {})
+    check(result_for_pair.status == 0 and sorted(texts) == ["p", "s"], f"two other names: {result_for_pair}")
     names = f"{public} and {secret}{' with another inode number' if other_name else ''}"
 
     def rejects(status, output, arguments, files):
@@ -312,7 +312,7 @@ def check_names(checks, scratch):
         copy, failures = shutil.copytree(base, tempfile.mkdtemp(dir=scratch), dirs_exist_ok=True), []
         mutants.apply(mutant, copy)
         folding = Folding(scratch, program_mutants.build(copy, "minisign"), preload)
-        check_folded(lambda holds, what, failures=failures: holds or failures.append(what), folding)
+        check_folded(lambda holds, failure, failures=failures: holds or failures.append(failure), folding)
         checks.check(failures, f"nothing notices the mutant {mutant.name}")
 
 

@@ -130,9 +130,10 @@ class Crate:
     """The items of the crate for 64-bit macOS."""
 
     def __init__(self, crates, go):
-        place = next((f"{crates}/{name}/src" for name in sorted(os.listdir(crates)) if re.fullmatch(r"libc-\d.*", name)), None)
-        text = "".join(re.sub(r"(?m)//.*$", "", read_text(f"{place}/{name}")) for name in FILES)
-        self.version = os.path.basename(os.path.dirname(place))
+        directories = [name for name in sorted(os.listdir(crates)) if re.fullmatch(r"libc-\d.*", name)]
+        source_directory = f"{crates}/{directories[0]}/src" if directories else None
+        text = "".join(re.sub(r"(?m)//.*$", "", read_text(f"{source_directory}/{name}")) for name in FILES)
+        self.version = os.path.basename(os.path.dirname(source_directory))
         self.types = dict(re.findall(r"pub type (\w+) =\s*([^;]+);", text))
         self.constants = {name: (kind, value) for name, kind, value in re.findall(r"pub const (\w+): ([\w:]+) =\s*([^;]+);", text)}
         self.functions = {
@@ -150,12 +151,12 @@ class Crate:
         """Translates a Rust type to a C type or, with a name, to a declaration of this name. Adds the types on
         which it depends."""
         text = text.strip().replace("::", "").replace("extern \"C\" ", "")
-        if found := re.fullmatch(r"\*(const|mut) (.+)", text):
+        if match := re.fullmatch(r"\*(const|mut) (.+)", text):
             # No function has a const pointer to a pointer.
-            of = self.type(found[2])
-            return f"{'const ' if found[1] == 'const' and not found[2].startswith('*') else ''}{of} *{name}"
-        if found := re.fullmatch(r"\[(.+); ([^;]+)\]", text):
-            return self.type(found[1], f"{name}[{self.value(found[2])}]")
+            pointee = self.type(match[2])
+            return f"{'const ' if match[1] == 'const' and not match[2].startswith('*') else ''}{pointee} *{name}"
+        if match := re.fullmatch(r"\[(.+); ([^;]+)\]", text):
+            return self.type(match[1], f"{name}[{self.value(match[2])}]")
         if re.match(r"(Option<)?(unsafe )?fn\(|Option<", text):
             return f"void *{name}"
         if text in C_NAMES:
@@ -200,8 +201,8 @@ class Crate:
         """Translates a Rust expression to C. Adds the constants on which it depends."""
         text = re.sub(r"\bas [\w:]+", "", text.replace("::", "").replace("!", "~"))
         text = re.sub(r"\b(?:0x[0-9a-fA-F_]+|[0-9][0-9_]*)", lambda number: number[0].replace("_", ""), text)
-        for used in re.findall(r"\b[A-Z_]\w*\b", text):
-            self.add_constant(used)
+        for constant in re.findall(r"\b[A-Z_]\w*\b", text):
+            self.add_constant(constant)
         return text.strip()
 
     def add_function(self, name):
@@ -220,18 +221,18 @@ def read_text(path):
         return file.read()
 
 
-def write(place, sources, crates=CRATES, go=GO):
+def write(directory, sources, crates=CRATES, go=GO):
     """Writes the headers to a directory: BY_HAND, and the items of the crate that these C sources use. Returns the
     number of constants that have the same value in Go's package, and the names of the functions in UNCHECKED that
     the sources use."""
     crate, unchecked = Crate(crates, go), []
     code = "".join(re.sub(r'(?s)/\*.*?\*/|"(?:\\.|[^"\\])*"', "", read_text(source)) for source in sources)
     called, structs = {*re.findall(r"\b([a-z_]\w*)(?:\(|$)", code, re.M)}, {*re.findall(r"\bstruct (\w+)", code)}
-    own = {
+    defined_names = {
         *re.findall(r"(?m)^ *# *define (\w+)", code),
         *re.findall(r"[{,]\s*([A-Z_]\w*)", "".join(re.findall(r"\benum \w* ?(\{[^}]*\})", code))),
     }
-    for word in sorted({*re.findall(r"[A-Za-z_]\w*", code + BY_HAND)} - own):
+    for word in sorted({*re.findall(r"[A-Za-z_]\w*", code + BY_HAND)} - defined_names):
         if word in crate.structs and word in {*structs, "fd_set", "pthread_mutex_t", "pthread_cond_t"}:
             crate.add_struct(word)
         if word in UNCHECKED:
@@ -242,13 +243,13 @@ def write(place, sources, crates=CRATES, go=GO):
             crate.add_constant(word)
         elif word in crate.types:
             crate.add_alias(word)
-    late = [UNCHECKED[word] for word in unchecked]
-    os.makedirs(os.path.join(place, "sys"), exist_ok=True)
+    unchecked_declarations = [UNCHECKED[word] for word in unchecked]
+    os.makedirs(os.path.join(directory, "sys"), exist_ok=True)
     functions = sorted({*crate.functions, *UNCHECKED} & {*crate.written, *unchecked})
-    with open(os.path.join(place, "libSystem.tbd"), "w", encoding="utf-8") as file:
+    with open(os.path.join(directory, "libSystem.tbd"), "w", encoding="utf-8") as file:
         file.write(STUB.format(symbols=", ".join(f"_{name}" for name in (*functions, *COMPILER_SYMBOLS))))
-    text = "\n".join(["#ifndef MACOS_H", "#define MACOS_H", BY_HAND, *crate.lines, *late, "#endif", ""])
+    text = "\n".join(["#ifndef MACOS_H", "#define MACOS_H", BY_HAND, *crate.lines, *unchecked_declarations, "#endif", ""])
     for name in ("macos", *HEADERS):
-        with open(os.path.join(place, f"{name}.h"), "w", encoding="utf-8") as file:
+        with open(os.path.join(directory, f"{name}.h"), "w", encoding="utf-8") as file:
             file.write(text if name == "macos" else "#include <macos.h>\n")
     return crate.compared, unchecked

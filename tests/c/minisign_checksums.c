@@ -23,19 +23,20 @@ enum { MAX_ROWS = 2048, WORDS = (MAX_ROWS + 8) * 256, BYTES = 1 << 21 };
 
 /* ---- The objects on which the calls work ---- */
 
-static minisign_state states[COPIES];
-static minisign_public_key public_keys[COPIES];
-static minisign_signature signatures[COPIES];
+static minisign_state states[OBJECT_COUNT];
+static minisign_public_key public_keys[OBJECT_COUNT];
+static minisign_signature signatures[OBJECT_COUNT];
 /* The file from which each signature was read. */
-static struct text signature_texts[COPIES];
-static minisign_questions questions[COPIES];
-static minisign_unopened_key unopened_keys[COPIES];
-static minisign_secret_key secret_keys[COPIES];
+static struct text signature_texts[OBJECT_COUNT];
+static minisign_questions questions[OBJECT_COUNT];
+static minisign_unopened_key unopened_keys[OBJECT_COUNT];
+static minisign_secret_key secret_keys[OBJECT_COUNT];
 
-static struct text public_key_files[COPIES], bare_keys[COPIES], signature_files[COPIES], secret_key_files[COPIES];
-static struct text public_key_records[COPIES], signature_records[COPIES], secret_key_records[COPIES];
+static struct text public_key_files[OBJECT_COUNT], bare_keys[OBJECT_COUNT], signature_files[OBJECT_COUNT],
+    secret_key_files[OBJECT_COUNT];
+static struct text public_key_records[OBJECT_COUNT], signature_records[OBJECT_COUNT], secret_key_records[OBJECT_COUNT];
 
-static uint8_t data[70000], output[SIZE];
+static uint8_t data[70000], output[BUFFER_BYTES];
 static uint32_t words[WORDS];
 static uint8_t bytes[BYTES];
 
@@ -105,16 +106,16 @@ static size_t any_output_size(void)
 }
 
 /* Returns the pointer to pass for the output buffer. It may be NULL if the size is 0. */
-static uint8_t *output_or_null(size_t room)
+static uint8_t *output_or_null(size_t capacity)
 {
-    return room == 0 ? NULL : output;
+    return capacity == 0 ? NULL : output;
 }
 
 static struct text any_password(void)
 {
     static const char *const passwords[] = { "a", "b", "p\xc3\xa4\xe2\x82\xac", "" };
     struct text password = { .len = 0 };
-    const char *other = passwords[random_below(LENGTH(passwords))], *chosen = one_in(3) ? other : passwords[0];
+    const char *rare = passwords[random_below(LENGTH(passwords))], *chosen = one_in(3) ? rare : passwords[0];
 
     set_text(&password, chosen, strlen(chosen));
     if (one_in(20)) {
@@ -157,10 +158,10 @@ static void any_ed25519_signature(uint8_t signature[64])
 /* Returns one of the unopened keys. In three of four calls it is an encrypted one, if there is any. */
 static const minisign_unopened_key *any_unopened_key(void)
 {
-    int i = any_copy();
+    int i = any_object();
 
-    for (int n = 0, is_any = one_in(4); n < COPIES && !is_any && unopened_keys[i].is_sealed != 1; n++) {
-        i = (i + 1) % COPIES;
+    for (int n = 0, is_any = one_in(4); n < OBJECT_COUNT && !is_any && unopened_keys[i].is_sealed != 1; n++) {
+        i = (i + 1) % OBJECT_COUNT;
     }
     return &unopened_keys[i];
 }
@@ -169,10 +170,10 @@ static const minisign_unopened_key *any_unopened_key(void)
  * key is not derived, because that would take most of the time. */
 static uint64_t any_rows(const minisign_unopened_key *key)
 {
-    uint64_t taken = key->log2_rows > 20 ? UINT64_MAX : (UINT64_C(1) << key->log2_rows) * key->work;
-    uint64_t edge = edge_number(), rows = one_in(16) ? MINISIGN_ANY_ROWS : one_in(2) ? taken - 1 : edge % MAX_ROWS;
+    uint64_t required = key->log2_rows > 20 ? UINT64_MAX : (UINT64_C(1) << key->log2_rows) * key->work;
+    uint64_t edge = edge_number(), rows = one_in(16) ? MINISIGN_ANY_ROWS : one_in(2) ? required - 1 : edge % MAX_ROWS;
 
-    return taken > MAX_ROWS && rows >= taken ? MAX_ROWS : rows;
+    return required > MAX_ROWS && rows >= required ? MAX_ROWS : rows;
 }
 
 /* Returns a value for keep_every, usually a small one, because rows that are not stored are computed again. */
@@ -224,16 +225,16 @@ static minisign_sealing any_sealing(int is_strong)
 
 static void call_init(void)
 {
-    minisign_state *state = &states[any_copy()];
+    minisign_state *state = &states[any_object()];
 
     minisign_init(state);
-    CALLED(minisign_init);
+    RECORD_CALL(minisign_init);
     add_state(state);
 }
 
 static void call_update(void)
 {
-    minisign_state *state = &states[any_copy()];
+    minisign_state *state = &states[any_object()];
     size_t len = one_in(50) ? random_below(sizeof data) : one_in(9) ? 0 : random_below(400);
     size_t at = random_below((uint32_t) (sizeof data - len));
 
@@ -243,8 +244,8 @@ static void call_update(void)
 
 static void call_digest(void)
 {
-    minisign_state *state = &states[any_copy()];
-    uint8_t *digest = questions[any_copy()].digest;
+    minisign_state *state = &states[any_object()];
+    uint8_t *digest = questions[any_object()].digest;
 
     CALL(minisign_digest, state, digest);
     add_bytes(digest, 64);
@@ -254,11 +255,11 @@ static void call_digest(void)
 /* Clears, copies or damages an object, as a caller might. */
 static void call_clear(void)
 {
-    minisign_state *state = &states[any_copy()], *other = &states[any_copy()];
-    minisign_public_key *public_key = &public_keys[any_copy()];
-    minisign_signature *signature = &signatures[any_copy()];
-    minisign_unopened_key *unopened = &unopened_keys[any_copy()];
-    minisign_secret_key *secret_key = &secret_keys[any_copy()];
+    minisign_state *state = &states[any_object()], *source = &states[any_object()];
+    minisign_public_key *public_key = &public_keys[any_object()];
+    minisign_signature *signature = &signatures[any_object()];
+    minisign_unopened_key *unopened = &unopened_keys[any_object()];
+    minisign_secret_key *secret_key = &secret_keys[any_object()];
     size_t part = random_below(sizeof *state + 1);
 
     switch (random_below(10)) {
@@ -269,9 +270,9 @@ static void call_clear(void)
     case 4: minisign_clear(secret_key, sizeof *secret_key); break;
     case 5: signature->mark ^= UINT64_C(1) << random_below(64); break;
     case 6: public_key->mark ^= UINT64_C(1) << random_below(64); break;
-    default: *state = *other; break;
+    default: *state = *source; break;
     }
-    CALLED(minisign_clear);
+    RECORD_CALL(minisign_clear);
     add_state(state);
     add_unopened_key(unopened);
     add_secret_key(secret_key);
@@ -282,7 +283,7 @@ static void call_clear(void)
 static void call_read_public_key(void)
 {
     struct text text = any_text(one_in(9) ? bare_keys : public_key_files);
-    minisign_public_key *key = &public_keys[any_copy()];
+    minisign_public_key *key = &public_keys[any_object()];
 
     CALL(minisign_read_public_key, bytes_or_null(&text), text.len, key);
     add_public_key(key);
@@ -291,7 +292,7 @@ static void call_read_public_key(void)
 static void call_read_bare_public_key(void)
 {
     struct text text = any_text(bare_keys);
-    minisign_public_key *key = &public_keys[any_copy()];
+    minisign_public_key *key = &public_keys[any_object()];
 
     CALL(minisign_read_bare_public_key, bytes_or_null(&text), text.len, key);
     add_public_key(key);
@@ -300,7 +301,7 @@ static void call_read_bare_public_key(void)
 static void call_read_public_key_record(void)
 {
     struct text text = any_text(public_key_records);
-    minisign_public_key *key = &public_keys[any_copy()];
+    minisign_public_key *key = &public_keys[any_object()];
 
     CALL(minisign_read_public_key_record, bytes_or_null(&text), text.len, key);
     add_public_key(key);
@@ -308,8 +309,8 @@ static void call_read_public_key_record(void)
 
 static void call_public_key_record(void)
 {
-    const minisign_public_key *key = &public_keys[any_copy()];
-    struct text *record = &public_key_records[any_copy()];
+    const minisign_public_key *key = &public_keys[any_object()];
+    struct text *record = &public_key_records[any_object()];
 
     any_output_size();
     CALL(minisign_public_key_record, key, output);
@@ -319,7 +320,7 @@ static void call_public_key_record(void)
 static void call_read_signature(void)
 {
     struct text text = any_text(signature_files);
-    int i = any_copy();
+    int i = any_object();
 
     if (CALL(minisign_read_signature, bytes_or_null(&text), text.len, &signatures[i]) == MINISIGN_OK) {
         signature_texts[i] = text;
@@ -330,12 +331,12 @@ static void call_read_signature(void)
 static void call_read_signature_record(void)
 {
     struct text text = any_text(signature_records);
-    minisign_signature *signature = &signatures[any_copy()];
+    minisign_signature *signature = &signatures[any_object()];
     size_t at = random_below(2);
-    uint8_t other = (uint8_t) random_number();
+    uint8_t new_byte = (uint8_t) random_number();
 
     if (text.len > at && one_in(6)) {
-        text.bytes[at] = other;
+        text.bytes[at] = new_byte;
     }
     CALL(minisign_read_signature_record, bytes_or_null(&text), text.len, signature);
     add_signature(signature);
@@ -343,8 +344,8 @@ static void call_read_signature_record(void)
 
 static void call_signature_record(void)
 {
-    const minisign_signature *signature = &signatures[any_copy()];
-    struct text *record = &signature_records[any_copy()];
+    const minisign_signature *signature = &signatures[any_object()];
+    struct text *record = &signature_records[any_object()];
 
     any_output_size();
     CALL(minisign_signature_record, signature, output);
@@ -361,47 +362,48 @@ static uint32_t any_legacy(void)
 /* Returns one of the public keys. In three of four calls it has the key ID of this signature, if there is such a key. */
 static const minisign_public_key *any_key_for(const minisign_signature *signature)
 {
-    int i = any_copy();
+    int i = any_object();
 
     for (int n = 0, is_any = one_in(4);
-         n < COPIES && !is_any && memcmp(public_keys[i].key_id, signature->key_id, sizeof signature->key_id) != 0; n++) {
-        i = (i + 1) % COPIES;
+         n < OBJECT_COUNT && !is_any && memcmp(public_keys[i].key_id, signature->key_id, sizeof signature->key_id) != 0; n++) {
+        i = (i + 1) % OBJECT_COUNT;
     }
     return &public_keys[i];
 }
 
 static void call_ask(void)
 {
-    minisign_state *state = &states[any_copy()];
-    int i = any_copy();
+    minisign_state *state = &states[any_object()];
+    int i = any_object();
     const minisign_public_key *key = any_key_for(&signatures[i]);
-    minisign_questions *asked = &questions[any_copy()];
+    minisign_questions *result = &questions[any_object()];
     struct text text = one_in(16) ? any_text(signature_files) : signature_texts[i];
     uint32_t legacy = any_legacy();
-    size_t room = any_output_size();
+    size_t capacity = any_output_size();
 
-    CALL(minisign_ask, state, key, &signatures[i], bytes_or_null(&text), text.len, legacy, asked, output_or_null(room), room);
-    add_questions(asked);
+    CALL(minisign_ask, state, key, &signatures[i], bytes_or_null(&text), text.len, legacy, result, output_or_null(capacity),
+         capacity);
+    add_questions(result);
     add_bytes(output, sizeof output);
     add_state(state);
 }
 
 static void call_ask_bare(void)
 {
-    minisign_state *state = &states[any_copy()];
-    const minisign_signature *signature = &signatures[any_copy()];
+    minisign_state *state = &states[any_object()];
+    const minisign_signature *signature = &signatures[any_object()];
     const minisign_public_key *key = any_key_for(signature);
-    minisign_questions *asked = &questions[any_copy()];
+    minisign_questions *result = &questions[any_object()];
     uint32_t legacy = any_legacy();
 
-    CALL(minisign_ask_bare, state, key, signature, legacy, asked);
-    add_questions(asked);
+    CALL(minisign_ask_bare, state, key, signature, legacy, result);
+    add_questions(result);
     add_state(state);
 }
 
 static void call_verdicts(void)
 {
-    minisign_state *state = &states[any_copy()];
+    minisign_state *state = &states[any_object()];
     enum minisign_answer first = any_answer(), second = any_answer();
 
     switch (random_below(4)) {
@@ -418,19 +420,19 @@ static void verify(minisign_state *state, const minisign_public_key *key, const 
                    enum minisign_answer second)
 {
     size_t len = random_below(400);
-    minisign_questions asked;
+    minisign_questions result;
 
-    memset(&asked, 0x5a, sizeof asked);
+    memset(&result, 0x5a, sizeof result);
     memset(output, 0x5a, sizeof output);
     minisign_init(state);
     if (is_bare) {
-        CALL(minisign_ask_bare, state, key, signature, legacy, &asked);
+        CALL(minisign_ask_bare, state, key, signature, legacy, &result);
     } else {
-        CALL(minisign_ask, state, key, signature, file->bytes, file->len, legacy, &asked, output, sizeof output);
+        CALL(minisign_ask, state, key, signature, file->bytes, file->len, legacy, &result, output, sizeof output);
     }
     CALL(minisign_update, state, data, len);
-    CALL(minisign_digest, state, asked.digest);
-    add_questions(&asked);
+    CALL(minisign_digest, state, result.digest);
+    add_questions(&result);
     add_bytes(output, sizeof output);
     if (is_bare) {
         CALL(minisign_bare_verdict, state, first);
@@ -441,10 +443,10 @@ static void verify(minisign_state *state, const minisign_public_key *key, const 
     add_state(state);
 }
 
-static void call_in_a_row(void)
+static void call_whole_verification(void)
 {
-    minisign_state *state = &states[any_copy()];
-    int i = any_copy(), is_bare = one_in(2);
+    minisign_state *state = &states[any_object()];
+    int i = any_object(), is_bare = one_in(2);
     const minisign_public_key *key = any_key_for(&signatures[i]);
     enum minisign_answer first = any_answer(), second = any_answer();
     uint32_t legacy = any_legacy();
@@ -457,7 +459,7 @@ static void call_in_a_row(void)
 static void call_read_secret_key(void)
 {
     struct text text = any_text(secret_key_files);
-    minisign_unopened_key *key = &unopened_keys[any_copy()];
+    minisign_unopened_key *key = &unopened_keys[any_object()];
 
     CALL(minisign_read_secret_key, bytes_or_null(&text), text.len, key);
     add_unopened_key(key);
@@ -467,12 +469,12 @@ static void call_read_secret_key(void)
 static void call_read_secret_key_record(void)
 {
     struct text text = any_text(secret_key_records);
-    minisign_unopened_key *key = &unopened_keys[any_copy()], *other = &unopened_keys[any_copy()];
+    minisign_unopened_key *key = &unopened_keys[any_object()], *source = &unopened_keys[any_object()];
     uint64_t limit = edge_number();
     size_t at = one_in(2) ? 38 : 46;
 
-    if (other->is_sealed == 1 && !one_in(3)) {
-        set_text(&text, other->bytes, sizeof other->bytes);
+    if (source->is_sealed == 1 && !one_in(3)) {
+        set_text(&text, source->bytes, sizeof source->bytes);
     }
     if (text.len >= MINISIGN_SECRET_KEY_RECORD_BYTES && one_in(3)) {
         if (one_in(3)) {
@@ -492,13 +494,13 @@ static void call_read_secret_key_record(void)
 
 static void call_encode_unopened_key(void)
 {
-    const minisign_unopened_key *key = &unopened_keys[any_copy()];
-    struct text comment = any_comment(), *file = &secret_key_files[any_copy()];
-    size_t room = any_output_size(), len = 0;
+    const minisign_unopened_key *key = &unopened_keys[any_object()];
+    struct text comment = any_comment(), *file = &secret_key_files[any_object()];
+    size_t capacity = any_output_size(), len = 0;
 
-    if (CALL(minisign_encode_unopened_key, key, bytes_or_null(&comment), comment.len, output_or_null(room), room, &len)
+    if (CALL(minisign_encode_unopened_key, key, bytes_or_null(&comment), comment.len, output_or_null(capacity), capacity, &len)
         == MINISIGN_OK) {
-        set_text(&secret_key_records[any_copy()], key->bytes, sizeof key->bytes);
+        set_text(&secret_key_records[any_object()], key->bytes, sizeof key->bytes);
     }
     add_output(file, last_result, len);
 }
@@ -513,8 +515,8 @@ static void call_test_sealed_key(void)
 
 static void call_open_unsealed_key(void)
 {
-    const minisign_unopened_key *unopened = &unopened_keys[any_copy()];
-    minisign_secret_key *key = &secret_keys[any_copy()];
+    const minisign_unopened_key *unopened = &unopened_keys[any_object()];
+    minisign_secret_key *key = &secret_keys[any_object()];
 
     CALL(minisign_open_unsealed_key, unopened, key);
     add_secret_key(key);
@@ -523,7 +525,7 @@ static void call_open_unsealed_key(void)
 static void call_open_sealed_key(void)
 {
     const minisign_unopened_key *unopened = any_unopened_key();
-    minisign_secret_key *key = &secret_keys[any_copy()];
+    minisign_secret_key *key = &secret_keys[any_object()];
     struct text password = any_password();
     uint64_t keep_every = any_keep_every(), rows = any_rows(unopened);
 
@@ -531,22 +533,22 @@ static void call_open_sealed_key(void)
     add_secret_key(key);
 }
 
-/* Decrypts a key in place. The buffers have `more_words` words and `more_bytes` bytes more than minisign_opening_memory says;
+/* Decrypts a key in place. The buffers have `excess_words` words and `excess_bytes` bytes more than minisign_opening_memory says;
  * these numbers may be negative. */
 static void open_in_place(const minisign_unopened_key *unopened, const struct text *password, uint64_t keep_every,
-                          uint64_t rows, int more_words, int more_bytes, minisign_secret_key *key)
+                          uint64_t rows, int excess_words, int excess_bytes, minisign_secret_key *key)
 {
     uint64_t required_words = 7, required_bytes = 7;
     size_t words_len, bytes_len;
 
     minisign_opening_memory(unopened, keep_every, rows, &required_words, &required_bytes);
-    CALLED(minisign_opening_memory);
+    RECORD_CALL(minisign_opening_memory);
     add_number(required_words);
     add_number(required_bytes);
     words_len = required_words > WORDS - 40 ? 0 : (size_t) required_words;
     bytes_len = required_bytes > BYTES - 40 ? 0 : (size_t) required_bytes;
-    words_len = more_words >= 0 || words_len > 0 ? words_len + (size_t) more_words : 0;
-    bytes_len = more_bytes >= 0 || bytes_len > 0 ? bytes_len + (size_t) more_bytes : 0;
+    words_len = excess_words >= 0 || words_len > 0 ? words_len + (size_t) excess_words : 0;
+    bytes_len = excess_bytes >= 0 || bytes_len > 0 ? bytes_len + (size_t) excess_bytes : 0;
     memset(words, 0x5a, words_len * sizeof *words);
     memset(bytes, 0x5a, bytes_len);
     CALL(minisign_open_sealed_key_in_place, unopened, bytes_or_null(password), password->len, keep_every, rows,
@@ -557,7 +559,7 @@ static void open_in_place(const minisign_unopened_key *unopened, const struct te
 }
 
 /* Returns a number of words or bytes by which a buffer is too large or too small. */
-static int any_more(void)
+static int any_excess(void)
 {
     int more = (int) random_below(40);
 
@@ -567,31 +569,31 @@ static int any_more(void)
 static void call_open_sealed_key_in_place(void)
 {
     const minisign_unopened_key *unopened = any_unopened_key();
-    minisign_secret_key *key = &secret_keys[any_copy()];
+    minisign_secret_key *key = &secret_keys[any_object()];
     struct text password = any_password();
     uint64_t keep_every = any_keep_every(), rows = any_rows(unopened);
-    int more_words = any_more(), more_bytes = any_more();
+    int excess_words = any_excess(), excess_bytes = any_excess();
 
-    open_in_place(unopened, &password, keep_every, rows, more_words, more_bytes, key);
+    open_in_place(unopened, &password, keep_every, rows, excess_words, excess_bytes, key);
 }
 
 static void call_take_secret_key(void)
 {
-    minisign_secret_key *key = &secret_keys[any_copy()];
+    minisign_secret_key *key = &secret_keys[any_object()];
     minisign_new_key new_key;
 
     any_key_id(new_key.key_id);
     fill(new_key.secret, 32);
     any_point(new_key.secret + 32);
     minisign_take_secret_key(&new_key, key);
-    CALLED(minisign_take_secret_key);
+    RECORD_CALL(minisign_take_secret_key);
     add_secret_key(key);
 }
 
 static void call_public_key_of(void)
 {
-    const minisign_secret_key *key = &secret_keys[any_copy()];
-    minisign_public_key *public_key = &public_keys[any_copy()];
+    const minisign_secret_key *key = &secret_keys[any_object()];
+    minisign_public_key *public_key = &public_keys[any_object()];
 
     CALL(minisign_public_key_of, key, public_key);
     add_public_key(public_key);
@@ -599,8 +601,8 @@ static void call_public_key_of(void)
 
 static void call_secret_key_record(void)
 {
-    const minisign_secret_key *key = &secret_keys[any_copy()];
-    struct text *record = &secret_key_records[any_copy()];
+    const minisign_secret_key *key = &secret_keys[any_object()];
+    struct text *record = &secret_key_records[any_object()];
 
     any_output_size();
     CALL(minisign_secret_key_record, key, output);
@@ -613,43 +615,43 @@ static void call_comment_message(void)
 {
     struct text comment = any_comment();
     uint8_t first[64];
-    size_t room = any_output_size();
+    size_t capacity = any_output_size();
 
     fill(first, sizeof first);
-    CALL(minisign_comment_message, first, bytes_or_null(&comment), comment.len, output_or_null(room), room);
+    CALL(minisign_comment_message, first, bytes_or_null(&comment), comment.len, output_or_null(capacity), capacity);
     add_bytes(output, sizeof output);
 }
 
 static void call_signed_text(void)
 {
-    const minisign_public_key *key = &public_keys[any_copy()];
-    struct text trusted = any_comment(), untrusted = any_comment(), *file = &signature_files[any_copy()];
-    size_t room = any_output_size(), len = 0;
+    const minisign_public_key *key = &public_keys[any_object()];
+    struct text trusted = any_comment(), untrusted = any_comment(), *file = &signature_files[any_object()];
+    size_t capacity = any_output_size(), len = 0;
     minisign_signed_parts parts = { .trusted_comment = bytes_or_null(&trusted), .trusted_comment_len = trusted.len,
                                     .untrusted_comment = bytes_or_null(&untrusted), .untrusted_comment_len = untrusted.len };
 
     any_ed25519_signature(parts.signature);
     any_ed25519_signature(parts.comment_signature);
-    CALL(minisign_signed_text, key, &parts, output_or_null(room), room, &len);
+    CALL(minisign_signed_text, key, &parts, output_or_null(capacity), capacity, &len);
     add_output(file, last_result, len);
 }
 
 static void call_secret_key_text(void)
 {
-    const minisign_secret_key *key = &secret_keys[any_copy()];
-    struct text password = any_password(), comment = any_comment(), *file = &secret_key_files[any_copy()];
+    const minisign_secret_key *key = &secret_keys[any_object()];
+    struct text password = any_password(), comment = any_comment(), *file = &secret_key_files[any_object()];
     int is_strong = one_in(8);
     minisign_sealing sealing = any_sealing(is_strong);
     uint64_t keep_every = is_strong ? MINISIGN_KEEP_EVERY_ROW : any_keep_every();
     uint32_t rare = (uint32_t) edge_number(), with_password = one_in(10) ? 1 : one_in(6) ? rare : 0;
-    size_t room = any_output_size(), len = 0;
+    size_t capacity = any_output_size(), len = 0;
 
     if (is_strong || one_in(3)) {
         CALL(minisign_secret_key_text, key, with_password, bytes_or_null(&password), password.len, &sealing, keep_every,
-             bytes_or_null(&comment), comment.len, output_or_null(room), room, &len);
+             bytes_or_null(&comment), comment.len, output_or_null(capacity), capacity, &len);
     } else {
         CALL(minisign_secret_key_text_with_any_limits, key, with_password, bytes_or_null(&password), password.len, &sealing,
-             keep_every, bytes_or_null(&comment), comment.len, output_or_null(room), room, &len);
+             keep_every, bytes_or_null(&comment), comment.len, output_or_null(capacity), capacity, &len);
     }
     add_output(file, last_result, len);
 }
@@ -657,34 +659,34 @@ static void call_secret_key_text(void)
 /* Stores the second line of a public key file. */
 static void keep_bare_key(void)
 {
-    const struct text *file = &public_key_files[any_copy()];
+    const struct text *file = &public_key_files[any_object()];
     const uint8_t *line = memchr(file->bytes, '\n', file->len);
 
     if (line != NULL) {
         size_t len = file->len - (size_t) (line + 1 - file->bytes);
 
-        set_text(&bare_keys[any_copy()], line + 1, len > 0 ? len - 1 : 0);
+        set_text(&bare_keys[any_object()], line + 1, len > 0 ? len - 1 : 0);
     }
 }
 
 static void call_public_key_text(void)
 {
-    const minisign_secret_key *key = &secret_keys[any_copy()];
-    struct text comment = any_comment(), *file = &public_key_files[any_copy()];
-    size_t room = any_output_size(), len = 0;
+    const minisign_secret_key *key = &secret_keys[any_object()];
+    struct text comment = any_comment(), *file = &public_key_files[any_object()];
+    size_t capacity = any_output_size(), len = 0;
 
-    CALL(minisign_public_key_text, key, bytes_or_null(&comment), comment.len, output_or_null(room), room, &len);
+    CALL(minisign_public_key_text, key, bytes_or_null(&comment), comment.len, output_or_null(capacity), capacity, &len);
     add_output(file, last_result, len);
     keep_bare_key();
 }
 
 static void call_encode_public_key(void)
 {
-    const minisign_public_key *key = &public_keys[any_copy()];
-    struct text comment = any_comment(), *file = &public_key_files[any_copy()];
-    size_t room = any_output_size(), len = 0;
+    const minisign_public_key *key = &public_keys[any_object()];
+    struct text comment = any_comment(), *file = &public_key_files[any_object()];
+    size_t capacity = any_output_size(), len = 0;
 
-    CALL(minisign_encode_public_key, key, bytes_or_null(&comment), comment.len, output_or_null(room), room, &len);
+    CALL(minisign_encode_public_key, key, bytes_or_null(&comment), comment.len, output_or_null(capacity), capacity, &len);
     add_output(file, last_result, len);
 }
 
@@ -694,7 +696,7 @@ static void call_with_each_number(void)
     for (uint32_t number = 0; number < MAX_RESULTS; number++) {
         memset(output, 0x5a, sizeof output);
         add_number(minisign_error_text(number, (char *) output, MINISIGN_ERROR_TEXT_BYTES));
-        CALLED(minisign_error_text);
+        RECORD_CALL(minisign_error_text);
         add_bytes(output, MINISIGN_ERROR_TEXT_BYTES);
         CALL(minisign_error_kind, number);
     }
@@ -888,20 +890,20 @@ static void call_with_each_comment(void)
     }
 }
 
-static void call_without_objects(void)
+static void call_functions_of_numbers(void)
 {
     uint32_t rare = (uint32_t) edge_number(), usual = random_below(100), number = one_in(9) ? rare : usual;
-    size_t room = one_in(2) ? MINISIGN_ERROR_TEXT_BYTES : random_below(60);
+    size_t capacity = one_in(2) ? MINISIGN_ERROR_TEXT_BYTES : random_below(60);
 
     memset(output, 0x5a, sizeof output);
-    add_number(minisign_error_text(number, room == 0 ? NULL : (char *) output, room));
-    CALLED(minisign_error_text);
+    add_number(minisign_error_text(number, capacity == 0 ? NULL : (char *) output, capacity));
+    RECORD_CALL(minisign_error_text);
     add_bytes(output, MINISIGN_ERROR_TEXT_BYTES);
     CALL(minisign_error_kind, number);
     add_number(minisign_version());
-    CALLED(minisign_version);
+    RECORD_CALL(minisign_version);
     add_number(minisign_usual_sealing(output).memory_limit);
-    CALLED(minisign_usual_sealing);
+    RECORD_CALL(minisign_usual_sealing);
 }
 
 /* ---- Running ---- */
@@ -909,9 +911,9 @@ static void call_without_objects(void)
 /* Replaces texts that the library wrote by published ones. */
 static void call_nothing(void)
 {
-    static const char *const files[] = { SIGNATURE, LEGACY_SIGNATURE, LEGACY_SIGNATURE, OTHER_SIGNATURE };
+    static const char *const files[] = { SIGNATURE, LEGACY_SIGNATURE, LEGACY_SIGNATURE, OTHER_KEY_SIGNATURE };
     const char *file = files[random_below(LENGTH(files))];
-    int i = any_copy();
+    int i = any_object();
 
     set_text(&public_key_files[i], KEY, strlen(KEY));
     set_text(&bare_keys[i], KEY_LINE, strlen(KEY_LINE));
@@ -924,7 +926,7 @@ static void call_nothing(void)
 static void begin(void)
 {
     fill(data, sizeof data);
-    for (int i = 0; i < COPIES; i++) {
+    for (int i = 0; i < OBJECT_COUNT; i++) {
         call_nothing();
         call_take_secret_key();
     }
@@ -939,14 +941,14 @@ static void begin(void)
 static void make_calls(void)
 {
     static void (*const all[])(void) = {
-        call_nothing, call_in_a_row, call_init, call_init, call_update, call_update, call_digest, call_clear,
+        call_nothing, call_whole_verification, call_init, call_init, call_update, call_update, call_digest, call_clear,
         call_read_public_key, call_read_bare_public_key, call_read_public_key_record, call_public_key_record,
         call_read_signature, call_read_signature, call_read_signature_record, call_signature_record, call_ask,
         call_ask, call_ask, call_ask, call_ask_bare, call_verdicts, call_verdicts, call_verdicts, call_read_secret_key,
         call_read_secret_key, call_read_secret_key_record, call_encode_unopened_key, call_test_sealed_key,
         call_open_unsealed_key, call_open_sealed_key, call_open_sealed_key_in_place, call_take_secret_key,
         call_public_key_of, call_public_key_of, call_secret_key_record, call_comment_message, call_signed_text,
-        call_signed_text, call_secret_key_text, call_public_key_text, call_encode_public_key, call_without_objects,
+        call_signed_text, call_secret_key_text, call_public_key_text, call_encode_public_key, call_functions_of_numbers,
     };
 
     all[random_below(LENGTH(all))]();

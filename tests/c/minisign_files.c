@@ -12,7 +12,7 @@ static const char HELLO_KEY[] =
     "untrusted comment: minisign public key 21E66B4C8EEFA0B8\n"
     "RWS4oO+OTGvmIXV1rhgpjypAJvWKm8TwdV4j02FufATCsUQLjhDbStyt\n";
 /* The prehashed and the legacy signature in this test. */
-#define PREHASHED OTHER_SIGNATURE
+#define PREHASHED OTHER_KEY_SIGNATURE
 static const char LEGACY[] =
     "untrusted comment: signature from minisign secret key\n"
     "RWS4oO+OTGvmIcHetHX599qG6/i09pVioeH0Umw8EEv2i9Ffh4iP+9DymMyoIzgOi2HvHMVwpgy7eZcTmBQ8kBFXYTby9app8AM=\n"
@@ -54,11 +54,11 @@ static const char SECRET_KEY_ID[] = "bbcd807aefe53eab";
 static const char KEY_OF_SIGNATURE[] = KEY_TEXT("QAAE", NO_LIMITS, "uKDvjkxr5iH", "A");
 static const char CORRUPTED_KEY[] = KEY_TEXT("QAAE", NO_LIMITS, "u82Aeu/lPqv", "Q");
 static const char SEALED_KEY[] = KEY_TEXT("RTY0", "AAABAAAAAAAAAAAAIAAAAA", "u82Aeu/lPqv", "A");
-static const char OTHER_KEY[] = KEY_TEXT("RYWE", NO_LIMITS, "u82Aeu/lPqv", "A");
+static const char UNKNOWN_KDF_KEY[] = KEY_TEXT("RYWE", NO_LIMITS, "u82Aeu/lPqv", "A");
 
 static minisign_questions questions;
 static minisign_unopened_key unopened;
-static minisign_secret_key signing;
+static minisign_secret_key signing_key;
 static uint8_t message[64 + sizeof HELLO_COMMENT - 1];
 
 /* Parses the key and the signature, and calls minisign_ask. Returns the first error. */
@@ -79,8 +79,9 @@ static enum minisign_error ask(minisign_state *state, const char *key, const cha
 /* Parsing fills all fields of a signature. */
 static void parses_signatures(void)
 {
-    static const char cut[] = "untrusted comment: x\r\n" OTHER_RECORD "\ntrusted comment: \t \xc3\xa9 t \r\nAAAA";
-    minisign_signature prehashed = signature_of(PREHASHED), legacy = signature_of(LEGACY), short_one = signature_of(cut);
+    static const char truncated[] = "untrusted comment: x\r\n" OTHER_KEY_RECORD "\ntrusted comment: \t \xc3\xa9 t \r\nAAAA";
+    minisign_signature prehashed = signature_of(PREHASHED), legacy = signature_of(LEGACY),
+                       short_signature = signature_of(truncated);
 
     CHECK(equals_hex(prehashed.key_id, KEY_ID) && memcmp(prehashed.algorithm, "ED", 2) == 0);
     CHECK(equals_hex(prehashed.signature, SIGNATURE_BYTES) && equals_hex(prehashed.comment_signature, COMMENT_SIGNATURE));
@@ -93,8 +94,9 @@ static void parses_signatures(void)
     CHECK(legacy.comment_len == strlen("legacy one") && LEGACY + legacy.comment_offset == strstr(LEGACY, "legacy one"));
     CHECK(equals_hex(legacy.text_digest, LEGACY_TEXT_DIGEST));
     /* White space around a comment is not part of it. A comment signature that is too short can be parsed. */
-    CHECK(equals_hex(short_one.signature, SIGNATURE_BYTES) && is_zeros(short_one.comment_signature, 64));
-    CHECK(short_one.whole == 0 && short_one.comment_len == 4 && cut + short_one.comment_offset == strstr(cut, "\xc3\xa9 t"));
+    CHECK(equals_hex(short_signature.signature, SIGNATURE_BYTES) && is_zeros(short_signature.comment_signature, 64));
+    CHECK(short_signature.whole == 0 && short_signature.comment_len == 4
+          && truncated + short_signature.comment_offset == strstr(truncated, "\xc3\xa9 t"));
 }
 
 /* The questions for Ed25519 contain the fields of the key and of the signature. If both are answered with yes, the verdict is
@@ -102,11 +104,11 @@ static void parses_signatures(void)
 static void asks_and_verifies(void)
 {
     const minisign_public_key key = key_of(HELLO_KEY);
-    const minisign_signature none = { 0 }, legacy = signature_of(LEGACY);
+    const minisign_signature unread = { 0 }, legacy = signature_of(LEGACY);
     minisign_state state;
 
     minisign_init(&state);
-    CHECK(minisign_ask(&state, &key, &none, NULL, 0, 0, &questions, NULL, 0) == MINISIGN_SIGNATURE_NOT_READ);
+    CHECK(minisign_ask(&state, &key, &unread, NULL, 0, 0, &questions, NULL, 0) == MINISIGN_SIGNATURE_NOT_READ);
     CHECK(minisign_ask(&state, &key, &legacy, NULL, 0, 0, &questions, NULL, 0) == MINISIGN_OTHER_SIGNATURE_TEXT);
     CHECK(ask(&state, HELLO_KEY, PREHASHED, 0) == MINISIGN_OK);
     CHECK(equals_hex(questions.public_key, PUBLIC_KEY) && is_zeros(questions.digest, 64));
@@ -143,7 +145,7 @@ static void rejects_signature_texts(void)
         /* The text is longer than 74 bytes in base64. Padding is allowed only at its end (RFC 4648, section 4), and so not after
          * the first 74 bytes. */
         { HELLO_KEY,
-          "untrusted comment: x\n" OTHER_RECORD "AAAA\ntrusted comment: a trusted comment\n"
+          "untrusted comment: x\n" OTHER_KEY_RECORD "AAAA\ntrusted comment: a trusted comment\n"
           "VFXOnLXSP360tFPUt7eqzsSHMo0p1bPS9fRkoO0MOvNy8kHZu0k9okhkkORQyQv79DEl+OdNXurVl1Qt+AMEAQ==\n",
           MINISIGN_SIGNATURE_NOT_BASE64 },
     };
@@ -165,9 +167,9 @@ static void opens_secret_key(void)
 {
     minisign_public_key public_key;
 
-    CHECK(read_and_open(SECRET_KEY, NULL, &unopened, &signing) == MINISIGN_OK);
-    CHECK(equals_hex(signing.secret, SECRET) && equals_hex(signing.key_id, SECRET_KEY_ID));
-    CHECK(minisign_public_key_of(&signing, &public_key) == MINISIGN_OK);
+    CHECK(read_and_open(SECRET_KEY, NULL, &unopened, &signing_key) == MINISIGN_OK);
+    CHECK(equals_hex(signing_key.secret, SECRET) && equals_hex(signing_key.key_id, SECRET_KEY_ID));
+    CHECK(minisign_public_key_of(&signing_key, &public_key) == MINISIGN_OK);
     CHECK(equals_hex(public_key.key, SECRET + 64) && equals_hex(public_key.key_id, SECRET_KEY_ID));
 }
 
@@ -185,18 +187,18 @@ static void rejects_secret_keys(void)
         { SEALED_KEY, NULL, MINISIGN_KEY_SEALED },
         { CORRUPTED_KEY, NULL, MINISIGN_KEY_CORRUPTED },
         { SECRET_KEY, "x", MINISIGN_KEY_NOT_SEALED },
-        { OTHER_KEY, "x", MINISIGN_UNSUPPORTED_KEY_DERIVATION },
+        { UNKNOWN_KDF_KEY, "x", MINISIGN_UNSUPPORTED_KEY_DERIVATION },
         { SEALED_KEY, "\xff", MINISIGN_NOT_UTF8 },
     };
-    static const minisign_secret_key nothing;
+    static const minisign_secret_key unopened_key;
 
     for (size_t row = 0; row < LENGTH(rows); row++) {
         enum minisign_error error;
 
-        signing = nothing;
-        error = read_and_open(rows[row].key, rows[row].password, &unopened, &signing);
+        signing_key = unopened_key;
+        error = read_and_open(rows[row].key, rows[row].password, &unopened, &signing_key);
         check(error == rows[row].error, "error %u, expected %u: %s", error, rows[row].error, rows[row].key);
-        CHECK(memcmp(&signing, &nothing, sizeof signing) == 0);
+        CHECK(memcmp(&signing_key, &unopened_key, sizeof signing_key) == 0);
     }
 }
 
@@ -204,16 +206,17 @@ static void rejects_secret_keys(void)
 static void writes_signature(void)
 {
     static const char untrusted[] = "signature from minisign secret key";
-    const minisign_signature read = signature_of(PREHASHED);
+    const minisign_signature signature = signature_of(PREHASHED);
     uint8_t text[sizeof PREHASHED];
     size_t len = 0;
 
-    CHECK(read_and_open(KEY_OF_SIGNATURE, NULL, &unopened, &signing) == MINISIGN_OK);
-    CHECK(make_signed_text(&signing, read.signature, read.comment_signature, bytes_of(HELLO_COMMENT), sizeof HELLO_COMMENT - 1,
-                           bytes_of(untrusted), sizeof untrusted - 1, text, sizeof text, &len) == MINISIGN_OK);
-    CHECK(len == sizeof PREHASHED - 1 && memcmp(text, PREHASHED, len) == 0);
-    CHECK(minisign_comment_message(read.signature, bytes_of(HELLO_COMMENT), sizeof HELLO_COMMENT - 1, message, sizeof message)
+    CHECK(read_and_open(KEY_OF_SIGNATURE, NULL, &unopened, &signing_key) == MINISIGN_OK);
+    CHECK(make_signature_file(&signing_key, signature.signature, signature.comment_signature, bytes_of(HELLO_COMMENT),
+                              sizeof HELLO_COMMENT - 1, bytes_of(untrusted), sizeof untrusted - 1, text, sizeof text, &len)
           == MINISIGN_OK);
+    CHECK(len == sizeof PREHASHED - 1 && memcmp(text, PREHASHED, len) == 0);
+    CHECK(minisign_comment_message(signature.signature, bytes_of(HELLO_COMMENT), sizeof HELLO_COMMENT - 1, message,
+                                   sizeof message) == MINISIGN_OK);
     CHECK(equals_hex(message, SIGNATURE_BYTES) && memcmp(message + 64, HELLO_COMMENT, sizeof HELLO_COMMENT - 1) == 0);
 }
 
@@ -265,8 +268,8 @@ static const struct row bare_keys[] = {
 };
 
 /* Parses each text of a table, and checks that a rejected text leaves the key unchanged. */
-static void read_keys(enum minisign_error (*read)(const uint8_t *text, size_t len, minisign_public_key *key),
-                      const struct row *rows, size_t count)
+static void check_key_texts(enum minisign_error (*read)(const uint8_t *text, size_t len, minisign_public_key *key),
+                            const struct row *rows, size_t count)
 {
     for (const struct row *row = rows; row < rows + count; row++) {
         minisign_public_key parsed, untouched;
@@ -286,8 +289,8 @@ int main(void)
 {
     /* Code that runs before main may have allocated memory. */
     requests = allocated_blocks = 0;
-    read_keys(minisign_read_public_key, key_files, LENGTH(key_files));
-    read_keys(minisign_read_bare_public_key, bare_keys, LENGTH(bare_keys));
+    check_key_texts(minisign_read_public_key, key_files, LENGTH(key_files));
+    check_key_texts(minisign_read_bare_public_key, bare_keys, LENGTH(bare_keys));
     parses_signatures();
     asks_and_verifies();
     rejects_signature_texts();
@@ -295,5 +298,5 @@ int main(void)
     rejects_secret_keys();
     CHECK(requests == 0 && allocated_blocks == 0);
     writes_signature();
-    return ended();
+    return print_summary();
 }

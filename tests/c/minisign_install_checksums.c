@@ -14,25 +14,25 @@
     "786a02f742015903c6c6fd852552d272912f4740e15847618a86e217f71f5419" \
     "d25e1031afee585313896444934eb04b903a685b1448b755d56f701afe9be2ce"
 
-static minisign_installation installations[COPIES];
+static minisign_installation installations[OBJECT_COUNT];
 /* The first and the third key have the same key ID. The second is the published key. The last one was not read. */
-static minisign_public_key keys[COPIES];
+static minisign_public_key keys[OBJECT_COUNT];
 /* The signature file of each installation, and records. */
-static struct text signature_files[COPIES], records[COPIES];
+static struct text signature_files[OBJECT_COUNT], records[OBJECT_COUNT];
 /* True during a complete run, in which all calls are made in order and mostly succeed; and the record that the last such run
  * wrote. */
 static int is_whole_run;
 static struct text last_record;
-static uint8_t data[300], output[SIZE];
+static uint8_t data[300], output[BUFFER_BYTES];
 
-static size_t any_room(size_t most)
+static size_t any_capacity(size_t usual)
 {
     memset(output, 0x5a, sizeof output);
-    return one_in(9) ? random_below(200) : most;
+    return one_in(9) ? random_below(200) : usual;
 }
 
 /* Returns a size for the message buffer: mostly a large one, and sometimes about the required size or exactly this size. */
-static size_t any_message_room(void)
+static size_t any_message_capacity(void)
 {
     size_t near_needed = 64 + random_below(60);
 
@@ -49,9 +49,9 @@ static uint32_t any_flag(uint32_t times)
 
 static struct text any_name(void)
 {
-    static const char *const rare[] = { "", "abc", "ap", "\xff", "./app", "../app" };
+    static const char *const rare_names[] = { "", "abc", "ap", "\xff", "./app", "../app" };
     struct text name = { .len = 0 };
-    const char *other = rare[random_below(LENGTH(rare))], *chosen = one_in(20) ? other : "app";
+    const char *rare = rare_names[random_below(LENGTH(rare_names))], *chosen = one_in(20) ? rare : "app";
 
     set_text(&name, chosen, strlen(chosen));
     return name;
@@ -83,9 +83,9 @@ static void add_installation(const minisign_installation *installation)
     CALL(minisign_install_size, installation, &size);
     add_number(size);
     add_number(minisign_install_version(installation));
-    CALLED(minisign_install_version);
+    RECORD_CALL(minisign_install_version);
     add_number(minisign_install_line(installation));
-    CALLED(minisign_install_line);
+    RECORD_CALL(minisign_install_line);
 }
 
 /* ---- Calls ---- */
@@ -93,14 +93,14 @@ static void add_installation(const minisign_installation *installation)
 /* Appends a label and a number: mostly `usual`, and sometimes another number or text. */
 static void append_number(struct text *comment, const char *label, uint64_t usual)
 {
-    static const char *const others[] = { "", "+7", "x", "7x", " 7", "-1", "007", "18446744073709551615", "18446744073709551616",
-                                          "99999999999999999999", "184467440737095516150" };
-    const char *other = others[random_below(LENGTH(others))];
+    static const char *const odd_numbers[] = { "", "+7", "x", "7x", " 7", "-1", "007", "18446744073709551615",
+                                               "18446744073709551616", "99999999999999999999", "184467440737095516150" };
+    const char *odd_number = odd_numbers[random_below(LENGTH(odd_numbers))];
     uint64_t low = random_below(1000), number = random_number(), any = number >> random_below(64);
 
     append_string(comment, label);
     if (one_in(10)) {
-        append_string(comment, other);
+        append_string(comment, odd_number);
     } else {
         append_decimal(comment, !one_in(8) ? usual : one_in(2) ? low : any);
     }
@@ -109,14 +109,14 @@ static void append_number(struct text *comment, const char *label, uint64_t usua
 /* Returns a trusted comment with fields in random order. Most of these comments are accepted. */
 static struct text any_fields(void)
 {
-    static const char *const others[] = {
+    static const char *const extra_fields[] = {
         "hashed", "x", "expires", "Expires:9", "expire:9", "file:ap", "version:6", "timestamp:6", "size:11", "",
     };
     struct text comment = { .len = 0 };
     int first = (int) random_below(5);
 
     for (int i = 0; i < 5; i++) {
-        const char *other = others[random_below(LENGTH(others))];
+        const char *extra_field = extra_fields[random_below(LENGTH(extra_fields))];
         size_t len = comment.len;
         uint64_t number = 7 + random_below(3);
 
@@ -133,7 +133,7 @@ static struct text any_fields(void)
         }
         if (one_in(24)) {
             append_string(&comment, "\t");
-            append_string(&comment, other);
+            append_string(&comment, extra_field);
         }
     }
     return comment;
@@ -167,16 +167,16 @@ static struct text any_update(void)
 
 static void make_file(const minisign_public_key *key, struct text *file)
 {
-    static const char *const others[] = { LEGACY_SIGNATURE, OTHER_SIGNATURE };
+    static const char *const published_files[] = { LEGACY_SIGNATURE, OTHER_KEY_SIGNATURE };
     struct text comment = any_update();
-    const char *other = others[random_below(LENGTH(others))];
+    const char *published_file = published_files[random_below(LENGTH(published_files))];
     minisign_signed_parts parts = { .trusted_comment = comment.bytes, .trusted_comment_len = comment.len };
     size_t len = 0;
 
     fill(parts.signature, sizeof parts.signature);
     fill(parts.comment_signature, sizeof parts.comment_signature);
     if (one_in(30)) {
-        set_text(file, other, strlen(other));
+        set_text(file, published_file, strlen(published_file));
     } else if (minisign_signed_text(key, &parts, output, sizeof output, &len) == MINISIGN_OK) {
         set_text(file, output, len);
     }
@@ -186,10 +186,10 @@ static void make_file(const minisign_public_key *key, struct text *file)
 static void choose_list(minisign_install_options *options)
 {
     static const uint32_t meanings[] = { 0, 2, 3 };
-    uint32_t usual = meanings[random_below(LENGTH(meanings))], other = any_flag(2);
+    uint32_t usual = meanings[random_below(LENGTH(meanings))], rare = any_flag(2);
 
     options->is_list = any_flag(3);
-    options->long_digest = one_in(60) ? other : usual;
+    options->long_digest = one_in(60) ? rare : usual;
 }
 
 /* Returns a list. Most of these lists are accepted, and have the digest of empty data under the name `app`. */
@@ -200,7 +200,7 @@ static struct text any_list(void)
         SHA512_OF_NOTHING "  app\n", "SHA512 (app) = " SHA512_OF_NOTHING "\n", BLAKE2B_OF_NOTHING "  app\n",
         "BLAKE2b (app) = " BLAKE2B_OF_NOTHING "\n", "SHA512 (app) = " BLAKE2B_OF_NOTHING "\n",
     };
-    static const char *const others[] = {
+    static const char *const extra_lines[] = {
         "# text\n", "\n", "text\n", SHA256_OF_NOTHING "  abc\n", SHA256_OF_NOTHING "  app\n",
         SHA512_OF_NOTHING "  abc\n", "\\" SHA256_OF_NOTHING "  a\\nb\n", SHA256_OF_NOTHING " app\n",
     };
@@ -209,10 +209,10 @@ static struct text any_list(void)
     int place = (int) random_below(4);
 
     for (int i = 0; i < 4; i++) {
-        const char *other = others[random_below(LENGTH(others))];
+        const char *extra_line = extra_lines[random_below(LENGTH(extra_lines))];
 
         if (one_in(8)) {
-            append_string(&list, other);
+            append_string(&list, extra_line);
         }
         if (i == place && !one_in(20)) {
             append_string(&list, line);
@@ -237,9 +237,9 @@ static void call_list(minisign_installation *installation)
  * made with the first key. */
 static void call_init(void)
 {
-    int i = any_copy(), first = (int) random_below(3), second = one_in(2) ? 2 - first : any_copy();
-    const minisign_public_key *key = one_in(40) ? &keys[COPIES - 1] : &keys[first];
-    const minisign_public_key *signer = one_in(8) ? &keys[any_copy()] : &keys[first];
+    int i = any_object(), first = (int) random_below(3), second = one_in(2) ? 2 - first : any_object();
+    const minisign_public_key *key = one_in(40) ? &keys[OBJECT_COUNT - 1] : &keys[first];
+    const minisign_public_key *signer = one_in(8) ? &keys[any_object()] : &keys[first];
     minisign_install_options options;
 
     make_file(signer, &signature_files[i]);
@@ -257,13 +257,13 @@ static void call_init(void)
 /* Writes and stores the new record. Another run may begin with it. */
 static void call_record_text(const minisign_installation *installation)
 {
-    size_t room = any_room(MINISIGN_RECORD_TEXT_BYTES), len = minisign_install_record_text(installation, output, room);
+    size_t capacity = any_capacity(MINISIGN_RECORD_TEXT_BYTES), len = minisign_install_record_text(installation, output, capacity);
 
-    CALLED(minisign_install_record_text);
+    RECORD_CALL(minisign_install_record_text);
     add_number(len);
     add_bytes(output, sizeof output);
     if (len > 0) {
-        set_text(is_whole_run ? &last_record : &records[any_copy()], output, len);
+        set_text(is_whole_run ? &last_record : &records[any_object()], output, len);
     }
 }
 
@@ -273,10 +273,10 @@ static void call_signature(minisign_installation *installation)
                                                   : signature_files[installation - installations];
     struct text name = any_name();
     int64_t now = any_clock();
-    size_t room = any_message_room(), len = 0x5a;
+    size_t capacity = any_message_capacity(), len = 0x5a;
 
     CALL(minisign_install_signature, installation, bytes_or_null(&file), file.len, bytes_or_null(&name), name.len, now,
-         room == 0 ? NULL : output, room, &len);
+         capacity == 0 ? NULL : output, capacity, &len);
     add_number(len);
     add_bytes(output, sizeof output);
 }
@@ -290,9 +290,9 @@ static void call_question(const minisign_installation *installation)
 
 static void call_answer(minisign_installation *installation)
 {
-    int is_other_target = minisign_install_due(installation) == MINISIGN_DUE_CHECK_TARGET && one_in(2);
-    enum minisign_answer usual = is_other_target ? MINISIGN_ANSWER_NO : MINISIGN_ANSWER_YES, other = any_answer();
-    enum minisign_answer answer = is_whole_run && !one_in(8) ? usual : other;
+    int is_target_changed = minisign_install_due(installation) == MINISIGN_DUE_CHECK_TARGET && one_in(2);
+    enum minisign_answer usual = is_target_changed ? MINISIGN_ANSWER_NO : MINISIGN_ANSWER_YES, rare = any_answer();
+    enum minisign_answer answer = is_whole_run && !one_in(8) ? usual : rare;
 
     CALL(minisign_install_answer, installation, answer);
 }
@@ -307,7 +307,7 @@ static void renew_record(void)
         "timestamp:184467440737095516150", "",
     };
     const char *text = texts[random_below(LENGTH(texts))];
-    struct text *record = &records[any_copy()];
+    struct text *record = &records[any_object()];
 
     set_text(record, text, strlen(text));
     if (one_in(12)) {
@@ -318,7 +318,7 @@ static void renew_record(void)
 
 static void call_record(minisign_installation *installation)
 {
-    struct text record = is_whole_run ? last_record : one_in(6) ? any_text(records) : records[any_copy()];
+    struct text record = is_whole_run ? last_record : one_in(6) ? any_text(records) : records[any_object()];
 
     if (is_whole_run ? record.len == 0 : one_in(8)) {
         CALL(minisign_install_no_record, installation);
@@ -347,22 +347,22 @@ static void call_copied(minisign_installation *installation)
 
 static void call_failed(minisign_installation *installation)
 {
-    static const enum minisign_error usual[] = { MINISIGN_OUT_OF_MEMORY, MINISIGN_READING_FAILED, MINISIGN_WRITING_FAILED,
-                                                 MINISIGN_RANDOM_SOURCE_FAILED, MINISIGN_TARGET_IN_USE };
+    static const enum minisign_error reasons[] = { MINISIGN_OUT_OF_MEMORY, MINISIGN_READING_FAILED, MINISIGN_WRITING_FAILED,
+                                                   MINISIGN_RANDOM_SOURCE_FAILED, MINISIGN_TARGET_IN_USE };
     uint32_t rare = random_below(100);
-    enum minisign_error often = usual[random_below(LENGTH(usual))], why = one_in(4) ? (enum minisign_error) rare : often;
+    enum minisign_error usual = reasons[random_below(LENGTH(reasons))], reason = one_in(4) ? (enum minisign_error) rare : usual;
 
-    CALL(minisign_install_failed, installation, why);
+    CALL(minisign_install_failed, installation, reason);
 }
 
 static void call_judge_comment(void)
 {
     struct text comment = any_update(), name = any_name();
     uint32_t numbering = any_flag(2);
-    uint64_t now = any_time(), kept = one_in(2) ? 0 : edge_number(), number = 0x5a;
+    uint64_t now = any_time(), recorded = one_in(2) ? 0 : edge_number(), number = 0x5a;
 
     CALL(minisign_judge_comment, bytes_or_null(&comment), comment.len, bytes_or_null(&name), name.len, numbering, now,
-         kept, &number);
+         recorded, &number);
     add_number(number);
 }
 
@@ -505,7 +505,7 @@ static void call_whole_run(void)
 
 static void make_calls(void)
 {
-    minisign_installation *installation = &installations[any_copy()];
+    minisign_installation *installation = &installations[any_object()];
     uint32_t due = minisign_install_due(installation);
 
     if (one_in(200)) {
@@ -529,7 +529,7 @@ static void make_calls(void)
 static void begin(void)
 {
     fill(data, sizeof data);
-    for (int i = 0; i < COPIES - 1; i++) {
+    for (int i = 0; i < OBJECT_COUNT - 1; i++) {
         minisign_new_key new_key;
         minisign_secret_key secret;
 
@@ -539,7 +539,7 @@ static void begin(void)
         CHECK(minisign_public_key_of(&secret, &keys[i]) == MINISIGN_OK);
     }
     keys[1] = key_of(KEY);
-    for (int i = 0; i < COPIES; i++) {
+    for (int i = 0; i < OBJECT_COUNT; i++) {
         set_text(&signature_files[i], SIGNATURE, strlen(SIGNATURE));
         set_text(&records[i], "7\n", 2);
     }

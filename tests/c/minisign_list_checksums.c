@@ -14,7 +14,7 @@ static const char *const digests[][3] = {
     { "ba7816bf8f01cfea414140de5dae2223b00361a396177a9cb410ff61f20015ad",
       "ddaf35a193617abacc417349ae20413112e6fa4e89a97ea20a9eeee64b55d39a"
       "2192992a274fc1a836ba3c23a3feebbd454d4423643ce80e2a9ac94fa54ca49f",
-      HEX_OF_ABC },
+      BLAKE2B_OF_ABC },
     { "c2a908d98f5df987ade41b5fce213067efbcc21ef2240212a41e54b5e7c28ae5",
       "4b11459c33f52a22ee8236782714c150a3b2c60994e9acee17fe68947a3e6789"
       "f31e7668394592da7bef827cddca88c4e6f86e4df7ed1ae6cba71f3e98faee9f",
@@ -25,21 +25,21 @@ static const char *const digests[][3] = {
 static const char *const contents[] = { "", "abc", NULL };
 static const char *const hash_names[] = { "SHA256", "SHA512", "BLAKE2b" };
 
-enum { ENTRIES = MINISIGN_LIST_ENTRIES(SIZE) };
+enum { ENTRIES = MINISIGN_LIST_ENTRIES(BUFFER_BYTES) };
 
 /* ---- The objects on which the calls work ---- */
 
 /* The first key is the published one. The last one was not read. */
-static minisign_public_key keys[COPIES];
-static minisign_signature signatures[COPIES];
-static struct text signature_files[COPIES];
-static minisign_list lists[COPIES];
+static minisign_public_key keys[OBJECT_COUNT];
+static minisign_signature signatures[OBJECT_COUNT];
+static struct text signature_files[OBJECT_COUNT];
+static minisign_list lists[OBJECT_COUNT];
 /* The text of each list, as it was passed to minisign_list_ask, and texts that are written line by line. */
-static struct text list_texts[COPIES], written_texts[COPIES];
+static struct text list_texts[OBJECT_COUNT], written_texts[OBJECT_COUNT];
 static minisign_questions questions;
-static minisign_list_entry found[COPIES], entries[ENTRIES];
-static minisign_list_file files[COPIES];
-static uint8_t many_letters[200], data[5000], output[SIZE];
+static minisign_list_entry found_entries[OBJECT_COUNT], entries[ENTRIES];
+static minisign_list_file files[OBJECT_COUNT];
+static uint8_t many_letters[200], data[5000], output[BUFFER_BYTES];
 
 /* ---- Adding structs to the checksum ---- */
 
@@ -114,12 +114,12 @@ static void append_digits(struct text *text, int hash)
 /* Appends a line, rarely a malformed one. */
 static void append_line(struct text *list, int is_good)
 {
-    static const char *const without[] = { "", "# a comment", "#", "# \xc3\xa9" };
+    static const char *const comments[] = { "", "# a comment", "#", "# \xc3\xa9" };
     static const char *const bad[] = {
         "x", " ", "MD5 (a) = 00", "SHA256 (a) = 00", "SHA256 (a) =", "\t", "SHA384 (a) = ", "# a\tb", "\\", "\xff",
     };
     int hash = (int) random_below(3), form = (int) random_below(8);
-    const char *name = any_name(), *comment = without[random_below(LENGTH(without))], *rare = bad[random_below(LENGTH(bad))];
+    const char *name = any_name(), *comment = comments[random_below(LENGTH(comments))], *rare = bad[random_below(LENGTH(bad))];
 
     if (is_good && (*name == '/' || strpbrk(name, "\\\t\n\x7f\xff\xc0\xc2") != NULL || strstr(name, "//") != NULL || *name == 0)) {
         name = "g";
@@ -168,13 +168,13 @@ static struct text any_list(void)
 
 static void call_read_signature(void)
 {
-    static const char *const published[] = { LEGACY_SIGNATURE, OTHER_SIGNATURE, SIGNATURE };
+    static const char *const published_files[] = { LEGACY_SIGNATURE, OTHER_KEY_SIGNATURE, SIGNATURE };
     static const char *const comments[] = {
         "timestamp:1\tfile:SHA256SUMS\thashed", "file:SHA256SUMS", "file:SHA256SUM\tfile:SHA256SUMS", "file:",
     };
-    int i = any_copy();
-    const minisign_public_key *key = &keys[random_below(COPIES - 1)];
-    const char *other = published[random_below(LENGTH(published))];
+    int i = any_object();
+    const minisign_public_key *key = &keys[random_below(OBJECT_COUNT - 1)];
+    const char *published_file = published_files[random_below(LENGTH(published_files))];
     struct text comment = any_comment();
     minisign_signed_parts parts = { .trusted_comment = comment.bytes };
     size_t len = 0;
@@ -192,7 +192,7 @@ static void call_read_signature(void)
         parts.comment_signature[63] &= 0x0f;
     }
     if (one_in(10)) {
-        set_text(&signature_files[i], other, strlen(other));
+        set_text(&signature_files[i], published_file, strlen(published_file));
     } else if (minisign_signed_text(key, &parts, output, sizeof output, &len) == MINISIGN_OK) {
         set_text(&signature_files[i], output, len);
         if (one_in(12)) {
@@ -207,23 +207,23 @@ static void call_read_signature(void)
 
 static void call_ask(void)
 {
-    int i = any_copy(), at = any_copy(), is_any = one_in(3);
-    const minisign_public_key *other = &keys[any_copy()], *key = other;
+    int i = any_object(), at = any_object(), is_any = one_in(3);
+    const minisign_public_key *key = &keys[any_object()];
     struct text file = one_in(12) ? any_text(signature_files) : signature_files[at], list = any_list();
     const char *name = any_list_name();
-    size_t near_needed = 64 + random_below(60), room = one_in(12) ? near_needed : one_in(20) ? 0 : sizeof output;
-    uint8_t *message = room == 0 ? NULL : output;
+    size_t near_needed = 64 + random_below(60), capacity = one_in(12) ? near_needed : one_in(20) ? 0 : sizeof output;
+    uint8_t *message = capacity == 0 ? NULL : output;
 
-    for (int n = 0, is_same = !one_in(10); is_same && n < COPIES; n++) {
+    for (int n = 0, is_same = !one_in(10); is_same && n < OBJECT_COUNT; n++) {
         key = memcmp(keys[n].key_id, signatures[at].key_id, sizeof keys[n].key_id) == 0 ? &keys[n] : key;
     }
     memset(output, 0x5a, sizeof output);
     if (is_any) {
         CALL(minisign_list_ask_any, &lists[i], key, &signatures[at], bytes_or_null(&file), file.len, bytes_or_null(&list), list.len,
-             &questions, message, room);
+             &questions, message, capacity);
     } else {
         CALL(minisign_list_ask, &lists[i], key, &signatures[at], bytes_or_null(&file), file.len, *name == 0 ? NULL : bytes_of(name),
-             strlen(name), bytes_or_null(&list), list.len, &questions, message, room);
+             strlen(name), bytes_or_null(&list), list.len, &questions, message, capacity);
     }
     if (last_result == MINISIGN_OK) {
         list_texts[i] = list;
@@ -239,7 +239,7 @@ static void call_ask(void)
 
 static void call_verdict(void)
 {
-    minisign_list *list = &lists[any_copy()];
+    minisign_list *list = &lists[any_object()];
     enum minisign_answer first = any_answer(), second = any_answer();
 
     CALL(minisign_list_verdict, list, first, second);
@@ -249,17 +249,17 @@ static void call_verdict(void)
 /* Clears, copies or damages an object, as a caller might. */
 static void call_nothing(void)
 {
-    int i = any_copy(), other = any_copy();
+    int i = any_object(), source = any_object();
 
     switch (random_below(8)) {
     case 0: memset(&lists[i], 0, sizeof lists[i]); break;
     case 1: lists[i].mark ^= UINT64_C(1) << random_below(64); break;
-    case 2: found[i].mark ^= UINT64_C(1) << random_below(64); break;
+    case 2: found_entries[i].mark ^= UINT64_C(1) << random_below(64); break;
     case 3: memset(&files[i], 0, sizeof files[i]); break;
     case 4: written_texts[i].len = 0; break;
-    case 5: files[i] = files[other]; break;
-    case 6: list_texts[i] = list_texts[other]; break;
-    default: found[i] = found[other]; break;
+    case 5: files[i] = files[source]; break;
+    case 6: list_texts[i] = list_texts[source]; break;
+    default: found_entries[i] = found_entries[source]; break;
     }
 }
 
@@ -267,11 +267,11 @@ static void call_nothing(void)
 
 static void call_find(void)
 {
-    int i = any_copy();
+    int i = any_object();
     const struct text text = one_in(16) ? any_text(list_texts) : list_texts[i];
     enum minisign_hash hash = any_hash(1) == MINISIGN_HASH_SHA256 && !one_in(12) ? MINISIGN_HASH_NONE : any_hash(2);
     const char *name = any_name();
-    minisign_list_entry *entry = &found[any_copy()];
+    minisign_list_entry *entry = &found_entries[any_object()];
     uint64_t line = 0x5a;
 
     CALL(minisign_list_find, &lists[i], bytes_or_null(&text), text.len, hash, *name == 0 ? NULL : bytes_of(name),
@@ -282,21 +282,22 @@ static void call_find(void)
 
 static void call_entries(void)
 {
-    int i = any_copy();
+    int i = any_object();
     const struct text text = one_in(16) ? any_text(list_texts) : list_texts[i];
     enum minisign_hash hash = any_hash(1) == MINISIGN_HASH_SHA256 && !one_in(12) ? MINISIGN_HASH_NONE : any_hash(2);
-    size_t few = random_below(6), room = one_in(6) ? few : ENTRIES, count = 0x5a;
+    size_t few = random_below(6), capacity = one_in(6) ? few : ENTRIES, count = 0x5a;
     uint64_t line = 0x5a;
 
     memset(entries, 0x5a, sizeof entries);
-    CALL(minisign_list_entries, &lists[i], bytes_or_null(&text), text.len, hash, room == 0 ? NULL : entries, room, &count, &line);
+    CALL(minisign_list_entries, &lists[i], bytes_or_null(&text), text.len, hash, capacity == 0 ? NULL : entries, capacity, &count,
+         &line);
     add_number(count);
     add_number(line);
     for (size_t n = 0; n < ENTRIES; n++) {
         add_entry(&entries[n]);
     }
     if (last_result == MINISIGN_OK && count > 0) {
-        found[i] = entries[random_below((uint32_t) count)];
+        found_entries[i] = entries[random_below((uint32_t) count)];
     }
 }
 
@@ -304,8 +305,8 @@ static void call_entries(void)
 
 static void call_begin(void)
 {
-    const minisign_list_entry *entry = &found[any_copy()];
-    minisign_list_file *file = &files[any_copy()];
+    const minisign_list_entry *entry = &found_entries[any_object()];
+    minisign_list_file *file = &files[any_object()];
 
     CALL(minisign_list_begin, entry, file);
     add_file(file);
@@ -313,7 +314,7 @@ static void call_begin(void)
 
 static void call_update(void)
 {
-    minisign_list_file *file = &files[any_copy()];
+    minisign_list_file *file = &files[any_object()];
     size_t len = one_in(20) ? random_below(sizeof data) : one_in(9) ? 0 : random_below(300);
     size_t at = random_below((uint32_t) (sizeof data - len));
 
@@ -323,7 +324,7 @@ static void call_update(void)
 
 static void call_finish(void)
 {
-    minisign_list_file *file = &files[any_copy()];
+    minisign_list_file *file = &files[any_object()];
 
     CALL(minisign_list_finish, file);
     add_file(file);
@@ -332,8 +333,8 @@ static void call_finish(void)
 /* Checks data for which some entries have the digest, in two pieces. */
 static void call_whole_file(void)
 {
-    const minisign_list_entry *entry = &found[any_copy()];
-    minisign_list_file *file = &files[any_copy()];
+    const minisign_list_entry *entry = &found_entries[any_object()];
+    minisign_list_file *file = &files[any_object()];
     const char *content = contents[random_below(LENGTH(contents))];
     const uint8_t *bytes = content == NULL ? many_letters : bytes_of(content);
     size_t len = content == NULL ? sizeof many_letters : strlen(content), first = random_below((uint32_t) len + 1);
@@ -349,10 +350,10 @@ static void call_whole_file(void)
 
 static void call_compare(void)
 {
-    const minisign_list_entry *entry = &found[any_copy()];
+    const minisign_list_entry *entry = &found_entries[any_object()];
     uint8_t digest[64];
-    enum minisign_hash other = any_hash(0), hash = one_in(8) ? other : (enum minisign_hash) entry->hash;
-    size_t len = hash == MINISIGN_HASH_SHA256 ? 32 : 64, other_len = random_below(sizeof digest + 1),
+    enum minisign_hash rare = any_hash(0), hash = one_in(8) ? rare : (enum minisign_hash) entry->hash;
+    size_t len = hash == MINISIGN_HASH_SHA256 ? 32 : 64, wrong_len = random_below(sizeof digest + 1),
            at = random_below(sizeof digest);
 
     memcpy(digest, entry->digest, sizeof digest);
@@ -360,7 +361,7 @@ static void call_compare(void)
         digest[at] ^= (uint8_t) (1 << random_below(8));
     }
     if (one_in(8)) {
-        len = other_len;
+        len = wrong_len;
     }
     CALL(minisign_list_compare_trusting_your_hash, entry, hash, len == 0 ? NULL : digest, len);
 }
@@ -369,22 +370,23 @@ static void call_compare(void)
 
 static void call_append(void)
 {
-    struct text *list = &written_texts[any_copy()];
+    struct text *list = &written_texts[any_object()];
     struct text text = one_in(16) ? any_list() : one_in(16) ? any_text(written_texts) : *list;
     enum minisign_hash hash = any_hash(1);
     uint8_t digest[64];
     const char *name = any_name();
-    size_t usual = hash == MINISIGN_HASH_SHA256 ? 32 : 64, other = random_below(sizeof digest + 1),
-           digest_len = one_in(16) ? other : usual;
-    size_t near_needed = text.len + 60 + random_below(120), room = one_in(12) ? near_needed : one_in(20) ? random_below(200) : SIZE;
+    size_t usual = hash == MINISIGN_HASH_SHA256 ? 32 : 64, rare = random_below(sizeof digest + 1),
+           digest_len = one_in(16) ? rare : usual;
+    size_t near_needed = text.len + 60 + random_below(120),
+           capacity = one_in(12) ? near_needed : one_in(20) ? random_below(200) : BUFFER_BYTES;
     size_t len = text.len;
 
     fill(digest, sizeof digest);
-    room = room < SIZE ? room : SIZE;
+    capacity = capacity < BUFFER_BYTES ? capacity : BUFFER_BYTES;
     memset(output, 0x5a, sizeof output);
     memcpy(output, text.bytes, text.len);
     CALL(minisign_list_append, hash, digest_len == 0 ? NULL : digest, digest_len, *name == 0 ? NULL : bytes_of(name), strlen(name),
-         room == 0 ? NULL : output, room, &len);
+         capacity == 0 ? NULL : output, capacity, &len);
     add_number(len);
     add_bytes(output, sizeof output);
     if (last_result == MINISIGN_OK) {
@@ -411,7 +413,7 @@ static void begin(void)
 {
     fill(data, sizeof data);
     memset(many_letters, 'a', sizeof many_letters);
-    for (int i = 0; i < COPIES - 1; i++) {
+    for (int i = 0; i < OBJECT_COUNT - 1; i++) {
         minisign_new_key new_key;
         minisign_secret_key secret;
 
@@ -421,7 +423,7 @@ static void begin(void)
         CHECK(minisign_public_key_of(&secret, &keys[i]) == MINISIGN_OK);
     }
     keys[0] = key_of(KEY);
-    for (int i = 0; i < 3 * COPIES; i++) {
+    for (int i = 0; i < 3 * OBJECT_COUNT; i++) {
         call_read_signature();
     }
 }

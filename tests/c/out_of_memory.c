@@ -17,28 +17,29 @@
 #include "texts_for_tests.h"
 
 /* The numbers of calls to pthread_create and to madvise. */
-static long threads, hints;
+static long thread_count, madvise_count;
 
-int __real_madvise(void *from, size_t len, int hint);
+int __real_madvise(void *from, size_t len, int advice);
 
-int __wrap_madvise(void *from, size_t len, int hint)
+int __wrap_madvise(void *from, size_t len, int advice)
 {
-    hints++;
-    return __real_madvise(from, len, hint);
+    madvise_count++;
+    return __real_madvise(from, len, advice);
 }
 
 /* Fails with EAGAIN. The library must work without the thread. */
-int __wrap_pthread_create(void *thread, const void *attributes, void *(*begin)(void *), void *with)
+int __wrap_pthread_create(void *thread, const void *attributes, void *(*run)(void *), void *argument)
 {
-    (void) thread, (void) attributes, (void) begin, (void) with;
-    threads++;
+    (void) thread, (void) attributes, (void) run, (void) argument;
+    thread_count++;
     return 11;
 }
 
-/* Checks a condition after an allocation in a call has failed. `request` is the number of the allocation. */
-static void check_call(int holds, const char *call, const char *what, long request)
+/* Checks a condition after an allocation in a call has failed. `request` is the number of the allocation, and `mistake` is the
+ * message if the condition is false. */
+static void check_call(int condition, const char *call, const char *mistake, long request)
 {
-    check(holds, "%s, allocation %ld failed: %s", call, request, what);
+    check(condition, "%s, allocation %ld failed: %s", call, request, mistake);
 }
 
 /* A secret key that Minisign generated for these tests with -G and the password `pw`. */
@@ -67,53 +68,55 @@ static enum minisign_error write_public_key(void)
 
 static enum minisign_error encode_public_key(void)
 {
-    minisign_public_key half;
-    enum minisign_error error = minisign_public_key_of(&key, &half);
+    minisign_public_key public_key;
+    enum minisign_error error = minisign_public_key_of(&key, &public_key);
 
-    return error != MINISIGN_OK ? error : minisign_encode_public_key(&half, bytes_of("c"), 1, message, sizeof message, &text_len);
+    return error != MINISIGN_OK ? error
+                                : minisign_encode_public_key(&public_key, bytes_of("c"), 1, message, sizeof message, &text_len);
 }
 
 static enum minisign_error encode_unopened_key(void)
 {
-    minisign_unopened_key read;
-    enum minisign_error error = minisign_read_secret_key(bytes_of(SECRET_KEY), strlen(SECRET_KEY), &read);
+    minisign_unopened_key parsed;
+    enum minisign_error error = minisign_read_secret_key(bytes_of(SECRET_KEY), strlen(SECRET_KEY), &parsed);
 
-    return error != MINISIGN_OK ? error : minisign_encode_unopened_key(&read, bytes_of("c"), 1, message, sizeof message, &text_len);
+    return error != MINISIGN_OK ? error
+                                : minisign_encode_unopened_key(&parsed, bytes_of("c"), 1, message, sizeof message, &text_len);
 }
 
-static enum minisign_error write_text(void)
+static enum minisign_error write_signature(void)
 {
     static const uint8_t first[64], second[64];
-    return make_signed_text(&key, first, second, bytes_of("t"), 1, bytes_of("u"), 1, message, sizeof message, &text_len);
+    return make_signature_file(&key, first, second, bytes_of("t"), 1, bytes_of("u"), 1, message, sizeof message, &text_len);
 }
 
 /* Makes a call in which the allocations from number `request` to number `last` fail. Returns true if the call requested at
  * least `request` allocations. */
-static int refuse(const char *name, enum minisign_error (*call)(void), const minisign_secret_key *before, long request,
-                  long last)
+static int fail_requests(const char *name, enum minisign_error (*call)(void), const minisign_secret_key *before, long request,
+                         long last)
 {
     enum minisign_error error;
-    int reached;
+    int is_reached;
 
     key = *before;
     requests = allocated_blocks = 0;
-    refused_from = request;
-    refused_to = last;
+    first_failing_request = request;
+    last_failing_request = last;
     error = call();
-    refused_from = refused_to = 0;
-    reached = requests >= request;
+    first_failing_request = last_failing_request = 0;
+    is_reached = requests >= request;
     check_call(allocated_blocks == 0, name, "memory is not freed", request);
-    check_call(error == (reached ? MINISIGN_OUT_OF_MEMORY : MINISIGN_OK), name, "wrong error", request);
-    check_call(!reached || memcmp(before, &key, sizeof key) == 0, name, "the key has changed", request);
-    return reached;
+    check_call(error == (is_reached ? MINISIGN_OUT_OF_MEMORY : MINISIGN_OK), name, "wrong error", request);
+    check_call(!is_reached || memcmp(before, &key, sizeof key) == 0, name, "the key has changed", request);
+    return is_reached;
 }
 
-static void refuse_each(const char *name, enum minisign_error (*call)(void), const minisign_secret_key *before)
+static void fail_each_request(const char *name, enum minisign_error (*call)(void), const minisign_secret_key *before)
 {
     long request = 1;
 
-    while (refuse(name, call, before, request, request) && request < 1000) {
-        refuse(name, call, before, request, 1000000);
+    while (fail_requests(name, call, before, request, request) && request < 1000) {
+        fail_requests(name, call, before, request, 1000000);
         request++;
     }
     check_call(1 < request && request < 1000, name, "too few or too many allocations", request);
@@ -126,40 +129,40 @@ enum { LARGE_ROWS = IS_EMULATED ? 4096 : 32768 };
 static uint32_t words[256 * (LARGE_ROWS + 3)];
 static uint8_t parts[1024];
 
-static enum minisign_error open_in_place(const char *password, size_t room)
+static enum minisign_error open_in_place(const char *password, size_t capacity)
 {
     return minisign_open_sealed_key_in_place(&unopened, bytes_of(password), strlen(password), MINISIGN_KEEP_EVERY_ROW,
-                                             MINISIGN_USUAL_ROWS, words, room, parts, sizeof parts, &key);
+                                             MINISIGN_USUAL_ROWS, words, capacity, parts, sizeof parts, &key);
 }
 
 /* Checks that opening a key in the caller's memory does not allocate memory, call madvise or start a thread, and that it
  * succeeds even if all allocations would fail. */
 static void open_without_memory(const minisign_secret_key *opened)
 {
-    const size_t room = LENGTH(words);
+    const size_t capacity = LENGTH(words);
     uint64_t words_wanted = 0, bytes_wanted = 0;
 
     CHECK(seal(opened, "pw", 1024 * LARGE_ROWS, 1, message, sizeof message, &text_len) == MINISIGN_OK);
     CHECK(minisign_read_secret_key(message, text_len, &unopened) == MINISIGN_OK);
-    requests = allocated_blocks = threads = hints = 0;
+    requests = allocated_blocks = thread_count = madvise_count = 0;
     CHECK(minisign_open_sealed_key(&unopened, bytes_of("pw"), 2, MINISIGN_KEEP_EVERY_ROW, MINISIGN_USUAL_ROWS, &key)
           == MINISIGN_OK);
     CHECK(requests > 0 && allocated_blocks == 0);
     /* These calls are made only if the library uses c/library/allocation.c. */
 #if defined(__LP64__) && defined(MADV_HUGEPAGE) && defined(MADV_POPULATE_WRITE) && !defined(MINISIGN_NO_THREADS)
-    CHECK(threads == !IS_EMULATED && hints > 0);
+    CHECK(thread_count == !IS_EMULATED && madvise_count > 0);
 #endif
     memset(&key, 0, sizeof key);
-    requests = threads = hints = 0;
+    requests = thread_count = madvise_count = 0;
     max_request = 0;
     minisign_opening_memory(&unopened, MINISIGN_KEEP_EVERY_ROW, MINISIGN_USUAL_ROWS, &words_wanted, &bytes_wanted);
-    CHECK(words_wanted <= room && bytes_wanted <= sizeof parts);
+    CHECK(words_wanted <= capacity && bytes_wanted <= sizeof parts);
     CHECK(open_in_place("pw", (size_t) words_wanted - 1) == MINISIGN_NO_ROOM);
-    CHECK(open_in_place("wp", room) == MINISIGN_WRONG_PASSWORD);
+    CHECK(open_in_place("wp", capacity) == MINISIGN_WRONG_PASSWORD);
     memset(words, 0x5a, sizeof words);
-    CHECK(open_in_place("pw", room) == MINISIGN_OK);
+    CHECK(open_in_place("pw", capacity) == MINISIGN_OK);
     CHECK(memcmp(&key, opened, sizeof key) == 0 && is_zeros(words, sizeof words) && is_zeros(parts, sizeof parts));
-    CHECK(requests == 0 && allocated_blocks == 0 && threads == 0 && hints == 0);
+    CHECK(requests == 0 && allocated_blocks == 0 && thread_count == 0 && madvise_count == 0);
     max_request = SIZE_MAX;
 }
 
@@ -170,16 +173,16 @@ int main(void)
     CHECK(read_and_open(SECRET_KEY, NULL, &unopened, &key) == MINISIGN_OK);
     opened = key;
     open_without_memory(&opened);
-    refuse_each("minisign_signed_text", write_text, &opened);
-    refuse_each("minisign_secret_key_text", write_secret_key, &opened);
-    refuse_each("minisign_public_key_text", write_public_key, &opened);
-    refuse_each("minisign_encode_public_key", encode_public_key, &opened);
-    refuse_each("minisign_encode_unopened_key", encode_unopened_key, &opened);
+    fail_each_request("minisign_signed_text", write_signature, &opened);
+    fail_each_request("minisign_secret_key_text", write_secret_key, &opened);
+    fail_each_request("minisign_public_key_text", write_public_key, &opened);
+    fail_each_request("minisign_encode_public_key", encode_public_key, &opened);
+    fail_each_request("minisign_encode_unopened_key", encode_unopened_key, &opened);
     max_request = 100000;
     allocated_blocks = 0;
     CHECK(read_and_open(SEALED, "pw", &unopened, &key) == MINISIGN_OUT_OF_MEMORY);
     CHECK(allocated_blocks == 0);
     CHECK(seal(&opened, "pw", MINISIGN_MEMORY_LIMIT, 1, message, sizeof message, &text_len) == MINISIGN_OUT_OF_MEMORY);
     CHECK(allocated_blocks == 0);
-    return ended();
+    return print_summary();
 }

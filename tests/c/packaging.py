@@ -9,11 +9,11 @@ packages and licences.
   * With the flags of Ubuntu and Fedora, the programs verify signatures, and every compiler can link the library, because it
     contains no LTO code.
   * With PORTABLE=1 and -fcf-protection or -mbranch-protection, the object file of the library has the notes with which the linker
-    and the system enable these protections, and functions in assembly begin with a landing instruction. (The archives in dist/
-    have no notes.)
+    and the system enable these protections, and functions in assembly begin with the landing instruction that these protections
+    require at the target of an indirect jump (endbr64 or bti). (The archives in dist/ have no notes.)
   * The packages that README.md and other documents name install everything that is needed, even without recommended packages.
-    This is checked with apt-get, as for a Debian without packages.
-  * debian/copyright and APKBUILD repeat what LICENSE says about the kit's code in dist/.
+    apt-get simulates the installation on a Debian on which no packages are installed.
+  * debian/copyright and APKBUILD repeat what LICENSE says about the code of the Rattle kit (prover and compiler) in dist/.
 
 (releases.py packs releases, and builds with Debian's flags, with clang and with musl; build_and_install.py installs.) The
 script prints a line for each failure; the last line is `N passed, M failed`.
@@ -58,7 +58,8 @@ CHECK = os.path.join(static_library.DIRECTORY, "check.sh")
 PACKAGER_FLAGS = {"CPPFLAGS": "-DNAMED=1", "CFLAGS": "-O1", "LDFLAGS": "-Wl,--hash-style=gnu"}
 COMPILE_FLAGS = {PACKAGER_FLAGS["CPPFLAGS"], PACKAGER_FLAGS["CFLAGS"]}
 LINK_FLAGS = {PACKAGER_FLAGS["CFLAGS"], PACKAGER_FLAGS["LDFLAGS"]}
-# Variables for static programs. `all` also builds the shared library, which must not be linked with -static.
+# Variables for static programs. The default target of c/Makefile also builds the shared library. The Makefile must leave out
+# -static there, because a static shared library cannot be linked.
 STATIC = ["SODIUM=static", "LDFLAGS=-static"]
 LTO = "-flto=auto -ffat-lto-objects"
 UBUNTU = {
@@ -91,6 +92,7 @@ def check_flags(checks, scratch):
         lines = [line.split() for line in output.splitlines() if line.startswith("gcc ")]
         compiling = [line for line in lines if any(word.endswith(".c") for word in line)]
         linking = [line for line in lines if "-c" not in line]
+        # These numbers change with each C file or program that is added. They make sure that no command is overlooked.
         checks.check(len(compiling) == 17 and len(linking) == 4,
                      f"{len(compiling)} commands compile, expected 17, and {len(linking)} link, expected 4")
         for line, flags in [(line, COMPILE_FLAGS) for line in compiling] + [(line, LINK_FLAGS) for line in linking]:
@@ -116,7 +118,7 @@ def check_sodium(checks, scratch):
     for out, arguments, is_shared in (("out", [], True), ("static", ["SODIUM=static"], False),
                                   ("named", ["SODIUM=-lsodium -Wl,-rpath,/named"], True), ("alone", STATIC, False)):
         if out != "out":
-            # Only the programs must be built again.
+            # Only the programs and the shared library must be linked again.
             shutil.copytree(
                 f"{scratch}/out",
                 f"{scratch}/{out}",
@@ -162,7 +164,7 @@ def check_distributions(checks, scratch):
     library then contains only machine code."""
     for name, data in FEDORA_SPECS.items():
         write(scratch, name, data)
-    # To save time, dist/calls.c is compiled with LTO only once.
+    # To save time, dist/calls.c is compiled with LTO only for Ubuntu. With C_CALLS empty, the library does not contain it.
     for name, flags in (("Ubuntu", UBUNTU), ("Fedora", {**FEDORA, "C_CALLS": ""})):
         out = build(checks, scratch, name, "all", **flags)
         checks.ended(name, run(["sh", CHECK, f"{out}/minisign"]), says=" 0 failed\n")
@@ -171,7 +173,7 @@ def check_distributions(checks, scratch):
 
 
 def check_notes(checks, scratch, compiler):
-    """Checks that the object file of the library has the notes, and that its assembly begins with a landing
+    """Checks that the object file of the library has the notes, and that a function in assembly begins with the landing
     instruction."""
     cross = needs.program("aarch64-linux-gnu-gcc", "gcc-aarch64-linux-gnu")
     for flag, notes, landing_instruction, compiler in (("-fcf-protection=full", ("IBT", "SHSTK"), "endbr64", compiler),
@@ -186,8 +188,9 @@ def check_notes(checks, scratch, compiler):
         )
         disassembler = run([compiler, "-print-prog-name=objdump"])[1].strip()
         _, code = run([disassembler, "-d", "--no-show-raw-insn", "--disassemble=minisign_clear_used", object_file])
-        first = re.search(r"(?m)^ *[0-9a-f]+:\t.*", code)
-        checks.check(first and landing_instruction in first[0], f"{flag}: the assembly begins with {first and first[0]!r}")
+        first_instruction = re.search(r"(?m)^ *[0-9a-f]+:\t.*", code)
+        checks.check(first_instruction and landing_instruction in first_instruction[0],
+                     f"{flag}: the assembly begins with {first_instruction and first_instruction[0]!r}")
 
 
 def packages_installed_by(names):
@@ -218,9 +221,9 @@ def check_prerequisites(checks):
     if not needs.is_debian():
         return
     for name, packages in expected.items():
-        named = re.search(r"apt install ([a-z0-9.+ -]+)", texts[name])
-        found = packages_installed_by(named[1].split()) if named else set()
-        checks.check(packages <= found, f"{name}: the packages that it names do not install {sorted(packages - found)}")
+        match = re.search(r"apt install ([a-z0-9.+ -]+)", texts[name])
+        installed = packages_installed_by(match[1].split()) if match else set()
+        checks.check(packages <= installed, f"{name}: the packages that it names do not install {sorted(packages - installed)}")
 
 
 def check_licences(checks):
@@ -232,8 +235,8 @@ def check_licences(checks):
     debian, alpine = read(TOP, "packaging/debian/copyright").decode(), read(TOP, "packaging/alpine/APKBUILD").decode()
     files = re.search(r"(?ms)^Files: dist/\*$(.*?)\n\n", debian)[1]
     for holder in holders:
-        named, comment = (" ".join(part.split()) for part in files.split("License:"))
-        checks.check(holder in named and holder in comment, f"debian/copyright does not name {holder} for dist/")
+        copyright_field, comment = (" ".join(part.split()) for part in files.split("License:"))
+        checks.check(holder in copyright_field and holder in comment, f"debian/copyright does not name {holder} for dist/")
     for name, text in (("debian/copyright", files), ("APKBUILD", alpine)):
         for crate in crates:
             checks.check(re.search(rf"\b{crate}\b", text), f"{name} does not name the kit's crate {crate}")
@@ -243,8 +246,8 @@ def check_licences(checks):
     checks.same(licences, {"Expat", "Apache-2.0", "Rattle-kit-without-terms"}, "the licences of dist/ in debian/copyright")
     for licence in licences:
         checks.check(re.search(rf"(?m)^License: {licence}\n ", debian), f"debian/copyright has no text for {licence}")
-    named = re.search(r'(?m)^license="(.*)"$', alpine)[1]
-    checks.same(named, "MIT AND (MIT OR Apache-2.0) AND LicenseRef-Rattle-kit-without-terms", "the licence of APKBUILD")
+    licence_of_alpine = re.search(r'(?m)^license="(.*)"$', alpine)[1]
+    checks.same(licence_of_alpine, "MIT AND (MIT OR Apache-2.0) AND LicenseRef-Rattle-kit-without-terms", "the licence of APKBUILD")
 
 
 def run_all(checks, scratch):

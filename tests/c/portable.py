@@ -48,6 +48,7 @@ from mutants import mutants_of
 from process import run
 from running import read, write
 from texts import CORPUS
+from wine import Wine
 
 C = static_library.DIRECTORY
 LIBRARY, PORTABLE = f"{C}/library", f"{C}/library/portable"
@@ -70,17 +71,17 @@ def check_compilers(checks, scratch, checksums):
     # Each build: its name, the arguments of make, the compiler and the flags for the programs, and the programs.
     # (With -g, or with inlined checks of the sanitizer, gcc takes twice as long to compile dist/calls.c. Without
     # -O1, the builds and runs with sanitizers take several times as long.)
-    for what, arguments, compiler, flags, programs in (
+    for build_name, arguments, compiler, flags, programs in (
             ("gcc", [], gcc, [], PROGRAMS), ("clang", [f"CC={clang}"], gcc, [], MEMORY_PROGRAMS),
             ("sanitized", [f"CFLAGS=-O1 {' '.join(SANITIZED)} --param=asan-instrumentation-with-call-threshold=0", "CPPFLAGS=",
                            "LDFLAGS="], gcc, SANITIZED, MEMORY_PROGRAMS),
             ("tcc", [f"CC={tcc}", "TARGET=x86_64-linux", "LD=ld", "OBJCOPY=objcopy", "AR=ar", "CFLAGS=", "CPPFLAGS=", "HAS_PAGES="],
              gcc, [NO_THREADS], MALLOC_PROGRAMS),
             ("musl", musl_arguments, emulated.musl_compiler(), ["-static"], {})):
-        library = f"{scratch}/{what}/libminisign.a"
-        static_library.run_make("CC=gcc", "PORTABLE=1", f"OUT={scratch}/{what}", *arguments, library)
-        checksums.check(what, compiler, library, *flags)
-        check_programs(checks, what, programs, compiler, library, *(LESS if what != "gcc" else []), *flags)
+        library = f"{scratch}/{build_name}/libminisign.a"
+        static_library.run_make("CC=gcc", "PORTABLE=1", f"OUT={scratch}/{build_name}", *arguments, library)
+        checksums.check(build_name, compiler, library, *flags)
+        check_programs(checks, build_name, programs, compiler, library, *(LESS if build_name != "gcc" else []), *flags)
     # tcc compiles the mutants fastest.
     check_mutants(checks, scratch, checksums, [tcc], mutants_of("c", "machine_mutants"))
     static_library.run_make("PORTABLE=1", f"OUT={scratch}/musl", *musl_arguments, "all")
@@ -93,9 +94,9 @@ def check_mutants(checks, scratch, checksums, compiler, all_mutants, case=None, 
     which the mutants are, or None, and `prefix` is the command of its emulator."""
     directory = os.path.join(scratch, "mutants")
     os.mkdir(directory)
-    tried = MutantRunner(checksums, directory, compiler, prefix).check(all_mutants, case)
-    print(f"{case or 'this machine'}: {len(tried)} of {len(all_mutants)} mutants change the calls")
-    checks.check(tried, "no mutant changes the calls")
+    effective_mutants = MutantRunner(checksums, directory, compiler, prefix).check(all_mutants, case)
+    print(f"{case or 'this machine'}: {len(effective_mutants)} of {len(all_mutants)} mutants change the calls")
+    checks.check(effective_mutants, "no mutant changes the calls")
 
 
 def check_strict(checks, scratch):
@@ -150,8 +151,8 @@ def check_archives(checks, scratch, _):
                                 f"{out}/minisign")
         for copy, (_, processors) in COPIES.items():
             for processor in processors.split():
-                ran = run([emulator, "-cpu", processor, f"{out}/minisign", *verifying], CORPUS)
-                checks.ended(f"{processor}, {changed_copy} with a wrong value", ran, status=int(changed_copy == copy))
+                result = run([emulator, "-cpu", processor, f"{out}/minisign", *verifying], CORPUS)
+                checks.ended(f"{processor}, {changed_copy} with a wrong value", result, status=int(changed_copy == copy))
     emulated.compiler(emulated.AARCH64)
     for compiler in WITHOUT_ARCHIVE:
         status, output = run([*compiler.split(), "-std=c11", "-I", INCLUDE, "-c", "-o", os.devnull, f"{LIBRARY}/boundary.c"])
@@ -197,34 +198,17 @@ def check_processors(checks, scratch, checksums, kinds=KINDS):
             cleared_secrets.check_run(checks, kind.name, cleared_secrets.Run([*built.emulator, program]))
 
 
-WINE = "/usr/lib/wine"
-
-
-class Windows:
-    """Runs Windows programs with wine, which stores its settings in a directory in `scratch`."""
-
-    def __init__(self, scratch):
-        self.program = needs.need(
-            lambda: needs.which("wine64") or next(iter(glob.glob(f"{WINE}/wine64")), None), "wine64", "wine64"
-        )
-        self.variables = {"WINEPREFIX": os.path.join(scratch, "wine"), "WINEDEBUG": "-all", "HOME": scratch}
-
-    def end(self):
-        """Stops wine's server."""
-        run([f"{WINE}/wineserver", "-k"], **self.variables)
-
-
 def check_windows(checks, scratch, checksums):
     """Checks the dynamic and the static library for Windows."""
     compiler, out = needs.program("x86_64-w64-mingw32-gcc", "gcc-mingw-w64-x86-64"), os.path.join(scratch, "windows")
-    windows = Windows(scratch)
+    wine = Wine(scratch)
     # The compiler appends `.exe` to the name of the program, so the command must do so too.
-    settings = [f"{name}={value}" for name, value in windows.variables.items()]
-    prefix = ["env", *settings, "sh", "-c", f'exec {windows.program} "$0.exe" "$@"']
+    settings = [f"{name}={value}" for name, value in wine.variables.items()]
+    prefix = ["env", *settings, "sh", "-c", f'exec {wine.program} "$0.exe" "$@"']
     static_library.run_make(f"CC={compiler}", f"OUT={out}", "library")
     for library in ("libminisign.a", "libminisign.dll.a"):
         checksums.check(f"Windows, {library}", compiler, f"{out}/{library}", "-w", prefix=prefix)
-    windows.end()
+    wine.end()
 
 
 # Replacements for system headers, by directory. The headers in "declarations" declare only the functions that the

@@ -77,7 +77,7 @@ def failure_of(scratch, built, name, cases_of, mutant):
         return f"{type(error).__name__}: {error}"
 
 
-def try_mutants(tried, scratch, name, cases_of):
+def try_mutants(selected_mutants, scratch, name, cases_of):
     """Tries mutants of a program in several processes, and returns the failures. Threads would not do, because
     cases may change the user of the process for a while."""
     os.chmod(scratch, 0o711)
@@ -87,7 +87,8 @@ def try_mutants(tried, scratch, name, cases_of):
     build(built, name)
     try_mutant = partial(failure_of, scratch, built, name, cases_of)
     with concurrent.futures.ProcessPoolExecutor(os.cpu_count() or 1) as pool:
-        return [f"{mutant.name}: {failure}" for mutant, failure in zip(tried, pool.map(try_mutant, tried)) if failure]
+        failures = pool.map(try_mutant, selected_mutants)
+        return [f"{mutant.name}: {failure}" for mutant, failure in zip(selected_mutants, failures) if failure]
 
 
 def cases_of_installer(preload, program, scratch):
@@ -99,16 +100,16 @@ def cases_of_installer(preload, program, scratch):
 
 def cases_of_check(preload, program, scratch):
     """Returns the test cases for a build of minisign-check, with a new key."""
-    checking = check_running.Checking(program, scratch)
+    checking = check_running.CheckRunner(program, scratch)
     checking.preload = preload
     return check_program.cases_of(checking)
 
 
-def cases_of_minisign(whole, keys, program, scratch):
-    """Yields the test cases for a build of minisign: only those of the classes whose cases the mutants name. `whole` is a
+def cases_of_minisign(paths, keys, program, scratch):
+    """Yields the test cases for a build of minisign: only those of the classes whose cases the mutants name. `paths` is a
     `ProgramPaths` that lacks only this build."""
-    for part in (OtherUsers, Places):
-        yield from part(whole._replace(ours=program), scratch, keys).cases()
+    for case_class in (OtherUsers, Places):
+        yield from case_class(paths._replace(ours=program), scratch, keys).cases()
 
 
 def run_all(scratch):
@@ -119,14 +120,14 @@ def run_all(scratch):
     lists = [(mutants.mutants_of("installer", "mutants"), NAME, partial(cases_of_installer, preload)),
              (mutants.mutants_of("check", "mutants"), check_running.NAME, partial(cases_of_check, preload))]
     if os.geteuid() == 0:
-        whole = ProgramPaths(needs.minisign(), "", build_preload(scratch, "fixed_random_and_time"))
-        lists.append((mutants.mutants_of("command_line", "mutants"), "minisign", partial(cases_of_minisign, whole, keys_of(whole))))
+        paths = ProgramPaths(needs.minisign(), "", build_preload(scratch, "fixed_random_and_time"))
+        lists.append((mutants.mutants_of("command_line", "mutants"), "minisign", partial(cases_of_minisign, paths, keys_of(paths))))
     else:
         print("skipped: only root can make files of other users")
     for all_mutants, program_name, cases_of_program in lists:
-        tried = [mutant for mutant in all_mutants if not names or mutant.name in names]
-        failures += try_mutants(tried, scratch, program_name, cases_of_program) if tried else []
-        count += len(tried)
+        selected_mutants = [mutant for mutant in all_mutants if not names or mutant.name in names]
+        failures += try_mutants(selected_mutants, scratch, program_name, cases_of_program) if selected_mutants else []
+        count += len(selected_mutants)
     return failures, count
 
 

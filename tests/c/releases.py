@@ -92,10 +92,10 @@ def make_unsigned_archive(checks, out, *arguments):
     return archive_in(out)
 
 
-def check_verifying(checks, what, *command):
+def check_verifying(checks, description, *command):
     """Checks that a command accepts the published signature, and rejects it for other data."""
     for data, status in (("test", 0), ("hello", 1)):
-        checks.ended(f"{what} on {data}", run([data if word == "DATA" else word for word in command], CORPUS), status)
+        checks.ended(f"{description} on {data}", run([data if word == "DATA" else word for word in command], CORPUS), status)
 
 
 def check_release(checks, scratch):
@@ -126,14 +126,14 @@ def check_contents(checks, top):
             f"the sources of the {part} of a release have the hash {output}, which is not the one in dist/PROVED",
         )
     paths = [os.path.join(top, name) for name in files_below(top)]
-    ends = {path[at + 1:] for path in paths for at, letter in enumerate(path) if letter == "/"}
+    path_endings = {path[index + 1:] for path in paths for index, letter in enumerate(path) if letter == "/"}
     for path in (path for path in paths if not path.endswith((".a", ".png", ".antt", ".edit")) and "/corpus/" not in path):
-        text, shown = read(path).decode(errors="replace"), os.path.relpath(path, top)
+        text, name_in_release = read(path).decode(errors="replace"), os.path.relpath(path, top)
         for name in LINK.findall(text) if path.endswith(".md") else ():
             exists = os.path.exists(os.path.join(os.path.dirname(path), name)) or not name.endswith((".md", ".png"))
-            checks.check(exists, f"{shown} of a release links to the missing {name}")
+            checks.check(exists, f"{name_in_release} of a release links to the missing {name}")
         for name in DOCUMENT.findall(text) if ".md" in text else ():
-            checks.check(name in ends, f"{shown} of a release names the missing {name}")
+            checks.check(name in path_endings, f"{name_in_release} of a release names the missing {name}")
 
 
 def check_no_names(checks):
@@ -157,13 +157,13 @@ def check_licence(checks):
         read(TOP, "LICENSE").decode(),
         re.S,
     )[1]
-    named = {name for archive in glob.glob(f"{static_library.DIST}/*.a")
-             for name in re.findall(r" (\w+)::", run([needs.program("nm", "binutils"), archive])[1])} - {*crates}
-    called = {
+    used_crates = {name for archive in glob.glob(f"{static_library.DIST}/*.a")
+                   for name in re.findall(r" (\w+)::", run([needs.program("nm", "binutils"), archive])[1])} - {*crates}
+    dependencies = {
         name for crate in (*crates["minisign_c"].dependencies, "minisign_c") for name in crates[crate].kit_dependencies
     } - {"std"}
-    checks.check(len(named | called) > 3, f"the archives hold only {named | called}")
-    for name in sorted(named | called):
+    checks.check(len(used_crates | dependencies) > 3, f"the archives hold only {used_crates | dependencies}")
+    for name in sorted(used_crates | dependencies):
         checks.check(re.search(rf"\b{name}\b", terms), f"LICENSE does not state the terms of the kit's crate {name}")
 
 
@@ -289,9 +289,11 @@ def check_compiler(checks, scratch, top, name):
 def check_same_as_repository(checks, scratch, root):
     """Checks that a release installs the same bytes as the repository."""
     static_library.run_make("CC=gcc", f"OUT={scratch}/own", f"DESTDIR={scratch}/own-dest", "PREFIX=/usr", "install")
-    ours, theirs = ({(name, read(at, name)) for name in files_below(at)} for at in (f"{scratch}/own-dest/usr", root))
-    differing = sorted({name for name, _ in ours ^ theirs})
-    checks.check(ours and not differing, f"files that the repository and a release install differently: {differing}")
+    files_of_repository, files_of_release = (
+        {(name, read(directory, name)) for name in files_below(directory)} for directory in (f"{scratch}/own-dest/usr", root)
+    )
+    differing = sorted({name for name, _ in files_of_repository ^ files_of_release})
+    checks.check(files_of_repository and not differing, f"files that the repository and a release install differently: {differing}")
 
 
 def check_without_archives(checks, scratch, top):

@@ -27,15 +27,15 @@ def repository_files():
     return output.split("\0") if status == 0 else None
 
 
-def copy_tree(to):
-    """Copies the files of the repository to the directory `to`, without build results."""
+def copy_tree(destination):
+    """Copies the files of the repository to the directory `destination`, without build results."""
     names = repository_files()
     if names is None:
-        shutil.copytree(TOP, to, ignore=shutil.ignore_patterns("out", ".git", "__pycache__", "try-*"))
+        shutil.copytree(TOP, destination, ignore=shutil.ignore_patterns("out", ".git", "__pycache__", "try-*"))
     for name in names or []:
         if os.path.isfile(os.path.join(TOP, name)):
-            os.makedirs(os.path.dirname(os.path.join(to, name)), exist_ok=True)
-            shutil.copy(os.path.join(TOP, name), os.path.join(to, name))
+            os.makedirs(os.path.dirname(os.path.join(destination, name)), exist_ok=True)
+            shutil.copy(os.path.join(TOP, name), os.path.join(destination, name))
 
 
 def files_below(directory):

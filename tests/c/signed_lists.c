@@ -14,9 +14,6 @@
 #define SHA512_OF_ABC \
     "ddaf35a193617abacc417349ae20413112e6fa4e89a97ea20a9eeee64b55d39a" \
     "2192992a274fc1a836ba3c23a3feebbd454d4423643ce80e2a9ac94fa54ca49f"
-#define BLAKE2B_OF_ABC \
-    "ba80a53f981c4d0d6a2797b69f12f6e94c212f14685ac4b74b12bb6fdbffa2d1" \
-    "7d87c5392aab792dc252d5de4533cc9518d38aa8dbf1925ab92386edd4009923"
 /* The digests of a million letters a. */
 #define SHA256_OF_MILLION "cdc76e5c9914fb9281a1c7e284d73e67f1809a48a497200e046d39ccc7112cd0"
 #define SHA512_OF_MILLION \
@@ -27,7 +24,7 @@
     "d077609d7fba363cbba00d05f7aa4e4fa8715d6428104c0a75643b0ff3fd3eaf"
 
 #define SIGNATURE_TEXT(comment, second) "untrusted comment: x\n" RECORD "\ntrusted comment: " comment "\n" second "\n"
-#define NAMED SIGNATURE_TEXT("timestamp:1\tfile:SHA256SUMS\thashed", COMMENT_RECORD)
+#define SIGNATURE_OF_SHA256SUMS SIGNATURE_TEXT("timestamp:1\tfile:SHA256SUMS\thashed", COMMENT_RECORD)
 
 static const char LIST[] =
     "# a comment\r\n"
@@ -68,11 +65,11 @@ static enum minisign_error verify(minisign_list *list, const char *sig_text, con
     return minisign_list_verdict(list, first, second);
 }
 
-static minisign_list verified(const char *text)
+static minisign_list verified_list(const char *text)
 {
     minisign_list list;
 
-    check(verify(&list, NAMED, NULL, text, YES, YES) == MINISIGN_OK, "a list was not verified: %s", text);
+    check(verify(&list, SIGNATURE_OF_SHA256SUMS, NULL, text, YES, YES) == MINISIGN_OK, "a list was not verified: %s", text);
     return list;
 }
 
@@ -83,16 +80,16 @@ static enum minisign_error find(const minisign_list *list, const char *text, enu
 }
 
 /* Checks data against an entry. The data is passed in pieces of the length `piece`. */
-static enum minisign_error file_of(const minisign_list_entry *entry, const char *data, size_t len, size_t piece)
+static enum minisign_error check_data(const minisign_list_entry *entry, const char *data, size_t len, size_t piece)
 {
     minisign_list_file file;
-    int good = minisign_list_begin(entry, &file) == MINISIGN_OK;
+    int is_ok = minisign_list_begin(entry, &file) == MINISIGN_OK;
 
     for (size_t at = 0; at < len; at += piece) {
-        good &= minisign_list_update(&file, bytes_of(data) + at, len - at < piece ? len - at : piece) == MINISIGN_OK;
+        is_ok &= minisign_list_update(&file, bytes_of(data) + at, len - at < piece ? len - at : piece) == MINISIGN_OK;
     }
     enum minisign_error error = minisign_list_finish(&file);
-    check(good, "a check was not begun or not fed");
+    check(is_ok, "a check was not begun or not fed");
     check(minisign_list_finish(&file) == MINISIGN_NOT_BEGUN, "a check was finished twice");
     check(minisign_list_update(&file, NULL, 0) == MINISIGN_NOT_BEGUN, "a finished check was fed");
     return error;
@@ -106,15 +103,15 @@ static void check_verdicts(void)
         enum minisign_answer first, second;
         enum minisign_error error;
     } rows[] = {
-        { NAMED, "SHA256SUMS", YES, YES, MINISIGN_OK },
-        { NAMED, NULL, YES, YES, MINISIGN_OK },
-        { NAMED, "SHA256SUM", YES, YES, MINISIGN_OTHER_LIST },
-        { NAMED, "SHA256SUMS2", YES, YES, MINISIGN_OTHER_LIST },
-        { NAMED, "", YES, YES, MINISIGN_OTHER_LIST },
-        { NAMED, "x", NO, NO, MINISIGN_SIGNATURE_REFUSED },
-        { NAMED, "x", YES, NO, MINISIGN_COMMENT_SIGNATURE_REFUSED },
-        { NAMED, "SHA256SUMS", NO, YES, MINISIGN_SIGNATURE_REFUSED },
-        { NAMED, NULL, YES, NO, MINISIGN_COMMENT_SIGNATURE_REFUSED },
+        { SIGNATURE_OF_SHA256SUMS, "SHA256SUMS", YES, YES, MINISIGN_OK },
+        { SIGNATURE_OF_SHA256SUMS, NULL, YES, YES, MINISIGN_OK },
+        { SIGNATURE_OF_SHA256SUMS, "SHA256SUM", YES, YES, MINISIGN_OTHER_LIST },
+        { SIGNATURE_OF_SHA256SUMS, "SHA256SUMS2", YES, YES, MINISIGN_OTHER_LIST },
+        { SIGNATURE_OF_SHA256SUMS, "", YES, YES, MINISIGN_OTHER_LIST },
+        { SIGNATURE_OF_SHA256SUMS, "x", NO, NO, MINISIGN_SIGNATURE_REFUSED },
+        { SIGNATURE_OF_SHA256SUMS, "x", YES, NO, MINISIGN_COMMENT_SIGNATURE_REFUSED },
+        { SIGNATURE_OF_SHA256SUMS, "SHA256SUMS", NO, YES, MINISIGN_SIGNATURE_REFUSED },
+        { SIGNATURE_OF_SHA256SUMS, NULL, YES, NO, MINISIGN_COMMENT_SIGNATURE_REFUSED },
         { SIGNATURE_TEXT("file:a\tfile:SHA256SUMS", COMMENT_RECORD), "SHA256SUMS", YES, YES, MINISIGN_OTHER_LIST },
         { SIGNATURE_TEXT("SHA256SUMS", COMMENT_RECORD), "SHA256SUMS", YES, YES, MINISIGN_OTHER_LIST },
         { SIGNATURE_TEXT("file:", COMMENT_RECORD), "", YES, YES, MINISIGN_OK },
@@ -135,30 +132,33 @@ static void check_verdicts(void)
               "verdict %zu: finding returns %d, line %llu", at, error, (unsigned long long) line);
     }
 
-    minisign_list list, kept;
+    minisign_list list, before;
     minisign_questions questions;
     minisign_signature signature = { 0 };
     uint8_t message[1024];
 
     memset(&list, 0, sizeof list);
     check(minisign_list_verdict(&list, YES, YES) == MINISIGN_NOT_ASKED, "a list of zeros has a verdict");
-    check(ask(&list, NAMED, NULL, LIST, &questions) == MINISIGN_OK, "asking failed");
-    kept = list;
+    check(ask(&list, SIGNATURE_OF_SHA256SUMS, NULL, LIST, &questions) == MINISIGN_OK, "asking failed");
+    before = list;
     check(minisign_list_verdict(&list, (enum minisign_answer) 1, YES) == MINISIGN_BAD_ANSWER, "1 is an answer");
     check(minisign_list_verdict(&list, YES, (enum minisign_answer) 0) == MINISIGN_BAD_ANSWER, "0 is an answer");
-    check(memcmp(&list, &kept, sizeof list) == 0, "a bad answer changed the list");
+    check(memcmp(&list, &before, sizeof list) == 0, "a bad answer changed the list");
     check(minisign_list_ask_any(&list, &key, &signature, NULL, 0, NULL, 0, &questions, message, sizeof message)
               == MINISIGN_SIGNATURE_NOT_READ, "a signature of zeros was asked about");
-    check(memcmp(&list, &kept, sizeof list) == 0, "an error of asking changed the list");
-    check(minisign_read_signature(bytes_of(NAMED), strlen(NAMED), &signature) == MINISIGN_OK, "a signature is not read");
-    for (size_t room = 0; room < 64 + signature.comment_len; room++) {
-        check(minisign_list_ask_any(&list, &key, &signature, bytes_of(NAMED), strlen(NAMED), bytes_of(LIST), strlen(LIST),
-                                    &questions, message, room) == MINISIGN_NO_ROOM, "asking in a buffer of %zu bytes", room);
+    check(memcmp(&list, &before, sizeof list) == 0, "an error of asking changed the list");
+    check(minisign_read_signature(bytes_of(SIGNATURE_OF_SHA256SUMS), strlen(SIGNATURE_OF_SHA256SUMS), &signature) == MINISIGN_OK,
+          "a signature is not read");
+    for (size_t capacity = 0; capacity < 64 + signature.comment_len; capacity++) {
+        check(minisign_list_ask_any(&list, &key, &signature, bytes_of(SIGNATURE_OF_SHA256SUMS), strlen(SIGNATURE_OF_SHA256SUMS),
+                                    bytes_of(LIST), strlen(LIST), &questions, message, capacity)
+                  == MINISIGN_NO_ROOM,
+              "asking in a buffer of %zu bytes", capacity);
     }
     check(ask(&list, "untrusted comment: x\n" LEGACY_RECORD "\ntrusted comment: abc\n" COMMENT_RECORD "\n", NULL, LIST, &questions)
               == MINISIGN_LEGACY_NOT_ACCEPTED, "a legacy signature of a list was accepted");
-    check(ask(&list, "untrusted comment: x\n" OTHER_RECORD "\ntrusted comment: abc\n" COMMENT_RECORD "\n", NULL, LIST, &questions)
-              == MINISIGN_DIFFERENT_KEY_IDS, "another key ID was accepted");
+    check(ask(&list, "untrusted comment: x\n" OTHER_KEY_RECORD "\ntrusted comment: abc\n" COMMENT_RECORD "\n", NULL, LIST,
+              &questions) == MINISIGN_DIFFERENT_KEY_IDS, "another key ID was accepted");
 }
 
 /* Checks the results of finding a name in LIST, and in lists with one malformed line. */
@@ -196,7 +196,7 @@ static void check_finding(void)
     };
     static const char *const malformed[] = { "x", SHA256_OF_ABC " a", SHA256_OF_ABC "  /a", SHA256_OF_ABC "  b\tc", "MD5 (a) = 1",
                                              SHA256_OF_ABC "  ../b", "BLAKE2b-256 (b) = " SHA256_OF_ABC };
-    minisign_list list = verified(LIST);
+    minisign_list list = verified_list(LIST);
 
     for (size_t at = 0; at < LENGTH(rows); at++) {
         minisign_list_entry entry, zeros = { 0 };
@@ -218,12 +218,12 @@ static void check_finding(void)
         check(entry.name_len == strlen(bare) && memcmp(LIST + entry.name_offset, bare, strlen(bare)) == 0,
               "%s: wrong name", rows[at].name);
         for (size_t piece = 1; piece <= 4; piece++) {
-            int is_other = rows[at].line == 9 && rows[at].hash == MINISIGN_HASH_BLAKE2B;
-            check(file_of(&entry, "abc", 3, piece) == (is_other ? MINISIGN_DIGEST_MISMATCH : MINISIGN_OK), "%s: abc",
+            int is_mismatch = rows[at].line == 9 && rows[at].hash == MINISIGN_HASH_BLAKE2B;
+            check(check_data(&entry, "abc", 3, piece) == (is_mismatch ? MINISIGN_DIGEST_MISMATCH : MINISIGN_OK), "%s: abc",
                   rows[at].name);
-            check(file_of(&entry, "abd", 3, piece) == MINISIGN_DIGEST_MISMATCH, "%s: abd", rows[at].name);
+            check(check_data(&entry, "abd", 3, piece) == MINISIGN_DIGEST_MISMATCH, "%s: abd", rows[at].name);
         }
-        check(file_of(&entry, "", 0, 1) == MINISIGN_DIGEST_MISMATCH, "%s: no data", rows[at].name);
+        check(check_data(&entry, "", 0, 1) == MINISIGN_DIGEST_MISMATCH, "%s: no data", rows[at].name);
     }
     for (size_t at = 0; at < LENGTH(malformed); at++) {
         char text[1024];
@@ -231,7 +231,7 @@ static void check_finding(void)
         uint64_t line;
 
         snprintf(text, sizeof text, "%s  a\n%s\n", SHA256_OF_ABC, malformed[at]);
-        list = verified(text);
+        list = verified_list(text);
         check(find(&list, text, MINISIGN_HASH_SHA512, "a", &entry, &line) == MINISIGN_MALFORMED_LINE && line == 2,
               "not malformed: %s", malformed[at]);
     }
@@ -241,7 +241,7 @@ static void check_finding(void)
 static void check_other_texts(void)
 {
     char text[sizeof LIST];
-    minisign_list list = verified(LIST);
+    minisign_list list = verified_list(LIST);
     minisign_list_entry entry;
     uint64_t line;
     size_t count;
@@ -262,14 +262,14 @@ static void check_entries(void)
 {
     static const char *const names[] = { "a", "d/b c", "x) = y", "e", "new\\nline", "twice", "long", "twice" };
     static const uint64_t lines[] = { 3, 4, 5, 6, 7, 8, 9, 10 };
-    minisign_list list = verified(LIST);
-    minisign_list_entry entries[LENGTH(names) + 1], kept;
+    minisign_list list = verified_list(LIST);
+    minisign_list_entry entries[LENGTH(names) + 1], untouched;
     size_t count = 77;
     uint64_t line = 77;
 
     check(MINISIGN_LIST_ENTRIES(strlen(LIST)) >= LENGTH(names), "MINISIGN_LIST_ENTRIES is too small");
     memset(entries, 0xaa, sizeof entries);
-    kept = entries[0];
+    untouched = entries[0];
     check(minisign_list_entries(&list, bytes_of(LIST), strlen(LIST), MINISIGN_HASH_SHA512, entries, LENGTH(names) - 1,
                                 &count, &line)
                   == MINISIGN_NO_ROOM
@@ -277,7 +277,7 @@ static void check_entries(void)
           "entries in a short buffer");
     check(minisign_list_entries(&list, bytes_of(LIST), strlen(LIST), MINISIGN_HASH_NONE, entries, LENGTH(entries), &count, &line)
               == MINISIGN_MALFORMED_LINE && count == 77 && line == 9, "entries of a malformed list");
-    check(memcmp(entries, &kept, sizeof kept) == 0, "an error changed the entries");
+    check(memcmp(entries, &untouched, sizeof untouched) == 0, "an error changed the entries");
     check(minisign_list_entries(&list, bytes_of(LIST), strlen(LIST), MINISIGN_HASH_SHA512, entries, LENGTH(entries), &count, &line)
               == MINISIGN_OK && count == LENGTH(names) && line == 0, "the entries of a list");
     for (size_t at = 0; at < LENGTH(names); at++) {
@@ -286,11 +286,11 @@ static void check_entries(void)
         check(entry->line == lines[at] && entry->name_len == strlen(names[at])
                   && memcmp(LIST + entry->name_offset, names[at], entry->name_len) == 0 && entry->is_escaped == (at == 4),
               "entry %zu: line %llu", at, (unsigned long long) entry->line);
-        check(file_of(entry, "abc", 3, 2) == MINISIGN_OK, "entry %zu: abc", at);
+        check(check_data(entry, "abc", 3, 2) == MINISIGN_OK, "entry %zu: abc", at);
     }
-    check(memcmp(&entries[LENGTH(names)], &kept, sizeof kept) == 0, "written beyond the last entry");
+    check(memcmp(&entries[LENGTH(names)], &untouched, sizeof untouched) == 0, "written beyond the last entry");
 
-    list = verified("");
+    list = verified_list("");
     check(minisign_list_entries(&list, NULL, 0, MINISIGN_HASH_NONE, NULL, 0, &count, &line) == MINISIGN_OK && count == 0,
           "an empty list has %zu entries", count);
 }
@@ -301,21 +301,22 @@ static void check_long_data(void)
     static const char text[] = SHA256_OF_MILLION "  a\nSHA512 (b) = " SHA512_OF_MILLION "\nBLAKE2b (c) = " BLAKE2B_OF_MILLION "\n";
     static const size_t pieces[] = { 1000000, 999999, 65536, 127, 128, 129, 63, 64, 65 };
     static char data[1000000];
-    minisign_list list = verified(text);
+    minisign_list list = verified_list(text);
 
     memset(data, 'a', sizeof data);
     for (const char *name = "abc"; *name != 0; name++) {
-        const char one[2] = { *name, 0 };
+        const char entry_name[2] = { *name, 0 };
         minisign_list_entry entry;
         uint64_t line;
 
-        check(find(&list, text, MINISIGN_HASH_NONE, one, &entry, &line) == MINISIGN_OK, "%s is not found", one);
+        check(find(&list, text, MINISIGN_HASH_NONE, entry_name, &entry, &line) == MINISIGN_OK, "%s is not found", entry_name);
         for (size_t at = 0; at < LENGTH(pieces); at++) {
-            check(file_of(&entry, data, sizeof data, pieces[at]) == MINISIGN_OK, "%s in pieces of %zu bytes", one, pieces[at]);
+            check(check_data(&entry, data, sizeof data, pieces[at]) == MINISIGN_OK, "%s in pieces of %zu bytes", entry_name,
+                  pieces[at]);
         }
-        check(file_of(&entry, data, sizeof data - 1, 4096) == MINISIGN_DIGEST_MISMATCH, "%s without its last byte", one);
+        check(check_data(&entry, data, sizeof data - 1, 4096) == MINISIGN_DIGEST_MISMATCH, "%s without its last byte", entry_name);
         data[500000] = 'b';
-        check(file_of(&entry, data, sizeof data, 4096) == MINISIGN_DIGEST_MISMATCH, "%s with another byte", one);
+        check(check_data(&entry, data, sizeof data, 4096) == MINISIGN_DIGEST_MISMATCH, "%s with another byte", entry_name);
         data[500000] = 'a';
     }
 }
@@ -323,7 +324,7 @@ static void check_long_data(void)
 /* Checks the call that takes a digest that the caller has computed. */
 static void check_trusted_digests(void)
 {
-    minisign_list list = verified(LIST);
+    minisign_list list = verified_list(LIST);
     minisign_list_entry entry, zeros = { 0 };
     uint64_t line;
     uint8_t digest[65] = { 0 };
@@ -351,7 +352,7 @@ static void check_writing(void)
 {
     uint8_t digest[64], text[1024];
     size_t len = 0;
-    minisign_list list = verified(LIST);
+    minisign_list list = verified_list(LIST);
     minisign_list_entry entry;
     uint64_t line;
     static const char expected[] = "SHA256 (a) = " SHA256_OF_ABC "\nSHA512 (d/b c) = " SHA512_OF_ABC
@@ -365,14 +366,14 @@ static void check_writing(void)
 
         check(find(&list, LIST, MINISIGN_HASH_SHA512, names[at], &entry, &line) == MINISIGN_OK, "%s is not found", names[at]);
         memcpy(digest, entry.digest, sizeof digest);
-        size_t room = before;
+        size_t capacity = before;
         enum minisign_error error;
-        for (; (error = minisign_list_append(hash, digest, sizes[at], bytes_of(names[at]), name_len, text, room, &len))
+        for (; (error = minisign_list_append(hash, digest, sizes[at], bytes_of(names[at]), name_len, text, capacity, &len))
              == MINISIGN_NO_ROOM;
-             room++) {
+             capacity++) {
             check(len == before, "%s: the length changed", names[at]);
         }
-        check(error == MINISIGN_OK && len == room && len - before <= MINISIGN_LIST_ENTRY_BYTES(name_len),
+        check(error == MINISIGN_OK && len == capacity && len - before <= MINISIGN_LIST_ENTRY_BYTES(name_len),
               "%s: error %d", names[at], error);
         check(minisign_list_append(hash, digest, sizes[at], bytes_of(names[at]), name_len, text, sizeof text, &len)
                   == MINISIGN_LISTED_TWICE,
@@ -385,10 +386,12 @@ static void check_writing(void)
     check(minisign_list_append(MINISIGN_HASH_NONE, digest, 0, bytes_of("q"), 1, text, sizeof text, &len)
               == MINISIGN_BAD_HASH,
           "no hash function");
-    static const char *const bad[] = { "", "/a", "a/", "..", "b\\c", "b\nc", "b\rc", "\x7f", "a//b" };
-    for (size_t at = 0; at < LENGTH(bad); at++) {
-        check(minisign_list_append(MINISIGN_HASH_SHA512, digest, 64, bytes_of(bad[at]), strlen(bad[at]), text, sizeof text, &len)
-                  == MINISIGN_BAD_NAME, "a bad name was written: %s", bad[at]);
+    static const char *const bad_names[] = { "", "/a", "a/", "..", "b\\c", "b\nc", "b\rc", "\x7f", "a//b" };
+    for (size_t at = 0; at < LENGTH(bad_names); at++) {
+        check(minisign_list_append(MINISIGN_HASH_SHA512, digest, 64, bytes_of(bad_names[at]), strlen(bad_names[at]), text,
+                                   sizeof text, &len)
+                  == MINISIGN_BAD_NAME,
+              "a bad name was written: %s", bad_names[at]);
     }
     check(minisign_list_append(MINISIGN_HASH_SHA512, digest, 64, bytes_of("\xff"), 1, text, sizeof text, &len)
               == MINISIGN_NOT_UTF8,
@@ -403,42 +406,42 @@ static void check_writing(void)
           "a length above the buffer");
 }
 
-enum { THREADS = 8, ROUNDS = 50 };
+enum { THREAD_COUNT = 8, ROUNDS = 50 };
 
 static minisign_list shared_list;
 
 /* Finds entries in the shared list, and checks their files. */
-static void *run_thread(void *unused)
+static void *run_thread(void *result)
 {
-    size_t good = 0;
+    size_t good_rounds = 0;
 
     for (int round = 0; round < ROUNDS; round++) {
         minisign_list_entry entry;
         minisign_list_file file;
         uint64_t line;
 
-        good += find(&shared_list, LIST, MINISIGN_HASH_SHA512, round % 2 ? "a" : "d/b c", &entry, &line) == MINISIGN_OK
+        good_rounds += find(&shared_list, LIST, MINISIGN_HASH_SHA512, round % 2 ? "a" : "d/b c", &entry, &line) == MINISIGN_OK
             && minisign_list_begin(&entry, &file) == MINISIGN_OK
             && minisign_list_update(&file, bytes_of("abc"), 3) == MINISIGN_OK
             && minisign_list_finish(&file) == MINISIGN_OK;
     }
-    return good == ROUNDS ? unused : NULL;
+    return good_rounds == ROUNDS ? result : NULL;
 }
 
 static void check_threads(void)
 {
-    pthread_t threads[THREADS];
-    minisign_list kept;
+    pthread_t threads[THREAD_COUNT];
+    minisign_list expected;
     void *result;
 
-    shared_list = kept = verified(LIST);
-    for (int at = 0; at < THREADS; at++) {
-        check(pthread_create(&threads[at], NULL, run_thread, &kept) == 0, "thread %d was not created", at);
+    shared_list = expected = verified_list(LIST);
+    for (int at = 0; at < THREAD_COUNT; at++) {
+        check(pthread_create(&threads[at], NULL, run_thread, &expected) == 0, "thread %d was not created", at);
     }
-    for (int at = 0; at < THREADS; at++) {
-        check(pthread_join(threads[at], &result) == 0 && result == &kept, "thread %d failed", at);
+    for (int at = 0; at < THREAD_COUNT; at++) {
+        check(pthread_join(threads[at], &result) == 0 && result == &expected, "thread %d failed", at);
     }
-    check(memcmp(&shared_list, &kept, sizeof kept) == 0, "the shared list was changed");
+    check(memcmp(&shared_list, &expected, sizeof expected) == 0, "the shared list was changed");
 }
 
 int main(void)
@@ -452,5 +455,5 @@ int main(void)
     check_trusted_digests();
     check_writing();
     check_threads();
-    return ended();
+    return print_summary();
 }

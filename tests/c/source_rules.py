@@ -1,5 +1,5 @@
 #!/usr/bin/env python3
-"""Checks rules for the sources in each directory of `c/`, for the manual pages, and for builds.
+"""Checks that the sources in each directory of `c/`, the manual pages and the builds follow rules.
 
     tests/c/source_rules.py
 
@@ -66,20 +66,20 @@ REPLACED_BY_HEADERS = {"fstat", "fstatat", "lstat", "stat"}
 
 def files_of(directory):
     """Maps the paths of the C files in a directory to their texts without comments."""
-    return {path: re.sub(r"/\*.*?\*/", lambda found: re.sub(r"[^\n]", " ", found[0]), read(path).decode(), flags=re.S)
+    return {path: re.sub(r"/\*.*?\*/", lambda comment: re.sub(r"[^\n]", " ", comment[0]), read(path).decode(), flags=re.S)
             for path in sorted(glob.glob(f"{C}/{directory}/*.[ch]"))}
 
 
 def names_of(text):
     """Returns the functions, types, constants and variables that a file defines or declares."""
     kind = r"(?:(?:static|extern|_Noreturn|const|volatile|struct|enum|unsigned) )*[a-z_0-9]+[ *]+"
-    found = set()
+    names = set()
     for pattern in (rf"^{kind}\**([a-z_][a-z0-9_]*)\(", r"\b((?:struct|enum|union) [a-z_0-9]+) \{", r"^#define ([A-Z_0-9]+)",
                     r"^static [^(=;{]*?\b([a-z_]+)(?:\[[^\]]*\])?(?: = |;)"):
-        found |= {*re.findall(pattern, text, re.M)}
+        names |= {*re.findall(pattern, text, re.M)}
     for body in re.findall(r"\benum(?: [a-z_]+)? \{([^}]*)\}", text):
-        found |= set(re.findall(r"\b([A-Z][A-Z_0-9]+)\b", re.sub(r"=[^,}]*", "", body)))
-    return found - {"main", "_DEFAULT_SOURCE", "_GNU_SOURCE", "_POSIX_C_SOURCE"}
+        names |= set(re.findall(r"\b([A-Z][A-Z_0-9]+)\b", re.sub(r"=[^,}]*", "", body)))
+    return names - {"main", "_DEFAULT_SOURCE", "_GNU_SOURCE", "_POSIX_C_SOURCE"}
 
 
 def check_directories(checks, code):
@@ -105,12 +105,12 @@ def check_directories(checks, code):
 def check_sources(checks, files):
     """Checks names and code that may be in only one file, and warns of long functions."""
     for name, file in ((name, file) for file, names in LINUX_ONLY.items() for name in names):
-        found = {os.path.basename(path) for path, text in files.items() if name in text}
-        checks.check(found == {file}, f"{name} is in {sorted(found)}, expected only in {file}")
-    for what, pattern in (("a test of UTF-8", r"0xd800"), ("the struct of an allocation", r"struct grant \{")):
+        users = {os.path.basename(path) for path, text in files.items() if name in text}
+        checks.check(users == {file}, f"{name} is in {sorted(users)}, expected only in {file}")
+    for description, pattern in (("a test of UTF-8", r"0xd800"), ("the struct of an allocation", r"struct grant \{")):
         checks.check(
             sum(len(re.findall(pattern, text)) for text in files.values()) == 1,
-            f"the sources must have {what} exactly once",
+            f"the sources must have {description} exactly once",
         )
     for path, text in files.items():
         functions = re.findall(r"^[A-Za-z_][^;{}]*\n\{\n(?:.*\n)*?\}\n", text, re.M)
@@ -125,11 +125,11 @@ def check_sources(checks, files):
 def messages_of(text):
     """Yields the messages in the string literals of a file, and true for each one that ends a line. A message is a
     text between conversions of printf, or between line ends, that contains a space."""
-    for found in re.findall(r'"(?:\\.|[^"\\])*"(?:\s+"(?:\\.|[^"\\])*")*', re.sub("^#include.*", "", text, flags=re.M)):
-        literal = re.sub(r'"\s+"', "", found)[1:-1].encode().decode("unicode_escape")
+    for quoted in re.findall(r'"(?:\\.|[^"\\])*"(?:\s+"(?:\\.|[^"\\])*")*', re.sub("^#include.*", "", text, flags=re.M)):
+        literal = re.sub(r'"\s+"', "", quoted)[1:-1].encode().decode("unicode_escape")
         for line in literal.split("\n"):
             parts = [part.strip(" :") for part in re.split(r"%[-.*0-9]*[lz]*[A-Za-z]?", line)]
-            yield from ((words, line.endswith(words)) for words in parts if " " in words)
+            yield from ((message, line.endswith(message)) for message in parts if " " in message)
 
 
 def check_messages(checks, files):
@@ -137,23 +137,23 @@ def check_messages(checks, files):
     tests = {path for directory in TEST_DIRECTORIES for path in glob.glob(f"{HERE}/../{directory}/*.[cp]*")} - {
         f"{HERE}/../c/source_rules.py"
     }
-    named, found = b"".join(map(read, [*sorted(tests), needs.minisign()])).decode(errors="replace"), set()
+    tested_text, messages = b"".join(map(read, [*sorted(tests), needs.minisign()])).decode(errors="replace"), set()
     for path, text in files.items():
-        for words, ends in messages_of(text) if path not in GENERATED else ():
+        for message, is_line_end in messages_of(text) if path not in GENERATED else ():
             # A message that ends a line must end in the test too: `it is too short` does not match `it is too short
             # or too long`.
-            is_named = re.search(re.escape(words) + (r"(?! ?\w)" if ends else ""), named)
-            checks.check(is_named or words in NOT_CAUSED, f"{path}: no test names the message: {words}")
-            checks.check(not is_named or words not in NOT_CAUSED, f"{path}: a test names a message of NOT_CAUSED: {words}")
-            found.add(words)
-    checks.check(found > set(NOT_CAUSED), f"NOT_CAUSED has messages that no program has: {sorted(set(NOT_CAUSED) - found)}")
+            is_tested = re.search(re.escape(message) + (r"(?! ?\w)" if is_line_end else ""), tested_text)
+            checks.check(is_tested or message in NOT_CAUSED, f"{path}: no test names the message: {message}")
+            checks.check(not is_tested or message not in NOT_CAUSED, f"{path}: a test names a message of NOT_CAUSED: {message}")
+            messages.add(message)
+    checks.check(messages > set(NOT_CAUSED), f"NOT_CAUSED has messages that no program has: {sorted(set(NOT_CAUSED) - messages)}")
 
 
 def check_pages(checks):
     """Checks that the manual pages have a date, and that mandoc finds no errors in them."""
     pages = sorted(glob.glob(f"{C}/man/*.[13]"))
-    ran = run([needs.program("mandoc", "mandoc"), "-T", "lint", *pages])
-    checks.check(len(pages) == 7 and ran == (0, ""), f"mandoc: {ran}")
+    result = run([needs.program("mandoc", "mandoc"), "-T", "lint", *pages])
+    checks.check(len(pages) == 7 and result == (0, ""), f"mandoc: {result}")
     for page in pages:
         checks.check(re.search(r"^\.TH \S+ [13] \d{4}-\d\d-\d\d\b", read(page).decode(), re.M), f"{page} has no date")
 
@@ -161,24 +161,24 @@ def check_pages(checks):
 def versions(path, *flags):
     """Maps the names that a file needs from glibc to their versions. With the flag `--defined-only`, maps the names
     that it defines."""
-    found = collections.defaultdict(set)
+    versions_by_name = collections.defaultdict(set)
     for name, version in re.findall(r" (\w+)@+GLIBC_([\d.]+)$", run(["nm", "-D", "--with-symbol-versions", *flags, path])[1], re.M):
-        found[name].add(tuple(map(int, version.split("."))))
-    return found
+        versions_by_name[name].add(tuple(map(int, version.split("."))))
+    return versions_by_name
 
 
 def check_glibc(checks, compiler, files):
     """Checks that files need only functions of glibc 2.31. If a newer glibc has a new version of a function, as for
     threads, it also has an older version. A new function has no older version."""
     glibc = run([compiler, "-print-file-name=libc.so.6"])[1].strip()
-    has = versions(glibc, "--defined-only")
-    checks.check(min(has["malloc"], default=MAX_GLIBC) < MAX_GLIBC, f"{glibc} has no older versions of malloc")
+    provided = versions(glibc, "--defined-only")
+    checks.check(min(provided["malloc"], default=MAX_GLIBC) < MAX_GLIBC, f"{glibc} has no older versions of malloc")
     for file in files:
         needed = versions(file, "--undefined-only")
         newer = sorted(
             name
-            for name, found in needed.items()
-            if name not in REPLACED_BY_HEADERS and min(found | has[name]) > MAX_GLIBC
+            for name, needed_versions in needed.items()
+            if name not in REPLACED_BY_HEADERS and min(needed_versions | provided[name]) > MAX_GLIBC
         )
         checks.check(needed and not newer, f"{file} needs functions that glibc 2.31 lacks: {newer}")
 

@@ -12,23 +12,23 @@
 
 #include <minisign_stream.h>
 
-enum { PIECE = 1000 };
+enum { PIECE_BYTES = 1000 };
 
 static uint8_t texts[3][1 << 20];
 static size_t lens[3];
 
-static int fail(const char *what)
+static int fail(const char *message)
 {
-    fprintf(stderr, "stream: %s\n", what);
+    fprintf(stderr, "stream: %s\n", message);
     return 1;
 }
 
-static int fail_for(enum minisign_error error)
+static int fail_with_error(enum minisign_error error)
 {
-    char why[MINISIGN_ERROR_TEXT_BYTES];
+    char message[MINISIGN_ERROR_TEXT_BYTES];
 
-    minisign_error_text(error, why, sizeof why);
-    return fail(why);
+    minisign_error_text(error, message, sizeof message);
+    return fail(message);
 }
 
 static int read_file(const char *name, int at)
@@ -39,17 +39,17 @@ static int read_file(const char *name, int at)
     return file != NULL && !ferror(file) && fclose(file) == 0;
 }
 
-static size_t piece_at(size_t at)
+static size_t piece_len(size_t at)
 {
-    return lens[1] - at < PIECE ? lens[1] - at : PIECE;
+    return lens[1] - at < PIECE_BYTES ? lens[1] - at : PIECE_BYTES;
 }
 
 /* Starts a verification of the three files, and passes the data. */
-static void feed(minisign_verifier *verifier)
+static void start_and_feed(minisign_verifier *verifier)
 {
     minisign_verify_start(verifier, texts[0], lens[0], texts[2], lens[2], crypto_sign_verify_detached);
-    for (size_t at = 0; at < lens[1]; at += PIECE) {
-        minisign_verify_feed(verifier, texts[1] + at, piece_at(at));
+    for (size_t at = 0; at < lens[1]; at += PIECE_BYTES) {
+        minisign_verify_feed(verifier, texts[1] + at, piece_len(at));
     }
 }
 
@@ -60,10 +60,10 @@ static int verify(void)
     size_t len = 1;
     enum minisign_error error;
 
-    feed(&verifier);
+    start_and_feed(&verifier);
     error = minisign_verify_finish(&verifier, &comment, &len);
     if (error != MINISIGN_OK) {
-        return comment == NULL && len == 0 ? fail_for(error) : fail("an error left a comment");
+        return comment == NULL && len == 0 ? fail_with_error(error) : fail("an error left a comment");
     }
     if (strlen(comment) != len) {
         return fail("the comment has another length");
@@ -73,7 +73,7 @@ static int verify(void)
 }
 
 /* Checks the results of finishing after each mistake. */
-static int misuse(void)
+static int check_misuse(void)
 {
     static minisign_verifier verifier;
     const char *comment = "";
@@ -85,14 +85,14 @@ static int misuse(void)
     if (minisign_verify_finish(&verifier, NULL, NULL) != MINISIGN_NOT_BEGUN) {
         return fail("feed without start");
     }
-    feed(&verifier);
+    start_and_feed(&verifier);
     if (minisign_verify_finish(&verifier, &comment, NULL) != MINISIGN_OK || comment == NULL) {
         return fail("valid files");
     }
     if (minisign_verify_finish(&verifier, &comment, NULL) != MINISIGN_NOT_BEGUN || comment != NULL) {
         return fail("finish twice");
     }
-    feed(&verifier);
+    start_and_feed(&verifier);
     minisign_verify_feed(&verifier, "x", 1);
     if (minisign_verify_finish(&verifier, &comment, NULL) != MINISIGN_SIGNATURE_REFUSED || comment != NULL) {
         return fail("more data");
@@ -115,7 +115,7 @@ static int misuse(void)
 
 static int sign(const char *name, const char *comment)
 {
-    static const uint8_t none[192];
+    static const uint8_t zeros[192];
     static minisign_signer signer;
     minisign_unopened_key unopened = { 0 };
     minisign_secret_key key = { 0 };
@@ -129,16 +129,16 @@ static int sign(const char *name, const char *comment)
         error = minisign_open_unsealed_key(&unopened, &key);
     }
     if (error != MINISIGN_OK) {
-        return fail_for(error);
+        return fail_with_error(error);
     }
     minisign_sign_start(&signer, &key, crypto_sign_detached, crypto_sign_verify_detached);
-    for (size_t at = 0; at < lens[1]; at += PIECE) {
-        minisign_sign_feed(&signer, texts[1] + at, piece_at(at));
+    for (size_t at = 0; at < lens[1]; at += PIECE_BYTES) {
+        minisign_sign_feed(&signer, texts[1] + at, piece_len(at));
     }
     error = minisign_sign_finish(&signer, &parts, texts[2], MINISIGN_TEXT_BYTES(strlen(comment), 1), &len);
     if (error != MINISIGN_OK) {
-        return len == 0 && memcmp(texts[2], none, sizeof none) == 0 && memcmp(parts.signature, none, 128) == 0
-                   ? fail_for(error)
+        return len == 0 && memcmp(texts[2], zeros, sizeof zeros) == 0 && memcmp(parts.signature, zeros, 128) == 0
+                   ? fail_with_error(error)
                    : fail("an error left something of a signature");
     }
     file = fopen(name, "wb");
@@ -160,5 +160,5 @@ int main(int argc, char **argv)
         || (argc == 4 && !read_file(argv[3], 2))) {
         return fail("a file cannot be read");
     }
-    return is_misuse ? misuse() : argc == 4 ? verify() : sign(argv[3], argv[4]);
+    return is_misuse ? check_misuse() : argc == 4 ? verify() : sign(argv[3], argv[4]);
 }

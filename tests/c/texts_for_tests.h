@@ -25,16 +25,16 @@ static unsigned passed, failed;
 #ifdef __GNUC__
 __attribute__((format(printf, 2, 3)))
 #endif
-static void check(int holds, const char *what, ...)
+static void check(int condition, const char *format, ...)
 {
-    va_list rest;
+    va_list arguments;
 
-    passed += holds != 0;
-    failed += holds == 0;
-    if (!holds) {
-        va_start(rest, what);
-        vprintf(what, rest);
-        va_end(rest);
+    passed += condition != 0;
+    failed += condition == 0;
+    if (!condition) {
+        va_start(arguments, format);
+        vprintf(format, arguments);
+        va_end(arguments);
         putchar('\n');
     }
 }
@@ -42,7 +42,7 @@ static void check(int holds, const char *what, ...)
 #define CHECK(condition) check((condition), "line %d: false: %s", __LINE__, #condition)
 
 /* Prints the last line and returns the exit status of the program. */
-static inline int ended(void)
+static inline int print_summary(void)
 {
     printf("%u passed, %u failed\n", passed, failed);
     return failed != 0;
@@ -54,21 +54,21 @@ static inline const uint8_t *bytes_of(const char *text)
 }
 
 /* Returns true if all bytes are zeros. */
-static inline int is_zeros(const void *at, size_t len)
+static inline int is_zeros(const void *block, size_t len)
 {
-    const uint8_t *all = at;
+    const uint8_t *bytes = block;
 
-    return len == 0 || (all[0] == 0 && memcmp(all, all + 1, len - 1) == 0);
+    return len == 0 || (bytes[0] == 0 && memcmp(bytes, bytes + 1, len - 1) == 0);
 }
 
-/* Returns true if the bytes at `at` are those that the hexadecimal digits encode. */
-static inline int equals_hex(const uint8_t *at, const char *digits)
+/* Returns true if the hexadecimal digits encode these bytes. */
+static inline int equals_hex(const uint8_t *bytes, const char *digits)
 {
-    char shown[3];
+    char pair[3];
 
     for (; *digits != 0; digits += 2) {
-        snprintf(shown, sizeof shown, "%02x", *at++);
-        if (memcmp(shown, digits, 2) != 0) {
+        snprintf(pair, sizeof pair, "%02x", *bytes++);
+        if (memcmp(pair, digits, 2) != 0) {
             return 0;
         }
     }
@@ -76,7 +76,7 @@ static inline int equals_hex(const uint8_t *at, const char *digits)
 }
 
 /* The Blake2b digest of `abc` (RFC 7693, appendix A). */
-#define HEX_OF_ABC                                                     \
+#define BLAKE2B_OF_ABC                                                 \
     "ba80a53f981c4d0d6a2797b69f12f6e94c212f14685ac4b74b12bb6fdbffa2d1" \
     "7d87c5392aab792dc252d5de4533cc9518d38aa8dbf1925ab92386edd4009923"
 
@@ -97,9 +97,9 @@ static const char LEGACY_SIGNATURE[] =
     SIGNATURE_COMMENT LEGACY_RECORD "\ntrusted comment: timestamp:1555779966\tfile:test\n"
     "QtKMXWyYcwdpZAlPF7tE2ENJkRd1ujvKjlj1m9RtHTBnZPa5WKU5uWRs5GoP5M/VqE81QFuMKI5k/SfNQUaOAA==";
 /* A signature of `hello` and a line feed, made with another key. */
-#define OTHER_RECORD "RUS4oO+OTGvmIe/AFUZesFY/ONgyTgR9P0wlXFBD98cDX7Pao0WBeMSBQywks6PdOxlxIHanFJJYpkqO7tBvYfnm/DXVQmwFYQ0="
-static const char OTHER_SIGNATURE[] =
-    SIGNATURE_COMMENT OTHER_RECORD "\ntrusted comment: a trusted comment\n"
+#define OTHER_KEY_RECORD "RUS4oO+OTGvmIe/AFUZesFY/ONgyTgR9P0wlXFBD98cDX7Pao0WBeMSBQywks6PdOxlxIHanFJJYpkqO7tBvYfnm/DXVQmwFYQ0="
+static const char OTHER_KEY_SIGNATURE[] =
+    SIGNATURE_COMMENT OTHER_KEY_RECORD "\ntrusted comment: a trusted comment\n"
     "VFXOnLXSP360tFPUt7eqzsSHMo0p1bPS9fRkoO0MOvNy8kHZu0k9okhkkORQyQv79DEl+OdNXurVl1Qt+AMEAQ==\n";
 
 /* Parses a public key file. */
@@ -123,7 +123,7 @@ static inline minisign_signature signature_of(const char *text)
 }
 
 /* Returns a state to which this data was passed. */
-static inline minisign_state fed_with(const char *data)
+static inline minisign_state state_with(const char *data)
 {
     minisign_state state;
 
@@ -155,16 +155,16 @@ static inline enum minisign_error read_and_open(const char *text, const char *pa
 /* Writes an encrypted secret key file. scrypt uses `memory` bytes. With its parameter r = 8, N is the number of KiB, and
  * the operations limit is 4 * N * r * p. */
 static inline enum minisign_error seal(const minisign_secret_key *key, const char *password, size_t memory, uint64_t p,
-                                       uint8_t *text, size_t room, size_t *text_len)
+                                       uint8_t *text, size_t capacity, size_t *text_len)
 {
     const minisign_sealing sealing = { .operations_limit = memory / 32 * p, .memory_limit = memory };
 
     return minisign_secret_key_text_with_any_limits(key, MINISIGN_PASSWORD, bytes_of(password), strlen(password), &sealing,
-                                                    MINISIGN_KEEP_EVERY_ROW, bytes_of("c"), 1, text, room, text_len);
+                                                    MINISIGN_KEEP_EVERY_ROW, bytes_of("c"), 1, text, capacity, text_len);
 }
 
 /* Makes a secret key from a key ID and 64 secret bytes. */
-static inline void take(const uint8_t key_id[8], const uint8_t secret[64], minisign_secret_key *key)
+static inline void make_secret_key(const uint8_t key_id[8], const uint8_t secret[64], minisign_secret_key *key)
 {
     minisign_new_key new_key;
 
@@ -174,10 +174,10 @@ static inline void take(const uint8_t key_id[8], const uint8_t secret[64], minis
 }
 
 /* Writes a signature file with these signatures and comments, and with the key ID of a secret key. */
-static inline enum minisign_error make_signed_text(const minisign_secret_key *key, const uint8_t signature[64],
-                                                   const uint8_t comment_signature[64], const uint8_t *trusted,
-                                                   size_t trusted_len, const uint8_t *untrusted, size_t untrusted_len,
-                                                   uint8_t *text, size_t room, size_t *text_len)
+static inline enum minisign_error make_signature_file(const minisign_secret_key *key, const uint8_t signature[64],
+                                                      const uint8_t comment_signature[64], const uint8_t *trusted,
+                                                      size_t trusted_len, const uint8_t *untrusted, size_t untrusted_len,
+                                                      uint8_t *text, size_t capacity, size_t *text_len)
 {
     minisign_signed_parts parts = { .trusted_comment = trusted, .trusted_comment_len = trusted_len,
                                     .untrusted_comment = untrusted, .untrusted_comment_len = untrusted_len };
@@ -189,7 +189,7 @@ static inline enum minisign_error make_signed_text(const minisign_secret_key *ke
     }
     memcpy(parts.signature, signature, sizeof parts.signature);
     memcpy(parts.comment_signature, comment_signature, sizeof parts.comment_signature);
-    return minisign_signed_text(&public_key, &parts, text, room, text_len);
+    return minisign_signed_text(&public_key, &parts, text, capacity, text_len);
 }
 
 #endif

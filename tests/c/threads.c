@@ -8,7 +8,7 @@
 
 #include "texts_for_tests.h"
 
-enum { THREADS = 8, ROUNDS = 40, BYTES = 30011 };
+enum { THREAD_COUNT = 8, ROUNDS = 40, BYTES = 30011 };
 
 /* The results of a run. */
 struct result {
@@ -18,10 +18,10 @@ struct result {
     minisign_secret_key key;
     uint8_t message[sizeof SIGNATURE], text[1024];
     size_t text_len;
-    int good;
+    int is_ok;
 };
 
-static struct result single[THREADS], concurrent[THREADS];
+static struct result expected[THREAD_COUNT], actual[THREAD_COUNT];
 
 static void run(struct result *result, int number, int rounds)
 {
@@ -29,22 +29,22 @@ static void run(struct result *result, int number, int rounds)
     uint8_t data[BYTES];
 
     memset(data, number, sizeof data);
-    result->good = 1;
+    result->is_ok = 1;
     for (int round = 0; round < rounds; round++) {
         minisign_state state;
         minisign_public_key key;
 
         minisign_init(&state);
-        result->good &= minisign_read_public_key(bytes_of(KEY), sizeof KEY - 1, &key) == MINISIGN_OK;
-        result->good &= minisign_read_signature(bytes_of(SIGNATURE), sig_len, &result->signature) == MINISIGN_OK;
-        result->good &= minisign_ask(&state, &key, &result->signature, bytes_of(SIGNATURE), sig_len, 0, &result->questions,
+        result->is_ok &= minisign_read_public_key(bytes_of(KEY), sizeof KEY - 1, &key) == MINISIGN_OK;
+        result->is_ok &= minisign_read_signature(bytes_of(SIGNATURE), sig_len, &result->signature) == MINISIGN_OK;
+        result->is_ok &= minisign_ask(&state, &key, &result->signature, bytes_of(SIGNATURE), sig_len, 0, &result->questions,
                                    result->message, sizeof result->message) == MINISIGN_OK;
-        result->good &= minisign_update(&state, data, sizeof data) == MINISIGN_OK;
-        result->good &= minisign_digest(&state, result->questions.digest) == MINISIGN_OK;
-        result->good &= minisign_verdict(&state, YES, number % 2 ? YES : NO)
+        result->is_ok &= minisign_update(&state, data, sizeof data) == MINISIGN_OK;
+        result->is_ok &= minisign_digest(&state, result->questions.digest) == MINISIGN_OK;
+        result->is_ok &= minisign_verdict(&state, YES, number % 2 ? YES : NO)
                       == (number % 2 ? MINISIGN_OK : MINISIGN_COMMENT_SIGNATURE_REFUSED);
-        result->good &= read_and_open(SECRET_KEY, NULL, &result->unopened, &result->key) == MINISIGN_OK;
-        result->good &= make_signed_text(&result->key, result->questions.signature, result->questions.comment_signature,
+        result->is_ok &= read_and_open(SECRET_KEY, NULL, &result->unopened, &result->key) == MINISIGN_OK;
+        result->is_ok &= make_signature_file(&result->key, result->questions.signature, result->questions.comment_signature,
                                        bytes_of("12345678"), (size_t) number, NULL, 0, result->text, sizeof result->text,
                                        &result->text_len) == MINISIGN_OK;
     }
@@ -54,25 +54,25 @@ static void *run_thread(void *number)
 {
     int n = (int) (intptr_t) number;
 
-    run(&concurrent[n], n, ROUNDS);
+    run(&actual[n], n, ROUNDS);
     return NULL;
 }
 
 int main(void)
 {
-    pthread_t threads[THREADS];
+    pthread_t threads[THREAD_COUNT];
 
-    for (int n = 0; n < THREADS; n++) {
+    for (int n = 0; n < THREAD_COUNT; n++) {
         CHECK(pthread_create(&threads[n], NULL, run_thread, (void *) (intptr_t) n) == 0);
     }
-    for (int n = 0; n < THREADS; n++) {
+    for (int n = 0; n < THREAD_COUNT; n++) {
         CHECK(pthread_join(threads[n], NULL) == 0);
     }
-    for (int n = 0; n < THREADS; n++) {
-        run(&single[n], n, 1);
-        CHECK(single[n].good && concurrent[n].good);
-        CHECK(memcmp(&single[n], &concurrent[n], sizeof single[n]) == 0);
-        CHECK(n == 0 || memcmp(single[n].questions.digest, single[n - 1].questions.digest, 64) != 0);
+    for (int n = 0; n < THREAD_COUNT; n++) {
+        run(&expected[n], n, 1);
+        CHECK(expected[n].is_ok && actual[n].is_ok);
+        CHECK(memcmp(&expected[n], &actual[n], sizeof expected[n]) == 0);
+        CHECK(n == 0 || memcmp(expected[n].questions.digest, expected[n - 1].questions.digest, 64) != 0);
     }
-    return ended();
+    return print_summary();
 }

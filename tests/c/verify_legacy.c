@@ -17,16 +17,16 @@
 
 #include <minisign.h>
 
-enum { MOST = 1 << 18, ROOM = 1000 };
+enum { MAX_BYTES = 1 << 18, MESSAGE_BYTES = 1000 };
 
 typedef int verify_detached(const unsigned char *sig, const unsigned char *m, unsigned long long m_len, const unsigned char *pk);
 
-struct part {
-    uint8_t bytes[MOST];
+struct file {
+    uint8_t bytes[MAX_BYTES];
     size_t len;
 };
 
-static struct part key_file, data, signature_file;
+static struct file key_file, data, signature_file;
 
 static int verify_by_openssl(const unsigned char *sig, const unsigned char *m, unsigned long long m_len, const unsigned char *pk)
 {
@@ -41,16 +41,16 @@ static int verify_by_openssl(const unsigned char *sig, const unsigned char *m, u
 }
 
 /* Decodes a word of hexadecimal digits. Returns 0 if it is invalid or too long. */
-static int decode(const char *digits, struct part *part)
+static int decode(const char *digits, struct file *file)
 {
     const size_t len = digits == NULL ? 0 : strlen(digits);
 
-    part->len = 0;
+    file->len = 0;
     if (len != 0 && strcmp(digits, "-") == 0) {
         return 1;
     }
-    return len != 0 && sodium_hex2bin(part->bytes, sizeof part->bytes, digits, len, NULL, &part->len, NULL) == 0
-           && len == 2 * part->len;
+    return len != 0 && sodium_hex2bin(file->bytes, sizeof file->bytes, digits, len, NULL, &file->len, NULL) == 0
+           && len == 2 * file->len;
 }
 
 static enum minisign_answer answer_of(int status)
@@ -59,30 +59,31 @@ static enum minisign_answer answer_of(int status)
 }
 
 /* Verifies the files as an application does. A legacy signature signs the data itself. */
-static enum minisign_error judge(const minisign_public_key *key, const minisign_signature *signature, verify_detached *verify)
+static enum minisign_error verify_files(const minisign_public_key *key, const minisign_signature *signature,
+                                        verify_detached *verify)
 {
-    uint8_t message[ROOM];
-    minisign_questions q;
+    uint8_t message[MESSAGE_BYTES];
+    minisign_questions questions;
     minisign_state state;
     enum minisign_error error;
 
     minisign_init(&state);
-    error = minisign_ask(&state, key, signature, signature_file.bytes, signature_file.len, 1, &q, message, sizeof message);
+    error = minisign_ask(&state, key, signature, signature_file.bytes, signature_file.len, 1, &questions, message, sizeof message);
     if (error == MINISIGN_OK) {
         error = minisign_update(&state, data.bytes, data.len);
     }
     if (error == MINISIGN_OK) {
-        error = minisign_digest(&state, q.digest);
+        error = minisign_digest(&state, questions.digest);
     }
     if (error != MINISIGN_OK) {
         return error;
     }
-    return minisign_verdict(&state, answer_of(verify(q.signature, data.bytes, data.len, q.public_key)),
-                            answer_of(verify(q.comment_signature, message, q.message_len, q.public_key)));
+    return minisign_verdict(&state, answer_of(verify(questions.signature, data.bytes, data.len, questions.public_key)),
+                            answer_of(verify(questions.comment_signature, message, questions.message_len, questions.public_key)));
 }
 
 /* Prints the result for a line. Returns 0 if the line is invalid or the signature is not a legacy one. */
-static int answer_line(char *line, verify_detached *verify)
+static int print_result(char *line, verify_detached *verify)
 {
     minisign_public_key key;
     minisign_signature signature;
@@ -94,22 +95,23 @@ static int answer_line(char *line, verify_detached *verify)
         || minisign_read_signature(signature_file.bytes, signature_file.len, &signature) != MINISIGN_OK || !signature.legacy) {
         return 0;
     }
-    printf("%d %d\n", (int) judge(&key, &signature, verify), verify(signature.signature, data.bytes, data.len, key.key) == 0);
+    printf("%d %d\n", (int) verify_files(&key, &signature, verify),
+           verify(signature.signature, data.bytes, data.len, key.key) == 0);
     return 1;
 }
 
-int main(int count, char **words)
+int main(int argc, char **argv)
 {
-    static char line[4 * MOST];
-    verify_detached *verify = count == 2 && strcmp(words[1], "openssl") == 0     ? verify_by_openssl
-                              : count == 2 && strcmp(words[1], "libsodium") == 0 ? crypto_sign_verify_detached
-                                                                                 : NULL;
+    static char line[4 * MAX_BYTES];
+    verify_detached *verify = argc == 2 && strcmp(argv[1], "openssl") == 0     ? verify_by_openssl
+                              : argc == 2 && strcmp(argv[1], "libsodium") == 0 ? crypto_sign_verify_detached
+                                                                               : NULL;
 
     if (verify == NULL || sodium_init() < 0) {
         return 2;
     }
     while (fgets(line, sizeof line, stdin) != NULL) {
-        if (!answer_line(line, verify)) {
+        if (!print_result(line, verify)) {
             return 1;
         }
     }

@@ -1,7 +1,7 @@
 #!/usr/bin/env python3
-"""Checks the translator from WebAssembly to C that writes dist/calls.c: the translated functions must return the
-same results in C as in Node (wasm_translation.js). The translator is `tools/wasm_to_c.py`; its output includes
-`c/library/portable/machine.h`.
+"""Checks that the translator from WebAssembly to C, which writes dist/calls.c, is right: the translated functions must
+return the same results in C as in Node (wasm_translation.js). The translator is `tools/wasm_to_c.py`; its output
+includes `c/library/portable/machine.h`.
 
     tests/c/wasm_translation.py
 
@@ -67,19 +67,19 @@ RESULT_BYTES = 9 + BUFFER_BYTES
 
 def number(value, bits=0):
     """Encodes a number as LEB128. With `bits`, it is a signed number of this size, otherwise an unsigned number."""
-    made, value = bytearray(), value % (1 << bits) if bits else value
+    encoded, value = bytearray(), value % (1 << bits) if bits else value
     value -= 1 << bits if bits and value >> (bits - 1) else 0
     while not (-64 <= value < 64 if bits else value < 128):
-        made.append(value & 127 | 128)
+        encoded.append(value & 127 | 128)
         value >>= 7
-    return bytes([*made, value & 127])
+    return bytes([*encoded, value & 127])
 
 
 # Functions that encode a list, bytes with their size in front, a name, and a section.
 encode_list = lambda parts: number(len(parts)) + b"".join(parts)
 with_size = lambda data: number(len(data)) + data
 text = lambda words: with_size(words.encode())
-section = lambda which, *parts: bytes([which]) + with_size(b"".join(parts))
+section = lambda kind, *parts: bytes([kind]) + with_size(b"".join(parts))
 # The kinds of sections.
 CUSTOM, TYPES, IMPORTS, FUNCTIONS, MEMORIES, EXPORTS, CODE, SEGMENTS = 0, 1, 2, 3, 5, 7, 10, 11
 # The encoding of the address of the data. It is padded to the maximum length, so that it differs from the encoding
@@ -101,15 +101,15 @@ WITHOUT_WORD = {"": b"", "memory": b"\0", "memories": b"\0\0"}
 def assemble(code):
     """Assembles code. It consists of the names of instructions, each followed by its operand: a number, a kind of
     value, labels, or `data` for the address of the data. A word `0x..` stands for these bytes."""
-    made, words = b"", iter(code.split())
+    encoded, words = b"", iter(code.split())
     for name in words:
         if name.startswith("0x"):
-            made += bytes.fromhex(name[2:])
+            encoded += bytes.fromhex(name[2:])
         else:
             opcode, operand = CODES[name]
-            made += bytes([opcode]) if opcode < 256 else bytes([opcode >> 8]) + number(opcode & 255)
-            made += WITHOUT_WORD[operand] if operand in WITHOUT_WORD else OPERANDS[operand](next(words), name)
-    return made
+            encoded += bytes([opcode]) if opcode < 256 else bytes([opcode >> 8]) + number(opcode & 255)
+            encoded += WITHOUT_WORD[operand] if operand in WITHOUT_WORD else OPERANDS[operand](next(words), name)
+    return encoded
 
 
 class Module:
@@ -137,8 +137,8 @@ class Module:
                  for _, parameters, result_kind, *_ in self.functions]
         bodies = [with_size(encode_list([b"\1" + bytes([WASM_TYPES[local]]) for local in locals_]) + assemble(f"{code} end"))
                   for *_, code, locals_ in self.functions]
-        addresses = [bytes([wasm_object.CONSTANT]) + number(found.start()) + number(count) + b"\0"
-                     for found in re.finditer(re.escape(ADDRESS), encode_list(bodies))]
+        addresses = [bytes([wasm_object.CONSTANT]) + number(match.start()) + number(count) + b"\0"
+                     for match in re.finditer(re.escape(ADDRESS), encode_list(bodies))]
         segment = b"\0" + assemble(f"i64.const {DATA} end") + with_size(DATA_BYTES)
         # A relocation has the offset of the address in its section, after the size of the section. The data section begins
         # with the number of segments, which takes one byte.
@@ -174,12 +174,12 @@ int main(void)
     static struct { uint64_t function, a, b, c; unsigned char buffer[%d]; } call;
     while (fread(&call, sizeof call, 1, stdin) == 1) {
         const uint64_t base = (uint64_t) (uintptr_t) call.buffer, a = call.a, b = call.b, c = call.c;
-        uint64_t made = 0;
+        uint64_t result = 0;
         switch (call.function) {
 %s
         }
         putchar(0);
-        fwrite(&made, sizeof made, 1, stdout);
+        fwrite(&result, sizeof result, 1, stdout);
         fwrite(call.buffer, sizeof call.buffer, 1, stdout);
     }
     return 0;
@@ -192,9 +192,9 @@ def call(function, arguments, buffer=bytes(BUFFER_BYTES)):
     return struct.pack("<4Q", function, *arguments, *[0] * (3 - len(arguments))) + buffer
 
 
-def results_in(made):
+def results_in(output):
     """Splits the output of a program into results."""
-    return (made[at:at + RESULT_BYTES] for at in range(0, len(made), RESULT_BYTES))
+    return (output[offset:offset + RESULT_BYTES] for offset in range(0, len(output), RESULT_BYTES))
 
 
 class Runners:
@@ -207,10 +207,10 @@ class Runners:
         """Builds a program that reads calls from its standard input and makes them with the translated functions.
         Returns its path."""
         directory, declared, cases = tempfile.mkdtemp(dir=self.scratch), [], []
-        for at, (name, parameters, result_kind, *_) in enumerate(module.functions):
+        for index, (name, parameters, result_kind, *_) in enumerate(module.functions):
             declared.append(f"{C_TYPES[result_kind]} machine_{name}({', '.join(map(C_TYPES.get, parameters))});")
             arguments = ", ".join("base" if kind == "base" else letter for letter, kind in zip("abc", parameters))
-            cases.append(f"        case {at}: {'' if result_kind == 'none' else 'made = '}machine_{name}({arguments}); break;")
+            cases.append(f"        case {index}: {'' if result_kind == 'none' else 'result = '}machine_{name}({arguments}); break;")
         files = {"calls.c": wasm_to_c.translate(module.bytes(), module.names()), "machine.h": machine,
                  "runner.c": RUNNER % ("\n".join(declared), BUFFER_BYTES, "\n".join(cases))}
         sources = [write(directory, name, words.encode()) for name, words in files.items()]
@@ -226,7 +226,7 @@ class Runners:
     def run_in_node(self, module, calls):
         """Makes the calls in Node, and returns the results."""
         description = [
-            [each[:2] for each in module.functions],
+            [function[:2] for function in module.functions],
             wasm_to_c.STACK_POINTER,
             INITIAL_STACK_POINTER,
             BUFFER,
@@ -237,17 +237,17 @@ class Runners:
             write(self.scratch, "description.json", json.dumps(description).encode()),
         ]
         command = [self.node, "--experimental-wasm-memory64", "--no-warnings", f"{HERE}/wasm_translation.js", *paths]
-        ran = run_program(command, self.scratch, b"".join(calls), SECONDS)
-        if ran.status or len(ran.stdout) != RESULT_BYTES * len(calls):
+        result = run_program(command, self.scratch, b"".join(calls), SECONDS)
+        if result.status or len(result.stdout) != RESULT_BYTES * len(calls):
             # Probably this Node has no memories with addresses of 64 bits, so it counts as a missing program.
-            raise needs.Missing(f"Node: {ran}")
-        return results_in(ran.stdout)
+            raise needs.Missing(f"Node: {result}")
+        return results_in(result.stdout)
 
 
 # ---- Functions and calls ----
 
 NUMERIC_INSTRUCTIONS = [name for name in wasm_to_c.IN_C if not re.search(r"\.(load|store)", name)]
-LOADS, STORES = ([name for name in wasm_to_c.IN_C if f".{what}" in name] for what in ("load", "store"))
+LOADS, STORES = ([name for name in wasm_to_c.IN_C if f".{kind}" in name] for kind in ("load", "store"))
 BULK_MEMORY = {"copy": "local.get 0 i64.const 9 i64.add local.get 0 i64.const 4 i64.add local.get 1 memory.copy",
            "fill": "local.get 0 local.get 1 i32.wrap_i64 local.get 2 memory.fill"}
 # Code that creates a stack frame and stores the parameter in it, and code that removes the frame.
@@ -262,15 +262,15 @@ def add_numbers(module, rng):
     """Adds a function for each numeric instruction. Returns calls with pairs of edge cases, and with pairs of
     random numbers of all lengths."""
     for name in NUMERIC_INSTRUCTIONS:
-        kind, what = name.split(".")
-        operand_kind = re.search(r"i\d\d$|i\d\d(?=_)", what)
-        is_unary = operand_kind or what in ("eqz", "clz", "ctz", "popcnt") or what.startswith("extend")
+        kind, operation = name.split(".")
+        operand_kind = re.search(r"i\d\d$|i\d\d(?=_)", operation)
+        is_unary = operand_kind or operation in ("eqz", "clz", "ctz", "popcnt") or operation.startswith("extend")
         parameters = [operand_kind[0] if operand_kind else kind] * (1 if is_unary else 2)
-        module.add(name, parameters, "i32" if re.fullmatch(r"eqz?|ne|[lg][te]_[su]", what) else kind,
-                   f"{' '.join(f'local.get {at}' for at in range(len(parameters)))} {name}")
-    tried = [(a, b) for a in EDGE_CASES for b in EDGE_CASES]
-    tried += [tuple(rng.getrandbits(64) >> rng.randrange(64) for _ in range(2)) for _ in range(RANDOM_PAIRS)]
-    return [call(at, pair) for at in range(len(NUMERIC_INSTRUCTIONS)) for pair in tried]
+        module.add(name, parameters, "i32" if re.fullmatch(r"eqz?|ne|[lg][te]_[su]", operation) else kind,
+                   f"{' '.join(f'local.get {index}' for index in range(len(parameters)))} {name}")
+    pairs = [(a, b) for a in EDGE_CASES for b in EDGE_CASES]
+    pairs += [tuple(rng.getrandbits(64) >> rng.randrange(64) for _ in range(2)) for _ in range(RANDOM_PAIRS)]
+    return [call(index, pair) for index in range(len(NUMERIC_INSTRUCTIONS)) for pair in pairs]
 
 
 def add_memory(module, rng):
@@ -286,9 +286,9 @@ def add_memory(module, rng):
     swap = module.add("swap", ["base", "i64"], "i64", "local.get 0 i64.load 3 local.get 0 local.get 1 i64.store 5")
     for _ in range(100):
         buffer, value = rng.randbytes(BUFFER_BYTES), rng.choice(EDGE_CASES + [rng.getrandbits(64)] * 9)
-        for at in range(first, swap + 1):
+        for index in range(first, swap + 1):
             # (The remainders keep the accesses inside the buffer.)
-            yield call(at, (0, value % 40 if module.names()[at] == "copy" else value, value % 60), buffer)
+            yield call(index, (0, value % 40 if module.names()[index] == "copy" else value, value % 60), buffer)
 
 
 def add_addresses(module, _):
@@ -305,9 +305,9 @@ def add_addresses(module, _):
     late = module.add("frame_late", ["i64"], "i64", f"{LATE_STACK_FRAME} local.get 2 i64.load32_u 8", ["i64", "i64"])
     frames = (below, above, late)
     return [
-        *(call(data, (at,)) for at in range(16)),
+        *(call(data, (index,)) for index in range(16)),
         call(followed, ()),
-        *(call(at, (value,)) for value in EDGE_CASES for at in frames),
+        *(call(index, (value,)) for value in EDGE_CASES for index in frames),
     ]
 
 
@@ -317,14 +317,14 @@ def add_addresses(module, _):
 def grammar():
     """Maps each name in wasm_translation_grammar.txt to its productions. A line with `K` is read twice, with i32 and with i64
     for K. A production with the weight N (`xN`) occurs N times. The head of the file explains the notation."""
-    found = {f"{what} {kind}": [name for name in wasm_to_c.IN_C if name.startswith(f"{kind}.{what}")]
-             for what in ("load", "store") for kind in BITS}
+    productions = {f"{operation} {kind}": [name for name in wasm_to_c.IN_C if name.startswith(f"{kind}.{operation}")]
+                   for operation in ("load", "store") for kind in BITS}
     for line in re.findall(r"(?m)^[^#\n].*", read(HERE, "wasm_translation_grammar.txt").decode()):
         head, _, texts = line.partition(": ")
         for kind in BITS if "K" in head else ("",):
             name, _, times = head.replace("K", kind).partition(" x")
-            found.setdefault(name, []).extend(texts.replace("K", kind).split(" | ") * int(times or 1))
-    return {**found, "edge": [*map(str, EDGE_CASES)]}
+            productions.setdefault(name, []).extend(texts.replace("K", kind).split(" | ") * int(times or 1))
+    return {**productions, "edge": [*map(str, EDGE_CASES)]}
 
 
 GRAMMAR = grammar()
@@ -342,14 +342,18 @@ class RandomFunction:
         self.budget = 60
 
     def write(self, text, depth=5):
-        """Returns code for the text of a production: replaces `{name word}` and `<how kind text>`. Expressions have at
+        """Returns code for the text of a production: replaces `{name word}` and `<construct kind text>`. Expressions have at
         most this depth."""
-        return re.sub(r"\{(\w+) ?(.*?)\}|<(\w+) (\w+) (.*?)>",
-                      lambda found: self.choose(found[1], found[2], depth) if found[1] else self.within(*found.groups()[2:]), text)
+        def replacement(match):
+            if match[1]:
+                return self.choose(match[1], match[2], depth)
+            return self.write_inside(*match.groups()[2:])
 
-    def within(self, how, result_kind, text):
+        return re.sub(r"\{(\w+) ?(.*?)\}|<(\w+) (\w+) (.*?)>", replacement, text)
+
+    def write_inside(self, construct, result_kind, text):
         """Returns code for a production inside a new block, loop or branch, which is one more label."""
-        self.labels.append((how, result_kind))
+        self.labels.append((construct, result_kind))
         code = self.write(text)
         self.labels.pop()
         return code
@@ -372,7 +376,7 @@ class RandomFunction:
 
     def free(self, kind):
         """Returns a local variable of this kind that is not a loop counter."""
-        return str(self.choice([at for at, local in enumerate(self.locals) if local == kind and at not in self.counters]))
+        return str(self.choice([index for index, local in enumerate(self.locals) if local == kind and index not in self.counters]))
 
     def call(self, kind):
         """Returns code that calls an earlier random function, if there is one."""
@@ -386,25 +390,26 @@ class RandomFunction:
 
     def loop(self):
         """Returns code for a loop that ends after at most a few rounds."""
-        free = [at for at, local in enumerate(self.locals) if local == "i32" and at > 2 and at not in self.counters]
+        free = [index for index, local in enumerate(self.locals) if local == "i32" and index > 2 and index not in self.counters]
         if len(free) < 2:
             return self.write("{set}")
         self.counters.append(free[0])
         again = f"local.get {free[0]} if none local.get {free[0]} i32.const 1 i32.sub local.set {free[0]} br 1 end"
-        body = self.within("loop", "none", self.choice(["", "", f"{{statements}} {again} "]) + f"{{statements}} {again}")
+        body = self.write_inside("loop", "none", self.choice(["", "", f"{{statements}} {again} "]) + f"{{statements}} {again}")
         self.counters.remove(free[0])
         return f"i32.const {self.rng.randrange(4)} local.set {free[0]} loop none {body} end"
 
-    def jump(self, how):
+    def jump(self, instruction):
         """Returns code for a branch to one of up to four labels, or out of the function. All targets take the same
         kind of value."""
         labels = [*reversed(self.labels), ("function", "i64")]
-        found = [(depth, result_kind) for depth, (what, result_kind) in enumerate(labels) if what in ("block", "if", "function")]
-        result_kind = self.choice(found[:-1] or found)[1]
-        depths = [str(depth) for depth, kind in found if kind == result_kind]
-        targets = [self.choice(depths) for _ in range(self.rng.randrange(1, 5) if how == "br_table" else 1)]
-        rest = "drop" if how == "br_if" and result_kind != "none" else ""
-        return self.write(f"{value_of_kind(result_kind)} {{selector {how}}} {how} {','.join(targets)} {rest}")
+        candidates = [(depth, result_kind) for depth, (construct, result_kind) in enumerate(labels)
+                      if construct in ("block", "if", "function")]
+        result_kind = self.choice(candidates[:-1] or candidates)[1]
+        depths = [str(depth) for depth, kind in candidates if kind == result_kind]
+        targets = [self.choice(depths) for _ in range(self.rng.randrange(1, 5) if instruction == "br_table" else 1)]
+        drop = "drop" if instruction == "br_if" and result_kind != "none" else ""
+        return self.write(f"{value_of_kind(result_kind)} {{selector {instruction}}} {instruction} {','.join(targets)} {drop}")
 
 
 def value_of_kind(result_kind):
@@ -415,11 +420,11 @@ def value_of_kind(result_kind):
 def add_random_functions(module, rng, count):
     """Adds random functions, which may call the functions before them. Yields calls."""
     first = len(module.functions)
-    for at in range(count):
-        function = RandomFunction(rng, [first + index for index in range(at)][-3:] if at % 4 == 3 else [])
-        module.add(f"random_{at}", ["base", "i64", "i32"], "i64", function.write("{function}"), function.locals[3:])
+    for number in range(count):
+        function = RandomFunction(rng, [first + index for index in range(number)][-3:] if number % 4 == 3 else [])
+        module.add(f"random_{number}", ["base", "i64", "i32"], "i64", function.write("{function}"), function.locals[3:])
         for _ in range(12):
-            yield call(first + at, (0, rng.choice(EDGE_CASES), rng.choice(EDGE_CASES)), rng.randbytes(BUFFER_BYTES))
+            yield call(first + number, (0, rng.choice(EDGE_CASES), rng.choice(EDGE_CASES)), rng.randbytes(BUFFER_BYTES))
 
 
 # ---- Checks ----
@@ -430,10 +435,10 @@ class Case:
 
     def __init__(self, runners, rng, count):
         self.module, self.trapping, self.answered = Module(), {}, []
-        calls = [each for add in (add_numbers, add_memory, add_addresses) for each in add(self.module, rng)]
+        calls = [call for add in (add_numbers, add_memory, add_addresses) for call in add(self.module, rng)]
         calls += add_random_functions(self.module, rng, count)
-        for encoded, answer in zip(calls, runners.run_in_node(self.module, calls)):
-            (self.trapping.setdefault(self.describe(encoded)[0], []) if answer[0] else self.answered).append((encoded, answer))
+        for encoded, expected in zip(calls, runners.run_in_node(self.module, calls)):
+            (self.trapping.setdefault(self.describe(encoded)[0], []) if expected[0] else self.answered).append((encoded, expected))
         self.calls, self.expected = map(b"".join, zip(*self.answered))
 
     def describe(self, call):
@@ -441,13 +446,13 @@ class Case:
         function, *numbers = struct.unpack_from("<4Q", call)
         return self.module.names()[function], *map(hex, numbers)
 
-    def first_difference(self, made):
+    def first_difference(self, output):
         """Describes the first call whose result differs from Node's, with both results."""
         return next(
             (
-                f"{self.describe(encoded)}: {found[1:9].hex()}, expected {answer[1:9].hex()}"
-                for (encoded, answer), found in zip(self.answered, results_in(made))
-                if found != answer
+                f"{self.describe(encoded)}: {actual[1:9].hex()}, expected {expected[1:9].hex()}"
+                for (encoded, expected), actual in zip(self.answered, results_in(output))
+                if actual != expected
             ),
             "the number of results",
         )
@@ -457,9 +462,9 @@ def check_answers(checks, case, runners):
     """Checks that the translated functions return the same results as in Node."""
     for flags in (["-O0"], ["-O2"], ["-O1", "-DHAS_UNALIGNED_ACCESS=0"], SANITIZED):
         program = runners.program(case.module, flags)
-        made = runners.run_in_c(program, case.calls)
-        is_equal = made.status == 0 and made.stdout == case.expected
-        checks.check(is_equal, f"{flags}: status {made.status}, {case.first_difference(made.stdout)}")
+        result = runners.run_in_c(program, case.calls)
+        is_equal = result.status == 0 and result.stdout == case.expected
+        checks.check(is_equal, f"{flags}: status {result.status}, {case.first_difference(result.stdout)}")
     print(f"{len(case.answered)} calls of {len(wasm_to_c.IN_C)} instructions, of memory, data and stack functions, and of "
           f"{RANDOM_FUNCTIONS} random functions")
     trapping = {name.replace(".", "_") for name in NUMERIC_INSTRUCTIONS if re.search(r"div_|rem_", name)}
@@ -501,13 +506,13 @@ STEP_MUTATIONS = {
 }
 
 
-def is_noticed(case, runners, **more):
+def is_noticed(case, runners, **options):
     """Returns true if a translation has other results, does not compile, or fails."""
     try:
-        made = runners.run_in_c(runners.program(case.module, ["-O0"], **more), case.calls)
+        result = runners.run_in_c(runners.program(case.module, ["-O0"], **options), case.calls)
     except static_library.NotBuilt:
         return True
-    return made.status != 0 or made.stdout != case.expected
+    return result.status != 0 or result.stdout != case.expected
 
 
 def check_mutants(checks, case, single, runners):
@@ -519,9 +524,9 @@ def check_mutants(checks, case, single, runners):
     for name, wrong in TABLE_MUTATIONS.items():
         with mock.patch.dict(wasm_to_c.IN_C, {name: wrong}):
             checks.check(is_noticed(single, runners), f"nothing notices {wrong} for {name}")
-    for what, (step, wrong) in STEP_MUTATIONS.items():
+    for description, (step, wrong) in STEP_MUTATIONS.items():
         with mock.patch.object(wasm_to_c.Body, step, wrong):
-            checks.check(is_noticed(case, runners), f"nothing notices that {what}")
+            checks.check(is_noticed(case, runners), f"nothing notices that {description}")
 
 
 # Code that the translator does not support, and words that the error must contain.
@@ -541,16 +546,16 @@ UNSUPPORTED = {
 def check_rejected(checks):
     """Checks that unsupported code is an error that names the code."""
     modules = [("no module", b"\x7fELF", [], ""), ("another section", Module().bytes() + section(13, b""), [], "")]
-    for what, (code, words) in UNSUPPORTED.items():
+    for description, (code, words) in UNSUPPORTED.items():
         module = Module()
         module.add("function", ["i64"], "i64", f"{code} i64.const 0")
-        modules.append((what, module.bytes(), ["function"], words))
-    for what, module, names, words in modules:
+        modules.append((description, module.bytes(), ["function"], words))
+    for description, module, names, words in modules:
         try:
             wasm_to_c.translate(module, names)
-            checks.check(False, f"{what} is translated")
-        except wasm_object.Unread as why:
-            checks.check(all(each in str(why) for each in (words, *names)), f"{what}: {why}")
+            checks.check(False, f"{description} is translated")
+        except wasm_object.UnsupportedModule as error:
+            checks.check(all(word in str(error) for word in (words, *names)), f"{description}: {error}")
 
 
 def run_all(checks, scratch):

@@ -17,7 +17,7 @@ struct arguments {
     size_t message_size;
 };
 
-static struct arguments published(void)
+static struct arguments published_arguments(void)
 {
     return (struct arguments) { key_of(KEY), signature_of(SIGNATURE), SIGNATURE, 0, sizeof message };
 }
@@ -25,7 +25,7 @@ static struct arguments published(void)
 /* Calls minisign_ask with a new state. Checks that an error leaves the state, the questions and the message unchanged. */
 static enum minisign_error ask(const struct arguments *arguments)
 {
-    minisign_state state = fed_with("test"), before = state;
+    minisign_state state = state_with("test"), before = state;
     uint8_t untouched[sizeof questions];
     enum minisign_error error;
 
@@ -79,18 +79,19 @@ static void rejects_weak_points(void)
     };
 
     for (size_t i = 0; i < sizeof cases / sizeof cases[0]; i++) {
-        struct arguments key = published(), first = published(), second = published(), cut = published();
+        struct arguments key = published_arguments(), first = published_arguments(), second = published_arguments(),
+                         truncated = published_arguments();
 
         decode_hex(key.key.key, cases[i].digits);
         decode_hex(first.signature.signature, cases[i].digits);
         decode_hex(second.signature.comment_signature, cases[i].digits);
-        decode_hex(cut.signature.comment_signature, cases[i].digits);
-        cut.signature.whole = 0;
+        decode_hex(truncated.signature.comment_signature, cases[i].digits);
+        truncated.signature.whole = 0;
         check(ask(&key) == cases[i].error, "%s as the key: expected error %u", cases[i].digits, cases[i].error);
         check(ask(&first) == cases[i].error, "%s in the signature: expected error %u", cases[i].digits, cases[i].error);
         check(ask(&second) == cases[i].error, "%s in the comment signature: expected error %u", cases[i].digits,
               cases[i].error);
-        check(ask(&cut) == MINISIGN_OK, "%s: a comment signature of fewer than 64 bytes", cases[i].digits);
+        check(ask(&truncated) == MINISIGN_OK, "%s: a comment signature of fewer than 64 bytes", cases[i].digits);
     }
 }
 
@@ -111,7 +112,7 @@ static void rejects_large_s(void)
     };
 
     for (size_t i = 0; i < sizeof cases / sizeof cases[0]; i++) {
-        struct arguments first = published(), second = published();
+        struct arguments first = published_arguments(), second = published_arguments();
 
         decode_hex(first.signature.signature + 32, cases[i].digits);
         decode_hex(second.signature.comment_signature + 32, cases[i].digits);
@@ -124,7 +125,7 @@ static void rejects_large_s(void)
 /* If a key is weak and there is another error, the other error is reported. */
 static void reports_other_errors_first(void)
 {
-    struct arguments weak = published(), changed;
+    struct arguments weak = published_arguments(), changed;
     minisign_state state;
 
     memset(weak.key.key, 0, sizeof weak.key.key);
@@ -133,7 +134,7 @@ static void reports_other_errors_first(void)
     CHECK(ask(&changed) == MINISIGN_BAD_LEGACY_FLAG);
     changed = weak, changed.signature.mark = 0;
     CHECK(ask(&changed) == MINISIGN_SIGNATURE_NOT_READ);
-    changed = weak, changed.text = OTHER_SIGNATURE;
+    changed = weak, changed.text = OTHER_KEY_SIGNATURE;
     CHECK(ask(&changed) == MINISIGN_OTHER_SIGNATURE_TEXT);
     changed = weak, changed.key.key_id[0] ^= 1;
     CHECK(ask(&changed) == MINISIGN_DIFFERENT_KEY_IDS);
@@ -145,7 +146,7 @@ static void reports_other_errors_first(void)
     memset(&state, 0, sizeof state);
     CHECK(minisign_ask(&state, &weak.key, &weak.signature, bytes_of(weak.text), strlen(weak.text), 0, &questions, message,
                        sizeof message) == MINISIGN_NOT_BEGUN);
-    state = fed_with("test");
+    state = state_with("test");
     CHECK(minisign_digest(&state, questions.digest) == MINISIGN_OK);
     CHECK(minisign_ask(&state, &weak.key, &weak.signature, bytes_of(weak.text), strlen(weak.text), 0, &questions, message,
                        sizeof message) == MINISIGN_ALREADY_ASKED);
@@ -154,13 +155,13 @@ static void reports_other_errors_first(void)
 /* minisign_ask accepts a comment signature with fewer than 64 bytes; minisign_verdict rejects it. */
 static void leaves_short_comment_signature_to_verdict(void)
 {
-    static const char cut[] = SIGNATURE_COMMENT RECORD "\ntrusted comment: " COMMENT "\nAAAA\n";
+    static const char truncated[] = SIGNATURE_COMMENT RECORD "\ntrusted comment: " COMMENT "\nAAAA\n";
     const minisign_public_key key = key_of(KEY);
-    const minisign_signature signature = signature_of(cut);
-    minisign_state state = fed_with("test");
+    const minisign_signature signature = signature_of(truncated);
+    minisign_state state = state_with("test");
 
     CHECK(signature.whole == 0 && is_zeros(signature.comment_signature, sizeof signature.comment_signature));
-    CHECK(minisign_ask(&state, &key, &signature, bytes_of(cut), sizeof cut - 1, 0, &questions, message, sizeof message)
+    CHECK(minisign_ask(&state, &key, &signature, bytes_of(truncated), sizeof truncated - 1, 0, &questions, message, sizeof message)
           == MINISIGN_OK);
     CHECK(minisign_digest(&state, questions.digest) == MINISIGN_OK);
     CHECK(minisign_verdict(&state, MINISIGN_ANSWER_YES, MINISIGN_ANSWER_YES) == MINISIGN_COMMENT_SIGNATURE_REFUSED);
@@ -172,5 +173,5 @@ int main(void)
     rejects_large_s();
     reports_other_errors_first();
     leaves_short_comment_signature_to_verdict();
-    return ended();
+    return print_summary();
 }

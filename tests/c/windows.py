@@ -1,6 +1,6 @@
 #!/usr/bin/env python3
-"""Checks the build for Windows: runs minisign.exe under wine, tries mutants of it, and checks what is installed and
-released.
+"""Checks that the build for Windows works: runs minisign.exe under wine, tries mutants of it, and checks what is
+installed and released.
 
     tests/c/windows.py [WORD ..]
 
@@ -50,9 +50,9 @@ from checks import Checks
 from process import RunResult, run, run_program
 from running import Failure, expect, read, write
 from texts import Limits, record_of, seal_record, text_of
+from wine import Wine
 
 C = static_library.DIRECTORY
-WINE = "/usr/lib/wine"
 TARGET = "x86_64-w64-mingw32"
 COMPILER = f"{TARGET}-gcc"
 # The time limit of a run.
@@ -108,31 +108,19 @@ WINE_MESSAGE = re.compile(rb"(?m)^wine: .*\n")
 ESCAPES = re.compile(rb"\x1b\[\??[0-9;]*[A-Za-z]|\x1b\][^\x07]*\x07|\x1b[=>]")
 
 
-class Wine:
-    """Runs Windows programs with wine, which stores its settings in a directory in `scratch`."""
+class InitializedWine(Wine):
+    """Wine after its first start, which creates its settings and takes some seconds. `variables` is a whole
+    environment, with the C locale for UTF-8 and without MINISIGN_CONFIG_DIR."""
 
     def __init__(self, scratch):
-        self.program = needs.need(
-            lambda: needs.which("wine64") or next(iter(glob.glob(f"{WINE}/wine64")), None), "wine64", "wine64"
-        )
-        self.variables = {
-            **os.environ,
-            "WINEPREFIX": os.path.join(scratch, "wine"),
-            "WINEDEBUG": "-all",
-            "HOME": scratch,
-            "LC_ALL": "C.UTF-8",
-        }
+        super().__init__(scratch)
+        self.variables = {**os.environ, **self.variables, "LC_ALL": "C.UTF-8"}
         self.variables.pop("MINISIGN_CONFIG_DIR", None)
         static_library.run_or_fail([self.program, "cmd", "/c", "exit"], scratch, **self.variables)
 
-    def end(self):
-        """Stops wine's server."""
-        subprocess.run([f"{WINE}/wineserver", "-k"], env=self.variables, stderr=subprocess.DEVNULL)
-
 
 class Console:
-    """A Windows program at a console of wine, which runs at a pseudoterminal. `shown` is the text that the console
-    has shown so far, without escape sequences."""
+    """A Windows program at a console of wine, which runs at a pseudoterminal."""
 
     def __init__(self, command, directory, environment):
         self.raw, (self.user_end, program_end) = b"", pty.openpty()
@@ -151,7 +139,7 @@ class Console:
     @property
     def screen_text(self):
         """The text that the console has shown so far, without escape sequences."""
-        return ESCAPES.sub(lambda found: b" " if found[0].endswith(b"C") else b"", self.raw)
+        return ESCAPES.sub(lambda match: b" " if match[0].endswith(b"C") else b"", self.raw)
 
     def wait_for(self, pattern, seconds=SECONDS):
         """Reads until the pattern is shown, or with None until the program ends. Returns false if the program ends
@@ -212,11 +200,11 @@ class Cases:
         """Returns those of the names for which a file exists."""
         return [name for name in names if os.path.lexists(os.path.join(self.scratch, name))]
 
-    def run_exe(self, *words, typed=b"", **how):
+    def run_exe(self, *words, typed=b"", **options):
         """Runs minisign.exe under wine, without wine's messages on standard error."""
-        variables = {**self.wine.variables, **how.pop("variables", {})}
-        ran = run_program([self.wine.program, self.exe, *words], self.scratch, typed, SECONDS, env=variables, **how)
-        return RunResult(ran.status, ran.stdout, WINE_MESSAGE.sub(b"", ran.stderr))
+        variables = {**self.wine.variables, **options.pop("variables", {})}
+        result = run_program([self.wine.program, self.exe, *words], self.scratch, typed, SECONDS, env=variables, **options)
+        return RunResult(result.status, result.stdout, WINE_MESSAGE.sub(b"", result.stderr))
 
     def run_on_linux(self, program, *words, typed=b""):
         """Runs a program for Linux."""
@@ -244,26 +232,27 @@ class Cases:
         """Returns the names of temporary files that were left behind."""
         return [name for name in os.listdir(self.scratch) if name.startswith(".minisign-")]
 
-    def ended(self, ran, what, status=0, says=None):
+    def ended(self, result, description, status=0, says=None):
         """Checks the exit status of a run and, if `says` is given, that standard error contains it."""
-        errors = ran.stderr.decode(errors="replace")
-        holds = ran.status == status and (says is None or says in errors)
-        return self.checks.check(holds, f"{what}: {ran}, expected status {status}{f' and {says!r}' if says else ''}")
+        errors = result.stderr.decode(errors="replace")
+        holds = result.status == status and (says is None or says in errors)
+        return self.checks.check(holds, f"{description}: {result}, expected status {status}{f' and {says!r}' if says else ''}")
 
-    def verified(self, what, public, data, *words):
+    def verified(self, description, public, data, *words):
         """Checks that all three programs accept a signature."""
-        for who, ran in self.run_all_three("-V", "-p", public, "-m", data, *words):
-            self.ended(ran, f"{what}: {who} verifies")
+        for program_name, result in self.run_all_three("-V", "-p", public, "-m", data, *words):
+            self.ended(result, f"{description}: {program_name} verifies")
 
     # ---- Signing, verifying and keys ----
 
     def verifies_and_signs(self):
-        ran = self.run_exe("-S", "-s", "a.key", "-m", "data", "-t", "a comment \u00e9", "-c", "untrusted \u65e5")
-        self.ended(ran, "-S")
+        result = self.run_exe("-S", "-s", "a.key", "-m", "data", "-t", "a comment \u00e9", "-c", "untrusted \u65e5")
+        self.ended(result, "-S")
         self.checks.check(b"\r" not in self.get("data.minisig") and "untrusted \u65e5".encode() in self.get("data.minisig"),
                           "the signature has a CR, or another untrusted comment")
-        for who, ran in self.run_all_three("-V", "-p", "a.pub", "-m", "data"):
-            self.checks.same((ran.status, ran.stdout), (0, GOOD + "Trusted comment: a comment \u00e9\n".encode()), f"{who} -V")
+        for program_name, result in self.run_all_three("-V", "-p", "a.pub", "-m", "data"):
+            expected_output = GOOD + "Trusted comment: a comment \u00e9\n".encode()
+            self.checks.same((result.status, result.stdout), (0, expected_output), f"{program_name} -V")
         for program in (self.theirs, self.ours):
             self.ended(self.run_on_linux(program, "-S", "-s", "a.key", "-m", "data", "-x", "other.minisig"), f"{program} -S")
             self.verified(f"a signature of {program}", "a.pub", "data", "-x", "other.minisig")
@@ -273,8 +262,8 @@ class Cases:
             (["-o", "-q"], self.get("data"), b""),
             (["-o"], self.get("data"), GOOD + "Trusted comment: a comment \u00e9\n".encode()),
         ):
-            ran = self.run_exe("-V", "-p", "a.pub", "-m", "data", *flags)
-            self.checks.same((ran.status, ran.stdout, ran.stderr), (0, output, message), f"-V {flags}")
+            result = self.run_exe("-V", "-p", "a.pub", "-m", "data", *flags)
+            self.checks.same((result.status, result.stdout, result.stderr), (0, output, message), f"-V {flags}")
         key = self.get("a.pub").split(b"\n")[1].decode()
         self.ended(self.run_exe("-V", "-P", key, "-m", "data"), "-P")
         self.put("data", self.get("data") + b"x")
@@ -315,16 +304,16 @@ class Cases:
         self.checks.check(not self.leftovers(), f"temporary files are left: {self.leftovers()}")
 
     def decrypts_and_encrypts_keys(self):
-        for password, status, says in ((PASSWORD, 0, None), (b"wrong", 2, "Wrong password for that key")):
-            ran = self.run_exe("-S", "-s", "closed.key", "-m", "data", typed=password + b"\n")
-            self.ended(ran, f"-S with the password {password}", status, says)
+        for password, status, message in ((PASSWORD, 0, None), (b"wrong", 2, "Wrong password for that key")):
+            result = self.run_exe("-S", "-s", "closed.key", "-m", "data", typed=password + b"\n")
+            self.ended(result, f"-S with the password {password}", status, message)
         self.verified("a signature by an encrypted key", "a.pub", "data")
         self.ended(self.run_exe("-R", "-s", "closed.key", "-p", "again.pub", typed=PASSWORD + b"\n"), "-R of an encrypted key")
         self.checks.same(self.get("again.pub").split(b"\n")[1], self.get("a.pub").split(b"\n")[1], "the public key that -R writes")
         self.ended(self.run_exe("-C", "-s", "closed.key", "-k", "16", typed=PASSWORD + b"\nn\xc3\xa9w\nn\xc3\xa9w\n"), "-C")
         for program in (self.theirs, self.ours):
-            ran = self.run_on_linux(program, "-S", "-s", "closed.key", "-m", "data", typed="n\u00e9w\n".encode())
-            self.ended(ran, f"{program} decrypts a changed key")
+            result = self.run_on_linux(program, "-S", "-s", "closed.key", "-m", "data", typed="n\u00e9w\n".encode())
+            self.ended(result, f"{program} decrypts a changed key")
         self.ended(self.run_exe("-C", "-W", "-s", "closed.key", typed=b"n\xc3\xa9w\n"), "-C -W")
         self.checks.same(record_of(self.get("closed.key"))[54:126], record_of(self.get("a.key"))[54:126], "the decrypted key")
         self.ended(self.run_exe("-S", "-s", "closed.key", "-m", "data"), "-S with the decrypted key")
@@ -337,10 +326,10 @@ class Cases:
 
     def uses_default_names(self):
         os.mkdir(f"{self.scratch}/{HOME}")
-        ran = self.run_at_home("-G -W")
-        self.ended(ran, "-G with default names")
+        result = self.run_at_home("-G -W")
+        self.ended(result, "-G with default names")
         default_names = ["minisign.pub", f"{HOME}/.minisign/minisign.key"]
-        self.checks.same(self.existing(*default_names), default_names, f"the files with the default names after {ran}")
+        self.checks.same(self.existing(*default_names), default_names, f"the files with the default names after {result}")
         self.ended(self.run_at_home("-S -m data"), "-S with the default key")
         self.ended(self.run_exe("-V", "-m", "data"), "-V with the default key")
         mode = stat.S_IMODE(os.stat(f"{self.scratch}/{HOME}/.minisign").st_mode)
@@ -377,16 +366,16 @@ class Cases:
         }
         os.mkdir(f"{self.scratch}/sub")
         os.mkdir(f"{self.scratch}/back")
-        for name, real in names.items():
-            real = os.path.join(self.scratch, real or name.replace("\\", "/"))
-            write("/", real, b"data of " + name.encode())
+        for name, linux_path in names.items():
+            linux_path = os.path.join(self.scratch, linux_path or name.replace("\\", "/"))
+            write("/", linux_path, b"data of " + name.encode())
             self.ended(self.run_exe("-S", "-s", "a.key", "-m", name), f"-S {name}")
-            ran = self.run_exe("-V", "-p", "a.pub", "-m", name)
-            if self.ended(ran, f"-V {name}"):
-                last = os.path.basename(name.replace("\\", "/")).encode()
-                self.checks.check(b"\tfile:%s\t" % last in ran.stdout, f"the trusted comment of {name} is {ran.stdout}")
-            self.ended(self.run_theirs("-V", "-p", "a.pub", "-m", real), f"Minisign verifies {real}")
-            os.remove(f"{real}.minisig")
+            result = self.run_exe("-V", "-p", "a.pub", "-m", name)
+            if self.ended(result, f"-V {name}"):
+                file_name = os.path.basename(name.replace("\\", "/")).encode()
+                self.checks.check(b"\tfile:%s\t" % file_name in result.stdout, f"the trusted comment of {name} is {result.stdout}")
+            self.ended(self.run_theirs("-V", "-p", "a.pub", "-m", linux_path), f"Minisign verifies {linux_path}")
+            os.remove(f"{linux_path}.minisig")
 
     def rejected(self, *words):
         """Checks that all REJECTED_NAMES are rejected as the last argument, after these words, and that no file is
@@ -394,9 +383,9 @@ class Cases:
         os.mkdir(f"{self.scratch}/sub")
         self.ended(self.run_theirs("-S", "-s", "a.key", "-m", "data"), "a signature by Minisign")
         before = sorted(os.listdir(self.scratch))
-        for name, why in REJECTED_NAMES.items():
-            ran = self.run_exe(*words, name)
-            self.checks.same((ran.status, ran.stderr.decode()), (2, f"{name}: {why}\n"), f"{words} {name}")
+        for name, message in REJECTED_NAMES.items():
+            result = self.run_exe(*words, name)
+            self.checks.same((result.status, result.stderr.decode()), (2, f"{name}: {message}\n"), f"{words} {name}")
         self.checks.same(sorted(os.listdir(self.scratch)), before, "the files after names were rejected")
 
     def rejects_names_to_read(self):
@@ -415,9 +404,10 @@ class Cases:
         self.checks.same(sorted(os.listdir(self.scratch)), before, "the files after -x NUL")
 
     def rejects_arguments_that_are_not_unicode(self):
-        ran = run_program([self.wine.program, self.helper, "lone", self.exe], self.scratch, None, SECONDS, env=self.wine.variables)
+        command = [self.wine.program, self.helper, "lone", self.exe]
+        result = run_program(command, self.scratch, None, SECONDS, env=self.wine.variables)
         self.checks.same(
-            (ran.status, ran.stderr),
+            (result.status, result.stderr),
             (2, b"error: an argument is not valid Unicode\nhint: if it is a file name, rename the file\n"),
             "an argument that is not Unicode",
         )
@@ -464,11 +454,11 @@ class Cases:
         """A killed run must leave either the old or the new signature. The next run must remove its temporary file."""
         words = ["-S", "-s", "a.key", "-m", "data"]
         self.ended(self.run_exe(*words), "-S")
-        begin = time.monotonic()
+        start = time.monotonic()
         self.ended(self.run_exe(*words), "-S again")
-        whole = time.monotonic() - begin
+        duration = time.monotonic() - start
         for i in range(KILLS):
-            self.kill_after(whole * (0.3 + 0.9 * i / KILLS), *words, "-t", f"run {i}")
+            self.kill_after(duration * (0.3 + 0.9 * i / KILLS), *words, "-t", f"run {i}")
             self.ended(self.run_theirs("-V", "-p", "a.pub", "-m", "data"), f"the signature after kill {i}")
         self.ended(self.run_exe(*words), "-S after the kills")
         self.checks.check(not self.leftovers(), f"a later run leaves {self.leftovers()}")
@@ -490,13 +480,13 @@ class Cases:
     def replaces_whole_pairs(self):
         words = ["-G", "-W", "-f", "-p", "m.pub", "-s", "m.key"]
         self.ended(self.run_exe(*words), "-G")
-        begin = time.monotonic()
+        start = time.monotonic()
         self.ended(self.run_exe(*words), "-G -f")
-        whole = time.monotonic() - begin
+        duration = time.monotonic() - start
         for i in range(KILLS):
-            self.kill_after(whole * (0.3 + 0.9 * i / KILLS), *words)
-            ran = self.run_theirs("-R", "-f", "-s", "m.key", "-p", "check.pub")
-            self.ended(ran, f"the secret key after kill {i}")
+            self.kill_after(duration * (0.3 + 0.9 * i / KILLS), *words)
+            result = self.run_theirs("-R", "-f", "-s", "m.key", "-p", "check.pub")
+            self.ended(result, f"the secret key after kill {i}")
             self.checks.check(len(record_of(self.get("m.pub"))) == 42, f"the public key after kill {i}: {self.get('m.pub')}")
         self.ended(self.run_exe(*words), "-G -f after the kills")
         self.checks.check(not self.leftovers(), f"a later run leaves {self.leftovers()}")
@@ -514,8 +504,8 @@ class Cases:
         )
         with self.holding("a.key", 60000):
             for public in ("a.pub", "n.pub"):
-                ran = self.run_exe("-G", "-W", "-f", "-p", public, "-s", "a.key")
-                self.ended(ran, f"a pair of {public} and a secret key in use", 2, "a.key: another program has this file open")
+                result = self.run_exe("-G", "-W", "-f", "-p", public, "-s", "a.key")
+                self.ended(result, f"a pair of {public} and a secret key in use", 2, "a.key: another program has this file open")
         self.checks.same(self.get("a.pub"), before, "the public key of a failed pair")
         self.checks.check(
             not self.existing("n.pub", "n.key") and not self.leftovers(),
@@ -523,11 +513,11 @@ class Cases:
         )
 
     @contextlib.contextmanager
-    def holding(self, name, milliseconds, how="hold"):
-        """Keeps a file open in another program while the body runs, as a virus scanner might. With how="lock", the file
+    def holding(self, name, milliseconds, mode="hold"):
+        """Keeps a file open in another program while the body runs, as a virus scanner might. With mode="lock", the file
         cannot be opened for writing either."""
         with subprocess.Popen(
-            [self.wine.program, self.helper, how, name, str(milliseconds)],
+            [self.wine.program, self.helper, mode, name, str(milliseconds)],
             cwd=self.scratch,
             env=self.wine.variables,
             stdout=subprocess.PIPE,
@@ -540,42 +530,43 @@ class Cases:
 
     def waits_for_scanners(self):
         """A file that another program has open is replaced if it is closed within two seconds. Otherwise this is reported."""
-        for how in ("hold", "lock"):
+        for mode in ("hold", "lock"):
             self.put("data.minisig", b"old")
-            with self.holding("data.minisig", 60000, how):
-                ran = subprocess.Popen([self.wine.program, self.exe, "-S", "-s", "a.key", "-m", "data"], cwd=self.scratch,
-                                       env=self.wine.variables, stdin=subprocess.DEVNULL, stderr=subprocess.PIPE)
+            with self.holding("data.minisig", 60000, mode):
+                process = subprocess.Popen([self.wine.program, self.exe, "-S", "-s", "a.key", "-m", "data"], cwd=self.scratch,
+                                           env=self.wine.variables, stdin=subprocess.DEVNULL, stderr=subprocess.PIPE)
                 # Waits for the temporary file: right after creating it, the program tries to replace the file that is held.
-                while not self.leftovers() and ran.poll() is None:
+                while not self.leftovers() and process.poll() is None:
                     time.sleep(0.01)
                 time.sleep(0.3)
-            said = ran.communicate(timeout=SECONDS)[1]
-            self.checks.same((ran.returncode, WINE_MESSAGE.sub(b"", said)), (0, b""), f"a file that is open for a moment ({how})")
-            self.ended(self.run_theirs("-V", "-p", "a.pub", "-m", "data"), f"the signature after waiting ({how})")
+            errors = process.communicate(timeout=SECONDS)[1]
+            self.checks.same((process.returncode, WINE_MESSAGE.sub(b"", errors)), (0, b""),
+                             f"a file that is open for a short time ({mode})")
+            self.ended(self.run_theirs("-V", "-p", "a.pub", "-m", "data"), f"the signature after waiting ({mode})")
             before = self.get("data.minisig")
-            with self.holding("data.minisig", 60000, how):
+            with self.holding("data.minisig", 60000, mode):
                 self.ended(
                     self.run_exe("-S", "-s", "a.key", "-m", "data"),
-                    f"a file that is open ({how})",
+                    f"a file that is open ({mode})",
                     2,
                     "another program has this file open",
                 )
             self.checks.check(
                 self.get("data.minisig") == before and not self.leftovers(),
-                f"a failed replacement changes files ({how})",
+                f"a failed replacement changes files ({mode})",
             )
 
     def removes_leftovers(self):
         """A temporary file of a killed run is removed unless a program has it open. A file whose name is not that of a
         temporary file is kept."""
-        stale, locked, other = ".minisign-0123456789abcdef", ".minisign-00000000000000ff", ".minisign-0123456789abcdeX"
-        for name in (stale, locked, other):
+        stale, locked, similar = ".minisign-0123456789abcdef", ".minisign-00000000000000ff", ".minisign-0123456789abcdeX"
+        for name in (stale, locked, similar):
             self.put(name, b"stale")
         with self.holding(locked, 20000):
             self.ended(self.run_exe("-S", "-s", "a.key", "-m", "data"), "-S")
-            self.checks.same(sorted(self.leftovers()), sorted([locked, other]), "temporary files while one is open")
+            self.checks.same(sorted(self.leftovers()), sorted([locked, similar]), "temporary files while one is open")
         self.ended(self.run_exe("-S", "-s", "a.key", "-m", "data"), "-S again")
-        self.checks.same(self.leftovers(), [other], "temporary files after the next run")
+        self.checks.same(self.leftovers(), [similar], "temporary files after the next run")
 
     def keeps_read_only_files(self):
         self.ended(self.run_exe("-S", "-s", "a.key", "-m", "data"), "-S")
@@ -596,31 +587,32 @@ class Cases:
         console = self.console("-G", "-p", "t.pub", "-s", "t.key", "-k", "16")
         for prompt in (rb"Password: ", rb"Password \(one more time\): "):
             self.checks.check(console.wait_for(prompt), f"the console shows {console.screen_text[-300:]}, expected {prompt}")
-            time.sleep(0.3)
+            # On a busy machine, wine needs some time until it stops echoing.
+            time.sleep(2)
             console.type("gehe\u00efm\u65e5\r".encode())
         status = console.finish()
         self.checks.check(status == 0 and self.existing("t.key"), f"-G at a console: status {status}, {console.screen_text[-400:]}")
         self.checks.check(b"gehe" not in console.screen_text, f"the console shows the password: {console.screen_text}")
-        ran = self.run_theirs("-S", "-s", "t.key", "-m", "data", typed="gehe\u00efm\u65e5\n".encode())
-        self.ended(ran, "Minisign decrypts a key with the password in UTF-8")
+        result = self.run_theirs("-S", "-s", "t.key", "-m", "data", typed="gehe\u00efm\u65e5\n".encode())
+        self.ended(result, "Minisign decrypts a key with the password in UTF-8")
 
     def ends_on_ctrl_c(self):
         self.put("data.minisig", b"old")
-        for when, typed in (("at the prompt", b""), ("during the derivation", PASSWORD + b"\r")):
+        for phase, typed in (("at the prompt", b""), ("during the derivation", PASSWORD + b"\r")):
             # No password decrypts a key that is encrypted with None. Ctrl-C ends the program before it would notice.
             self.put("slow.key", text_of(seal_record(record_of(self.get("a.key")), None, Limits(1 << 30, 1 << 25))))
             console = self.console("-S", "-s", "slow.key", "-k", "256", "-m", "data")
-            self.checks.check(console.wait_for(rb"Password: "), f"{when}: the console shows {console.screen_text[-300:]}")
-            time.sleep(0.3)
+            self.checks.check(console.wait_for(rb"Password: "), f"{phase}: the console shows {console.screen_text[-300:]}")
+            time.sleep(2)
             if typed:
                 console.type(typed)
-                self.checks.check(console.wait_for(rb"Deriving"), f"{when}: the console shows {console.screen_text[-300:]}")
+                self.checks.check(console.wait_for(rb"Deriving"), f"{phase}: the console shows {console.screen_text[-300:]}")
                 time.sleep(0.3)
             console.type(b"\x03")
             status = console.finish(20)
-            self.checks.check(status not in (0, None), f"Ctrl-C {when}: status {status}, {console.screen_text[-300:]}")
+            self.checks.check(status not in (0, None), f"Ctrl-C {phase}: status {status}, {console.screen_text[-300:]}")
             self.checks.check(
-                b"done" not in console.screen_text, f"Ctrl-C {when}: the key was derived: {console.screen_text[-300:]}"
+                b"done" not in console.screen_text, f"Ctrl-C {phase}: the key was derived: {console.screen_text[-300:]}"
             )
         console = self.console("-G", "-p", "new.pub", "-s", "new.key")
         self.checks.check(console.wait_for(rb"Password: "), f"-G shows {console.screen_text[-300:]}")
@@ -631,15 +623,16 @@ class Cases:
 
     def reports_closed_streams(self):
         self.ended(self.run_theirs("-S", "-s", "a.key", "-m", "data"), "a signature by Minisign")
-        for what in (">&-", ">/dev/full", "-o -q >/dev/full"):
-            line = f'exec "$0" "$1" -V -p a.pub -m data {what}'
-            ran = run_program(["sh", "-c", line, self.wine.program, self.exe], self.scratch, None, SECONDS, env=self.wine.variables)
-            self.checks.same(ran.status, 2, f"the exit status with standard output {what}")
+        for redirection in (">&-", ">/dev/full", "-o -q >/dev/full"):
+            line = f'exec "$0" "$1" -V -p a.pub -m data {redirection}'
+            command = ["sh", "-c", line, self.wine.program, self.exe]
+            result = run_program(command, self.scratch, None, SECONDS, env=self.wine.variables)
+            self.checks.same(result.status, 2, f"the exit status with standard output {redirection}")
 
     def rejects_bad_passwords(self):
         """A password that is missing or too long is an error."""
-        ran = self.run_exe("-S", "-s", "closed.key", "-m", "data")
-        self.ended(ran, "no password", 2, "get_password()")
+        result = self.run_exe("-S", "-s", "closed.key", "-m", "data")
+        self.ended(result, "no password", 2, "get_password()")
         self.ended(
             self.run_exe("-S", "-s", "closed.key", "-m", "data", typed=b"x" * 1024 + b"\n"),
             "a long password",
@@ -672,17 +665,17 @@ class Cases:
         for name, data in files.items():
             self.put(os.path.join("files", name), data)
 
-        def check(what, lines, status, says="", options=(), names=(), output=None):
+        def check(description, lines, status, says="", options=(), names=(), output=None):
             """Signs a list with these lines, and checks these files with the program, or all files if there are no
             names."""
             self.put("SUMS", "".join(lines).encode())
-            self.ended(self.run_theirs("-S", "-s", "a.key", "-m", "SUMS"), f"{what}: the signature of the list")
+            self.ended(self.run_theirs("-S", "-s", "a.key", "-m", "SUMS"), f"{description}: the signature of the list")
             exe = os.path.join(os.path.dirname(self.exe), "minisign-check.exe")
             command = [self.wine.program, exe, "-p", "a.pub", "--in", "files", *options, "SUMS", *names]
-            ran = run_program(command, self.scratch, None, SECONDS, env=self.wine.variables)
-            self.ended(ran, f"minisign-check.exe, {what}", status, says)
+            result = run_program(command, self.scratch, None, SECONDS, env=self.wine.variables)
+            self.ended(result, f"minisign-check.exe, {description}", status, says)
             if output is not None:
-                self.checks.same(ran.stdout, output.encode(), f"minisign-check.exe, {what}: the output")
+                self.checks.same(result.stdout, output.encode(), f"minisign-check.exe, {description}: the output")
 
         line = lambda name, data: f"{hashlib.sha256(data).hexdigest()}  {name}\n"
         lines = [line(name, data) for name, data in files.items()]
@@ -698,7 +691,7 @@ class Cases:
         )
         check("an unlisted file", lines[:-1], 7, "empty: this file is not in the list", ["--nothing-else"])
         check("a missing file", [*lines, line("none", b"")], 6, "none: No such file or directory")
-        for name, why in (
+        for name, message in (
             ("C:/windows/system.ini", COLON),
             ("Z:/etc/passwd", COLON),
             ("f0:stream", COLON),
@@ -708,7 +701,7 @@ class Cases:
             ("f0 ", DROPPED),
             ("sub", "not a regular file"),
         ):
-            check(f"the name {name!r}", [line(name, b"")], 1, why)
+            check(f"the name {name!r}", [line(name, b"")], 1, message)
         check("a backslash", [line("sub\\deep\\x", b"below")], 6, "names with a backslash or with escapes are not supported")
         check("a parent directory", [line("../data", b"")], 3, "malformed")
         for link, target, status in (("link", "f1", 0), ("dangling", "absent", 6)):
@@ -719,10 +712,10 @@ class Cases:
         """The version resource and `minisign -v` must show the version in the header."""
         header = read(C, "..", "include", "minisign.h").decode()
         version = ".".join(re.search(rf"define MINISIGN_VERSION_{part} (\d+)", header)[1] for part in ("MAJOR", "MINOR", "PATCH"))
-        ran = run_program(
+        result = run_program(
             [self.wine.program, self.helper, "version", self.exe], self.scratch, None, SECONDS, env=self.wine.variables
         )
-        self.checks.same(ran.stdout.decode(), f"{version} {version} minisign.exe", "the version resource")
+        self.checks.same(result.stdout.decode(), f"{version} {version} minisign.exe", "the version resource")
         self.checks.same(self.run_exe("-v").stdout.decode(), f"minisign 0.11\nMinisign in Rattle {version}\n", "-v")
 
 
@@ -740,8 +733,8 @@ def run_case(programs, scratch, name):
     checks = Checks()
     try:
         getattr(Cases(programs, checks, scratch), name)()
-    except (OSError, ValueError, subprocess.SubprocessError) as why:
-        checks.check(False, f"{type(why).__name__}: {why}")
+    except (OSError, ValueError, subprocess.SubprocessError) as error:
+        checks.check(False, f"{type(error).__name__}: {error}")
     return checks
 
 
@@ -773,8 +766,8 @@ class Parts:
         listed = static_library.run_or_fail(["make", "-s", "-C", C, *settings(), f"OUT={self.built}", printing, "parts"])
         self.sources = [word for word in listed.split() if word.endswith(".c")]
         self.objects = {source: f"{self.copy}/{source.replace('/', '-')}.o" for source in self.sources}
-        for source, made in self.objects.items():
-            static_library.run_or_fail([*self.compile, "-c", "-o", made, source], f"{self.copy}/c")
+        for source, object_path in self.objects.items():
+            static_library.run_or_fail([*self.compile, "-c", "-o", object_path, source], f"{self.copy}/c")
 
     def mutant(self, mutant):
         """Builds a mutant of minisign.exe, and returns its path."""
@@ -817,10 +810,11 @@ def failure_of(programs, scratch, parts, mutant):
 
 def check_mutants(checks, pool, programs, scratch):
     """Checks that each mutant is noticed by the case that it names."""
-    tried = [mutant for mutant in mutants.mutants_of("c", "windows_mutants") if case_selection.is_selected(mutant.name, "mutants")]
-    if tried:
+    selected_mutants = [mutant for mutant in mutants.mutants_of("c", "windows_mutants")
+                        if case_selection.is_selected(mutant.name, "mutants")]
+    if selected_mutants:
         parts = Parts(scratch)
-        for failure in pool.map(lambda mutant: failure_of(programs, scratch, parts, mutant), tried):
+        for failure in pool.map(lambda mutant: failure_of(programs, scratch, parts, mutant), selected_mutants):
             checks.check(not failure, failure)
 
 
@@ -869,23 +863,24 @@ def check_program(checks, programs, _):
 def check_install(checks, programs, scratch):
     """Checks that `make install` installs the programs, libraries and headers, that a program can be built and run
     with the installed library, and that `make uninstall` removes everything."""
-    place, compiler = f"{scratch}/dest", settings()
-    static_library.run_make(*compiler, f"OUT={scratch}/windows", f"DESTDIR={place}", "PREFIX=/usr", "install")
-    found = {os.path.relpath(os.path.join(parent, name), f"{place}/usr") for parent, _, names in os.walk(place) for name in names}
-    checks.same({name for name in found if "/man/" not in name}, INSTALLED_FILES, "the installed files")
+    destination, compiler = f"{scratch}/dest", settings()
+    static_library.run_make(*compiler, f"OUT={scratch}/windows", f"DESTDIR={destination}", "PREFIX=/usr", "install")
+    installed = {os.path.relpath(os.path.join(parent, name), f"{destination}/usr")
+                 for parent, _, names in os.walk(destination) for name in names}
+    checks.same({name for name in installed if "/man/" not in name}, INSTALLED_FILES, "the installed files")
     example = f"{scratch}/over-dll/version.exe"
     os.mkdir(os.path.dirname(example))
     source = write(scratch, "version.c", b"#include <minisign.h>\n#include <stdio.h>\nint main(void) { char text[128]; "
                                       b"minisign_error_text(MINISIGN_WRONG_PASSWORD, text, sizeof text); puts(text); return 0; }\n")
-    command = [COMPILER, "-I", f"{place}/usr/include", "-o", example, source, f"{place}/usr/lib/libminisign.dll.a"]
+    command = [COMPILER, "-I", f"{destination}/usr/include", "-o", example, source, f"{destination}/usr/lib/libminisign.dll.a"]
     checks.ended("a program linked with the import library", run(command))
-    shutil.copy(f"{place}/usr/bin/minisign.dll", os.path.dirname(example))
+    shutil.copy(f"{destination}/usr/bin/minisign.dll", os.path.dirname(example))
     wine = programs[0]
-    ran = run_program([wine.program, example], scratch, None, SECONDS, env=wine.variables)
-    checks.check(ran.status == 0 and b"assword" in ran.stdout, f"a program that loads minisign.dll: {ran}")
-    static_library.run_make(*compiler, f"OUT={scratch}/windows", f"DESTDIR={place}", "PREFIX=/usr", "uninstall")
-    left = [name for _, _, names in os.walk(place) for name in names]
-    checks.check(not left, f"uninstall leaves {left}")
+    result = run_program([wine.program, example], scratch, None, SECONDS, env=wine.variables)
+    checks.check(result.status == 0 and b"assword" in result.stdout, f"a program that loads minisign.dll: {result}")
+    static_library.run_make(*compiler, f"OUT={scratch}/windows", f"DESTDIR={destination}", "PREFIX=/usr", "uninstall")
+    remaining = [name for _, _, installed in os.walk(destination) for name in installed]
+    checks.check(not remaining, f"uninstall leaves {remaining}")
 
 
 def check_release(checks, programs, scratch):
@@ -908,37 +903,37 @@ def check_release(checks, programs, scratch):
     )
     checks.ended("SHA256SUMS", run(["sha256sum", "-c", "SHA256SUMS"], out), says=f"{name}: OK")
     with zipfile.ZipFile(archives[0]) as archive:
-        top, entries = name.removesuffix(".zip"), archive.infolist()
+        directory, entries = name.removesuffix(".zip"), archive.infolist()
         names = [entry.filename for entry in entries]
-        checks.same(names, sorted(f"{top}/{file}" for file in FILES_IN_ZIP), "the files of the zip file, in order")
+        checks.same(names, sorted(f"{directory}/{file}" for file in FILES_IN_ZIP), "the files of the zip file, in order")
         release_time = int(static_library.run_or_fail(["sh", "packaging/time.sh"], os.path.join(C, "..")))
         # Times in zip files are multiples of two seconds, and zip rounds up.
         expected = time.gmtime(release_time + release_time % 2)[:6]
         checks.same({entry.date_time for entry in entries}, {expected}, "the times in the zip file")
         checks.check(not any(entry.extra for entry in entries), "the zip file has fields that depend on the system")
-        checks.check(archive.read(f"{top}/minisign.exe") == read(programs[1]), "another build of minisign.exe differs")
+        checks.check(archive.read(f"{directory}/minisign.exe") == read(programs[1]), "another build of minisign.exe differs")
         checks.check(
-            archive.read(f"{top}/minisign.dll") == read(scratch, "windows/minisign.dll"),
+            archive.read(f"{directory}/minisign.dll") == read(scratch, "windows/minisign.dll"),
             "another build of minisign.dll differs",
         )
         checks.check(
-            b"Permission to use, copy, modify" in archive.read(f"{top}/licences/libsodium.txt"),
+            b"Permission to use, copy, modify" in archive.read(f"{directory}/licences/libsodium.txt"),
             "libsodium's licence is missing",
         )
-    first = read(archives[0])
+    first_archive = read(archives[0])
     static_library.run_or_fail(["make", "-s", "-C", C, f"OUT={out}", *settings()[1:], "windows-archive"], TZ="Pacific/Auckland")
-    checks.check(read(out, f"windows/{name}") == first, "two zip files of the same commit differ")
+    checks.check(read(out, f"windows/{name}") == first_archive, "two zip files of the same commit differ")
 
 
 def check_one_layer(checks):
     """Checks that only shared/system.h and the sources in windows/ have code that depends on Windows."""
-    others = [
+    other_sources = [
         path
         for path in glob.glob(f"{C}/**/*.[ch]", recursive=True)
         if os.path.relpath(path, C).split(os.sep)[0] not in ("windows", "out")
     ]
-    checks.check(len(others) > 60, f"c/ has only these sources: {others}")
-    for path in sorted(others):
+    checks.check(len(other_sources) > 60, f"c/ has only these sources: {other_sources}")
+    for path in sorted(other_sources):
         code = re.sub(r"/\*.*?\*/", "", read(path).decode(), flags=re.S)
         checks.same(
             bool(re.search(r"_WIN(32|64)|__MINGW|__CYGWIN__|\bwindows\b", code)),
@@ -949,8 +944,8 @@ def check_one_layer(checks):
 
 def run_all(checks, scratch):
     built = build(scratch)
-    wine = Wine(scratch)
-    programs = (wine, *built, needs.minisign())
+    initialized_wine = InitializedWine(scratch)
+    programs = (initialized_wine, *built, needs.minisign())
     try:
         with concurrent.futures.ThreadPoolExecutor(os.cpu_count() or 1) as pool:
             selected_names = [name for name in CASES if case_selection.is_selected(name)]
@@ -963,7 +958,7 @@ def run_all(checks, scratch):
                     check(checks, programs, scratch)
             check_one_layer(checks)
     finally:
-        wine.end()
+        initialized_wine.end()
 
 
 if __name__ == "__main__":

@@ -14,12 +14,12 @@ SIGNATURE_HINT = "use -x SIG to name the signature of the list"
 DOWNLOAD_HINT = "download the list and its signature again"
 
 
-def misuse(name, arguments, argument, why):
+def misuse(name, arguments, argument, reason):
     """Returns a case: its name, the arguments, and the error output. `argument` is the one that the error names, or None."""
     return (
         f"rejects {name}",
         arguments,
-        errors((argument, why) if argument else (why,)) + USAGE + errors("use --help to list the options"),
+        errors((argument, reason) if argument else (reason,)) + USAGE + errors("use --help to list the options"),
     )
 
 
@@ -53,18 +53,18 @@ MISUSES = (
 )
 
 
-def rejects_usage(checking, arguments, said):
+def rejects_usage(runner, arguments, error_output):
     """Checks that a run with these arguments prints the error, the usage and a hint."""
-    directory = checking.signed(entries(a=A), {"a": A})
-    checking.expect(directory, arguments, MISUSED, b"", said)
+    directory = runner.directory_with_list(entries(a=A), {"a": A})
+    runner.expect(directory, arguments, MISUSED, b"", error_output)
 
 
-def prints_help(checking, option, begins):
-    ran = checking.run(checking.runs, [option])
-    expect(ran.status == OK and ran.stdout.startswith(begins) and not ran.stderr, ran)
+def prints_help(runner, option, expected_start):
+    result = runner.run(runner.runs_directory, [option])
+    expect(result.status == OK and result.stdout.startswith(expected_start) and not result.stderr, result)
     with open("/dev/full", "wb") as full:
-        ran = checking.run(checking.runs, [option], stdout=full)
-    expect(ran.status == UNUSABLE, ran)
+        result = runner.run(runner.runs_directory, [option], stdout=full)
+    expect(result.status == UNUSABLE, result)
 
 
 ACCEPTED_ARGUMENTS = (
@@ -80,74 +80,75 @@ ACCEPTED_ARGUMENTS = (
 )
 
 
-def accepts_arguments(checking, arguments):
-    directory = checking.signed(entries(a=A, b=B), {"a": A})
+def accepts_arguments(runner, arguments):
+    directory = runner.directory_with_list(entries(a=A, b=B), {"a": A})
     if "-x" in arguments:
         os.rename(f"{directory}/{LIST}.minisig", f"{directory}/moved.sig")
-    given = [checking.key if word == "KEY" else f"-P{checking.key}" if word == "-PKEY" else word for word in arguments]
-    checking.expect(directory, given, OK, b"a: OK\n", b"")
+    with_key = [runner.key if word == "KEY" else f"-P{runner.key}" if word == "-PKEY" else word for word in arguments]
+    runner.expect(directory, with_key, OK, b"a: OK\n", b"")
 
 
-def accepts_file_after_end_of_options(checking):
-    directory = checking.signed(entry("--listed", A), {"--listed": A})
-    checking.expect(directory, [*KEY, LIST, "--", "--listed"], OK, b"--listed: OK\n", b"")
+def accepts_file_after_end_of_options(runner):
+    directory = runner.directory_with_list(entry("--listed", A), {"--listed": A})
+    runner.expect(directory, [*KEY, LIST, "--", "--listed"], OK, b"--listed: OK\n", b"")
 
 
 # ---- Keys, signatures and lists that are rejected ----
 
 
-def rejects_files(checking, change, arguments, status, message):
+def rejects_files(runner, change, arguments, status, message):
     """Calls `change` for a directory with a signed list. Checks that a run then prints this error and no result."""
-    directory = checking.signed(entries(a=A), {"a": A})
+    directory = runner.directory_with_list(entries(a=A), {"a": A})
     if change:
-        change(checking, directory)
-    ran = checking.run(directory, arguments)
-    expect(ran.status == status and ran.stderr == message and not ran.stdout, ran, f"expected status {status} and {message}")
+        change(runner, directory)
+    result = runner.run(directory, arguments)
+    is_expected = result.status == status and result.stderr == message and not result.stdout
+    expect(is_expected, result, f"expected status {status} and {message}")
 
 
 # Each of the following functions returns a function that changes a directory with a signed list.
 
-def replaced(name, data):
-    return lambda checking, directory: write(directory, name, data)
+def replace_file(name, data):
+    return lambda runner, directory: write(directory, name, data)
 
 
-def removed(name):
-    return lambda checking, directory: os.remove(f"{directory}/{name}")
+def remove_file(name):
+    return lambda runner, directory: os.remove(f"{directory}/{name}")
 
 
-def resigned(**how):
-    return lambda checking, directory: checking.sign(directory, **how)
+def sign_again(**options):
+    return lambda runner, directory: runner.sign(directory, **options)
 
 
-def with_byte(name, at):
-    """Changes the byte at the offset `at` of a file."""
+def flip_bit_at(name, offset):
+    """Flips the lowest bit of the byte at `offset` in a file."""
 
     def change(_, directory):
         data = bytearray(read(directory, name))
-        data[at] ^= 1
+        data[offset] ^= 1
         write(directory, name, bytes(data))
 
     return change
 
 
-def changed_signature(line, at=20):
+def change_signature(line, offset=20):
     """Changes a byte on a line of the signature file."""
 
     def change(_, directory):
         lines = read(directory, f"{LIST}.minisig").split(b"\n")
-        letter = b"A" if lines[line][at:at + 1] != b"A" else b"B"
-        lines[line] = lines[line][:at] + letter + lines[line][at + 1:]
+        letter = b"A" if lines[line][offset:offset + 1] != b"A" else b"B"
+        lines[line] = lines[line][:offset] + letter + lines[line][offset + 1:]
         write(directory, f"{LIST}.minisig", b"\n".join(lines))
 
     return change
 
 
-def listing(text, **how):
+def replace_list(text, **options):
     """Replaces the list and signs the new one."""
 
-    def change(checking, directory):
+    def change(runner, directory):
         write(directory, LIST, text)
-        checking.sign(directory, **how)
+        runner.sign(directory, **options)
 
     return change
 
@@ -166,7 +167,7 @@ MALFORMED = (
     ("two leading ./", entry("././a", A), 1),
     ("a line of another function", entries(a=A) + b"MD5 (b) = " + b"0" * 32 + b"\n", 2),
     ("a short BLAKE2b digest", entries(a=A) + b"BLAKE2b-256 (b) = " + b"0" * 64 + b"\n", 2),
-    ("one space between digits and name", entries(a=A) + entry("b", B, between=b" "), 2),
+    ("one space between digits and name", entries(a=A) + entry("b", B, separator=b" "), 2),
     ("a control character in a name", entries(a=A) + entry("b\x1b", B), 2),
     ("a tab in a name", entries(a=A) + entry("b\tc", B), 2),
     ("a zero byte", entries(a=A) + entry("a\0b", A), 2),
@@ -176,63 +177,63 @@ MALFORMED = (
     ("a space before an entry", b" " + entries(a=A), 1),
 )
 FILES = (
-    ("a missing list", removed(LIST), PLAIN, UNUSABLE, errors((LIST, NO_SUCH_FILE))),
-    ("a missing signature", removed(SIG), PLAIN, UNUSABLE, errors((SIG, NO_SUCH_FILE), SIGNATURE_HINT)),
-    ("a missing key file", removed(PUBLIC_FILE), PLAIN, UNUSABLE, errors((PUBLIC_FILE, NO_SUCH_FILE), KEY_HINT)),
+    ("a missing list", remove_file(LIST), PLAIN, UNUSABLE, errors((LIST, NO_SUCH_FILE))),
+    ("a missing signature", remove_file(SIG), PLAIN, UNUSABLE, errors((SIG, NO_SUCH_FILE), SIGNATURE_HINT)),
+    ("a missing key file", remove_file(PUBLIC_FILE), PLAIN, UNUSABLE, errors((PUBLIC_FILE, NO_SUCH_FILE), KEY_HINT)),
     ("a directory as the list", None, [*KEY, "-x", SIG, ".", "a"], UNUSABLE, errors((".", "Is a directory"))),
     ("a missing directory", None, [*KEY, "--in", "none", LIST],
      UNUSABLE, shown_comment(comment_of()) + errors(("none", NO_SUCH_FILE))),
-    ("a changed list", with_byte(LIST, 0), PLAIN, REJECTED, errors((LIST, "Signature verification failed"), DOWNLOAD_HINT)),
+    ("a changed list", flip_bit_at(LIST, 0), PLAIN, REJECTED, errors((LIST, "Signature verification failed"), DOWNLOAD_HINT)),
     (
         "a list with a line added",
-        replaced(LIST, entries(a=A, b=B)),
+        replace_file(LIST, entries(a=A, b=B)),
         PLAIN,
         REJECTED,
         errors((LIST, "Signature verification failed"), DOWNLOAD_HINT),
     ),
     (
         "a changed trusted comment",
-        changed_signature(2),
+        change_signature(2),
         PLAIN,
         REJECTED,
         errors((SIG, "Comment signature verification failed"), DOWNLOAD_HINT),
     ),
-    ("a list of another signer", resigned(secret=OTHER_SECRET_FILE), PLAIN, REJECTED,
+    ("a list of another signer", sign_again(secret=OTHER_SECRET_FILE), PLAIN, REJECTED,
      errors((SIG, OTHER_KEY), "use -p or -P to give the public key of the signer")),
     (
         "a legacy signature",
-        resigned(flags=("-l",)),
+        sign_again(flags=("-l",)),
         PLAIN,
         REJECTED,
         errors((SIG, LEGACY), "have the list signed again, without -l"),
     ),
-    ("a comment without file:", resigned(comment="timestamp:1"), PLAIN, REJECTED, errors((SIG, OTHER_LIST), ANY_LIST)),
+    ("a comment without file:", sign_again(comment="timestamp:1"), PLAIN, REJECTED, errors((SIG, OTHER_LIST), ANY_LIST)),
     (
         "a comment with another list",
-        resigned(comment=comment_of("SHA256SUMS2")),
+        sign_again(comment=comment_of("SHA256SUMS2")),
         PLAIN,
         REJECTED,
         errors((SIG, OTHER_LIST), ANY_LIST),
     ),
     (
         "a comment with a part of the name",
-        resigned(comment=comment_of("SHA256SUM")),
+        sign_again(comment=comment_of("SHA256SUM")),
         PLAIN,
         REJECTED,
         errors((SIG, OTHER_LIST), ANY_LIST),
     ),
     (
         "a comment with the name in another field",
-        resigned(comment=f"name:{LIST}"),
+        sign_again(comment=f"name:{LIST}"),
         PLAIN,
         REJECTED,
         errors((SIG, OTHER_LIST), ANY_LIST),
     ),
-    ("a changed list with --any-list", with_byte(LIST, 0), [*PLAIN, "--any-list"], REJECTED,
+    ("a changed list with --any-list", flip_bit_at(LIST, 0), [*PLAIN, "--any-list"], REJECTED,
      errors((LIST, "Signature verification failed"), DOWNLOAD_HINT)),
     (
         "an unnamed list signed with another key with --any-list",
-        resigned(secret=OTHER_SECRET_FILE, comment="x"),
+        sign_again(secret=OTHER_SECRET_FILE, comment="x"),
         [*PLAIN, "--any-list"],
         REJECTED,
         errors((SIG, OTHER_KEY), "use -p or -P to give the public key of the signer"),
@@ -248,48 +249,48 @@ FILES = (
     ),
     ("a short key", None, ["-P", "RWQ", LIST], REJECTED,
      errors(("-P", "a public key has 56 characters, but this has 3"), "copy the second line of the public key file")),
-    ("a signature of more than 1 MiB", replaced(SIG, bytes(1 << 20) + b"x"), PLAIN, REJECTED,
+    ("a signature of more than 1 MiB", replace_file(SIG, bytes(1 << 20) + b"x"), PLAIN, REJECTED,
      errors((SIG, "this file is larger than 1 MiB"), SIGNATURE_HINT)),
-    ("a key file of more than 1 MiB", replaced(PUBLIC_FILE, bytes(1 << 20) + b"x"), PLAIN, REJECTED,
+    ("a key file of more than 1 MiB", replace_file(PUBLIC_FILE, bytes(1 << 20) + b"x"), PLAIN, REJECTED,
      errors((PUBLIC_FILE, "this file is larger than 1 MiB"), KEY_HINT)),
-    *((f"a list with {what}", listing(text), arguments, REJECTED,
+    *((f"a list with {description}", replace_list(text), arguments, REJECTED,
        shown_comment(comment_of()) + errors((LIST, f"line {line} is malformed"), LINE_HINT))
-      for what, text, line in MALFORMED for arguments in (PLAIN, ALL)),
-    *((f"a list {what}", listing(text), arguments, REJECTED, shown_comment(comment_of()) + errors((LIST, why)))
-      for what, text, why in (("that is not UTF-8", entries(a=A) + b"\xff\n", "this list is not UTF-8"),
-                              ("without entries", b"# nothing\n\n", "this list has no entries"),
-                              ("that is empty", b"", "this list has no entries")) for arguments in (PLAIN, ALL)),
+      for description, text, line in MALFORMED for arguments in (PLAIN, ALL)),
+    *((f"a list {description}", replace_list(text), arguments, REJECTED, shown_comment(comment_of()) + errors((LIST, reason)))
+      for description, text, reason in (("that is not UTF-8", entries(a=A) + b"\xff\n", "this list is not UTF-8"),
+                                        ("without entries", b"# nothing\n\n", "this list has no entries"),
+                                        ("that is empty", b"", "this list has no entries")) for arguments in (PLAIN, ALL)),
 )
 
 
-def accepts_any_list(checking):
+def accepts_any_list(runner):
     """Checks that --any-list accepts a list which the trusted comment does not name, with a warning, and a list which
     it names, without."""
     warning = f"warning: {LIST}: the trusted comment does not name this list\n".encode()
-    for comment, said in (("timestamp:1", warning), (comment_of(), b"")):
-        directory = checking.signed(entries(a=A), {"a": A}, comment=comment)
-        ran = checking.run(directory, [*PLAIN, "--any-list"])
-        expect((ran.status, ran.stdout, ran.stderr) == (OK, b"a: OK\n", said + shown_comment(comment)), ran)
+    for comment, expected_warning in (("timestamp:1", warning), (comment_of(), b"")):
+        directory = runner.directory_with_list(entries(a=A), {"a": A}, comment=comment)
+        result = runner.run(directory, [*PLAIN, "--any-list"])
+        expect((result.status, result.stdout, result.stderr) == (OK, b"a: OK\n", expected_warning + shown_comment(comment)), result)
 
 
-def escapes_trusted_comment(checking):
-    directory = checking.signed(entries(a=A), {"a": A}, comment=f"file:{LIST}\t\x1b[31mred")
-    ran = checking.run(directory, PLAIN)
-    expect(ran.status == OK and ran.stderr == shown_comment(f"file:{LIST}\t\\u{{1b}}[31mred"), ran)
+def escapes_trusted_comment(runner):
+    directory = runner.directory_with_list(entries(a=A), {"a": A}, comment=f"file:{LIST}\t\x1b[31mred")
+    result = runner.run(directory, PLAIN)
+    expect(result.status == OK and result.stderr == shown_comment(f"file:{LIST}\t\\u{{1b}}[31mred"), result)
 
 
-def command_line_cases(checking):
+def command_line_cases(runner):
     """Yields the names of the cases, with their functions and arguments."""
-    for name, *given in MISUSES:
-        yield name, rejects_usage, checking, *given
-    yield "prints the help for --help", prints_help, checking, "--help", USAGE
-    yield "prints the help for -h", prints_help, checking, "-h", USAGE
-    yield "prints the version", prints_help, checking, "--version", b"minisign-check 0."
+    for name, *arguments in MISUSES:
+        yield name, rejects_usage, runner, *arguments
+    yield "prints the help for --help", prints_help, runner, "--help", USAGE
+    yield "prints the help for -h", prints_help, runner, "-h", USAGE
+    yield "prints the version", prints_help, runner, "--version", b"minisign-check 0."
     for name, arguments in ACCEPTED_ARGUMENTS:
-        yield f"accepts {name}", accepts_arguments, checking, arguments
-    yield "accepts a file that begins with a dash after --", accepts_file_after_end_of_options, checking
-    for name, change, arguments, status, said in FILES:
-        shown = f"{name}, of one file" if arguments is PLAIN and name.startswith("a list ") else name
-        yield f"rejects {shown}", rejects_files, checking, change, arguments, status, said
-    yield "accepts a list of another name with --any-list, and warns", accepts_any_list, checking
-    yield "escapes control characters of the trusted comment", escapes_trusted_comment, checking
+        yield f"accepts {name}", accepts_arguments, runner, arguments
+    yield "accepts a file that begins with a dash after --", accepts_file_after_end_of_options, runner
+    for name, change, arguments, status, message in FILES:
+        title = f"{name}, of one file" if arguments is PLAIN and name.startswith("a list ") else name
+        yield f"rejects {title}", rejects_files, runner, change, arguments, status, message
+    yield "accepts a list of another name with --any-list, and warns", accepts_any_list, runner
+    yield "escapes control characters of the trusted comment", escapes_trusted_comment, runner

@@ -33,14 +33,14 @@ from check_command_lines import command_line_cases
 from check_compared import compared_cases
 from check_faults import fault_cases
 from check_results import result_cases
-from check_running import NAME, Checking
+from check_running import NAME, CheckRunner
 from running import run_cases
 
 
-def cases_of(checking):
+def cases_of(runner):
     """Yields the names of all cases, with their functions and arguments."""
     for cases in (command_line_cases, result_cases, fault_cases, compared_cases):
-        yield from cases(checking)
+        yield from cases(runner)
 
 
 def run_all(scratch):
@@ -50,9 +50,9 @@ def run_all(scratch):
     if not case_selection.file_argument():
         needs.compiler_with_libsodium()
         static_library.run_make(f"OUT={scratch}/out", program)
-    checking = Checking(program, tempfile.mkdtemp(dir=scratch))
-    with checking.directories:
-        return run_cases(cases_of(checking))
+    runner = CheckRunner(program, tempfile.mkdtemp(dir=scratch))
+    with runner.directories:
+        return run_cases(cases_of(runner))
 
 
 if __name__ == "__main__":

@@ -17,11 +17,11 @@ SHA512, BLAKE2B = hashlib.sha512, hashlib.blake2b
 NOT_UTF8 = "this name is not UTF-8, so no list can contain it"
 
 
-def naming(*names):
+def arguments_for(*names):
     return [*KEY, LIST, *names]
 
 
-def tagged(label, name, data, function):
+def tagged_entry(label, name, data, function):
     return f"{label} ({name}) = {function(data).hexdigest()}\n".encode()
 
 
@@ -29,11 +29,11 @@ def lines(*results):
     return "".join(f"{result}\n" for result in results).encode()
 
 
-# The name of a case, the list, the files (see `Checking.put`), the arguments, and the expected exit status, standard
+# The name of a case, the list, the files (see `CheckRunner.put_files`), the arguments, and the expected exit status, standard
 # output and standard error. The argument KEY stands for the public key.
 RESULTS = (
-    ("one file", LIST_OF_BOTH, FILES, naming("a"), OK, lines("a: OK"), b""),
-    ("the given files in the order of the list", entries(c=C, a=A, b=B), {**FILES, "c": C}, naming("b", "a", "c"), OK,
+    ("one file", LIST_OF_BOTH, FILES, arguments_for("a"), OK, lines("a: OK"), b""),
+    ("the given files in the order of the list", entries(c=C, a=A, b=B), {**FILES, "c": C}, arguments_for("b", "a", "c"), OK,
      lines("c: OK", "a: OK", "b: OK"), b""),
     (
         "all files in the order of the list",
@@ -58,7 +58,7 @@ RESULTS = (
         "a truncated file",
         LIST_OF_BOTH,
         {"a": A[:-1], "b": B},
-        naming("a"),
+        arguments_for("a"),
         DIFFERS,
         lines("a: FAILED"),
         errors(("a", MISMATCH), DOWNLOAD),
@@ -67,7 +67,7 @@ RESULTS = (
         "a file that is longer",
         LIST_OF_BOTH,
         {"a": A + b"\n", "b": B},
-        naming("a"),
+        arguments_for("a"),
         DIFFERS,
         lines("a: FAILED"),
         errors(("a", MISMATCH), DOWNLOAD),
@@ -83,7 +83,7 @@ RESULTS = (
         lines("a: OK", "b: FAILED"),
         errors(("b", NO_SUCH_FILE), USE_LISTED),
     ),
-    ("a missing file that is given", LIST_OF_BOTH, {"a": A}, naming("b", "a"), MISSING, lines("a: OK", "b: FAILED"),
+    ("a missing file that is given", LIST_OF_BOTH, {"a": A}, arguments_for("b", "a"), MISSING, lines("a: OK", "b: FAILED"),
      errors(("b", NO_SUCH_FILE), USE_LISTED)),
     ("a missing directory", entries(a=A) + entry("d/b", B), {"a": A}, WITHOUT_NAMES, MISSING, lines("a: OK", "d/b: FAILED"),
      errors(("d/b", NO_SUCH_FILE), USE_LISTED)),
@@ -105,36 +105,38 @@ RESULTS = (
         lines("a: OK", f"{'x' * 300}: FAILED"),
         errors(("x" * 300, "File name too long"), USE_LISTED),
     ),
-    ("a name that is not listed", LIST_OF_BOTH, {**FILES, "c": C}, naming("c", "a"), UNLISTED_NAME, lines("a: OK", "c: FAILED"),
-     errors(("c", NAME_NOT_LISTED), GIVE_NAMES)),
+    ("a name that is not listed", LIST_OF_BOTH, {**FILES, "c": C}, arguments_for("c", "a"), UNLISTED_NAME,
+     lines("a: OK", "c: FAILED"), errors(("c", NAME_NOT_LISTED), GIVE_NAMES)),
     (
         "names that are not listed, in their order",
         LIST_OF_BOTH,
         FILES,
-        naming("z", "y", "b", "x"),
+        arguments_for("z", "y", "b", "x"),
         UNLISTED_NAME,
         lines("b: OK", "z: FAILED", "y: FAILED", "x: FAILED"),
         errors(("z", NAME_NOT_LISTED), ("y", NAME_NOT_LISTED), ("x", NAME_NOT_LISTED), GIVE_NAMES),
     ),
-    ("a name that differs in case", LIST_OF_BOTH, {**FILES, "A": A}, naming("A"), UNLISTED_NAME, lines("A: FAILED"),
+    ("a name that differs in case", LIST_OF_BOTH, {**FILES, "A": A}, arguments_for("A"), UNLISTED_NAME, lines("A: FAILED"),
      errors(("A", NAME_NOT_LISTED), GIVE_NAMES)),
-    *((f"the name {name}, which no list can contain", LIST_OF_BOTH, FILES, naming(name), UNLISTED_NAME, lines(f"{name}: FAILED"),
-       errors((name, BAD_NAME), GIVE_NAMES)) for name in ("../a", "/a", "d/../a", ".", "..", "a/", "././a", "a\\b")),
-    ("an empty name", LIST_OF_BOTH, FILES, naming(""), UNLISTED_NAME, lines(": FAILED"), errors(("", BAD_NAME), GIVE_NAMES)),
-    ("a name that is not UTF-8", LIST_OF_BOTH, FILES, naming(b"a\xff"), UNLISTED_NAME, lines("a\\xff: FAILED"),
+    *((f"the name {name}, which no list can contain", LIST_OF_BOTH, FILES, arguments_for(name), UNLISTED_NAME,
+       lines(f"{name}: FAILED"), errors((name, BAD_NAME), GIVE_NAMES))
+      for name in ("../a", "/a", "d/../a", ".", "..", "a/", "././a", "a\\b")),
+    ("an empty name", LIST_OF_BOTH, FILES, arguments_for(""), UNLISTED_NAME, lines(": FAILED"), errors(("", BAD_NAME), GIVE_NAMES)),
+    ("a name that is not UTF-8", LIST_OF_BOTH, FILES, arguments_for(b"a\xff"), UNLISTED_NAME, lines("a\\xff: FAILED"),
      errors(("a\\xff", NOT_UTF8), GIVE_NAMES)),
-    ("a name with a control character", LIST_OF_BOTH, FILES, naming("a\x1b[1m"), UNLISTED_NAME, lines("a\\u{1b}[1m: FAILED"),
+    ("a name with a control character", LIST_OF_BOTH, FILES, arguments_for("a\x1b[1m"), UNLISTED_NAME, lines("a\\u{1b}[1m: FAILED"),
      errors(("a\\u{1b}[1m", BAD_NAME), GIVE_NAMES)),
-    ("a name that is listed twice", LIST_OF_BOTH + entries(a=A), FILES, naming("a"), UNLISTED_NAME, lines("a: FAILED"),
+    ("a name that is listed twice", LIST_OF_BOTH + entries(a=A), FILES, arguments_for("a"), UNLISTED_NAME, lines("a: FAILED"),
      errors(("a", TWICE), LIST_ONCE)),
-    ("another name beside one that is listed twice", LIST_OF_BOTH + entries(a=A), FILES, naming("b"), OK, lines("b: OK"), b""),
+    ("another name beside one that is listed twice", LIST_OF_BOTH + entries(a=A), FILES, arguments_for("b"), OK,
+     lines("b: OK"), b""),
     ("all files with one that is listed twice", LIST_OF_BOTH + entries(a=A), FILES, WITHOUT_NAMES, UNLISTED_NAME,
      lines("a: FAILED", "b: OK", "a: FAILED"), errors(("a", TWICE), ("a", TWICE), LIST_ONCE)),
     ("a name that is listed twice with different digests", LIST_OF_BOTH + entries(a=B), FILES, WITHOUT_NAMES, UNLISTED_NAME,
      lines("a: FAILED", "b: OK", "a: FAILED"), errors(("a", TWICE), ("a", TWICE), LIST_ONCE)),
     (
         "a name that is listed twice with different functions",
-        entries(a=A) + tagged("SHA512", "a", A, SHA512),
+        entries(a=A) + tagged_entry("SHA512", "a", A, SHA512),
         FILES,
         WITHOUT_NAMES,
         UNLISTED_NAME,
@@ -145,19 +147,19 @@ RESULTS = (
         "a name that is listed twice, once with ./",
         entries(a=A) + entry("./a", A),
         FILES,
-        naming("a"),
+        arguments_for("a"),
         UNLISTED_NAME,
         lines("a: FAILED"),
         errors(("a", TWICE), LIST_ONCE),
     ),
     # If several apply, the exit status is the first of DIFFERS, UNLISTED_NAME, MISSING, HAS_UNLISTED and UNUSABLE.
-    ("content that differs before a name that is not listed", LIST_OF_BOTH, {"a": B}, naming("c", "b", "a"), DIFFERS,
+    ("content that differs before a name that is not listed", LIST_OF_BOTH, {"a": B}, arguments_for("c", "b", "a"), DIFFERS,
      lines("a: FAILED", "b: FAILED", "c: FAILED"), errors(("a", MISMATCH), ("b", NO_SUCH_FILE), ("c", NAME_NOT_LISTED), DOWNLOAD)),
     (
         "a name that is not listed before a missing file",
         LIST_OF_BOTH,
         {"a": A},
-        naming("c", "b"),
+        arguments_for("c", "b"),
         UNLISTED_NAME,
         lines("b: FAILED", "c: FAILED"),
         errors(("b", NO_SUCH_FILE), ("c", NAME_NOT_LISTED), GIVE_NAMES),
@@ -250,7 +252,7 @@ RESULTS = (
         "--nothing-else with one file",
         LIST_OF_BOTH,
         {**FILES, "c": C},
-        [*naming("a"), "--nothing-else"],
+        [*arguments_for("a"), "--nothing-else"],
         HAS_UNLISTED,
         lines("a: OK"),
         errors(("c", FILE_NOT_LISTED), (PUBLIC_FILE, FILE_NOT_LISTED), REMOVE),
@@ -293,10 +295,10 @@ RESULTS = (
         lines("-: FAILED"),
         errors(("-", NO_SUCH_FILE), USE_LISTED),
     ),
-    ("the argument -", entry("-", A), {"-": A}, naming("-"), OK, lines("-: OK"), b""),
-    ("names with spaces and parentheses", entry("a b", A) + tagged("SHA256", "c) = (d", B, hashlib.sha256) + entry(" #e", C),
+    ("the argument -", entry("-", A), {"-": A}, arguments_for("-"), OK, lines("-: OK"), b""),
+    ("names with spaces and parentheses", entry("a b", A) + tagged_entry("SHA256", "c) = (d", B, hashlib.sha256) + entry(" #e", C),
      {"a b": A, "c) = (d": B, " #e": C}, WITHOUT_NAMES, OK, lines("a b: OK", "c) = (d: OK", " #e: OK"), b""),
-    ("a name in UTF-8", entry("é€🔑", A), {"é€🔑": A}, naming("é€🔑"), OK, lines("é€🔑: OK"), b""),
+    ("a name in UTF-8", entry("é€🔑", A), {"é€🔑": A}, arguments_for("é€🔑"), OK, lines("é€🔑: OK"), b""),
     (
         "a name that changes the direction of text",
         entry("a\u202eb", A),
@@ -306,10 +308,10 @@ RESULTS = (
         lines("a\\u{202e}b: OK"),
         b"",
     ),
-    ("a name with ./ in the list", entry("./a", A), {"a": A}, naming("a"), OK, lines("a: OK"), b""),
+    ("a name with ./ in the list", entry("./a", A), {"a": A}, arguments_for("a"), OK, lines("a: OK"), b""),
     ("all files of a list with ./", entry("./a", A), {"a": A}, WITHOUT_NAMES, OK, lines("a: OK"), b""),
-    ("a given name with ./", LIST_OF_BOTH, FILES, naming("./a"), OK, lines("./a: OK"), b""),
-    ("a file in a directory", entry("d/e/f", A), {"d/e/f": A}, naming("d/e/f"), OK, lines("d/e/f: OK"), b""),
+    ("a given name with ./", LIST_OF_BOTH, FILES, arguments_for("./a"), OK, lines("./a: OK"), b""),
+    ("a file in a directory", entry("d/e/f", A), {"d/e/f": A}, arguments_for("d/e/f"), OK, lines("d/e/f: OK"), b""),
     ("a name with escapes", b"\\" + entry("x\\ny", A) + LIST_OF_BOTH, {**FILES, "x\ny": A, "x\\ny": A}, WITHOUT_NAMES, MISSING,
      lines("x\\ny: FAILED", "a: OK", "b: OK"), errors(("x\\ny", ESCAPED), USE_LISTED)),
     ("a name with a backslash but without escapes", entry("x\\y", A) + LIST_OF_BOTH, {**FILES, "x\\y": A}, WITHOUT_NAMES, MISSING,
@@ -367,8 +369,8 @@ RESULTS = (
     ),
     # Hash functions
     ("SHA-512", entry("a", A, SHA512), FILES, WITHOUT_NAMES, OK, lines("a: OK"), b""),
-    ("SHA-512 with a tag", tagged("SHA512", "a", A, SHA512), FILES, WITHOUT_NAMES, OK, lines("a: OK"), b""),
-    ("BLAKE2b with a tag", tagged("BLAKE2b", "a", A, BLAKE2B), FILES, WITHOUT_NAMES, OK, lines("a: OK"), b""),
+    ("SHA-512 with a tag", tagged_entry("SHA512", "a", A, SHA512), FILES, WITHOUT_NAMES, OK, lines("a: OK"), b""),
+    ("BLAKE2b with a tag", tagged_entry("BLAKE2b", "a", A, BLAKE2B), FILES, WITHOUT_NAMES, OK, lines("a: OK"), b""),
     ("BLAKE2b with --blake2b", entry("a", A, BLAKE2B), FILES, [*WITHOUT_NAMES, "--blake2b"], OK, lines("a: OK"), b""),
     (
         "BLAKE2b without --blake2b",
@@ -383,7 +385,7 @@ RESULTS = (
      errors(("a", MISMATCH), DOWNLOAD)),
     (
         "tags with --blake2b",
-        tagged("SHA512", "a", A, SHA512) + entry("b", B),
+        tagged_entry("SHA512", "a", A, SHA512) + entry("b", B),
         FILES,
         [*WITHOUT_NAMES, "--blake2b"],
         OK,
@@ -392,7 +394,7 @@ RESULTS = (
     ),
     (
         "upper-case digits, stars, comments, empty lines and CR LF",
-        b"# all\r\n\r\n" + entry("a", A).split()[0].upper() + b" *a\r\n" + entry("b", B, between=b" *")[:-1] + b"\r\n",
+        b"# all\r\n\r\n" + entry("a", A).split()[0].upper() + b" *a\r\n" + entry("b", B, separator=b" *")[:-1] + b"\r\n",
         FILES,
         WITHOUT_NAMES,
         OK,
@@ -401,24 +403,24 @@ RESULTS = (
     ),
     ("a last line without a line end", LIST_OF_BOTH[:-1], FILES, WITHOUT_NAMES, OK, lines("a: OK", "b: OK"), b""),
     # -o
-    ("-o", LIST_OF_BOTH, FILES, [*naming("b"), "-o"], OK, B, b"b: OK\n"),
-    ("-o of an empty file", entries(a=b""), {"a": b""}, [*naming("a"), "-o"], OK, b"", b"a: OK\n"),
+    ("-o", LIST_OF_BOTH, FILES, [*arguments_for("b"), "-o"], OK, B, b"b: OK\n"),
+    ("-o of an empty file", entries(a=b""), {"a": b""}, [*arguments_for("a"), "-o"], OK, b"", b"a: OK\n"),
     (
         "-o of other content",
         LIST_OF_BOTH,
         {"a": B},
-        [*naming("a"), "-o"],
+        [*arguments_for("a"), "-o"],
         DIFFERS,
         b"",
         b"a: FAILED\n" + errors(("a", MISMATCH), DOWNLOAD),
     ),
-    ("-o of a name that is not listed", LIST_OF_BOTH, {"c": C}, [*naming("c"), "-o"], UNLISTED_NAME, b"",
+    ("-o of a name that is not listed", LIST_OF_BOTH, {"c": C}, [*arguments_for("c"), "-o"], UNLISTED_NAME, b"",
      b"c: FAILED\n" + errors(("c", NAME_NOT_LISTED), GIVE_NAMES)),
     (
         "-o of a missing file",
         LIST_OF_BOTH,
         {},
-        [*naming("a"), "-o"],
+        [*arguments_for("a"), "-o"],
         MISSING,
         b"",
         b"a: FAILED\n" + errors(("a", NO_SUCH_FILE), USE_LISTED),
@@ -427,7 +429,7 @@ RESULTS = (
         "-o of a named pipe",
         LIST_OF_BOTH,
         {"a": PIPE},
-        [*naming("a"), "-o"],
+        [*arguments_for("a"), "-o"],
         UNUSABLE,
         b"",
         b"a: FAILED\n" + errors(("a", NOT_REGULAR)),
@@ -436,7 +438,7 @@ RESULTS = (
         "-o with --nothing-else and another file",
         LIST_OF_BOTH,
         {**FILES, "c": C},
-        [*naming("a"), "-o", "--nothing-else"],
+        [*arguments_for("a"), "-o", "--nothing-else"],
         HAS_UNLISTED,
         b"",
         b"a: OK\n" + errors(("c", FILE_NOT_LISTED), (PUBLIC_FILE, FILE_NOT_LISTED), REMOVE),
@@ -444,11 +446,11 @@ RESULTS = (
 )
 
 
-def gives_result(checking, text, files, arguments, status, output, stderr):
-    directory = checking.signed(text, files)
-    checking.expect(
+def gives_result(runner, text, files, arguments, status, output, stderr):
+    directory = runner.directory_with_list(text, files)
+    runner.expect(
         directory,
-        [checking.key if word == "KEY" else word for word in arguments],
+        [runner.key if word == "KEY" else word for word in arguments],
         status,
         output,
         stderr,
@@ -456,20 +458,20 @@ def gives_result(checking, text, files, arguments, status, output, stderr):
     )
 
 
-def looks_in_directory(checking):
+def looks_in_directory(runner):
     """--in names the directory of the files. The list, its signature and the key are relative to the current directory."""
-    directory = checking.signed(LIST_OF_BOTH, {"d/a": A, "d/b": B, "d/sub/c": C, "a": C})
-    checking.expect(directory, ["--in", "d", *WITHOUT_NAMES], OK, lines("a: OK", "b: OK"), b"")
-    checking.expect(directory, ["--in", "d", "--nothing-else", *WITHOUT_NAMES], OK, lines("a: OK", "b: OK"), b"")
-    checking.expect(
+    directory = runner.directory_with_list(LIST_OF_BOTH, {"d/a": A, "d/b": B, "d/sub/c": C, "a": C})
+    runner.expect(directory, ["--in", "d", *WITHOUT_NAMES], OK, lines("a: OK", "b: OK"), b"")
+    runner.expect(directory, ["--in", "d", "--nothing-else", *WITHOUT_NAMES], OK, lines("a: OK", "b: OK"), b"")
+    runner.expect(
         f"{directory}/d/sub",
         ["--in", "..", "-p", f"../../{PUBLIC_FILE}", f"../../{LIST}", "a"],
         OK,
         lines("a: OK"),
         b"",
     )
-    checking.put(directory, {"d/c": C})
-    checking.expect(
+    runner.put_files(directory, {"d/c": C})
+    runner.expect(
         directory,
         ["--in", "d", "--nothing-else", *WITHOUT_NAMES],
         HAS_UNLISTED,
@@ -478,23 +480,24 @@ def looks_in_directory(checking):
     )
 
 
-def finds_nothing_else(checking):
-    """--nothing-else counts neither the list nor its signature, by whatever names they were given, nor directories, named pipes and
-    dangling links. A file of the list counts as listed even if it was not given."""
-    directory = checking.signed(LIST_OF_BOTH, {**FILES, "d/c": C, "pipe": PIPE, "dangling": Link("none"), "to_d": Link("d")})
+def finds_nothing_else(runner):
+    """--nothing-else does not report the list and its signature, by whatever names they were given, nor directories, named pipes
+    and dangling links. It does not report a file in the list either, even if the file was not given as an argument."""
+    files = {**FILES, "d/c": C, "pipe": PIPE, "dangling": Link("none"), "to_d": Link("d")}
+    directory = runner.directory_with_list(LIST_OF_BOTH, files)
     os.remove(f"{directory}/{PUBLIC_FILE}")
-    key = ["-P", checking.key, "--nothing-else"]
-    checking.expect(directory, [*key, LIST], OK, lines("a: OK", "b: OK"), b"")
-    checking.expect(directory, [*key, LIST, "b"], OK, lines("b: OK"), b"")
-    checking.expect(f"{directory}/d", [*key, "--in", "..", f"../{LIST}"], OK, lines("a: OK", "b: OK"), b"")
+    key = ["-P", runner.key, "--nothing-else"]
+    runner.expect(directory, [*key, LIST], OK, lines("a: OK", "b: OK"), b"")
+    runner.expect(directory, [*key, LIST, "b"], OK, lines("b: OK"), b"")
+    runner.expect(f"{directory}/d", [*key, "--in", "..", f"../{LIST}"], OK, lines("a: OK", "b: OK"), b"")
     os.rename(f"{directory}/{LIST}.minisig", f"{directory}/other.sig")
-    checking.expect(directory, [*key, "-x", "other.sig", LIST], OK, lines("a: OK", "b: OK"), b"")
-    checking.put(directory, {f"{LIST}.minisig": b"another file"})
-    checking.expect(directory, [*key, "-x", "other.sig", LIST], HAS_UNLISTED, lines("a: OK", "b: OK"),
+    runner.expect(directory, [*key, "-x", "other.sig", LIST], OK, lines("a: OK", "b: OK"), b"")
+    runner.put_files(directory, {f"{LIST}.minisig": b"another file"})
+    runner.expect(directory, [*key, "-x", "other.sig", LIST], HAS_UNLISTED, lines("a: OK", "b: OK"),
                     errors((f"{LIST}.minisig", FILE_NOT_LISTED), REMOVE))
 
 
-def checks_many_files(checking):
+def checks_many_files(runner):
     """A hundred files of different sizes are checked in several threads; the results are in the list's order."""
     data = {f"f{number:03}": os.urandom(number * 1777 if number % 10 else 3_000_000) for number in range(100)}
     text = b"".join(
@@ -503,33 +506,33 @@ def checks_many_files(checking):
     )
     changed = {**data, "f050": data["f050"][:-1] + bytes([data["f050"][-1] ^ 1])}
     results = [f"{name}: {'FAILED' if name == 'f050' else 'OK'}" for name in reversed(data)]
-    directory = checking.signed(text, changed)
-    for arguments in (WITHOUT_NAMES, naming(*sorted(data))):
-        checking.expect(directory, arguments, DIFFERS, lines(*results), errors(("f050", MISMATCH), DOWNLOAD))
+    directory = runner.directory_with_list(text, changed)
+    for arguments in (WITHOUT_NAMES, arguments_for(*sorted(data))):
+        runner.expect(directory, arguments, DIFFERS, lines(*results), errors(("f050", MISMATCH), DOWNLOAD))
 
 
-def checks_a_large_list(checking):
+def checks_a_large_list(runner):
     """A list of 100,000 entries is read in linear time."""
     text = b"".join(entry(f"name-{number}", b"") for number in range(100_000)) + entries(a=A)
-    directory = checking.signed(text, {"a": A})
-    for arguments in (EXISTING_FILES, naming("a")):
-        checking.expect(directory, arguments, OK, lines("a: OK"), b"", seconds=60)
+    directory = runner.directory_with_list(text, {"a": A})
+    for arguments in (EXISTING_FILES, arguments_for("a")):
+        runner.expect(directory, arguments, OK, lines("a: OK"), b"", seconds=60)
 
 
-def checks_list_of_any_name(checking):
+def checks_list_of_any_name(runner):
     """The list may have any name, if its trusted comment contains that name."""
-    directory = checking.fresh({"my list\u00e9": LIST_OF_BOTH, PUBLIC_FILE: checking.public_text, **FILES})
-    checking.sign(directory, "my list\u00e9")
-    ran = checking.run(directory, [*KEY, "my list\u00e9"])
-    expect(ran.status == OK and ran.stdout == lines("a: OK", "b: OK"), ran)
+    directory = runner.new_directory({"my list\u00e9": LIST_OF_BOTH, PUBLIC_FILE: runner.public_text, **FILES})
+    runner.sign(directory, "my list\u00e9")
+    result = runner.run(directory, [*KEY, "my list\u00e9"])
+    expect(result.status == OK and result.stdout == lines("a: OK", "b: OK"), result)
 
 
-def result_cases(checking):
+def result_cases(runner):
     """Yields the names of the cases, with their functions and arguments."""
     for name, *rest in RESULTS:
-        yield f"has the right result for {name}", gives_result, checking, *rest
-    yield "looks for the files in the directory of --in", looks_in_directory, checking
-    yield "--nothing-else ignores the list, its signature, and anything that is not a regular file", finds_nothing_else, checking
-    yield "checks many files in several threads", checks_many_files, checking
-    yield "checks a file of a large list", checks_a_large_list, checking
-    yield "checks a list of any name", checks_list_of_any_name, checking
+        yield f"has the right result for {name}", gives_result, runner, *rest
+    yield "looks for the files in the directory of --in", looks_in_directory, runner
+    yield "--nothing-else ignores the list, its signature, and anything that is not a regular file", finds_nothing_else, runner
+    yield "checks many files in several threads", checks_many_files, runner
+    yield "checks a file of a large list", checks_a_large_list, runner
+    yield "checks a list of any name", checks_list_of_any_name, runner

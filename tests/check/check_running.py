@@ -14,7 +14,7 @@ NAME = "minisign-check"
 PUBLIC_FILE, SECRET_FILE, OTHER_PUBLIC_FILE, OTHER_SECRET_FILE = "key.pub", "key.key", "other.pub", "other.key"
 LIST = "SHA256SUMS"
 A, B, C = b"data of a\n", b"data of b\n", b"data of c\n"
-# Stands for a named pipe in the files of `Checking.put`.
+# Stands for a named pipe in the files of `CheckRunner.put_files`.
 PIPE = object()
 
 # The exit statuses of `minisign-check`.
@@ -41,9 +41,9 @@ def digest(data, function=hashlib.sha256):
     return function(data).hexdigest().encode()
 
 
-def entry(name, data, function=hashlib.sha256, between=b"  "):
+def entry(name, data, function=hashlib.sha256, separator=b"  "):
     """Returns a line as sha256sum writes it."""
-    return digest(data, function) + between + (name if isinstance(name, bytes) else name.encode()) + b"\n"
+    return digest(data, function) + separator + (name if isinstance(name, bytes) else name.encode()) + b"\n"
 
 
 def entries(**files):
@@ -64,7 +64,7 @@ def shown_comment(comment):
     return f"Trusted comment: {comment}\n".encode()
 
 
-class Checking(FaultRunner):
+class CheckRunner(FaultRunner):
     """Runs `minisign-check` in fresh directories. The keys are in the directory `scratch`."""
 
     seconds = SECONDS
@@ -75,8 +75,8 @@ class Checking(FaultRunner):
         os.chmod(scratch, 0o711)
         self.minisign = needs.minisign()
         self.directories = tempfile.TemporaryDirectory(prefix="minisign-check-", dir=self.parent)
-        self.runs = self.directories.name
-        os.chmod(self.runs, 0o755)
+        self.runs_directory = self.directories.name
+        os.chmod(self.runs_directory, 0o755)
         for public, secret in ((PUBLIC_FILE, SECRET_FILE), (OTHER_PUBLIC_FILE, OTHER_SECRET_FILE)):
             self.run_minisign(scratch, "-G", "-W", "-p", public, "-s", secret)
         self.public_text = read(scratch, PUBLIC_FILE)
@@ -92,7 +92,7 @@ class Checking(FaultRunner):
         comment = comment_of(os.path.basename(name)) if comment is None else comment
         self.run_minisign(directory, "-S", *flags, "-s", os.path.join(self.work_directory, secret), "-m", name, "-t", comment)
 
-    def put(self, directory, files):
+    def put_files(self, directory, files):
         """Makes files with these contents, directories (None), links (`Link`), and named pipes (`PIPE`)."""
         for name, data in files.items():
             path = os.path.join(os.fsencode(directory), name if isinstance(name, bytes) else name.encode())
@@ -105,30 +105,30 @@ class Checking(FaultRunner):
                 with open(path, "wb") as file:
                     file.write(data)
 
-    def fresh(self, files):
+    def new_directory(self, files):
         """Returns a new directory with these files. It is removed together with `directories`."""
-        directory = tempfile.mkdtemp(dir=self.runs)
+        directory = tempfile.mkdtemp(dir=self.runs_directory)
         os.chmod(directory, 0o755)
-        self.put(directory, files)
+        self.put_files(directory, files)
         return directory
 
-    def signed(self, text, files, **options):
+    def directory_with_list(self, text, files, **options):
         """Returns a new directory with a signed list and these files."""
-        directory = self.fresh({LIST: text, PUBLIC_FILE: self.public_text, **files})
+        directory = self.new_directory({LIST: text, PUBLIC_FILE: self.public_text, **files})
         self.sign(directory, **options)
         return directory
 
-    def run(self, directory, arguments, *given, **options):
+    def run(self, directory, arguments, *more, **options):
         """Runs the program. A run that exceeds the time limit fails."""
         try:
-            return super().run(directory, arguments, *given, **options)
-        except subprocess.TimeoutExpired as why:
-            raise Failure(f"still running after {why.timeout} seconds") from why
+            return super().run(directory, arguments, *more, **options)
+        except subprocess.TimeoutExpired as error:
+            raise Failure(f"still running after {error.timeout} seconds") from error
 
     def expect(self, directory, arguments, status, output, stderr, **options):
         """Runs the program in a directory, and compares everything that it writes. `stderr` is the standard error after the trusted
         comment, or all of it if the list is rejected."""
-        ran = self.run(directory, arguments, **options)
+        result = self.run(directory, arguments, **options)
         comment = b"" if status in (REJECTED, MISUSED) else shown_comment(comment_of())
-        expect((ran.status, ran.stdout, ran.stderr) == (status, output, comment + stderr), ran,
+        expect((result.status, result.stdout, result.stderr) == (status, output, comment + stderr), result,
                f"expected status {status}, {output} and {comment + stderr}")

@@ -12,7 +12,7 @@ from dataclasses import dataclass, replace
 from functools import partial
 
 import faults
-from command_running import DATA, OTHER_PUBLIC_KEY, PLAIN_KEY, PUBLIC_KEY, Programs, case, put_files
+from command_running import DATA, OTHER_PUBLIC_KEY, PLAIN_KEY, PUBLIC_KEY, ProgramRunner, case, put_files
 from faults import TaskFaultRunner, run_concurrently
 from permissions import REPLACEMENTS, permission_cases
 from running import Skip, expect, read
@@ -27,9 +27,9 @@ OUT_OF_MEMORY = re.compile(rb"error: (?:[\w.]+: )?out of memory\n|[\w.]+: Cannot
 
 @dataclass(frozen=True)
 class Task(faults.Task):
-    """A run that writes files. If `by_path` is true, its arguments are absolute paths; otherwise they are names. In a
-    directory in memory (/dev/shm), the paths begin with /dev/. The files must be replaced as elsewhere, and not be
-    written directly like /dev/stdout."""
+    """A run that writes files. If `by_path` is true, its arguments are absolute paths; otherwise they are names. The
+    directory of a run may be in /dev/shm, a file system in memory, so its path begins with /dev/. Such files must be
+    replaced like all others, and not be written in place like /dev/stdout."""
 
     by_path: bool = False
     temporary_prefix = TEMPORARY
@@ -44,7 +44,7 @@ class Task(faults.Task):
         return [os.path.join(directory, word) if word in names else word for word in self.arguments]
 
     def may_have(self, name, mode, data, _):
-        """Returns false for a secret key that others can read."""
+        """Returns true if a file may have this mode: false for a secret key, unless the mode is 600."""
         return mode == 0o600 or not (name.endswith(".key") or data.startswith(b"untrusted comment: minisign encrypted"))
 
 
@@ -70,30 +70,31 @@ def tasks(keys):
     pair = {"a.pub": expect_public, "a.key": expect_secret}
     older = {"a.pub": keys[OTHER_PUBLIC_KEY], "a.key": keys["other.key"]}
     key_files = {"a.key": keys[PLAIN_KEY]}
-    signs = {"data": b"some data\n", **key_files}
+    signing_files = {"data": b"some data\n", **key_files}
     names, signing = ("-p", "a.pub", "-s", "a.key"), ("-Sm", "data", "-s", "a.key")
-    several = ("one", "two", "three")
+    three_names = ("one", "two", "three")
     return [
         Task("new key pair", ("-GW", *names), {}, pair),
         Task("replaced key pair", ("-GWf", *names), older, pair),
         Task("changed key", ("-CW", "-s", "a.key"), key_files, {"a.key": expect_secret}),
         Task("recreated public key", ("-R", *names), key_files, {"a.pub": expect_public}),
-        Task("new signature", signing, signs, {"data.minisig": expect_signature}),
-        Task("replaced signature", signing, {**signs, "data.minisig": b"older"}, {"data.minisig": expect_signature}),
-        Task("three replaced signatures", ("-Sm", *several, "-s", "a.key"),
-             {**signs, **dict.fromkeys(several, b"data"), **{f"{name}.minisig": b"older" for name in several}},
-             {f"{name}.minisig": expect_signature for name in several},
-             # If a write for the last file fails, the signatures of all others may be new.
-             before_failing=len(several) - 1),
+        Task("new signature", signing, signing_files, {"data.minisig": expect_signature}),
+        Task("replaced signature", signing, {**signing_files, "data.minisig": b"older"}, {"data.minisig": expect_signature}),
+        Task("three replaced signatures", ("-Sm", *three_names, "-s", "a.key"),
+             {**signing_files, **dict.fromkeys(three_names, b"data"), **{f"{name}.minisig": b"older" for name in three_names}},
+             {f"{name}.minisig": expect_signature for name in three_names},
+             # If a write for the last file fails, the signatures of the other files may be new.
+             before_failing=len(three_names) - 1),
     ]
 
 
-class Breaking(TaskFaultRunner, Programs):
-    """The test cases. Each runs tasks while calls, signals, the disk or other runs disturb them."""
+class WriteFailures(TaskFaultRunner, ProgramRunner):
+    """Test cases in which calls fail, signals arrive, the disk is full or other runs write the same files."""
 
-    def expect_unwritten(self, ran, number):
-        """Expects that the run failed with this errno."""
-        expect(ran.status == 2 and os.strerror(number).encode() in ran.stderr, ran, f"expected {os.strerror(number)}")
+    def expect_unwritten(self, result, number):
+        """Expects that a run whose write failed with the errno `number` exited with status 2 and printed the text of this
+        errno. (The methods of `TaskFaultRunner` call this.)"""
+        expect(result.status == 2 and os.strerror(number).encode() in result.stderr, result, f"expected {os.strerror(number)}")
 
     # ---- Failures ----
 
@@ -101,54 +102,55 @@ class Breaking(TaskFaultRunner, Programs):
         "writes no invalid signature: call {0} of Ed25519 with {1}",
         *((number, flag) for flag in ("-S", "-Sl") for number in range(1, 7)),
     )
-    def invalid_signatures(self, number, flag):
-        """Signing three files takes six calls of Ed25519. One of them makes an invalid signature. The run fails, and
-        writes only the signature files of the files before."""
+    def writes_no_invalid_signature(self, number, flag):
+        """Signing three files takes six calls of Ed25519. One of them is broken by faulty_calls.c, and returns an invalid
+        signature. The run fails, and writes only the signature files of the files before."""
         names = ("one", "two", "three")
         directory = self.directory(**dict.fromkeys(names, b"data"))
-        ran = self.run_broken(
+        result = self.run_broken(
             directory,
             (flag, "-s", PLAIN_KEY, "-m", *names),
             dict(AT=number, CALLS="crypto_sign_detached", ERRNO=errno.EIO),
         )
-        expect(ran.status == 2 and ran.stderr.endswith(b"Verification would fail with the given public key\n"), ran)
+        expect(result.status == 2 and result.stderr.endswith(b"Verification would fail with the given public key\n"), result)
         expected = [f"{name}.minisig" for name in names[:(number - 1) // 2]]
         actual = [f"{name}.minisig" for name in names if os.path.exists(f"{directory}/{name}.minisig")]
-        expect(actual == expected, ran, f"it wrote {actual}, expected {expected}")
+        expect(actual == expected, result, f"it wrote {actual}, expected {expected}")
 
-    def failing(self, task, number):
-        """Each call of a run fails in turn. The run exits with status 2 and an error, or it writes all of its files.
-        The two files of a key pair are both new or both old."""
+    def check_each_failing_call(self, task, number):
+        """Each call of a run fails in turn. If the failing call was reached, the run exits with status 2 and an error, or it
+        writes all of its files nevertheless. The two files of a key pair, the only command with two files, are both new or
+        both old."""
 
-        def check(ran, directory):
+        def check(result, directory):
             new = sum(task.check(directory))
-            is_finished = (ran.status, new) == (0, len(task.targets))
-            expect(is_finished or ran.status == 2 and ran.stderr and ran.reached, ran, f"{new} new files")
+            is_finished = (result.status, new) == (0, len(task.targets))
+            expect(is_finished or result.status == 2 and result.stderr and result.reached, result, f"{new} new files")
             expect(not task.belong_together or new in (0, 2), f"{new} of 2 files are new")
 
         expect(self.break_each(task.make, check, ERRNO=number) >= 3, "it made fewer than 3 calls")
 
-    def refused_allocations(self, task, status, by_library):
+    def check_failing_allocations(self, task, status, by_library):
         """Each allocation of a run fails in turn. The run does all of its work and exits with `status`, or it exits
         with status 2 and prints only the error. If `by_library` is true, the library makes some of the allocations,
         otherwise none."""
         errors, successes = set(), set()
 
-        def check(ran, directory):
+        def check(result, directory):
             new = task.check(directory)
-            if ran.status == status and all(new):
-                successes.add((ran.stdout, ran.stderr))
+            if result.status == status and all(new):
+                successes.add((result.stdout, result.stderr))
             else:
-                is_error = ran.status == 2 and ran.reached and OUT_OF_MEMORY.fullmatch(ran.stderr)
-                expect(is_error and (task.targets or not ran.stdout), ran)
-                errors.add(ran.stderr)
+                is_error = result.status == 2 and result.reached and OUT_OF_MEMORY.fullmatch(result.stderr)
+                expect(is_error and (task.targets or not result.stdout), result)
+                errors.add(result.stderr)
 
         expect(self.break_each(task.make, check, CALLS="memory", ERRNO=errno.ENOMEM), "the run allocated no memory")
         expect(len(successes) == 1 or task.targets and successes, f"its successful runs differ: {successes}")
         is_of_library = any(b"out of memory\n" in line for line in errors)
         expect(is_of_library == by_library, f"its errors were {errors}, expected errors of the library: {by_library}")
 
-    def through_links(self, task):
+    def writes_through_links(self, task):
         """A run writes through two symbolic links, of which the second may point to a file that does not exist. The
         links are kept."""
         directory = self.new_directory({"kept": None, **task.files})
@@ -158,15 +160,15 @@ class Breaking(TaskFaultRunner, Programs):
                 os.rename(path, os.path.join(directory, "kept", name))
             os.symlink(f"./kept/{name}", f"{path}.link")
             os.symlink(f"{name}.link", path)
-        ran = self.run(directory, task.arguments)
-        expect(ran.status == 0 and all(os.path.islink(os.path.join(directory, name)) for name in task.targets), ran)
+        result = self.run(directory, task.arguments)
+        expect(result.status == 0 and all(os.path.islink(os.path.join(directory, name)) for name in task.targets), result)
         for name, check in task.targets.items():
             check(read(directory, "kept", name))
 
-    def into_pipe(self, task):
-        ran = self.run(self.new_directory(task.files), [*task.arguments, "-x", "/dev/stdout"])
-        expect(ran.status == 0, ran)
-        expect_signature(ran.stdout)
+    def writes_into_pipe(self, task):
+        result = self.run(self.new_directory(task.files), [*task.arguments, "-x", "/dev/stdout"])
+        expect(result.status == 0, result)
+        expect_signature(result.stdout)
 
     def only_one_succeeds(self, task):
         """Concurrent runs make a new key pair in the same files. Exactly one succeeds, and both files belong to one pair."""
@@ -185,27 +187,27 @@ class Breaking(TaskFaultRunner, Programs):
         if is_kill and not has_unnamed(self.parent):
             raise Skip("this file system has no O_TMPFILE")
 
-        def check(ran, directory):
-            left = temporary_files(directory)
-            expect(ran.status == (-number if ran.reached else 0) and not left, ran, f"it left {left}")
+        def check(result, directory):
+            leftovers = temporary_files(directory)
+            expect(result.status == (-number if result.reached else 0) and not leftovers, result, f"it left {leftovers}")
             new = sum(task.check(directory, killed=is_kill))
             expect(is_kill or not task.belong_together or new in (0, 2), f"{new} files are new")
 
         self.break_each(task.make, check, SIGNAL=int(number))
         if not is_kill:
             directory = self.new_directory(task.files)
-            ran = self.run_broken(directory, task.arguments, {"AT": 1, "CALLS": SYNCING, "SIGNAL": int(number)})
-            expect(ran.status == -number and not any(task.check(directory)), ran, "a new file is there before it was synced")
+            result = self.run_broken(directory, task.arguments, {"AT": 1, "CALLS": SYNCING, "SIGNAL": int(number)})
+            expect(result.status == -number and not any(task.check(directory)), result, "a new file is there before it was synced")
 
     def next_run_clears_up(self, task, **options):
         """A run is killed at each call in turn. A run of another command in the same directory then removes the temporary files."""
         leftovers = []
 
-        def check(ran, directory):
+        def check(result, directory):
             leftovers.extend(temporary_files(directory))
             put_files(directory, {"b.key": self.keys[PLAIN_KEY], "other": b"other"})
-            after = self.run(directory, ("-Sm", "other", "-s", "b.key"))
-            expect(after.status == 0 and not temporary_files(directory), "the next run", after,
+            next_result = self.run(directory, ("-Sm", "other", "-s", "b.key"))
+            expect(next_result.status == 0 and not temporary_files(directory), "the next run", next_result,
                    f"it left {temporary_files(directory)}")
 
         self.break_each(task.make, check, **options)
@@ -214,48 +216,54 @@ class Breaking(TaskFaultRunner, Programs):
     def reports_failing_libsodium(self):
         """If libsodium cannot be initialized, a run reports this and creates no file."""
         directory = self.new_directory({})
-        ran = self.run_broken(
+        result = self.run_broken(
             directory, ("-GW", "-p", "a.pub", "-s", "a.key"), {"AT": 1, "CALLS": "sodium_init", "ERRNO": errno.EIO}
         )
-        expect((ran.status, ran.stderr) == (2, b"Unable to initialize the Sodium library\n") and not os.listdir(directory), ran)
+        error_output = b"Unable to initialize the Sodium library\n"
+        expect((result.status, result.stderr) == (2, error_output) and not os.listdir(directory), result)
 
     def cases(self):
-        pair, replaced, changed, _, new, replaced_signature, several = every = tasks(self.keys)
+        pair, replaced, changed, _, new, replaced_signature, three_signatures = all_tasks = tasks(self.keys)
         files = {**DATA, PUBLIC_KEY: self.keys[PUBLIC_KEY],
-                 **dict.fromkeys(("data.minisig", "more.minisig"), read(self.signed(), "data.minisig"))}
-        right, wrong = (Task(f"verifying {name}", f"-Vm {name} -p {PUBLIC_KEY}".split(), files, {}) for name in ("data", "more"))
-        replacing = (replaced, changed, replaced_signature, several)
+                 **dict.fromkeys(("data.minisig", "more.minisig"), read(self.signed_directory(), "data.minisig"))}
+        verifying_valid, verifying_invalid = (Task(f"verifying {name}", f"-Vm {name} -p {PUBLIC_KEY}".split(), files, {})
+                                              for name in ("data", "more"))
+        replacing = (replaced, changed, replaced_signature, three_signatures)
         half_way = partial(self.check_failing_writes, SHORT=1)
-        by_path = [replace(task, by_path=True) for task in every]
+        by_path = [replace(task, by_path=True) for task in all_tasks]
         # In this environment, files without a name (O_TMPFILE) cannot be created. UNNAMED=1 below does the same.
         without_unnamed = {"LD_PRELOAD": self.preload, "BREAK_UNNAMED": "1"}
-        for what, selected_tasks, run, *run_arguments in (
-            ("complete after a kill", every, self.check_kills),
+        for title, selected_tasks, run, *run_arguments in (
+            ("complete after a kill", all_tasks, self.check_kills),
             ("complete after a kill, named by its path", by_path, self.check_kills),
-            ("complete if a call fails", every, self.failing, errno.EIO),
-            ("complete if a write fails with ENOSPC", every, self.check_failing_writes, errno.ENOSPC),
-            ("complete if a write fails with EDQUOT", every, self.check_failing_writes, errno.EDQUOT),
-            ("complete if a write fails half way", every, half_way, errno.ENOSPC),
+            ("complete if a call fails", all_tasks, self.check_each_failing_call, errno.EIO),
+            ("complete if a write fails with ENOSPC", all_tasks, self.check_failing_writes, errno.ENOSPC),
+            ("complete if a write fails with EDQUOT", all_tasks, self.check_failing_writes, errno.EDQUOT),
+            ("complete if a write fails half way", all_tasks, half_way, errno.ENOSPC),
             ("complete if a write fails half way, named by its path", by_path, half_way, errno.ENOSPC),
             (
                 "correct if an allocation fails",
-                (task for task in every if task != changed),
-                partial(self.refused_allocations, status=0, by_library=True),
+                (task for task in all_tasks if task != changed),
+                partial(self.check_failing_allocations, status=0, by_library=True),
             ),
             (
                 "correct if an allocation fails",
-                (changed, right),
-                partial(self.refused_allocations, status=0, by_library=False),
+                (changed, verifying_valid),
+                partial(self.check_failing_allocations, status=0, by_library=False),
             ),
-            ("correct if an allocation fails", [wrong], partial(self.refused_allocations, status=1, by_library=False)),
-            ("complete on a full disk", every, self.check_full_disk),
-            ("complete under a file size limit", every, self.check_file_size_limit),
-            ("written through links", every, self.through_links),
+            (
+                "correct if an allocation fails",
+                [verifying_invalid],
+                partial(self.check_failing_allocations, status=1, by_library=False),
+            ),
+            ("complete on a full disk", all_tasks, self.check_full_disk),
+            ("complete under a file size limit", all_tasks, self.check_file_size_limit),
+            ("written through links", all_tasks, self.writes_through_links),
             ("complete after concurrent runs", replacing, self.check_concurrent_runs),
             ("made by one of several concurrent runs", [pair], self.only_one_succeeds),
-            ("written into a pipe", [new], self.into_pipe),
+            ("written into a pipe", [new], self.writes_into_pipe),
             *(
-                (f"no temporary file is left by signal {int(number)}", every, self.leaves_no_temporary_file, number)
+                (f"no temporary file is left by signal {int(number)}", all_tasks, self.leaves_no_temporary_file, number)
                 for number in (signal.SIGUSR1, signal.SIGRTMIN, signal.SIGTERM, signal.SIGINT, signal.SIGHUP)
             ),
             ("no temporary file is left by a kill", [pair], self.leaves_no_temporary_file, signal.SIGKILL),
@@ -267,7 +275,7 @@ class Breaking(TaskFaultRunner, Programs):
             ),
             (
                 "complete without O_TMPFILE",
-                every,
+                all_tasks,
                 partial(self.check_concurrent_runs, environment=without_unnamed, runs=1),
             ),
             # Each run removes temporary files of killed runs, but none of a run that is still running.
@@ -278,7 +286,7 @@ class Breaking(TaskFaultRunner, Programs):
             ),
         ):
             for task in selected_tasks:
-                yield f"{task.name}: {what}", run, task, *run_arguments
+                yield f"{task.name}: {title}", run, task, *run_arguments
 
         yield "reports that libsodium cannot be initialized", self.reports_failing_libsodium
         yield from super().cases()

@@ -6,8 +6,8 @@ import base64
 import os
 import struct
 
-from command_running import (ENCRYPTED_KEY, MIN_ROWS, OTHER_PUBLIC_KEY, PASSWORD, PLAIN_KEY, PUBLIC_KEY, Programs, case,
-                             sealed)
+from command_running import (ENCRYPTED_KEY, MIN_ROWS, OTHER_PUBLIC_KEY, PASSWORD, PLAIN_KEY, PUBLIC_KEY, ProgramRunner, case,
+                             encrypt_key_file)
 from minisign_differences import FILE_HINTS
 from running import expect, files_in, read, write
 from texts import flip_bit, record_of, text_of, with_checksum
@@ -47,9 +47,11 @@ RESTORE_HINT = b"restore the file from a backup"
 MAX_WORK = 16 << 20
 
 
-class Messages(Programs):
+class Messages(ProgramRunner):
+    """Test cases for messages about files of the wrong kind and about file names."""
+
     def cases(self):
-        texts = (*wrong_texts(self.keys, read(self.signed(), "data.minisig")), *damaged_keys(self.keys[PLAIN_KEY]))
+        texts = (*wrong_texts(self.keys, read(self.signed_directory(), "data.minisig")), *damaged_keys(self.keys[PLAIN_KEY]))
         for number, (flag, text, message, *more) in enumerate(texts):
             name = f"names the wrong file {number} for {flag}: {message.decode()}"
             yield name, self.names_wrong_file, flag, text, message, *more
@@ -59,18 +61,18 @@ class Messages(Programs):
         """Passes a file with the content `text` as the public key, the signature or the secret key. The first line of
         the errors must be `first_line`, or if this is None, Minisign's own. Then come an error with the file name and
         `message`, and a hint. No file is written."""
-        directory = self.signed(wrong=text)
+        directory = self.signed_directory(wrong=text)
         arguments = {"-p": ("-Vm", "data", "-p", "wrong"), "-x": ("-Vm", "data", "-p", PUBLIC_KEY, "-x", "wrong"),
                      "-s": ("-Sm", "data", "-s", "wrong", "-x", "made")}[flag]
         before = files_in(directory)
-        ours = self.ours(directory, *arguments, typed=b"x\n")
+        ours = self.run_ours(directory, *arguments, typed=b"x\n")
         lines = ours.stderr.removeprefix(b"Password: \n").split(b"\n")
         rest = [b"error: wrong: " + message, *([b"hint: " + hint] if hint else []), b""]
         expect(ours.status == 2 and lines[1:] == rest and files_in(directory) == before, ours, f"expected {rest}")
         if first_line:
             expect(lines[0] == first_line, ours, f"expected the first line {first_line}")
             return
-        theirs = self.theirs(directory, *arguments)
+        theirs = self.run_theirs(directory, *arguments)
         first = theirs.stderr.split(b"\n")[0]
         expect(theirs.status != 2 or first == lines[0] or lines[0] in ALLOWED_FIRST_LINES.get(first, (NOT_UTF8,)),
                f"Minisign {theirs}, ours {ours}")
@@ -78,7 +80,7 @@ class Messages(Programs):
     @case("names a truncated signature")
     def names_truncated_signature(self):
         """The error says that the signature is truncated, even if the rest of its last line is valid base64."""
-        text = read(self.signed(), "data.minisig")
+        text = read(self.signed_directory(), "data.minisig")
         error_output = (
             b"Comment signature verification failed\nerror: cut: this signature is truncated: its fourth line is too short\n"
             b"hint: download or copy the file again\n"
@@ -92,7 +94,7 @@ class Messages(Programs):
     def limits_work(self, rows, times, needed, *flags):
         """A key with these parameters of scrypt is decrypted if `needed` is None. Otherwise its work, N times p, is
         above the limit: it is rejected at once, with a hint to use -K with the value `needed`."""
-        files = {"some.key": sealed(self.keys[PLAIN_KEY], PASSWORD, rows << 10, rows, times)}
+        files = {"some.key": encrypt_key_file(self.keys[PLAIN_KEY], PASSWORD, rows << 10, rows, times)}
         signing, typed = ("-Sm", "data", "-s", "some.key", *flags), PASSWORD + b"\n"
         if needed:
             error_output = ("\nerror: some.key: decrypting this key takes more work than allowed\n"
@@ -100,8 +102,8 @@ class Messages(Programs):
             self.expect_rejected(error_output.encode(), *signing, files=files, typed=typed, seconds=10)
         else:
             directory = self.directory(**files)
-            ran = self.ours(directory, *signing, typed=typed)
-            expect(ran.status == 0, ran)
+            result = self.run_ours(directory, *signing, typed=typed)
+            expect(result.status == 0, result)
             self.expect_accepted(directory, PUBLIC_KEY)
 
     @case("fails without an error stream: {0}", ("-C", "-s", ENCRYPTED_KEY), ("-CW", "-s", ENCRYPTED_KEY),
@@ -111,7 +113,7 @@ class Messages(Programs):
         """A command that needs a password cannot ask for it. It fails as Minisign does, and changes no file."""
         options = {"typed": PASSWORD + b"\nnew\nnew\n", "preexec_fn": lambda: os.close(2)}
         self.expect_rejected(b"", *arguments, **options)
-        theirs = self.theirs(self.directory(), *arguments, **options)
+        theirs = self.run_theirs(self.directory(), *arguments, **options)
         expect(theirs.status == 2, f"Minisign {theirs}")
 
     @case(
@@ -133,7 +135,7 @@ class Messages(Programs):
         """Control characters are escaped wherever the name is shown. If `older` is not None, a file of this name
         exists, with the bytes `older` or the content of the file that `older` names."""
         for at_terminal in (False, True):
-            directory = self.signed()
+            directory = self.signed_directory()
             if older:
                 write(directory, CONTROL_NAME, older if isinstance(older, bytes) else read(directory, older))
             if at_terminal:
@@ -141,8 +143,8 @@ class Messages(Programs):
                 terminal.finish()
                 error_output = terminal.shown
             else:
-                ran = self.ours(directory, *arguments)
-                error_output = ran.stdout + ran.stderr
+                result = self.run_ours(directory, *arguments)
+                error_output = result.stdout + result.stderr
             expect(ESCAPED_NAME in error_output and b"\x1b" not in error_output and "\u202e".encode() not in error_output,
                    f"at a terminal {at_terminal}: {error_output!r}")
 
@@ -151,17 +153,18 @@ def wrong_texts(keys, signature):
     """Yields files of the wrong kind, as arguments of `names_wrong_file`."""
     public, secret = keys[PUBLIC_KEY], keys[PLAIN_KEY]
     first, second, third, fourth, _ = signature.split(b"\n")
-    lines = lambda *some: b"\n".join(some) + b"\n"
-    damage, cut, utf16 = b"this signature is damaged: ", b"this signature is truncated: it has only ", b"this file is UTF-16"
-    not_base64, web = damage + b"its second or fourth line is not base64", b"this is a web page"
-    page, save, extract = b"download the file itself, not a page about it", b"save it as UTF-8", b"decompress it first"
+    lines = lambda *parts: b"\n".join(parts) + b"\n"
+    damage, truncated, utf16 = b"this signature is damaged: ", b"this signature is truncated: it has only ", b"this file is UTF-16"
+    not_base64, web_page = damage + b"its second or fourth line is not base64", b"this is a web page"
+    page_hint, utf8_hint = b"download the file itself, not a page about it", b"save it as UTF-8"
+    decompress_hint = b"decompress it first"
     kinds = {"-p": (b"a public key", public), "-x": (b"a signature", signature), "-s": (b"a secret key", secret)}
     for flag, (expected, _) in kinds.items():
         yield flag, b"", b"this file is empty", DOWNLOAD_HINT
-        for found, text in kinds.values():
-            if found != expected:
-                yield flag, text, b"this is " + found + b", not " + expected, file_hint(flag)
-    for flag, words, *texts in (
+        for actual, text in kinds.values():
+            if actual != expected:
+                yield flag, text, b"this is " + actual + b", not " + expected, file_hint(flag)
+    for flag, message, *texts in (
         (
             "-p",
             b"this is an SSH public key",
@@ -191,18 +194,18 @@ def wrong_texts(keys, signature):
         ),
     ):
         for text in texts:
-            yield flag, text, words, file_hint(flag)
-    for flag, words, hint, *texts in (
-        ("-x", web, page, HTML),
-        ("-p", web, page, HTML),
-        ("-x", b"this is a gzip file", extract, GZIP),
-        ("-p", b"this is a bzip2 file", extract, b"BZh91AY"),
-        ("-x", b"this is an xz file", extract, b"\xfd7zXZ\0"),
-        ("-x", b"this is a zstd file", extract, b"\x28\xb5\x2f\xfd\0"),
+            yield flag, text, message, file_hint(flag)
+    for flag, message, hint, *texts in (
+        ("-x", web_page, page_hint, HTML),
+        ("-p", web_page, page_hint, HTML),
+        ("-x", b"this is a gzip file", decompress_hint, GZIP),
+        ("-p", b"this is a bzip2 file", decompress_hint, b"BZh91AY"),
+        ("-x", b"this is an xz file", decompress_hint, b"\xfd7zXZ\0"),
+        ("-x", b"this is a zstd file", decompress_hint, b"\x28\xb5\x2f\xfd\0"),
         ("-x", b"this is a zip archive", b"extract it first", b"PK\3\4\n"),
-        ("-p", utf16, save, public.decode().encode("utf-16")),
-        ("-x", utf16, save, signature.decode().encode("utf-16-le")),
-        ("-s", utf16, save, secret.decode().encode("utf-16-be")),
+        ("-p", utf16, utf8_hint, public.decode().encode("utf-16")),
+        ("-x", utf16, utf8_hint, signature.decode().encode("utf-16-le")),
+        ("-s", utf16, utf8_hint, secret.decode().encode("utf-16-be")),
         (
             "-x",
             b"this file begins with a byte order mark",
@@ -215,8 +218,8 @@ def wrong_texts(keys, signature):
             DOWNLOAD_HINT,
             public.split(b"\n")[0] + b"\n",
         ),
-        ("-x", cut + b"2 of 4 lines", DOWNLOAD_HINT, lines(first, second)),
-        ("-x", cut + b"3 of 4 lines", DOWNLOAD_HINT, lines(first, second, third)),
+        ("-x", truncated + b"2 of 4 lines", DOWNLOAD_HINT, lines(first, second)),
+        ("-x", truncated + b"3 of 4 lines", DOWNLOAD_HINT, lines(first, second, third)),
         (
             "-x",
             damage + b'its third line does not begin with "trusted comment: "',
@@ -245,7 +248,7 @@ def wrong_texts(keys, signature):
         ),
     ):
         for text in texts:
-            yield flag, text, words, hint
+            yield flag, text, message, hint
 
 
 def file_hint(flag):
@@ -255,20 +258,20 @@ def file_hint(flag):
 
 def damaged_keys(text):
     """Yields damaged secret keys, as arguments of `names_wrong_file`."""
-    record, loading = with_checksum(record_of(text)), b"Error while loading the secret key file"
-    text, damage, closed = text_of(record), b"this secret key is damaged: ", record_of(sealed(text, PASSWORD))
-    limited = lambda *limits: text_of(closed[:38] + struct.pack("<QQ", *limits) + closed[54:])
-    no_base64 = b"base64 conversion failed - was an actual secret key given?"
-    for words, first, *texts in (
-        (b"this file is empty", loading, b""),
-        (b"this secret key is truncated: it has only 1 of 2 lines", loading, text.split(b"\n")[0] + b"\n"),
-        (damage + b"its second line is not base64", no_base64, text[:-3] + b"!=\n", text.replace(b"\n", b"\n ", 1)),
-        (damage + b"its second line is too short", no_base64, text_of(record[:-1])),
+    record, loading_error = with_checksum(record_of(text)), b"Error while loading the secret key file"
+    text, damage, sealed_record = text_of(record), b"this secret key is damaged: ", record_of(encrypt_key_file(text, PASSWORD))
+    with_limits = lambda *limits: text_of(sealed_record[:38] + struct.pack("<QQ", *limits) + sealed_record[54:])
+    base64_error = b"base64 conversion failed - was an actual secret key given?"
+    for message, first_line, *texts in (
+        (b"this file is empty", loading_error, b""),
+        (b"this secret key is truncated: it has only 1 of 2 lines", loading_error, text.split(b"\n")[0] + b"\n"),
+        (damage + b"its second line is not base64", base64_error, text[:-3] + b"!=\n", text.replace(b"\n", b"\n ", 1)),
+        (damage + b"its second line is too short", base64_error, text_of(record[:-1])),
         (damage + b"it is not UTF-8", NOT_UTF8, b"\xff" + text),
         (
             damage + b"its checksum is wrong",
             b"error: wrong: Corrupted key",
-            *(text_of(flip_bit(record, at)) for at in (0, 1, 54, 61, 62, 93, 94, 125, 126, 157)),
+            *(text_of(flip_bit(record, position)) for position in (0, 1, 54, 61, 62, 93, 94, 125, 126, 157)),
         ),
         (
             damage + b"its key derivation function is unknown",
@@ -278,14 +281,14 @@ def damaged_keys(text):
         (
             b"decrypting this key takes more than 1 GiB of memory",
             b"error: wrong: the scrypt limits of this key are too high",
-            limited(1 << 15, (1 << 30) + 1),
+            with_limits(1 << 15, (1 << 30) + 1),
         ),
         (
             damage + b"its scrypt limits are invalid",
             b"error: wrong: the scrypt limits of this key are invalid",
-            limited(1 << 40, 0),
+            with_limits(1 << 40, 0),
         ),
     ):
-        hint = DOWNLOAD_HINT if b"empty" in words else RESTORE_HINT if b"GiB" not in words else None
+        hint = DOWNLOAD_HINT if b"empty" in message else RESTORE_HINT if b"GiB" not in message else None
         for wrong in texts:
-            yield "-s", wrong, words, hint, first
+            yield "-s", wrong, message, hint, first_line

@@ -18,7 +18,7 @@ import tempfile
 from collections import namedtuple
 
 from command_failures import expect_public, expect_secret, expect_signature
-from command_running import (ENCRYPTED_KEY, PARENT_MODE, PASSWORD, PLAIN_KEY, PUBLIC_KEY, Programs, case, expect_end,
+from command_running import (ENCRYPTED_KEY, PARENT_MODE, PASSWORD, PLAIN_KEY, PUBLIC_KEY, ProgramRunner, case, expect_end,
                              expect_prompt, put_files)
 from faults import mounted_in_memory
 from permissions import acl_of
@@ -114,7 +114,7 @@ class Existing(namedtuple("Existing", "kind owner parent", defaults=(LIKE_TMP,))
         return os.open(path, os.O_RDONLY | os.O_NONBLOCK) if self.kind == PIPE else None
 
 
-class OtherUsers(Programs):
+class OtherUsers(ProgramRunner):
     """Runs the program in new directories with the user's own files and with files of other users."""
 
     def __init__(self, programs, scratch, keys):
@@ -138,9 +138,9 @@ class OtherUsers(Programs):
             for name in ("protected_fifos", "protected_regular", "protected_symlinks")
         }
         print(f"files of other users are tried with {settings}")
-        passes = list(cases_that_minisign_passes(self))
+        unexpected_passes = list(cases_that_minisign_passes(self))
         failures, count = super().run_all()
-        return passes + failures, len(ROWS) + count
+        return unexpected_passes + failures, len(ROWS) + count
 
     def make_directories(self, user=ROOT, parent=LIKE_TMP):
         """Makes a directory with the subdirectories `own`, which belongs to the user, and `shared`. Returns its path,
@@ -164,32 +164,32 @@ class OtherUsers(Programs):
 
     # ---- Files and pipes ----
 
-    def write_over(self, user, command, existing, end):
-        """A user runs a command while its output file exists as a file or pipe. If `end` is a string, the command must
-        be rejected with this error: it asks for no password, no data reaches the pipe, and the file is unchanged.
-        Otherwise it must write into the pipe, or replace the file, which then belongs to the user `end`."""
+    def write_over(self, user, command, existing, expected_end):
+        """A user runs a command while its output file exists as a file or pipe. If `expected_end` is a string, the command
+        must be rejected with this error: it asks for no password, no data reaches the pipe, and the file is unchanged.
+        Otherwise it must write into the pipe, or replace the file, which then belongs to the user `expected_end`."""
         directory, path = self.make_directories(user, existing.parent)
         reader, before = existing.make(path, command.older), snapshot(directory)
-        ran, received = self.run_as(user, directory, command.writing_to("shared/output")), read_pending(reader)
-        if isinstance(end, str):
-            expect_rejected(ran, received, "shared/output", end, directory, before)
+        result, received = self.run_as(user, directory, command.writing_to("shared/output")), read_pending(reader)
+        if isinstance(expected_end, str):
+            expect_rejected(result, received, "shared/output", expected_end, directory, before)
             return
-        expect(ran.status == 0, ran)
+        expect(result.status == 0, result)
         command.check(received if existing.kind == PIPE else read(path))
         status = os.stat(path)
-        is_expected = status.st_uid == end and (not command.is_secret or stat.S_IMODE(status.st_mode) == 0o600)
+        is_expected = status.st_uid == expected_end and (not command.is_secret or stat.S_IMODE(status.st_mode) == 0o600)
         expect(existing.kind == PIPE or is_expected,
-               f"it belongs to {status.st_uid}, expected {end}, with the mode {status.st_mode:o}")
+               f"it belongs to {status.st_uid}, expected {expected_end}, with the mode {status.st_mode:o}")
 
     # ---- Files that appear while a password is typed ----
 
     def keeps_new_file(self, arguments, typed, existing, status, error_output):
         """Without -f, the program does not write to a file that appears while the password is typed, or if there is no
         password, while the key is generated."""
-        (directory, path), made = self.make_directories(), []
+        (directory, path), created = self.make_directories(), []
 
         def make():
-            made.extend((existing.make(path, OLDER_DATA), snapshot(directory)))
+            created.extend((existing.make(path, OLDER_DATA), snapshot(directory)))
 
         if typed:
             terminal = self.start_at_prompt(directory, *arguments)
@@ -197,9 +197,9 @@ class OtherUsers(Programs):
             expect_answered(terminal, typed, status, error_output)
         else:
             # The first two calls of getrandom are not for the key.
-            ran = self.run_stopped(directory, arguments, make, AT=3, CALLS="getrandom")
-            expect(ran.reached and ran.status == status and error_output.encode() in ran.stderr, ran)
-        reader, before = made
+            result = self.run_stopped(directory, arguments, make, AT=3, CALLS="getrandom")
+            expect(result.reached and result.status == status and error_output.encode() in result.stderr, result)
+        reader, before = created
         expect(not read_pending(reader) and snapshot(directory) == before, "a file was created, written or changed")
 
     @case("keeps a file that another user swaps in for a key changed by {0}", ("-CW", PASSWORD + b"\n"),
@@ -230,46 +230,47 @@ class OtherUsers(Programs):
                 os.rename(path, path + ".own")
                 readers.append(Existing(swapped, OTHER_USER).make(path, OLDER_DATA))
 
-            ran = self.run_stopped(directory, self.secret.writing_to("shared/output"), swap_in, AT=number, CALLS="open openat")
-            written, *got = map(read_pending, readers)
+            result = self.run_stopped(directory, self.secret.writing_to("shared/output"), swap_in, AT=number, CALLS="open openat")
+            written, *received = map(read_pending, readers)
             if own == FILE:
                 # If the pipe appeared after the key was renamed to its path, the key now has the name with `.own`.
                 written = read(path + ".own" if stat.S_ISFIFO(os.lstat(path).st_mode) else path).replace(OLDER_DATA, b"")
-            expect(not any(got), f"another user got {got!r}", ran)
-            if ran.status == 0 and written:
+            expect(not any(received), f"another user got {received!r}", result)
+            if result.status == 0 and written:
                 expect_secret(written)
             else:
-                expect_rejected(ran, written, "shared/output", SECRET_TO_OTHER_USER)
-            if not ran.reached:
-                expect(number >= 3 and ran.status == 0, f"it opened {number - 1} files, expected at least 2", ran)
+                expect_rejected(result, written, "shared/output", SECRET_TO_OTHER_USER)
+            if not result.reached:
+                expect(number >= 3 and result.status == 0, f"it opened {number - 1} files, expected at least 2", result)
                 return
-        raise Failure(f"it opened more than 59 files: {ran}")
+        raise Failure(f"it opened more than 59 files: {result}")
 
     # ---- Links ----
 
-    def write_through_link(self, user, command, whose, what, parent, why):
-        """A user runs a command that writes through a link of LINKS, which belongs to the user `whose`. If `why` is not
-        empty, it must be rejected with this error, and no file created or changed. Otherwise it must write the file."""
+    def write_through_link(self, user, command, link_owner, link_name, parent, error):
+        """A user runs a command that writes through a link of LINKS, which belongs to the user `link_owner`. If `error` is
+        not empty, the command must be rejected with this error, and no file may be created or changed. Otherwise it must
+        write the file."""
         directory, _ = self.make_directories(user, parent)
         put_files(directory, {"own/sub": None, "own/kept": b"precious", "shared/older": b"older"})
         for path in ("own/sub", "own/kept"):
             os.chown(os.path.join(directory, path), user, user)
-        target, name = LINKS[what]
-        for path, leads_to, owner in (("shared/link", target, whose), *((*link, user) for link in OWN_LINKS.items())):
-            os.symlink(leads_to, os.path.join(directory, path))
+        target, name = LINKS[link_name]
+        for path, link_target, owner in (("shared/link", target, link_owner), *((*link, user) for link in OWN_LINKS.items())):
+            os.symlink(link_target, os.path.join(directory, path))
             os.lchown(os.path.join(directory, path), owner, owner)
         before = snapshot(directory)
-        ran = self.run_as(user, directory, command.writing_to(name))
-        if why:
-            expect_rejected(ran, b"", name, why, directory, before)
+        result = self.run_as(user, directory, command.writing_to(name))
+        if error:
+            expect_rejected(result, b"", name, error, directory, before)
             return
-        expect(ran.status == 0, ran)
+        expect(result.status == 0, result)
         # The file is read as this user, because the system may let only the owner of a link follow it.
         command.check(run_program(["cat", name], directory, user=user, group=user).stdout)
 
     # ---- Standard streams, and unnamed files and directories ----
 
-    def secret_into(self, stream, directory, name="/dev/stdout"):
+    def write_secret_to(self, stream, directory, name="/dev/stdout"):
         """Root writes a secret key to the open file `stream`, which is its standard output or another descriptor.
         `name` is the path of the key."""
         options = {"stdout": stream} if name == "/dev/stdout" else {"pass_fds": [stream]}
@@ -277,23 +278,23 @@ class OtherUsers(Programs):
 
     @case("writes a secret key to another user's {0} only as standard output: {1}", ("pipe", "as standard output"),
           ("pipe", "by its descriptor"), ("terminal", "as standard output"), ("terminal", "by its name"), ("terminal", "by a link"))
-    def secret_into_stream_of_other(self, what, way):
+    def writes_secret_only_to_stdout_of_other(self, kind, path_kind):
         """Root's secret key is written to another user's pipe or terminal only if that is the standard output. The link
         is in a directory without sticky bit."""
         directory, _ = self.make_directories(parent=NOT_STICKY)
-        reader, side = pty.openpty() if what == "terminal" else os.pipe()
-        os.fchown(side, OTHER_USER, OTHER_USER)
+        reader, writer = pty.openpty() if kind == "terminal" else os.pipe()
+        os.fchown(writer, OTHER_USER, OTHER_USER)
         os.set_blocking(reader, False)
-        own_name = f"/dev/fd/{side}" if what == "pipe" else os.ttyname(side)
+        own_name = f"/dev/fd/{writer}" if kind == "pipe" else os.ttyname(writer)
         os.symlink(own_name, os.path.join(directory, "shared", "link"))
-        name = {"as standard output": "/dev/stdout", "by a link": "shared/link"}.get(way, own_name)
-        ran = self.secret_into(side, directory, name)
+        name = {"as standard output": "/dev/stdout", "by a link": "shared/link"}.get(path_kind, own_name)
+        result = self.write_secret_to(writer, directory, name)
         received = read_pending(reader).replace(b"\r", b"")
-        os.close(side)
-        if way != "as standard output":
-            expect_rejected(ran, received, name, SECRET_TO_OTHER_USER)
+        os.close(writer)
+        if path_kind != "as standard output":
+            expect_rejected(result, received, name, SECRET_TO_OTHER_USER)
             return
-        expect(ran.status == 0, ran)
+        expect(result.status == 0, result)
         # The key has two lines. Messages follow.
         expect_secret(b"".join(received.splitlines(True)[:2]))
 
@@ -302,8 +303,8 @@ class OtherUsers(Programs):
         directory, path = self.make_directories()
         reader = Existing(PIPE, OTHER_USER).make(path, b"")
         with open(path, "wb") as writer:
-            ran = self.secret_into(writer, directory)
-        expect_rejected(ran, read_pending(reader), "/dev/stdout", IN_SHARED_DIRECTORY)
+            result = self.write_secret_to(writer, directory)
+        expect_rejected(result, read_pending(reader), "/dev/stdout", IN_SHARED_DIRECTORY)
 
     @case("writes to a renamed pipe as standard output")
     def writes_to_renamed_pipe(self):
@@ -313,8 +314,8 @@ class OtherUsers(Programs):
             os.rename(path, path + ".first")
             os.link(path + ".first", path + ".second")
             os.remove(path + ".first")
-            ran = self.run_as(ROOT, directory, self.signature.writing_to("/dev/stdout"), stdout=writer)
-        expect(ran.status == 0, ran)
+            result = self.run_as(ROOT, directory, self.signature.writing_to("/dev/stdout"), stdout=writer)
+        expect(result.status == 0, result)
         expect_signature(read_pending(reader))
 
     @case("writes into a directory without a name")
@@ -325,8 +326,8 @@ class OtherUsers(Programs):
         with mounted_in_memory(os.path.join(directory, "shared"), "mode=755", lazily=True):
             opened = os.open(os.path.join(directory, "shared"), os.O_RDONLY)
         os.mkdir("made", 0o755, dir_fd=opened)
-        ran = self.run_as(ROOT, directory, self.signature.writing_to(f"/dev/fd/{opened}/made/output"), pass_fds=[opened])
-        expect(ran.status == 0, ran)
+        result = self.run_as(ROOT, directory, self.signature.writing_to(f"/dev/fd/{opened}/made/output"), pass_fds=[opened])
+        expect(result.status == 0, result)
         expect_signature(read(f"/proc/self/fd/{opened}/made/output"))
         os.close(opened)
 
@@ -337,8 +338,8 @@ class OtherUsers(Programs):
         Existing(FILE, OTHER_USER).make(path, b"")
         self.run_as(ROOT, directory, ("-Sm", "own/data", "-s", "own/k.key"))
         with open(path, "r+b") as output:
-            ran = self.run_as(ROOT, directory, ("-Vom", "own/data", "-p", "own/k.pub"), stdout=output)
-        expect(ran.status == 0 and read(path) == b"some data\n", ran)
+            result = self.run_as(ROOT, directory, ("-Vom", "own/data", "-p", "own/k.pub"), stdout=output)
+        expect(result.status == 0 and read(path) == b"some data\n", result)
 
     # ---- Keys whose password is removed ----
 
@@ -360,10 +361,10 @@ class OtherUsers(Programs):
         os.chmod(path, mode)
         if entries:
             set_access_list(path, entries)
-        ran = self.run_as(ROOT, directory, ("-CW", "-s", "own/k.key"))
+        result = self.run_as(ROOT, directory, ("-CW", "-s", "own/k.key"))
         status = os.stat(path)
         is_expected = (status.st_uid, status.st_gid, stat.S_IMODE(status.st_mode)) == (owner, THIRD_USER, mode & 0o700)
-        expect(ran.status == 0 and is_expected and acl_of(path) is None, ran,
+        expect(result.status == 0 and is_expected and acl_of(path) is None, result,
                f"it left the owner {status.st_uid}:{status.st_gid} and the mode {status.st_mode:o}")
         expect_secret(read(path))
 
@@ -375,30 +376,30 @@ class OtherUsers(Programs):
 
     def files_and_pipes(self):
         """Yields cases in which users run commands while the output file exists, for each combination of the lists in a
-        row. `end` is that of `write_over`."""
-        secret, public, signature, again, changed = every = self.commands
+        row. `end` is the parameter `expected_end` of `write_over`."""
+        secret, public, signature, recreated, changed = all_commands = self.commands
         # Without `changed`, which reads the file first.
-        writing = (secret, public, signature, again)
-        for commands, kinds, owners, places, users, end in (
-            (every, (FILE, PIPE, UNREAD_PIPE), OTHER_USER, [LIKE_TMP], (ROOT, RUNNING_USER), IN_SHARED_DIRECTORY),
-            (every, (FILE, PIPE, UNREAD_PIPE), OTHER_USER, (OWNED_BY_THIRD, GROUP_WRITABLE), [ROOT], IN_SHARED_DIRECTORY),
-            (every, [FILE], ROOT, [LIKE_TMP], [ROOT], ROOT),
-            (every, [FILE], RUNNING_USER, [LIKE_TMP], [RUNNING_USER], RUNNING_USER),
+        writing = (secret, public, signature, recreated)
+        for commands, kinds, owner, parents, users, end in (
+            (all_commands, (FILE, PIPE, UNREAD_PIPE), OTHER_USER, [LIKE_TMP], (ROOT, RUNNING_USER), IN_SHARED_DIRECTORY),
+            (all_commands, (FILE, PIPE, UNREAD_PIPE), OTHER_USER, (OWNED_BY_THIRD, GROUP_WRITABLE), [ROOT], IN_SHARED_DIRECTORY),
+            (all_commands, [FILE], ROOT, [LIKE_TMP], [ROOT], ROOT),
+            (all_commands, [FILE], RUNNING_USER, [LIKE_TMP], [RUNNING_USER], RUNNING_USER),
             (writing, [PIPE], ROOT, [LIKE_TMP], (ROOT, RUNNING_USER), None),
             (writing, [PIPE], RUNNING_USER, [LIKE_TMP], [RUNNING_USER], None),
             ((secret, signature), [PIPE], ROOT, [OWNED_BY_THIRD], [RUNNING_USER], None),
             ((secret, changed), (FILE, PIPE), THIRD_USER, [OWNED_BY_THIRD], [ROOT], IN_SHARED_DIRECTORY),
-            ((public, signature, again), (FILE, PIPE), THIRD_USER, [OWNED_BY_THIRD], [ROOT], THIRD_USER),
+            ((public, signature, recreated), (FILE, PIPE), THIRD_USER, [OWNED_BY_THIRD], [ROOT], THIRD_USER),
             ([signature], (FILE, PIPE), OTHER_USER, UNGUARDED, [ROOT], OTHER_USER),
             ([secret], [FILE], OTHER_USER, UNGUARDED, [ROOT], ROOT),
             ([secret], [PIPE], OTHER_USER, UNGUARDED, [ROOT], SECRET_TO_OTHER_USER),
             # The user may write to root's file, but not replace it.
             ([secret], [FILE], ROOT, [LIKE_TMP], [RUNNING_USER], NOT_PERMITTED),
         ):
-            for command, kind, parent, user in itertools.product(commands, kinds, places, users):
+            for command, kind, parent, user in itertools.product(commands, kinds, parents, users):
                 yield (f"{'rejects' if isinstance(end, str) else 'writes'} {command.name} by {USER_NAMES[user]} over "
-                       f"{POSSESSIVES[owners]} {kind}{parent.name}",
-                       self.write_over, user, command, Existing(kind, owners, parent), end)
+                       f"{POSSESSIVES[owner]} {kind}{parent.name}",
+                       self.write_over, user, command, Existing(kind, owner, parent), end)
         for name, *arguments in (("a new secret key", "-Gf", "-p", "own/a.pub", "-s", OUTPUT),
                                  ("a new public key", "-Gf", "-p", OUTPUT, "-s", "own/a.key"),
                                  ("a recreated public key", "-Rf", "-p", OUTPUT, "-s", "own/closed.key")):
@@ -414,16 +415,16 @@ class OtherUsers(Programs):
             ("new secret key with a password", [FILE], ("-G", *pair), b"p\n", b"p\n"),
             ("recreated public key", (FILE, PIPE), ("-R", "-p", "shared/output", "-s", "own/closed.key"), PASSWORD + b"\n"),
         ):
-            for what in kinds:
-                for whose, owner, *ends in (("another user's", OTHER_USER, 2, f"error: shared/output: {IN_SHARED_DIRECTORY}"),
-                                            ("an own", ROOT, 1, "shared/output already exists.")):
-                    yield (f"writes no {name} to {whose} {what} that appears",
-                           self.keeps_new_file, arguments, typed, Existing(what, owner), *ends)
+            for kind in kinds:
+                for possessive, owner, *ends in (("another user's", OTHER_USER, 2, f"error: shared/output: {IN_SHARED_DIRECTORY}"),
+                                                 ("an own", ROOT, 1, "shared/output already exists.")):
+                    yield (f"writes no {name} to {possessive} {kind} that appears",
+                           self.keeps_new_file, arguments, typed, Existing(kind, owner), *ends)
 
     def links_of_users(self):
-        """Yields cases in which users run a command that writes through a link of the user `whose`. `why` is the error,
-        or empty."""
-        for command, owner, parent, users, why in (
+        """Yields cases in which users run a command that writes through a link of the user `owner`. `error` is the
+        expected error, or empty if the command must succeed."""
+        for command, owner, parent, users, error in (
             (self.signature, OTHER_USER, LIKE_TMP, (ROOT, RUNNING_USER), THROUGH_LINK),
             (self.signature, ROOT, LIKE_TMP, [ROOT], ""),
             (self.signature, RUNNING_USER, LIKE_TMP, [RUNNING_USER], ""),
@@ -432,13 +433,13 @@ class OtherUsers(Programs):
             (self.signature, OTHER_USER, NOT_STICKY, [ROOT], ""),
             (self.signature, OTHER_USER, GROUP_WRITABLE, [ROOT], ""),
         ):
-            for what, user in itertools.product(LINKS, users):
+            for link, user in itertools.product(LINKS, users):
                 yield (
                     (
-                        f"{'rejects' if why else 'writes'} {command.name} by {USER_NAMES[user]} through"
-                        f" {POSSESSIVES[owner]} link {what}{parent.name}"
+                        f"{'rejects' if error else 'writes'} {command.name} by {USER_NAMES[user]} through"
+                        f" {POSSESSIVES[owner]} link {link}{parent.name}"
                     ),
-                    self.write_through_link, user, command, owner, what, parent, why,
+                    self.write_through_link, user, command, owner, link, parent, error,
                 )
 
 
@@ -472,17 +473,17 @@ def expect_answered(terminal, typed, status, error_output):
     expect_end(terminal, status, rb"\s+".join(map(re.escape, error_output.encode().splitlines())))
 
 
-def expect_rejected(ran, received, name, why, directory=None, before=None):
+def expect_rejected(result, received, name, error, directory=None, before=None):
     """Expects that a run was rejected with this error, wrote nothing to the pipe, and asked for no password. Its output
     may have the line that announces the change of a key. The directory must be as `before`, if it is given."""
-    error_output = f"{'' if why == NOT_PERMITTED else 'error: '}{name}: {why}\n"
+    error_output = f"{'' if error == NOT_PERMITTED else 'error: '}{name}: {error}\n"
     expect(
-        (ran.status, ran.stderr, received) == (2, error_output.encode(), b""),
-        ran,
+        (result.status, result.stderr, received) == (2, error_output.encode(), b""),
+        result,
         received,
         f"expected status 2 and {error_output!r}",
     )
-    expect(ran.stdout in (b"", f"Key encryption for [{name}] is going to be removed.\n".encode()), ran)
+    expect(result.stdout in (b"", f"Key encryption for [{name}] is going to be removed.\n".encode()), result)
     expect(directory is None or snapshot(directory) == before, "a file was created or changed")
 
 

@@ -41,7 +41,7 @@ Step = namedtuple("Step", "arguments typed variables at_terminal", defaults=(b""
 # The paths of the program of Minisign and of c/minisign, and of the library that is preloaded into both.
 ProgramPaths = namedtuple("ProgramPaths", "theirs ours preload")
 # The results of a program's runs in one directory, and the modes and contents of the files that it left, by name.
-RunResults = namedtuple("RunResults", "ran files")
+RunResults = namedtuple("RunResults", "runs files")
 
 
 def run_step(program, preload, directory, step):
@@ -76,8 +76,8 @@ def run_steps(program, preload, files, steps):
     """Runs the steps in a new directory with these files. Returns the `RunResults`."""
     with tempfile.TemporaryDirectory(prefix="whole-", dir=IN_MEMORY) as directory:
         put_files(directory, {HOME: None, **files})
-        ran = [run_step(program, preload, directory, step) for step in steps]
-        return RunResults(ran, files_in(directory))
+        runs = [run_step(program, preload, directory, step) for step in steps]
+        return RunResults(runs, files_in(directory))
 
 
 def case(name, *rows):
@@ -92,7 +92,7 @@ def case(name, *rows):
     return mark
 
 
-class Programs(FaultRunner):
+class ProgramRunner(FaultRunner):
     """Runs the programs in new directories that other users can reach. Subclasses have the test cases."""
 
     def __init__(self, programs, scratch, keys):
@@ -123,37 +123,38 @@ class Programs(FaultRunner):
         """Creates a directory with the keys, the data files and these files."""
         return self.new_directory({HOME: None, **self.keys, **DATA, **files})
 
-    def signed(self, *flags, **files):
+    def signed_directory(self, *flags, **files):
         """Creates a directory like `directory`, and signs the file `data` in it with these flags."""
         directory = self.directory(**files)
         self.sign(directory, *flags)
         return directory
 
-    def ours(self, directory, *arguments, **options):
+    def run_ours(self, directory, *arguments, **options):
         """Runs c/minisign."""
         return self.run(directory, arguments, {"HOME": HOME}, **options)
 
-    def theirs(self, directory, *arguments, **options):
+    def run_theirs(self, directory, *arguments, **options):
         """Runs Minisign's own program."""
         return self.run(directory, arguments, {"HOME": HOME}, self.programs.theirs, **options)
 
     def sign(self, directory, *flags, **options):
-        return self.ours(directory, "-Sm", "data", "-s", PLAIN_KEY, *flags, **options)
+        return self.run_ours(directory, "-Sm", "data", "-s", PLAIN_KEY, *flags, **options)
 
     def expect_accepted(self, directory, public):
         """Checks that both programs accept the signature of the file `data`."""
-        for run in (self.theirs, self.ours):
-            ran = run(directory, "-Vm", "data", "-p", public)
-            expect(ran.status == 0, f"{run.__name__} rejects the signature under {public}", ran)
+        for program, run in (("Minisign", self.run_theirs), ("c/minisign", self.run_ours)):
+            result = run(directory, "-Vm", "data", "-p", public)
+            expect(result.status == 0, f"{program} rejects the signature under {public}", result)
 
     def expect_rejected(self, error_output, *arguments, files=None, status=2, **options):
         """Runs c/minisign in a directory with these files. Checks that it exits with this status, that its error output ends with
         `error_output`, and that it changes no file."""
         directory = self.directory(**(files or {}))
         before = files_in(directory)
-        ran = self.ours(directory, *arguments, **options)
-        expect(ran.status == status and ran.stderr.endswith(error_output), ran, f"expected status {status} and {error_output}")
-        expect(files_in(directory) == before, "a file was created or changed", ran)
+        result = self.run_ours(directory, *arguments, **options)
+        is_expected = result.status == status and result.stderr.endswith(error_output)
+        expect(is_expected, result, f"expected status {status} and {error_output}")
+        expect(files_in(directory) == before, "a file was created or changed", result)
 
     def at_terminal(self, directory, *arguments, **environment):
         return AtTerminal(["minisign", *arguments], self.program, directory, {"HOME": HOME, **environment})
@@ -171,21 +172,22 @@ def expect_prompt(terminal):
     wait_until(lambda: not terminal.is_echoing(), "the terminal shows typed text")
 
 
-def expect_end(terminal, status, shown, typed=b""):
+def expect_end(terminal, status, pattern, typed=b""):
     """Types `typed`. Checks that the run then exits with this status, and that its output matches the regular
-    expression `shown`."""
+    expression `pattern`."""
     actual = terminal.finish(typed)
-    expect(actual == status and re.search(shown, terminal.shown),
-           f"status {actual} and the output {terminal.shown!r}, expected status {status} and {shown!r}")
+    expect(actual == status and re.search(pattern, terminal.shown),
+           f"status {actual} and the output {terminal.shown!r}, expected status {status} and {pattern!r}")
 
 
 # The minimum of scrypt's N that Minisign accepts, for fast tests.
 MIN_ROWS = 1024
-# If the product of N and p is not below this limit, `sealed` saves the time for deriving a key. No password decrypts the result.
+# If the product of N and p is not below this limit, `encrypt_key_file` saves the time for deriving a key. No password
+# decrypts the result.
 MAX_DERIVED_WORK = 1 << 22
 
 
-def sealed(text, password, memory=1 << 24, rows=MIN_ROWS, times=1):
+def encrypt_key_file(text, password, memory=1 << 24, rows=MIN_ROWS, times=1):
     """Encrypts an unencrypted secret key file. The operations limit and the memory limit are those from which Minisign computes
     N = `rows` and p = `times` for scrypt. Usually the operations limit determines N. If `memory` is the memory of `rows` rows, the
     memory limit determines N, and the operations limit p."""

@@ -96,13 +96,13 @@ def initial_files(programs):
     keys = keys_of(programs)
     signing = (("-Sm", "data", "more", "-s", PLAIN_KEY), ("-Slm", "data", "-s", PLAIN_KEY, "-x", "legacy.minisig"))
     signed = run_steps(programs.theirs, "", {**keys, **DATA}, map(Step, signing)).files
-    made = {name: signed[name][1] for name in SIGNATURES[:3]}
+    signatures = {name: signed[name][1] for name in SIGNATURES[:3]}
     files = {
         **keys,
         **DATA,
-        **made,
+        **signatures,
         "directory/kept": b"kept",
-        "cut.minisig": made["data.minisig"][:150],
+        "cut.minisig": signatures["data.minisig"][:150],
         "cut.pub": keys[PUBLIC_KEY][:60],
         "cut.key": keys[PLAIN_KEY][:100],
         # One bit of the key is wrong.
@@ -213,14 +213,14 @@ def check_line(programs, initial, line):
     """Runs a command line, and raises a `Failure` unless its results are as the head of this file says."""
     with tempfile.TemporaryDirectory(prefix="random-line-", dir=IN_MEMORY) as directory:
         put_files(directory, {**initial.files, **LINKS})
-        ran = line.run(programs.ours, directory)
-        expect(ran.status in (0, 1, 2) and not any(word in ran.stderr for word in REPORTS),
-               f"it exited with status {ran.status}, expected 0, 1 or 2 without a report, "
-               f"and said {ran.stderr[-1500:].decode(errors='replace')}")
+        ours = line.run(programs.ours, directory)
+        expect(ours.status in (0, 1, 2) and not any(word in ours.stderr for word in REPORTS),
+               f"it exited with status {ours.status}, expected 0, 1 or 2 without a report, "
+               f"and printed {ours.stderr[-1500:].decode(errors='replace')}")
         check_files(initial, directory, line)
         data = line.value_of("-m")
         # If the data is one of the outputs, a later signature may have replaced it.
-        if line.command == "S" and ran.status == 0 and not line.has("-v", "-p", "-P", "-x") and data not in (None, *line.outputs):
+        if line.command == "S" and ours.status == 0 and not line.has("-v", "-p", "-P", "-x") and data not in (None, *line.outputs):
             theirs = run_program([programs.theirs, "-Vm", data, "-P", initial.public_key], directory, seconds=MAX_SECONDS_PER_LINE)
             expect(theirs.status == 0, "Minisign does not verify what was signed", theirs)
         # The results are compared only for -V, without a flag that Minisign does not have, or that selects another command.
@@ -230,9 +230,9 @@ def check_line(programs, initial, line):
             and not line.has("-k", "-K", "-G", "-S", "-Z", "-v", "-h", "--", "-")
         ):
             theirs = line.run(programs.theirs, directory)
-            is_same_verdict = (theirs.status == 0) == (ran.status == 0)
-            expect(theirs.status == ran.status or is_same_verdict and line.may_have_several_errors(directory),
-                   ran, f"Minisign {theirs}")
+            is_same_verdict = (theirs.status == 0) == (ours.status == 0)
+            expect(theirs.status == ours.status or is_same_verdict and line.may_have_several_errors(directory),
+                   ours, f"Minisign {theirs}")
 
 
 def failure_of_line(programs, initial, seed, end, number):
@@ -242,8 +242,8 @@ def failure_of_line(programs, initial, seed, end, number):
     line = Line(initial.public_key, random.Random(f"{seed} {number}"))
     try:
         check_line(programs, initial, line)
-    except (Failure, subprocess.SubprocessError, OSError) as why:
-        return f"line {number} of seed {seed}: {line.arguments!r}, typed {line.typed[:80]!r}: {why}"
+    except (Failure, subprocess.SubprocessError, OSError) as error:
+        return f"line {number} of seed {seed}: {line.arguments!r}, typed {line.typed[:80]!r}: {error}"
     return ""
 
 

@@ -26,17 +26,17 @@ def shows_signed_text(directory):
             (REJECTED, 6, TARGET, "\tsize:x", OLD_DATA)):
         directory.put_installed(installed, b"6" if status == ALREADY_INSTALLED else b"5")
         directory.offer(number=number, signed_name=name, more=more)
-        shown = f"{number}\ntimestamp:{number}\tfile:{name}{more}\tprehashed\n"
-        shown = shown.replace("\x1b", "\\u{1b}").replace("\x9b", "\\u{9b}")
+        expected_output = f"{number}\ntimestamp:{number}\tfile:{name}{more}\tprehashed\n"
+        expected_output = expected_output.replace("\x1b", "\\u{1b}").replace("\x9b", "\\u{9b}")
         # The second time, the comment differs from the signed one.
-        for field, expected in ((f"timestamp:{number}", (status, shown.encode())), ("timestamp:7", (REJECTED, b""))):
+        for field, expected in ((f"timestamp:{number}", (status, expected_output.encode())), ("timestamp:7", (REJECTED, b""))):
             directory.put("new.sig", directory.content("new.sig").replace(b"timestamp:%d" % number, field.encode()))
-            ran = directory.run(CHECK_ARGUMENTS)
-            is_silent = ran.status in (0, ALREADY_INSTALLED, OLDER_VERSION)
-            expect((ran.status, ran.stdout) == expected and bool(ran.stderr) != is_silent, ran, f"expected {expected}")
+            result = directory.run(CHECK_ARGUMENTS)
+            is_silent = result.status in (0, ALREADY_INSTALLED, OLDER_VERSION)
+            expect((result.status, result.stdout) == expected and bool(result.stderr) != is_silent, result, f"expected {expected}")
     directory.offer()
-    with open("/dev/full", "wb") as full:
-        directory.expect_end(directory.run(CHECK_ARGUMENTS, stdout=full), FAILED)
+    with open("/dev/full", "wb") as full_device:
+        directory.expect_end(directory.run(CHECK_ARGUMENTS, stdout=full_device), FAILED)
 
 
 @check_cases.table("--check --again accepts other data of the recorded version")
@@ -72,8 +72,9 @@ def reports_without_data(directory, arguments, status, error_output):
     """With these arguments, a run fails without waiting for data and without changing anything."""
     before = directory.snapshot()
     with pipe_without_data() as pipe:
-        ran = directory.run(arguments, stdin=pipe)
-    expect(ran.status == status and error_output in (None, ran.stderr), ran, f"expected status {status} and {error_output}")
+        result = directory.run(arguments, stdin=pipe)
+    expect(result.status == status and error_output in (None, result.stderr), result,
+           f"expected status {status} and {error_output}")
     expect(directory.snapshot() == before, f"the directory has {os.listdir(directory.path)}")
 
 
@@ -82,8 +83,8 @@ def reads_complete_record(directory):
     """While installations replace the record, a slow --check reads the old or the new record, complete."""
 
     def rename(_):
-        directory.put("made", b"timestamp:5")
-        os.replace(directory.path_of("made"), directory.path_of(RECORD))
+        directory.put("new-record", b"timestamp:5")
+        os.replace(directory.path_of("new-record"), directory.path_of(RECORD))
 
     with repeating(rename, 0.02):
         for _ in range(20):
@@ -96,7 +97,7 @@ UPDATER_DIRECTORY = os.path.join(proved.ROOT, "examples", "updater")
 
 
 def prepare_documented(directory, *names):
-    """Makes the files that docs/INSTALLING.md describes, with version 1 of a program installed, and further directories `names`.
+    """Creates the files that docs/INSTALLING.md describes, with version 1 of a program installed, and further directories `names`.
     Returns an environment in which minisign-install is in PATH."""
     directory.put_installed(None, None)
     for name in ("there", "bin", *names):
@@ -128,6 +129,6 @@ def checks_units(directory):
     """`systemd-analyze verify` reports no error in them."""
     for name in ("app-update.service", "app-update.timer"):
         directory.put(name, read(UPDATER_DIRECTORY, name))
-    ran = run_program([needs.program("systemd-analyze", "systemd"), "verify", "--man=no", "app-update.timer", "app-update.service"],
-                      directory.path)
-    expect(ran.status == 0 and b"app-update" not in ran.stderr, ran)
+    command = [needs.program("systemd-analyze", "systemd"), "verify", "--man=no", "app-update.timer", "app-update.service"]
+    result = run_program(command, directory.path)
+    expect(result.status == 0 and b"app-update" not in result.stderr, result)

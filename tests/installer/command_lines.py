@@ -1,4 +1,5 @@
-"""Checks the command lines of `minisign-install` and its messages."""
+"""Checks which command lines `minisign-install` accepts, and the messages for those that it rejects, for unreadable files, and
+about progress. (tests/command_line/command_line.py is about c/minisign.)"""
 
 import errno
 import os
@@ -19,25 +20,26 @@ OTHER_KEY = ("--key", "RWQf6LRCGA9i53mlYecO4IzT51TGPpvWucNSCh1CBM0QTaLn73Y7GFO3"
 MISSING_FILE = "No such file or directory (os error 2)"
 
 
-def run_reports(directory, arguments, status, error_output, output=b""):
-    """A run with these arguments exits with this status. Its error output contains `error_output`, and is empty if
-    `error_output` is. Its standard output begins with `output`. The run creates no file except the lock."""
+def check_report(directory, arguments, status, error_output, output=b""):
+    """Checks that a run with these arguments exits with this status. Its error output contains `error_output`, and is empty
+    if `error_output` is. Its standard output begins with `output`. The run creates no file except the lock. The file `bytes`
+    is not UTF-8."""
     directory.put("bytes", b"\xff\n")
     before = os.listdir(directory.path)
-    ran = directory.run(arguments)
-    has_error = error_output in ran.stderr and bool(error_output) == bool(ran.stderr)
-    expect(ran.status == status and has_error and ran.stdout.startswith(output), ran,
+    result = directory.run(arguments)
+    has_error = error_output in result.stderr and bool(error_output) == bool(result.stderr)
+    expect(result.status == status and has_error and result.stdout.startswith(output), result,
            f"expected status {status}, the error {error_output} and the output {output}")
     after = os.listdir(directory.path)
     expect({*after} - {LOCK} == {*before}, f"the directory has {sorted(after)}, expected {sorted(before)}")
     expect(directory.content() == OLD_DATA, f"the target holds {str(directory.content())[:40]}, expected {str(OLD_DATA)[:40]}")
 
 
-def misuse(name, arguments, argument, why):
-    """Returns a row for `run_reports`: an invalid command line. The program prints the error `why`, about `argument` unless that is
-    None, then the usage and a hint."""
+def misuse(name, arguments, argument, reason):
+    """Returns a row for `check_report`: an invalid command line. The program prints the error `reason`, about `argument` unless
+    that is None, then the usage and a hint."""
     error_output = (
-        (error_text(argument, why) if argument else f"{why}\n".encode())
+        (error_text(argument, reason) if argument else f"{reason}\n".encode())
         + USAGE
         + b"hint: use --help to list the options\n"
     )
@@ -56,7 +58,7 @@ FIELD = "timestamp or version"
 OCTAL = "three octal digits such as 644"
 SIZE = "a number of bytes such as 5000, 100K or 20M"
 DURATION = "a number of seconds from 0 to 86400"
-# Rows of a name and the arguments of `run_reports`.
+# Rows of a name and the arguments of `check_report`. The sizes that end in T or G and are rejected are 2^64 bytes.
 REPORTS = (
     *(misuse(f"{option} {value!r}", [option, value, *PATHS], option, f'invalid value "{value}", expected {expected}')
       for option, expected, values in (
@@ -67,6 +69,7 @@ REPORTS = (
           ("--wait", DURATION, ("1.5", "86401", "99999", "")),
           ("--name", "a file name", ("",)))
       for value in values),
+    # --help and -h are only known without other arguments.
     *(misuse(f"the unknown option {option}", [option, *value, *PATHS], option, "unknown option")
       for option, *value in (("--frist",), ("--num", "version"), ("-h",), ("-f",), ("--name=app",), ("--First",), ("--help",))),
     *(misuse(f"{arguments[0]} twice", [*arguments, *PATHS, *arguments], arguments[0], GIVEN_TWICE)
@@ -97,7 +100,7 @@ REPORTS = (
     misuse("--key without a value", [*PATHS, "--key"], "--key", NEEDS_VALUE),
     *(
         (
-            f"rejects {what} as the target",
+            f"rejects {description} as the target",
             [*PATHS[:3], path],
             MISUSED,
             error_text(
@@ -106,7 +109,7 @@ REPORTS = (
                 "give the path of the file to install, not of its directory",
             ),
         )
-        for what, path in (
+        for description, path in (
             ("a path that ends with a slash", f"{TARGET}/"),
             ("the current directory", "."),
             ("the parent directory", ".."),
@@ -118,8 +121,8 @@ REPORTS = (
         FAILED,
         error_text("none\\u{1b}[31m", MISSING_FILE),
     ),
-    *((f"reports a missing {what}", [*PATHS[:at], "none", *PATHS[at + 1:]], FAILED, error_text("none", MISSING_FILE))
-      for at, what in enumerate(("key file", "data file", "signature file"))),
+    *((f"reports a missing {description}", [*PATHS[:index], "none", *PATHS[index + 1:]], FAILED, error_text("none", MISSING_FILE))
+      for index, description in enumerate(("key file", "data file", "signature file"))),
     ("reports a missing directory", [*PATHS[:3], f"none/{TARGET}"], FAILED, MISSING_DIRECTORY_ERROR),
     (
         "finds no record of a target in the root directory",
@@ -141,7 +144,7 @@ REPORTS = (
     *((f"{word} prints the usage", [word], 0, b"", USAGE) for word in ("--help", "-h")),
     ("--version prints the version", ["--version"], 0, b"", b"minisign-install 0.3.0\n"),
 )
-command_line_cases.table(*REPORTS)(run_reports)
+command_line_cases.table(*REPORTS)(check_report)
 
 
 @command_line_cases.table(
@@ -150,11 +153,13 @@ command_line_cases.table(*REPORTS)(run_reports)
     ("takes options before the paths", ["--max-size", "1000000", "--numbering", "timestamp", "--name", TARGET, *PATHS]),
     ("takes --max-size with a unit", ["--max-size", "1M", *PATHS]),
     ("takes the greatest --max-size", ["--max-size", "16777215T", *PATHS]),
+    # --most is the former name of --max-size.
     ("takes --most as --max-size", ["--most", str(len(NEW_DATA)), *PATHS]),
     ("takes -- before the paths", ["--", *PATHS]),
     ("takes -- between the paths", [PK, "--first", "new", "--", "new.sig", TARGET]),
     ("takes a name that begins with a dash", ["--", *PATHS[:3], "--first"], dict(name="--first", signed_name="--first")),
-    ("takes a file name other than the signed one", [*PATHS[:3], "app", "--name", "app-1.2"], dict(name="app", signed_name="app-1.2")),
+    ("takes a file name other than the signed one", [*PATHS[:3], "app", "--name", "app-1.2"],
+     dict(name="app", signed_name="app-1.2")),
 )
 def takes_arguments(directory, arguments, mode=0o751, name=TARGET, signed_name=TARGET):
     """Installs an update with these arguments. `name` is the target, and `signed_name` the file name in the trusted comment."""
@@ -169,9 +174,9 @@ def takes_arguments(directory, arguments, mode=0o751, name=TARGET, signed_name=T
 
 @command_line_cases.table("reports that libsodium cannot be initialized")
 def reports_failing_libsodium(directory):
-    ran = directory.install_broken(AT=1, CALLS="sodium_init", ERRNO=errno.EIO)
+    result = directory.install_broken(AT=1, CALLS="sodium_init", ERRNO=errno.EIO)
     error_output = b"error: libsodium could not be initialized\n"
-    expect((ran.status, ran.stderr) == (FAILED, error_output), ran, f"expected status {FAILED} and {error_output}")
+    expect((result.status, result.stderr) == (FAILED, error_output), result, f"expected status {FAILED} and {error_output}")
     expect(directory.content() == OLD_DATA, f"the target holds {str(directory.content())[:40]}, expected {str(OLD_DATA)[:40]}")
 
 

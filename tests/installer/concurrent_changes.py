@@ -126,11 +126,11 @@ def swapped_data(directory):
                 file.write(data)
                 file.truncate()
 
-    def check(ran):
+    def check(result):
         state = directory.installed_state()
-        is_installed = ran.status == 0 and state == (NEW_DATA, b"6")
-        is_rejected = ran.status == REJECTED and state in ((NEW_DATA, b"6"), (OLD_DATA, b"5"))
-        expect(is_installed or is_rejected, ran, f"the target holds {str(state[0])[:40]}, and the record {state[1]}")
+        is_installed = result.status == 0 and state == (NEW_DATA, b"6")
+        is_rejected = result.status == REJECTED and state in ((NEW_DATA, b"6"), (OLD_DATA, b"5"))
+        expect(is_installed or is_rejected, result, f"the target holds {str(state[0])[:40]}, and the record {state[1]}")
         directory.put_installed()
 
     run_while_swapping(directory, swap, check)
@@ -140,8 +140,8 @@ def swapped_data(directory):
 def swapped_target(directory):
     """Files, links, directories and pipes replace the target. No link is followed, and no pipe is waited for or written to."""
     directory.put("behind", b"behind")
-    path, new_path = directory.path_of(TARGET), directory.path_of("made")
-    makers = [lambda: directory.put("made", OLD_DATA), lambda: os.symlink("behind", new_path),
+    path, new_path = directory.path_of(TARGET), directory.path_of("replacement")
+    makers = [lambda: directory.put("replacement", OLD_DATA), lambda: os.symlink("behind", new_path),
               lambda: os.mkfifo(new_path), lambda: os.mkdir(new_path)]
 
     def swap(number):
@@ -155,12 +155,12 @@ def swapped_target(directory):
                 # rename does not replace a file by a directory, and a run may put a file there at any time.
                 os.remove(path)
 
-    def check(ran):
-        expect(ran.status in (0, FAILED, SAME_VERSION, ALREADY_INSTALLED), ran)
-        if ran.status in (0, SAME_VERSION):
+    def check(result):
+        expect(result.status in (0, FAILED, SAME_VERSION, ALREADY_INSTALLED), result)
+        if result.status in (0, SAME_VERSION):
             # If this version is recorded, the next runs read the target. After one of them rejects it, the older version is
             # recorded again.
-            directory.put(RECORD, b"6" if ran.status == 0 else b"5")
+            directory.put(RECORD, b"6" if result.status == 0 else b"5")
         expect(directory.content("behind") == b"behind" and directory.content(RECORD) in (b"5", b"6"),
                f"the file behind the link holds {directory.content('behind')}, and the record {directory.content(RECORD)}")
 
@@ -181,21 +181,22 @@ def changed_temporary_file(directory):
 @concurrent_cases.table("installs into the moved directory")
 def moved_directory(directory):
     """If the directory is moved during a run, the update is installed there, and not in another directory under the old path."""
-    sub, moved = (Directory(directory.path_of(name), directory.runner) for name in ("sub", "moved"))
+    original, moved = (Directory(directory.path_of(name), directory.runner) for name in ("sub", "moved"))
 
     def make():
-        os.mkdir(sub.path)
-        sub.reset()
+        os.mkdir(original.path)
+        original.reset()
 
     def move(_):
-        os.rename(sub.path, moved.path)
+        os.rename(original.path, moved.path)
         make()
 
     make()
     directory.expect_end(directory.run_stopped_when_staged(move, "sub"), 0)
     moved.expect_installed(NEW_DATA, b"6")
-    sub.expect_installed(OLD_DATA, b"5")
-    expect({*os.listdir(sub.path)} == {PK, TARGET, RECORD, "new", "new.sig"}, f"the other directory has {os.listdir(sub.path)}")
+    original.expect_installed(OLD_DATA, b"5")
+    names = os.listdir(original.path)
+    expect({*names} == {PK, TARGET, RECORD, "new", "new.sig"}, f"the new directory at the old path has {names}")
 
 
 @concurrent_cases.table(
@@ -211,11 +212,11 @@ def replaced_target(directory, is_installed):
         if is_installed:
             fresh.expect_install("new", 0)
         fresh.put("same", fresh.content())
-        ran = fresh.run_stopped_before(
-            number, lambda at: os.replace(at.path_of("same"), at.path_of(TARGET)), CALLS="fstat fstatat openat"
+        result = fresh.run_stopped_before(
+            number, lambda stopped: os.replace(stopped.path_of("same"), stopped.path_of(TARGET)), CALLS="fstat fstatat openat"
         )
-        fresh.expect_result(ran, ALREADY_INSTALLED if is_installed else 0, b"")
-        return ran.reached
+        fresh.expect_result(result, ALREADY_INSTALLED if is_installed else 0, b"")
+        return result.reached
 
     for_each_call(directory.runner.parent, attempt)
 
@@ -225,7 +226,7 @@ def replaced_target(directory, is_installed):
     ("notices a removed lock file before it renames the record", "sync", 2),
     ("notices a removed lock file before it renames the target", "sync", 3),
 )
-def notices_lost_lock(directory, call, at):
+def notices_lost_lock(directory, call, number):
     """The lock file is removed during a run, and another run installs a later update. Then the first run fails, and changes nothing
     more."""
     directory.offer("later", LATER_DATA, 7)
@@ -234,9 +235,9 @@ def notices_lost_lock(directory, call, at):
         os.remove(directory.path_of(LOCK))
         directory.expect_install("later", 0)
 
-    ran = directory.run_stopped_before(at, overtake, CALLS=LIBC_CALLS[call])
+    result = directory.run_stopped_before(number, overtake, CALLS=LIBC_CALLS[call])
     error_output = f"{LOCK}: another process removed or replaced this lock file\nhint: run the command again\n".encode()
-    expect(ran.reached and ran.status == FAILED and error_output in ran.stderr, ran)
+    expect(result.reached and result.status == FAILED and error_output in result.stderr, result)
     expect(directory.installed_state() == (LATER_DATA, b"7"), f"the record holds {directory.content(RECORD)}")
 
 
@@ -278,17 +279,17 @@ def concurrent_runs(directory, rounds=25, **slow):
     directory.offer("older", LATER_DATA, 4)
     with repeating(read):
         for number in range(6, 6 + 2 * rounds, 2):
-            one, two = (word * 20000 + str(number).encode() for word in (b"one", b"two"))
-            updates.update({one: number, two: number + 1})
-            directory.offer("one", one, number)
-            directory.offer("two", two, number + 1)
+            first_data, second_data = (word * 20000 + str(number).encode() for word in (b"one", b"two"))
+            updates.update({first_data: number, second_data: number + 1})
+            directory.offer("one", first_data, number)
+            directory.offer("two", second_data, number + 1)
             started = {name: directory.start(directory.arguments(name), directory.preload_environment(**slow)) for name in allowed}
             for name, process in started.items():
                 stderr = process.communicate(timeout=SECONDS)[1]
                 expect(process.returncode in allowed[name],
                        f"{name} exited with status {process.returncode}, expected one of {allowed[name]}: {stderr}")
             recorded = int(directory.content(RECORD))
-            expect((directory.content() != two or recorded == number + 1) and not directory.temporary_files(),
+            expect((directory.content() != second_data or recorded == number + 1) and not directory.temporary_files(),
                    f"the record holds {recorded}, and it left {directory.temporary_files()}")
 
 
@@ -299,8 +300,8 @@ def concurrent_runs(directory, rounds=25, **slow):
     ("reports a held lock before an installed update", NEW_DATA, b"6", ALREADY_INSTALLED),
 )
 def reports_held_lock(directory, installed, record, status):
-    """Without --wait, a run fails at once, otherwise after this time. The error is about the lock, even if the update is already
-    installed. --check needs no lock."""
+    """Without --wait, a run fails at once; with --wait SECONDS, it fails after this time. The error is about the lock, even if the
+    update is already installed. --check needs no lock."""
     directory.put_installed(installed, record)
     with directory.locked():
         directory.expect_install("new", IN_USE, error_output=TARGET_IN_USE)

@@ -167,11 +167,11 @@ def prepare(directory):
     return environment
 
 
-def expect_script(directory, ran, status, installed):
+def expect_script(directory, result, status, installed):
     """Expects that the script exited with this status and printed nothing to standard output, that the program `installed` is
     installed, and that no temporary file is left."""
     program = directory.content("there/app")
-    expect((ran.status, ran.stdout, program) == (status, b"", installed), ran,
+    expect((result.status, result.stdout, program) == (status, b"", installed), result,
            f"expected status {status} and the program {installed[:9]}, found {program[:9]}")
     names = sorted(os.listdir(directory.path_of("there")))
     expect(names == [".app.lock", ".app.number", "app"], f"the directory of the program has {names}")
@@ -219,8 +219,8 @@ def restarts_program(directory):
             offer_app(directory, "url/app", data, number)
             if is_broken:
                 directory.put("broken", b"")
-            ran = run_script(directory, environment, server.url, *command)
-            expect((ran.status, restarts()) == (status, count), ran,
+            result = run_script(directory, environment, server.url, *command)
+            expect((result.status, restarts()) == (status, count), result,
                    f"version {number}: the command ran {restarts()} times, expected {count}")
             if is_broken:
                 os.remove(directory.path_of("broken"))
@@ -268,10 +268,10 @@ def survives_bad_server(directory, environment, responses, status, sent):
     signature file if the new one could not be fetched."""
     old_signature = directory.content("app.minisig")
     with serving(directory, responses) as server:
-        ran = run_script(directory, environment, server.url)
-        expect_script(directory, ran, status, OLD_DATA)
+        result = run_script(directory, environment, server.url)
+        expect_script(directory, result, status, OLD_DATA)
         # curl exits with status 22 for an HTTP error.
-        expect(Handler.find_nothing not in responses.values() or b"curl: (22)" in ran.stderr, ran)
+        expect(Handler.find_nothing not in responses.values() or b"curl: (22)" in result.stderr, result)
         if sent:
             minimum, maximum = sent
             expect(minimum <= server.sent <= maximum + MAX_BUFFERED,

@@ -1,6 +1,6 @@
 #!/usr/bin/env python3
-"""Checks the function `minisign_install_file` of minisign_installing.h: its results, its messages, and how it uses the
-functions that its caller passes.
+"""Checks that the function `minisign_install_file` of minisign_installing.h has the right results and messages, and that
+it calls the functions that its caller passes as documented.
 
     tests/installer/install_file.py [WORD ..]
 
@@ -54,8 +54,8 @@ SIGNATURE = "NULL"
 DATA = "new"
 
 
-def lines_of(ran):
-    return ran.stdout.decode(errors="replace").splitlines()
+def lines_of(run_result):
+    return run_result.stdout.decode(errors="replace").splitlines()
 
 
 def call(directory, words, result, error="OK", phases=(), messages=(), shown="", **options):
@@ -63,7 +63,7 @@ def call(directory, words, result, error="OK", phases=(), messages=(), shown="",
     (tuples of kind, file, text, errno and, if it is about a line of a list, the number of the line), and no others. If
     `shown` is a version number, the function must also pass this number and the trusted comment to its caller."""
     arguments = [*words, PK, "new.sig", TARGET]
-    ran = directory.run(arguments, **options)
+    run_result = directory.run(arguments, **options)
     expected = []
     if shown:
         comment = directory.content("new.sig").split(b"\n")[2].decode()
@@ -71,7 +71,7 @@ def call(directory, words, result, error="OK", phases=(), messages=(), shown="",
     expected += [f"message {kind}, {file}, {text}, {number}" + "".join(f", line {line}" for line in lines)
                  for kind, file, text, number, *lines in messages]
     expected.append(f"result {result}, error {ERRORS[error]}, phases:{''.join(f' {phase}' for phase in phases)}")
-    expect(ran.status == 0 and lines_of(ran) == expected, ran, f"expected {expected}")
+    expect(run_result.status == 0 and lines_of(run_result) == expected, run_result, f"expected {expected}")
 
 
 def expect_new(directory, data=NEW_DATA, number=b"6"):
@@ -237,20 +237,20 @@ def rolls_back(directory):
 @one_call_cases.table("reports a held lock, and waits for it")
 def reports_lock(directory):
     with directory.locked():
-        held = [(ERROR, TARGET, "another installation of this file is running", 0)]
-        call(directory, ["data=new"], IN_USE, "TARGET_IN_USE", messages=held)
-        call(directory, ["data=new", "wait=1"], IN_USE, "TARGET_IN_USE", [WAITING], held)
+        messages = [(ERROR, TARGET, "another installation of this file is running", 0)]
+        call(directory, ["data=new"], IN_USE, "TARGET_IN_USE", messages=messages)
+        call(directory, ["data=new", "wait=1"], IN_USE, "TARGET_IN_USE", [WAITING], messages)
         call(directory, ["data=new", "wait=20", f"stop={WAITING}"], STOPPED, phases=[WAITING])
     call(directory, ["data=new"], INSTALLED, phases=FROM_FILE, shown=6)
 
 
 @one_call_cases.table(
-    *((f"stops in phase {phase}", word, phase, phases[:phases.index(phase) + 1]) for word,
+    *((f"stops in phase {phase}", source, phase, phases[:phases.index(phase) + 1]) for source,
       phases in (("data", FROM_FILE), ("read", FROM_FUNCTION))
-      for phase in phases if word == "data" or phase == RECEIVING))
-def stops(directory, word, phase, phases):
+      for phase in phases if source == "data" or phase == RECEIVING))
+def stops(directory, source, phase, phases):
     """The run removes its temporary files, and target and record are unchanged. The next run installs the update."""
-    call(directory, [f"{word}=new", f"stop={phase}"], STOPPED, phases=phases, shown=6)
+    call(directory, [f"{source}=new", f"stop={phase}"], STOPPED, phases=phases, shown=6)
     expect_old(directory)
     call(directory, ["data=new"], INSTALLED, phases=FROM_FILE, shown=6)
     expect_new(directory)
@@ -268,8 +268,8 @@ def stops_comparing(directory):
     ("fails if a function writes no length", "nothing", "Input/output error", 5),
     ("fails if a function returns a length above the size", "too-long", "Input/output error", 5),
 )
-def reports_reading(directory, word, text, number):
-    call(directory, [f"read={word}"], FAILED, "READING_FAILED", messages=[(CAUSE, "NULL", text, number)], shown=6)
+def reports_reading(directory, function, text, number):
+    call(directory, [f"read={function}"], FAILED, "READING_FAILED", messages=[(CAUSE, "NULL", text, number)], shown=6)
     expect_old(directory)
 
 
@@ -293,9 +293,9 @@ def reads_nothing(directory):
 
 
 @one_call_cases.table(("rejects data above the limit", "data"), ("rejects received data above the limit", "read"))
-def rejects_large(directory, word):
-    call(directory, [f"{word}=new", "max=999"], TOO_LARGE, "READING_FAILED", (), [
-         (CAUSE, DATA if word == "data" else "NULL", "the data is larger than the limit", 0)], 6)
+def rejects_large(directory, source):
+    call(directory, [f"{source}=new", "max=999"], TOO_LARGE, "READING_FAILED", (), [
+         (CAUSE, DATA if source == "data" else "NULL", "the data is larger than the limit", 0)], 6)
     expect_old(directory)
 
 
@@ -305,9 +305,9 @@ def reports_files(directory):
     call(directory, ["data=none"], FAILED, "READING_FAILED", messages=missing)
     call(directory, ["fd=none"], FAILED, "READING_FAILED", messages=[(CAUSE, "NULL", "Bad file descriptor", 9)])
     os.mkdir(directory.path_of(LOCK))
-    wrong = [(CAUSE, f"./{LOCK}", "this is a directory", 0), (HINT, "NULL", "remove it or move it away", 0)]
-    call(directory, ["data=new"], FAILED, "READING_FAILED", messages=wrong)
-    call(directory, ["check"], FAILED, "READING_FAILED", messages=wrong)
+    messages = [(CAUSE, f"./{LOCK}", "this is a directory", 0), (HINT, "NULL", "remove it or move it away", 0)]
+    call(directory, ["data=new"], FAILED, "READING_FAILED", messages=messages)
+    call(directory, ["check"], FAILED, "READING_FAILED", messages=messages)
     expect_old(directory)
 
 
@@ -322,8 +322,8 @@ def reports_unsynced(directory):
 
 @one_call_cases.table(
     *(
-        (f"fails if the function with a context writes no answer{more}", word)
-        for more, word in (("", "nothing"), (", for a pipe", "pipe"))
+        (f"fails if the function with a context writes no answer{suffix}", word)
+        for suffix, word in (("", "nothing"), (", for a pipe", "pipe"))
     )
 )
 def needs_answer(directory, word):
@@ -332,7 +332,7 @@ def needs_answer(directory, word):
     expect_old(directory)
 
 
-@one_call_cases.table(*((f"rejects {what}, with {accepting}", line, accepting) for what, line in (
+@one_call_cases.table(*((f"rejects {description}, with {accepting}", line, accepting) for description, line in (
     ("a weak signature of the comment", 3), ("a weak public key", None)) for accepting in ("verify=all", "answer=all")))
 def rejects_weak(directory, line, accepting):
     """A key and a signature of small order would be valid for every file."""
@@ -393,8 +393,8 @@ def installs_listed(directory, words, phases, listed=NEW_LIST, **offered):
 
 @one_call_cases.table(
     *(
-        (f"rejects a list {what}", *row)
-        for what, *row in (
+        (f"rejects a list {description}", *row)
+        for description, *row in (
             ("with a malformed line", "MALFORMED_LINE", "line 4 is malformed", [4], dict(listed=NEW_LIST + b"text\n")),
             (
                 "with 128 digits that mean nothing",
@@ -462,13 +462,13 @@ def rejects_other_list(directory):
 
 
 @one_call_cases.table(("rejects data that is not listed", "data"), ("rejects received data that is not listed", "read"))
-def rejects_unlisted_data(directory, word):
+def rejects_unlisted_data(directory, source):
     """Even with a function that accepts all signatures, the data must have the listed digest."""
     offer_list(directory, line(LATER_DATA))
     for verifying in ("verify=all", "answer=all", "answer=libsodium"):
-        call(directory, [f"{word}=new", f"list={LIST}", "max=1000000", verifying], REJECTED, "DIGEST_MISMATCH",
-             [*[RECEIVING] * (word == "read"), COPYING, VERIFYING],
-             [(ERROR, DATA if word == "data" else "NULL", "the digest of this file is not the one in the list", 0)], 6)
+        call(directory, [f"{source}=new", f"list={LIST}", "max=1000000", verifying], REJECTED, "DIGEST_MISMATCH",
+             [*[RECEIVING] * (source == "read"), COPYING, VERIFYING],
+             [(ERROR, DATA if source == "data" else "NULL", "the digest of this file is not the one in the list", 0)], 6)
     expect_old(directory)
 
 
@@ -484,9 +484,11 @@ def rejects_weak_list(directory):
     expect_old(directory)
 
 
-@one_call_cases.table("needs a limit for data from a function that a list contains")
+@one_call_cases.table("needs a size limit for data from a function, with a list")
 def needs_limit(directory):
-    """Without a limit the call reads nothing. A signed size is not that of the data. A file and a check need no limit."""
+    """With a list, a call for data from a function needs a size limit. Without one, it reads nothing. A `size:` field in the
+    trusted comment does not help, because it is the size of the list. A check needs no limit, because it does not read the
+    data."""
     for more in ("", SIZE_FIELD):
         offer_list(directory, more=more)
         words = [f"list={LIST}", "read=new"]
@@ -512,7 +514,7 @@ def finishes_renames(directory):
 NO_NAME = "this path does not end with a file name"
 
 
-@one_call_cases.table(*((f"rejects {what}", words, text, error) for what, words, text, *error in (
+@one_call_cases.table(*((f"rejects {description}", words, text, error) for description, words, text, *error in (
     ("options without a target", ["without=target"], "the options have no target"),
     ("options without a signature", ["without=signature"], "the options have no signature file"),
     ("options without a key", ["without=key"], "the options have no public key"),
@@ -530,24 +532,24 @@ NO_NAME = "this path does not end with a file name"
     ("an unknown numbering", ["numbering=2"], None, "BAD_NUMBERING"))))
 def rejects_misuse(directory, words, text, error):
     before = directory.snapshot()
-    ran = directory.run(["data=new", *words, PK, "new.sig", TARGET])
-    lines = lines_of(ran)
-    last = f"result {MISUSE}, error {ERRORS[error[0] if error else 'BAD_OPTION']}, phases:"
-    is_said = len(lines) == 2 and lines[0].startswith(f"message {ERROR}, NULL, {text or ''}") and lines[0].endswith(", 0")
-    expect(is_said and lines[1] == last, ran, f"expected {text} and {last}")
+    run_result = directory.run(["data=new", *words, PK, "new.sig", TARGET])
+    lines = lines_of(run_result)
+    result_line = f"result {MISUSE}, error {ERRORS[error[0] if error else 'BAD_OPTION']}, phases:"
+    has_message = len(lines) == 2 and lines[0].startswith(f"message {ERROR}, NULL, {text or ''}") and lines[0].endswith(", 0")
+    expect(has_message and lines[1] == result_line, run_result, f"expected {text} and {result_line}")
     expect(directory.snapshot() == before, "something was changed")
 
 
 @one_call_cases.table("rejects a target without a name, and a key that was not read")
 def rejects_target(directory):
     for path in (f"{TARGET}/", ".", "..", ""):
-        ran = directory.run(["data=new", PK, "new.sig", path])
-        lines = lines_of(ran)
+        run_result = directory.run(["data=new", PK, "new.sig", path])
+        lines = lines_of(run_result)
         expected = [f"message {ERROR}, {path}, {NO_NAME}, 0", f"result {MISUSE}, error {ERRORS['BAD_OPTION']}, phases:"]
-        expect(lines == expected, ran, f"expected {expected}")
+        expect(lines == expected, run_result, f"expected {expected}")
     directory.put(PK, b"no key")
-    ran = directory.run(["data=new", PK, "new.sig", TARGET])
-    expect(lines_of(ran)[-1] == f"result {MISUSE}, error {ERRORS['PUBLIC_KEY_NOT_READ']}, phases:", ran)
+    run_result = directory.run(["data=new", PK, "new.sig", TARGET])
+    expect(lines_of(run_result)[-1] == f"result {MISUSE}, error {ERRORS['PUBLIC_KEY_NOT_READ']}, phases:", run_result)
     expect_old(directory)
 
 
@@ -561,9 +563,9 @@ def accepts_two_keys(directory):
         ([f"other={PK}"], "other.pub", True),
     ):
         directory.put_installed()
-        ran = directory.run(["data=new", *words, key, "new.sig", TARGET])
+        run_result = directory.run(["data=new", *words, key, "new.sig", TARGET])
         result, error = (INSTALLED, "OK") if is_accepted else (REJECTED, "DIFFERENT_KEY_IDS")
-        expect(f"result {result}, error {ERRORS[error]}," in "\n".join(lines_of(ran)), words, key, ran)
+        expect(f"result {result}, error {ERRORS[error]}," in "\n".join(lines_of(run_result)), words, key, run_result)
         (expect_new if is_accepted else expect_old)(directory)
 
 
@@ -584,8 +586,8 @@ def build(scratch, directory, *words):
 
 
 def cases_of(runner):
-    for name, case, *given in one_call_cases:
-        yield name, runner.run_case, case, *given
+    for name, case, *arguments in one_call_cases:
+        yield name, runner.run_case, case, *arguments
 
 
 def failure_of(scratch, preload, mutant):
@@ -616,11 +618,11 @@ def run_all(scratch):
     runner = InstallerRunner(build(scratch, None), Signer(scratch), tempfile.mkdtemp(dir=scratch))
     failures, count = run_cases(cases_of(runner))
     if len(sys.argv) < 2:
-        found = mutants.mutants_of("installer", "install_file_mutants")
+        tried_mutants = mutants.mutants_of("installer", "install_file_mutants")
         # Each mutant is tried in a process of its own, because cases may change the user ID of the process.
         with concurrent.futures.ProcessPoolExecutor(os.cpu_count() or 1) as pool:
-            failures += filter(None, pool.map(partial(failure_of, scratch, runner.preload), found))
-        count += len(found)
+            failures += filter(None, pool.map(partial(failure_of, scratch, runner.preload), tried_mutants))
+        count += len(tried_mutants)
     return failures, count
 
 

@@ -92,7 +92,7 @@ def break_each_call(directory, check, prepare=None, options=(), **fault):
             prepare(fresh)
         return fresh.arguments("new", *options)
 
-    return directory.runner.break_each(make, lambda ran, path: check(Directory(path, directory.runner), ran), **fault)
+    return directory.runner.break_each(make, lambda result, path: check(Directory(path, directory.runner), result), **fault)
 
 
 @cut_off_cases.table("recovers from a kill at each call")
@@ -101,8 +101,8 @@ def recovers_from_kill(directory):
     finishes the update and removes temporary files."""
     states = set()
 
-    def check(fresh, ran):
-        fresh.expect_end(ran, -signal.SIGKILL if ran.reached else 0)
+    def check(fresh, result):
+        fresh.expect_end(result, -signal.SIGKILL if result.reached else 0)
         state = fresh.installed_state()
         expect(state in UNFINISHED_STATES, f"the target or the record is neither old nor new: {str(state)[:80]}")
         states.add(state)
@@ -114,8 +114,8 @@ def recovers_from_kill(directory):
     expect(len(states) == 3, f"the kills left {len(states)} different states, expected 3")
 
 
-@cut_off_cases.table(*((f"recovers from {name}, over {before}", *state, fault)
-                       for before, *state in INITIAL_STATES for name, fault in CUTS))
+@cut_off_cases.table(*((f"recovers from {name}, over {state_name}", *state, fault)
+                       for state_name, *state in INITIAL_STATES for name, fault in CUTS))
 def recovers_from_cut(directory, data, recorded_data, options, **fault):
     """If a run is cut off at any call, the next run finishes the update, and --check reports it as installed."""
 
@@ -141,17 +141,17 @@ def reports_unsynced_file(directory):
     """A failed sync of the installed file or its directory is reported. EINVAL for the directory is not an error, because
     some file systems cannot sync directories."""
     directory.put_installed(NEW_DATA, directory.signer.version_record(NEW_DATA, 6))
-    for at, error in itertools.product((1, 2), (errno.EIO, errno.EINVAL)):
-        ran = directory.install_broken(CALLS="fsync", AT=at, ERRNO=error)
-        if (at, error) == (2, errno.EINVAL):
+    for number, error in itertools.product((1, 2), (errno.EIO, errno.EINVAL)):
+        result = directory.install_broken(CALLS="fsync", AT=number, ERRNO=error)
+        if (number, error) == (2, errno.EINVAL):
             status, error_output = ALREADY_INSTALLED, b""
         else:
-            cause = error_text(TARGET if at == 1 else ".", f"{os.strerror(error)} (os error {error})", "run the command again")
+            cause = error_text(TARGET if number == 1 else ".", f"{os.strerror(error)} (os error {error})", "run the command again")
             status, error_output = NOT_ON_DISK, UNSYNCED_ERROR + cause
         expect(
-            (ran.status, ran.stderr) == (status, error_output),
-            f"at sync {at}",
-            ran,
+            (result.status, result.stderr) == (status, error_output),
+            f"at sync {number}",
+            result,
             f"expected status {status} and {error_output}",
         )
         directory.expect_installed(NEW_DATA, b"6")
@@ -159,32 +159,33 @@ def reports_unsynced_file(directory):
 
 @cut_off_cases.table(*((f"stays consistent if {call} fails", call) for call in (*BROKEN_CALLS, "close")),
                      ("stays consistent if the disk is full", "write", errno.ENOSPC))
-def stays_consistent(directory, calls, error=errno.EIO):
+def stays_consistent(directory, function, error=errno.EIO):
     """Each of these calls fails in turn. The exit status says correctly whether the update is installed."""
     call_numbers = itertools.count(1)
 
-    def check(fresh, ran):
-        state, at = fresh.installed_state(), next(call_numbers)
-        if calls == "getrandom" and ran.status == -signal.SIGABRT and state == (OLD_DATA, b"5") and fresh.content(LOCK) is None:
+    def check(fresh, result):
+        state, call_number = fresh.installed_state(), next(call_numbers)
+        is_unchanged = state == (OLD_DATA, b"5") and fresh.content(LOCK) is None
+        if function == "getrandom" and result.status == -signal.SIGABRT and is_unchanged:
             # libsodium aborts if it gets no random bytes. This happens before any file is changed.
             return
         # The run may ignore an error of close, because the data is already synced. libsodium requests the first random
         # bytes, and has other sources for them.
-        may_succeed = calls == "close" or calls == "getrandom" and at == 1
-        expect(not ran.reached or ran.status != 0 or may_succeed, "exit status 0 although a call failed")
-        is_new = ran.status == 0 or ran.status == NOT_ON_DISK and b"installed, but" in ran.stderr
+        may_succeed = function == "close" or function == "getrandom" and call_number == 1
+        expect(not result.reached or result.status != 0 or may_succeed, "exit status 0 although a call failed")
+        is_new = result.status == 0 or result.status == NOT_ON_DISK and b"installed, but" in result.stderr
         states = [(NEW_DATA, b"6")] if is_new else [(OLD_DATA, b"5"), (OLD_DATA, b"6")]
-        has_message = ran.status == 0 or ran.stderr
-        expect(ran.status in (0, FAILED, NOT_ON_DISK) and has_message and state in states, ran,
+        has_message = result.status == 0 or result.stderr
+        expect(result.status in (0, FAILED, NOT_ON_DISK) and has_message and state in states, result,
                f"wrong exit status, or wrong target or record: {str(state)[:80]}")
         # No temporary file is left.
         fresh.expect_installed(*state)
 
-    expect(break_each_call(directory, check, CALLS=calls, ERRNO=error), f"it never called {calls}")
+    expect(break_each_call(directory, check, CALLS=function, ERRNO=error), f"it never called {function}")
 
 
 @cut_off_cases.table(*((f"retries {call} after a signal", call) for call in (*BROKEN_CALLS, "unlinkat", "fchown")))
-def retries_interrupted_call(directory, calls):
+def retries_interrupted_call(directory, function):
     """Each of these calls fails with EINTR in turn, and is made again. The directory has a temporary file of a killed run, so that
     the run calls unlinkat. If root runs the test, the target belongs to another user, so that the run calls fchown."""
     owner = NOBODY if os.geteuid() == 0 else os.geteuid()
@@ -193,56 +194,56 @@ def retries_interrupted_call(directory, calls):
         fresh.put(TEMPORARY_PREFIX + "0" * 32, b"left")
         os.chown(fresh.path_of(TARGET), owner, -1)
 
-    def check(fresh, ran):
-        fresh.expect_result(ran, 0)
+    def check(fresh, result):
+        fresh.expect_result(result, 0)
         for name in (TARGET, RECORD, LOCK):
             new_owner = os.stat(fresh.path_of(name)).st_uid
             expect(new_owner == owner, f"{name} belongs to {new_owner}, expected {owner}")
 
-    if calls == "fchown":
+    if function == "fchown":
         require_root("give files another owner")
-    expect(break_each_call(directory, check, prepare, CALLS=calls, ERRNO=errno.EINTR), f"it never called {calls}")
+    expect(break_each_call(directory, check, prepare, CALLS=function, ERRNO=errno.EINTR), f"it never called {function}")
 
 
 @cut_off_cases.table("repeats an interrupted sync")
 def repeats_interrupted_sync(directory):
     """After EINTR, the data may not be on disk, so the interrupted sync is made a second time."""
-    for at in range(1, 5):
+    for number in range(1, 5):
         directory.reset()
-        ran, calls = directory.run_traced(directory.arguments("new"), BREAK_CALLS="fsync", BREAK_AT=str(at),
-                                          BREAK_ERRNO=str(errno.EINTR))
-        directory.expect_result(ran, 0)
+        result, calls = directory.run_traced(directory.arguments("new"), BREAK_CALLS="fsync", BREAK_AT=str(number),
+                                             BREAK_ERRNO=str(errno.EINTR))
+        directory.expect_result(result, 0)
         syncs = [call for call in calls if call.startswith("sync ")]
-        expect(len(syncs) == 5 and syncs[at - 1] == syncs[at],
-               f"sync {at} was interrupted: expected 5 syncs, this one twice, but the syncs were {syncs}")
+        expect(len(syncs) == 5 and syncs[number - 1] == syncs[number],
+               f"sync {number} was interrupted: expected 5 syncs, this one twice, but the syncs were {syncs}")
 
 
 @cut_off_cases.table(
-    ("completes partial writes", "write", 1234, 0, 2, dict(GOES_ON=1)),
+    ("completes partial writes", "write", 1234, 0, 2, dict(CONTINUE=1)),
     ("completes partial reads", "read", 130, OLDER_VERSION, 1),
 )
-def completes_partial_calls(directory, calls, number, status, min_calls, **fault):
+def completes_partial_calls(directory, function, number, status, min_calls, **fault):
     """A write accepts half of its bytes, or a read returns two bytes. The run writes or reads the rest, also of the record."""
 
     def prepare(fresh):
         fresh.offer(number=number)
         fresh.put(RECORD, b"1233")
 
-    def check(fresh, ran):
-        fresh.expect_end(ran, status)
+    def check(fresh, result):
+        fresh.expect_end(result, status)
         fresh.expect_installed(*((OLD_DATA, b"1233") if status else (NEW_DATA, b"1234")))
 
-    count = break_each_call(directory, check, prepare, CALLS=calls, SHORT=1, **fault)
-    expect(count >= min_calls, f"it called {calls} {count} times, expected at least {min_calls}")
+    count = break_each_call(directory, check, prepare, CALLS=function, SHORT=1, **fault)
+    expect(count >= min_calls, f"it called {function} {count} times, expected at least {min_calls}")
 
 
 @cut_off_cases.table("installs nothing if an allocation fails")
 def fails_without_memory(directory):
     """Each allocation fails in turn. Nothing is installed, and no temporary file is left."""
 
-    def check(fresh, ran):
-        fresh.expect_result(ran, FAILED if ran.reached else 0)
-        expect(not ran.reached or b"memory" in ran.stderr, ran)
+    def check(fresh, result):
+        fresh.expect_result(result, FAILED if result.reached else 0)
+        expect(not result.reached or b"memory" in result.stderr, result)
 
     expect(break_each_call(directory, check, CALLS="memory", ERRNO=errno.ENOMEM), "the run allocated no memory")
 
@@ -258,7 +259,7 @@ MODE_HINT = "use --mode to choose another mode"
      [((), "flock", 1, errno.ENOLCK, FAILED, error_text(f"./{LOCK}", "No locks available (os error 37)"))]),
     # A file system that syncs no directories returns EINVAL, which is accepted for directories only.
     ("accepts EINVAL only from the sync of a directory",
-     [((), "fsync", at, errno.EINVAL, status) for at, status in enumerate((FAILED, FAILED, 0, 0), 1)]),
+     [((), "fsync", number, errno.EINVAL, status) for number, status in enumerate((FAILED, FAILED, 0, 0), 1)]),
     ("names a mode that is not allowed", [
         ((), "fchmod", 1, errno.EPERM, FAILED,
          error_text(NEW_FILE, "the system does not allow the mode 751 for this file", MODE_HINT)),
@@ -267,19 +268,20 @@ MODE_HINT = "use --mode to choose another mode"
         ((), "fchmod", 1, errno.EIO, FAILED, error_text(NEW_FILE, "Input/output error (os error 5)"))]),
     # The target belongs to another user. The three calls set the owner of the lock, of the update and of the record. The
     # run continues if the system does not allow this.
-    ("continues if changing the owner is not allowed", [((), "fchown", at, errno.EPERM, 0) for at in (1, 2, 3)], True),
+    ("continues if changing the owner is not allowed", [((), "fchown", number, errno.EPERM, 0) for number in (1, 2, 3)], True),
     # A container reports EINVAL for a user ID that it does not map.
-    ("continues if the owner does not exist in this container", [((), "fchown", at, errno.EINVAL, 0) for at in (1, 2, 3)], True),
-    ("fails if changing the owner fails", [((), "fchown", at, errno.EIO, FAILED) for at in (1, 2, 3)], True),
+    ("continues if the owner does not exist in this container",
+     [((), "fchown", number, errno.EINVAL, 0) for number in (1, 2, 3)], True),
+    ("fails if changing the owner fails", [((), "fchown", number, errno.EIO, FAILED) for number in (1, 2, 3)], True),
 )
 def ends_as_documented(directory, rows, is_of_another_user=False):
     """Each row has the options of a run; the name, the number and the errno of the call that fails; the expected exit
     status; and, if it is checked, the expected error output."""
-    for options, calls, at, error, *end in rows:
+    for options, function, number, error, *end in rows:
         directory.reset()
         if is_of_another_user:
             directory.change_owner(TARGET)
-        directory.expect_result(directory.install_broken(*options, CALLS=calls, AT=at, ERRNO=error), *end)
+        directory.expect_result(directory.install_broken(*options, CALLS=function, AT=number, ERRNO=error), *end)
 
 
 @cut_off_cases.table("reports a full disk")
@@ -287,8 +289,8 @@ def reports_full_disk(directory):
     with tempfile.TemporaryDirectory(dir=directory.runner.parent) as path, small_file_system(path):
         small = Directory(path, directory.runner).reset(data=b"n" * 20000)
         with full_file_system(path):
-            ran = small.install()
-        small.expect_result(ran, FAILED, b": No space left on device (os error 28)\n")
+            result = small.install()
+        small.expect_result(result, FAILED, b": No space left on device (os error 28)\n")
 
 
 @cut_off_cases.table(
@@ -324,8 +326,8 @@ def works_with_closed_streams(directory, *closed):
     could be written into that file."""
     for signed, status in ((LATER_DATA, REJECTED), (NEW_DATA, 0)):
         directory.reset(signed=signed)
-        ran = directory.install(preexec_fn=lambda: [*map(os.close, closed)])
-        directory.expect_result(ran, status, b"" if status == 0 else None)
+        result = directory.install(preexec_fn=lambda: [*map(os.close, closed)])
+        directory.expect_result(result, status, b"" if status == 0 else None)
 
 
 # == Signals ==
@@ -336,16 +338,17 @@ ENDING_SIGNALS = (signal.SIGHUP, signal.SIGINT, signal.SIGQUIT, signal.SIGTERM)
 SIGNAL_POINTS = (("sync", 2, False), ("rename", 1, True), ("sync", 3, True), ("rename", 2, True))
 
 
-@cut_off_cases.table(*((f"{'blocks' if is_blocked else 'ends on'} {sent.name} at {call} {at}", sent, call, at, is_blocked)
-                       for sent in ENDING_SIGNALS for call, at, is_blocked in SIGNAL_POINTS))
-def handles_signal(directory, sent, call, at, is_blocked):
+@cut_off_cases.table(*((f"{'blocks' if is_blocked else 'ends on'} {sent_signal.name} at {call} {number}",
+                        sent_signal, call, number, is_blocked)
+                       for sent_signal in ENDING_SIGNALS for call, number, is_blocked in SIGNAL_POINTS))
+def handles_signal(directory, sent_signal, call, number, is_blocked):
     """A signal is sent before this call. If signals are not blocked, it ends the run at once, and the next run finishes the update.
     Otherwise it ends the run after the target was renamed."""
-    fault = {"SIGNAL": int(sent), "GOES_ON": 1, "CALLS": LIBC_CALLS[call], "AT": at}
+    fault = {"SIGNAL": int(sent_signal), "CONTINUE": 1, "CALLS": LIBC_CALLS[call], "AT": number}
     # SIG_DFL, because a shell starts background processes with some signals ignored.
-    ran = directory.runner.run_broken(directory.path, directory.arguments("new"), fault,
-                                      preexec_fn=lambda: signal.signal(sent, signal.SIG_DFL))
-    directory.expect_end(ran, -sent)
+    result = directory.runner.run_broken(directory.path, directory.arguments("new"), fault,
+                                         preexec_fn=lambda: signal.signal(sent_signal, signal.SIG_DFL))
+    directory.expect_end(result, -sent_signal)
     state, expected = directory.installed_state(), (NEW_DATA, b"6") if is_blocked else (OLD_DATA, b"5")
     expect(state == expected, f"target and record are {str(state)[:80]}, expected {str(expected)[:80]}")
     directory.expect_result(directory.install(), ALREADY_INSTALLED if is_blocked else 0, b"")
@@ -356,8 +359,8 @@ def handles_signal(directory, sent, call, at, is_blocked):
 def traced_calls(directory, status=0, **variables):
     """Installs over a file of another user. Returns the calls on files of the directory, in the form of DOCUMENTED_CALLS."""
     directory.change_owner(TARGET)
-    ran, calls = directory.run_traced(directory.arguments("new"), **variables)
-    directory.expect_end(ran, status)
+    result, calls = directory.run_traced(directory.arguments("new"), **variables)
+    directory.expect_end(result, status)
     letters, lines = {}, []
     for words in (call.split(" ") for call in calls):
         file = words[1]
@@ -394,10 +397,10 @@ def removes_temporary_files(directory, call, number, removed, status):
     directory.offer(data=NEW_DATA[:1000])
     calls = traced_calls(directory, status, BREAK_CALLS=LIBC_CALLS[call], BREAK_AT=str(number), BREAK_ERRNO=str(errno.EIO))
     lines = DOCUMENTED_CALLS.splitlines(True)
-    at = [index for index, line in enumerate(lines) if line.startswith(call + " ")][number - 1]
-    # A failed write or rename is not in the trace. The other failed calls of this test are.
-    end = at if call in ("write", "rename") else at + 1
-    expected = "".join(lines[:end] + [f"remove {name}\n" for name in removed])
+    failed_line = [index for index, line in enumerate(lines) if line.startswith(call + " ")][number - 1]
+    # Unlike the other failed calls of this test, a failed write or rename is not in the trace.
+    count = failed_line if call in ("write", "rename") else failed_line + 1
+    expected = "".join(lines[:count] + [f"remove {name}\n" for name in removed])
     expect(calls == expected, f"the calls were\n{calls}expected\n{expected}")
 
 
@@ -457,12 +460,12 @@ def survives_crash(directory):
         image, crashed = (os.path.join(scratch, name) for name in ("image", "crashed"))
         shutil.copyfile(fresh, image)
         with mounted_disk(image) as path:
-            ran = Directory(path, runner).run_stopped_before(number, lambda _: shutil.copyfile(image, crashed))
-            expect(ran.status == 0, ran)
-            if not ran.reached:
+            result = Directory(path, runner).run_stopped_before(number, lambda _: shutil.copyfile(image, crashed))
+            expect(result.status == 0, result)
+            if not result.reached:
                 shutil.copyfile(image, crashed)
-        states.add(recover_after_crash(runner, crashed, ran.reached))
-        return ran.reached
+        states.add(recover_after_crash(runner, crashed, result.reached))
+        return result.reached
 
     with new_disk(runner) as fresh:
         for_each_call(runner.work_directory, attempt)

@@ -1,6 +1,8 @@
-"""Checks --list: an update is installed only if a signed list contains it under the name of the target. Each case of
+"""Checks --list: an update is installed only if a signed list has its digest under the name of the target. Each case of
 LIST_TABLE runs --check, an installation from a file, and one from a pipe. Other cases are about lists that real
 programs wrote, the size of the data, and runs that are cut off.
+
+In the names of the cases, a file is in a list, or listed, if the list has its name and digest.
 """
 
 import hashlib
@@ -47,7 +49,7 @@ def line(data, name=TARGET):
 
 # The list that the cases use unless they say otherwise.
 NEW_LIST = line(OLD_DATA, "app") + line(NEW_DATA) + line(LATER_DATA, "other")
-# Another list that has the update, and one that has other data.
+# Another list that has the digest of NEW_DATA, and one that has that of other data.
 EXTENDED_LIST = NEW_LIST + line(b"", "empty")
 LATER_LIST = line(LATER_DATA)
 
@@ -61,8 +63,8 @@ TWICE_HINT = "have the signer list each file once"
 LINE_HINT = "see minisign-check(1) for the lines that a list may have"
 
 
-def other_name(text, name=TARGET):
-    """Returns the error for a name that is not in the list, with this text."""
+def name_error(text, name=TARGET):
+    """Returns the error for a name that is not in the list. `text` is the reason: NOT_LISTED or IMPOSSIBLE_NAME."""
     hint = f"hint: use --name NAME if the list has the file under a name other than {name}\n"
     return error_text(LIST, text) + hint.encode()
 
@@ -72,11 +74,13 @@ NOT_LISTED = "the list does not contain this name"
 IMPOSSIBLE_NAME = "a list can only contain relative paths without .. or special characters"
 
 
-def malformed(number):
+def malformed_error(number):
+    """Returns the error for a malformed line of this number."""
     return error_text(LIST, f"line {number} is malformed", LINE_HINT)
 
 
-def twice(number):
+def twice_error(number):
+    """Returns the error for a list in which the line of this number repeats a name."""
     return error_text(LIST, f"line {number} is the second line with this name", TWICE_HINT)
 
 
@@ -84,10 +88,12 @@ def twice(number):
 class ListUpdate(Update):
     """An update that is offered with a signed list."""
 
-    # The list, the path that --list has, and the name of the file of the list. The signature is that of the list, and the trusted
-    # comment names the list, unless the arguments of `Directory.offer` say otherwise.
+    # The content of the list. Unless arguments of `Directory.offer` change this, it is what is signed, and the trusted comment
+    # names LIST.
     listed: bytes = NEW_LIST
+    # The value of --list, which may have a directory, such as `./SHA256SUMS`.
     list_path: str = LIST
+    # The name of the file to which the list is written.
     list_file: str = LIST
 
     def __post_init__(self):
@@ -107,15 +113,15 @@ class ListUpdate(Update):
                 for options, source, status in super().installations()]
 
 
-def check_and_install_listed(directory, status, error_output=b"", **given):
+def check_and_install_listed(directory, status, error_output=b"", **changes):
     """Runs --check and all installations of an update with a list."""
-    check_and_install(directory, status, error_output, kind=ListUpdate, **given)
+    check_and_install(directory, status, error_output, kind=ListUpdate, **changes)
 
 
 # Fields of `ListUpdate`: the update was installed with the same list.
 LIST_IS_INSTALLED = dict(installed=NEW_DATA, record=recorded(NEW_LIST, 6))
 
-# Lists that contain NEW_DATA: a description, the list, and the options.
+# Lists that have the digest of NEW_DATA: a description, the list, and the options.
 GOOD_LISTS = (
     ("of one line", line(NEW_DATA), ()),
     ("without a line feed at its end", line(NEW_DATA)[:-1], ()),
@@ -131,7 +137,7 @@ GOOD_LISTS = (
     ("of SHA-256, with --blake2b", NEW_LIST, BLAKE2B),
     ("of SHA-512 in the format of BSD, with --blake2b", f"SHA512 ({TARGET}) = {sha512(NEW_DATA)}\n".encode(), BLAKE2B),
     (
-        "of three functions",
+        "of three hash functions",
         f"{sha512(OLD_DATA)}  a\n{sha256(NEW_DATA)}  {TARGET}\nBLAKE2b (b) = {blake2b(OLD_DATA)}\n".encode(),
         (),
     ),
@@ -152,8 +158,8 @@ OTHER_DIGESTS = (
     ),
     ("with a changed first digit", b"%x" % (int(sha256(NEW_DATA)[:1], 16) ^ 8) + line(NEW_DATA)[1:], ()),
 )
-# Malformed lines.
-MALFORMED = (
+# Malformed lines: a description and the line.
+MALFORMED_LINES = (
     ("text", b"files:\n"),
     ("MD5", f"MD5 ({TARGET}) = {'0' * 32}\n".encode()),
     ("one space", line(NEW_DATA).replace(b"  ", b" ")),
@@ -164,65 +170,69 @@ MALFORMED = (
     ("a zero byte", b"\0\n"),
 )
 
-# Rows as those of UPDATE_TABLE, with the fields of `ListUpdate`.
+# Rows of a name; the expected exit status of an installation; its expected error output, if there is one; and, in a dict, fields of
+# `ListUpdate` and arguments of `Directory.offer` that do not have their default values. `check_status=0`: --check does not read the
+# data, so it succeeds even if the data is not the listed one.
 LIST_TABLE = (
-    ("file of a list", 0),
-    ("file of a list, and no installed file", 0, dict(options=FIRST, record=None, installed=None)),
-    *((f"file of a list {what}", 0, dict(listed=listed, options=options)) for what, listed, options in GOOD_LISTS),
-    ("file of a list in another directory", 0, dict(list_path=f"./{LIST}")),
-    ("file of a list that has another name", 0, dict(list_path="sums.txt", list_file="sums.txt", signed_name="sums.txt")),
+    ("file in a list", 0),
+    ("file in a list, and no installed file", 0, dict(options=FIRST, record=None, installed=None)),
+    *((f"file in a list {description}", 0, dict(listed=listed, options=options)) for description, listed, options in GOOD_LISTS),
+    ("file in a list in another directory", 0, dict(list_path=f"./{LIST}")),
+    ("file in a list that has another name", 0, dict(list_path="sums.txt", list_file="sums.txt", signed_name="sums.txt")),
     (
-        "file of a list under a path, with --name",
+        "file in a list under a path, with --name",
         0,
         dict(options=("--name", "bin/app"), listed=line(OLD_DATA) + line(NEW_DATA, "bin/app")),
     ),
-    ("file of a list under a path, with --name that begins with ./", 0,
+    ("file in a list under a path, with --name that begins with ./", 0,
      dict(options=("--name", "./bin/app"), listed=line(NEW_DATA, "bin/app"))),
-    ("empty file of a list", 0, dict(data=b"", listed=line(b""))),
-    ("file of a list whose version is newer", 0,
+    ("empty file in a list", 0, dict(data=b"", listed=line(b""))),
+    ("file in a list whose version is newer", 0,
      dict(options=BY_VERSION, record=recorded(OLD_DATA, 5, "version"), label="version")),
-    ("file of a list that expires later", 0, dict(options=("--must-expire",), more=UNEXPIRED_FIELD)),
-    *((f"file of a list whose size is signed as {size}", 0, dict(more=f"\tsize:{size}"))
+    ("file in a list that expires later", 0, dict(options=("--must-expire",), more=UNEXPIRED_FIELD)),
+    *((f"file in a list whose size is signed as {size}", 0, dict(more=f"\tsize:{size}"))
       for size in (len(NEW_LIST), len(NEW_DATA) - 1, len(NEW_DATA) + 1, 0)),
     *(
-        (f"file of a list, with keys {' and '.join(keys)}", 0, dict(keys=keys))
+        (f"file in a list, with keys {' and '.join(keys)}", 0, dict(keys=keys))
         # (`twin` is another key with the same key ID.)
         for keys in (["own"], ["other", "own"], ["twin", "own"])
     ),
     # The data.
     *(
-        (f"list {what}", REJECTED, DIGEST_ERROR, dict(listed=listed, options=options, check_status=0))
-        for what, listed, options in OTHER_DIGESTS
+        (f"list {description}", REJECTED, DIGEST_ERROR, dict(listed=listed, options=options, check_status=0))
+        for description, listed, options in OTHER_DIGESTS
     ),
-    *((f"file of a list with {what}", REJECTED, DIGEST_ERROR, dict(data=data, check_status=0))
-      for what, data in (("a changed byte", NEW_DATA[:-1] + b"x"), ("a byte less", NEW_DATA[:-1]), ("a byte more", NEW_DATA + b"x"),
-                         ("no data", b""))),
-    ("list in place of its file", REJECTED, DIGEST_ERROR, dict(data=NEW_LIST, check_status=0)),
+    *((f"file in a list with {description}", REJECTED, DIGEST_ERROR, dict(data=data, check_status=0))
+      for description, data in (("a changed byte", NEW_DATA[:-1] + b"x"), ("a byte less", NEW_DATA[:-1]),
+                                ("a byte more", NEW_DATA + b"x"), ("no data", b""))),
+    ("list in place of the listed file", REJECTED, DIGEST_ERROR, dict(data=NEW_LIST, check_status=0)),
     # The name.
-    ("name that is not listed", REJECTED, other_name(NOT_LISTED), dict(listed=line(NEW_DATA, "other"))),
-    ("name in upper case", REJECTED, other_name(NOT_LISTED), dict(listed=line(NEW_DATA, TARGET.upper()))),
-    ("name with a directory in the list", REJECTED, other_name(NOT_LISTED), dict(listed=line(NEW_DATA, f"bin/{TARGET}"))),
-    ("name with escapes in the list", REJECTED, other_name(NOT_LISTED), dict(listed=b"\\" + line(NEW_DATA, f"{TARGET}\\n"))),
-    ("list without entries", REJECTED, other_name(NOT_LISTED), dict(listed=b"# nothing\n")),
-    ("empty list", REJECTED, other_name(NOT_LISTED), dict(listed=b"")),
-    ("name of --name that is not listed", REJECTED, other_name(NOT_LISTED, "app-2"),
+    ("name that is not listed", REJECTED, name_error(NOT_LISTED), dict(listed=line(NEW_DATA, "other"))),
+    ("name in upper case", REJECTED, name_error(NOT_LISTED), dict(listed=line(NEW_DATA, TARGET.upper()))),
+    ("name with a directory in the list", REJECTED, name_error(NOT_LISTED), dict(listed=line(NEW_DATA, f"bin/{TARGET}"))),
+    ("name with escapes in the list", REJECTED, name_error(NOT_LISTED), dict(listed=b"\\" + line(NEW_DATA, f"{TARGET}\\n"))),
+    ("list without entries", REJECTED, name_error(NOT_LISTED), dict(listed=b"# nothing\n")),
+    ("empty list", REJECTED, name_error(NOT_LISTED), dict(listed=b"")),
+    ("name of --name that is not listed", REJECTED, name_error(NOT_LISTED, "app-2"),
      dict(options=("--name", "app-2"))),
-    *((f"name {name!r}, which no list can have", REJECTED, other_name(IMPOSSIBLE_NAME, name),
+    *((f"name {name!r}, which no list can have", REJECTED, name_error(IMPOSSIBLE_NAME, name),
        dict(options=("--name", name))) for name in (f"/{TARGET}", f"../{TARGET}", "a//b", ".", "bin/", "a\\b")),
-    ("name of --name with a control character", REJECTED, other_name(IMPOSSIBLE_NAME, "a\\u{1b}b"),
+    ("name of --name with a control character", REJECTED, name_error(IMPOSSIBLE_NAME, "a\\u{1b}b"),
      dict(options=("--name", "a\x1bb"))),
-    ("name that is listed twice", REJECTED, twice(4), dict(listed=NEW_LIST + line(LATER_DATA))),
-    ("name that is listed twice with the same digest", REJECTED, twice(4), dict(listed=NEW_LIST + line(NEW_DATA))),
-    ("name that is listed with two functions", REJECTED, twice(2),
+    ("name that is listed twice", REJECTED, twice_error(4), dict(listed=NEW_LIST + line(LATER_DATA))),
+    ("name that is listed twice with the same digest", REJECTED, twice_error(4), dict(listed=NEW_LIST + line(NEW_DATA))),
+    ("name that is listed with two hash functions", REJECTED, twice_error(2),
      dict(listed=line(NEW_DATA) + f"SHA512 ({TARGET}) = {sha512(NEW_DATA)}\n".encode())),
-    ("name that is listed three times", REJECTED, twice(3), dict(listed=line(NEW_DATA) + b"\n" + 2 * line(LATER_DATA))),
+    ("name that is listed three times", REJECTED, twice_error(3), dict(listed=line(NEW_DATA) + b"\n" + 2 * line(LATER_DATA))),
     ("another name that is listed twice", 0, dict(listed=NEW_LIST + line(OLD_DATA, "app"))),
     # The lines.
-    *((f"list that begins with {what}", REJECTED, malformed(1), dict(listed=bad + NEW_LIST)) for what, bad in MALFORMED),
-    *((f"list that ends with {what}", REJECTED, malformed(4), dict(listed=NEW_LIST + bad)) for what, bad in MALFORMED),
-    ("list with two malformed lines", REJECTED, malformed(2), dict(listed=b"\nfirst\n" + NEW_LIST + b"second\n")),
-    ("malformed list without the name", REJECTED, malformed(2), dict(listed=line(NEW_DATA, "other") + b"text\n")),
-    ("malformed list with the name twice", REJECTED, malformed(3), dict(listed=2 * line(NEW_DATA) + b"text\n")),
+    *((f"list that begins with {description}", REJECTED, malformed_error(1), dict(listed=malformed_line + NEW_LIST))
+      for description, malformed_line in MALFORMED_LINES),
+    *((f"list that ends with {description}", REJECTED, malformed_error(4), dict(listed=NEW_LIST + malformed_line))
+      for description, malformed_line in MALFORMED_LINES),
+    ("list with two malformed lines", REJECTED, malformed_error(2), dict(listed=b"\nfirst\n" + NEW_LIST + b"second\n")),
+    ("malformed list without the name", REJECTED, malformed_error(2), dict(listed=line(NEW_DATA, "other") + b"text\n")),
+    ("malformed list with the name twice", REJECTED, malformed_error(3), dict(listed=2 * line(NEW_DATA) + b"text\n")),
     (
         "list that is not UTF-8",
         REJECTED,
@@ -274,11 +284,11 @@ LIST_TABLE = (
         ALREADY_INSTALLED,
         dict(LIST_IS_INSTALLED, listed=EXTENDED_LIST),
     ),
-    ("list of the recorded version, with a file that was signed by itself", ALREADY_INSTALLED,
+    ("list of the recorded version, with a file that was installed with its own signature", ALREADY_INSTALLED,
      dict(installed=NEW_DATA, record=recorded(NEW_DATA, 6))),
     *(
-        (f"same list over {what}", 0, dict(record=recorded(NEW_LIST, 6), installed=installed))
-        for what, installed in (
+        (f"same list over {description}", 0, dict(record=recorded(NEW_LIST, 6), installed=installed))
+        for description, installed in (
             ("an older file", OLD_DATA),
             ("a changed file", NEW_DATA[:-1] + b"x"),
             ("an empty file", b""),
@@ -286,9 +296,9 @@ LIST_TABLE = (
         )
     ),
     ("same list, signed again, over a changed file", 0, dict(record=recorded(NEW_LIST, 6), more=UNEXPIRED_FIELD)),
-    *((f"list of the recorded version over {what}", SAME_VERSION, OTHER_DATA_ERROR, dict(record=record))
-      for what, record in (("another list", recorded(LATER_LIST, 6)), ("an extended list", recorded(EXTENDED_LIST, 6)),
-                           ("the data", recorded(NEW_DATA, 6)), ("a number only", b"6"))),
+    *((f"list of the recorded version over {description}", SAME_VERSION, OTHER_DATA_ERROR, dict(record=record))
+      for description, record in (("another list", recorded(LATER_LIST, 6)), ("an extended list", recorded(EXTENDED_LIST, 6)),
+                                  ("the data", recorded(NEW_DATA, 6)), ("a number only", b"6"))),
     ("list of the recorded version, over no file", 0, dict(record=recorded(LATER_LIST, 6), installed=None)),
     (
         "older list, with --roll-back",
@@ -299,7 +309,7 @@ LIST_TABLE = (
      dict(options=ROLL_BACK, record=recorded(NEW_LIST, 7), installed=NEW_DATA)),
     ("older list that is not signed, with --roll-back", REJECTED, UNSIGNED_ERROR,
      dict(options=ROLL_BACK, record=recorded(LATER_LIST, 7), signed=EXTENDED_LIST)),
-    ("older list without the name, with --roll-back", REJECTED, other_name(NOT_LISTED),
+    ("older list without the name, with --roll-back", REJECTED, name_error(NOT_LISTED),
      dict(options=ROLL_BACK, record=recorded(LATER_LIST, 7), listed=line(NEW_DATA, "other"))),
     ("older list of other data, with --roll-back", REJECTED, DIGEST_ERROR,
      dict(options=ROLL_BACK, record=recorded(LATER_LIST, 7), data=OLD_DATA, check_status=0)),
@@ -315,9 +325,9 @@ list_cases.table(
                                                                            "download the file and its signature again"),
      dict(signed=NEW_LIST, check_status=0)),
     ("rejects the trusted comment of a list without --list", REJECTED, FILE_NAME_ERROR, dict(signed=NEW_LIST, signed_name=LIST)),
-    ("keeps a file of a list that is then signed by itself", ALREADY_INSTALLED,
+    ("keeps a file from a list if its own signature is offered then", ALREADY_INSTALLED,
      dict(installed=NEW_DATA, record=recorded(NEW_LIST, 6))),
-    ("rejects other data that is signed by itself under the version of a list", SAME_VERSION, OTHER_DATA_ERROR,
+    ("rejects other data with its own signature under the version of a list", SAME_VERSION, OTHER_DATA_ERROR,
      dict(record=recorded(NEW_LIST, 6))),
     ("rejects a changed comment without --list", REJECTED, COMMENT_ERROR,
      dict(number=4, forge=lambda text: text.replace(b"timestamp:4", b"timestamp:9"))),
@@ -332,7 +342,7 @@ def list_arguments(name, *options, path=LIST):
 
 
 def offer_list(directory, listed=NEW_LIST, path=LIST, **offered):
-    """Offers NEW_DATA with this list, and puts the list there."""
+    """Offers NEW_DATA with this list, and writes the list to a file in the directory."""
     directory.offer(signed=listed, **{"signed_name": LIST, **offered})
     directory.put(path, listed)
 
@@ -376,8 +386,8 @@ def keeps_rolled_back_list(directory):
         directory.offer(name, data, number, signed=listed, signed_name=f"{name}.list")
 
     def install(name, status, *options):
-        ran = directory.run([*options, "--list", f"{name}.list", PK, name, f"{name}.sig", TARGET])
-        directory.expect_end(ran, status)
+        result = directory.run([*options, "--list", f"{name}.list", PK, name, f"{name}.sig", TARGET])
+        directory.expect_end(result, status)
 
     def expect_record(data, listed_data, number):
         directory.expect_installed_with_record(data, directory.signer.version_record(line(listed_data), number))
@@ -403,8 +413,9 @@ def shows_comment_of_list(directory):
         offer_list(directory, listed)
         if signed is not None:
             directory.offer(signed=signed, signed_name=LIST)
-        ran = directory.run(["--list", LIST, *CHECK_ARGUMENTS])
-        expect((ran.status, ran.stdout) == (status, f"6\n{comment}".encode()), ran, f"expected status {status} and {comment!r}")
+        result = directory.run(["--list", LIST, *CHECK_ARGUMENTS])
+        expect((result.status, result.stdout) == (status, f"6\n{comment}".encode()), result,
+               f"expected status {status} and {comment!r}")
 
 
 # == The size of the data, and the list as a file ==
@@ -431,12 +442,13 @@ def needs_size_limit(directory):
 @list_cases.table(*((f"--list limits data by --max-size {limit}", limit, status)
                     for limit, status in ((len(NEW_DATA) - 1, REJECTED), (len(NEW_DATA), 0), (len(NEW_DATA) + 1, 0))))
 def limits_listed_data(directory, limit, status):
-    """The limit applies to data from a file and from a pipe. A signed size does not."""
+    """--max-size limits data from a file and from a pipe. A `size:` field in the trusted comment does not limit the data,
+    because it is the size of the list."""
     offer_list(directory, more="\tsize:1")
     for source in ("new", "/dev/stdin"):
         directory.put_installed()
-        ran = directory.run(list_arguments(source, "--max-size", str(limit)), typed=NEW_DATA)
-        directory.expect_end(ran, status, error_text(source, *TOO_LARGE_TEXTS) if status else b"")
+        result = directory.run(list_arguments(source, "--max-size", str(limit)), typed=NEW_DATA)
+        directory.expect_end(result, status, error_text(source, *TOO_LARGE_TEXTS) if status else b"")
         directory.expect_installed(*((OLD_DATA, b"5") if status else (NEW_DATA, b"6")))
 
 
@@ -466,9 +478,9 @@ def rejects_endless_listed_data(directory):
 
 @list_cases.table("--list reads at most 1 MiB of a list")
 def limits_list(directory):
-    padded = NEW_LIST + b"#" * ((1 << 20) - len(NEW_LIST))
+    largest_list = NEW_LIST + b"#" * ((1 << 20) - len(NEW_LIST))
     too_large = error_text(LIST, "this file is larger than 1 MiB")
-    for listed, status, error_output in ((padded + b"#", REJECTED, too_large), (padded, 0, b"")):
+    for listed, status, error_output in ((largest_list + b"#", REJECTED, too_large), (largest_list, 0, b"")):
         offer_list(directory, listed)
         directory.expect_run(list_arguments("new"), status, error_output)
     directory.replace(LIST, os.symlink, "/dev/zero")
@@ -505,8 +517,8 @@ def recovers_with_list(directory, data, record):
         state = fresh.installed_state()
         remaining.add(state)
         expect(state in ((OLD_DATA, b"5"), (OLD_DATA, b"6"), (NEW_DATA, b"6")), f"the run left {str(state)[:80]}")
-        ran = fresh.run(list_arguments("new"))
-        expect(ran.status in (0, ALREADY_INSTALLED) and not ran.stderr, "the next run", ran)
+        result = fresh.run(list_arguments("new"))
+        expect(result.status in (0, ALREADY_INSTALLED) and not result.stderr, "the next run", result)
         fresh.expect_run(["--list", LIST, *CHECK_ARGUMENTS], ALREADY_INSTALLED)
         fresh.expect_installed_with_record(NEW_DATA, fresh.signer.version_record(NEW_LIST, 6))
 
@@ -524,8 +536,9 @@ def swapped_listed_data(directory):
     def swap(fresh):
         fresh.put("new", LATER_DATA)
 
-    ran = directory.runner.run_stopped(directory.path, list_arguments("new"), lambda: swap(directory), AT=1, CALLS="pread")
-    expect(ran.reached, "it read nothing back", ran)
-    directory.expect_end(ran, 0, b"")
+    result = directory.runner.run_stopped(directory.path, list_arguments("new"), lambda: swap(directory), AT=1, CALLS="pread")
+    expect(result.reached, "the run did not read the copy", result)
+    directory.expect_end(result, 0, b"")
+    # The record holds the version 6 and the digest of the list.
     directory.expect_installed_with_record(NEW_DATA, directory.signer.version_record(NEW_LIST, 6))
     expect(directory.content(RECORD) == b"6", "the record is that of another version")

@@ -110,8 +110,8 @@ def rewritten_record_is_synced(directory):
     lose the version number, and an older update could be installed."""
     directory.expect_install("new", 0)
     directory.change_owner(TARGET)
-    ran, calls = directory.run_traced(directory.arguments("new"))
-    directory.expect_end(ran, ALREADY_INSTALLED, b"")
+    result, calls = directory.run_traced(directory.arguments("new"))
+    directory.expect_end(result, ALREADY_INSTALLED, b"")
     created = [call.split(" ")[1] for call in calls if call.startswith(f"make {TEMPORARY_PREFIX}")]
     # The first temporary file becomes the new lock file, the last one the new record.
     new_record = created[-1]
@@ -193,8 +193,8 @@ def keeps_owner_of_data(directory):
     def rename(_):
         os.rename(directory.path_of(directory.temporary_files()[0]), directory.path_of("renamed"))
 
-    ran = directory.run_stopped_when_staged(rename)
-    expect(ran.status != 0, "expected a failure, because the temporary file was renamed", ran)
+    result = directory.run_stopped_when_staged(rename)
+    expect(result.status != 0, "expected a failure, because the temporary file was renamed", result)
     os.rename(directory.path_of("renamed"), directory.path_of(LOCK))
     for _ in range(2):
         directory.install()

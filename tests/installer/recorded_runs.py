@@ -114,14 +114,14 @@ class RecordedDirectory(Directory):
         self.put(f"{name}.sig", forge(text))
         return forge(text), data, accepted
 
-    def command(self, offered, *options, name="new", keys=(), source=None):
-        """Returns the `Command` for the update that `make_offer` returned as `offered`."""
-        text, data, accepted = offered
+    def command(self, offer, *options, name="new", keys=(), source=None):
+        """Returns the `Command` for the update that `make_offer` returned as `offer`."""
+        text, data, accepted = offer
         source = source or name
         letters = "".join(letter for option, letter in OPTION_LETTERS.items() if option in options)
         # T: the version number is the field "timestamp:", which is the default of --numbering.
         letters += "" if "version" in options else "T"
-        values = {option: options[at + 1] for at, option in enumerate(options[:-1])}
+        values = {option: options[index + 1] for index, option in enumerate(options[:-1])}
         limits = [int(values["--max-size"])] if "--max-size" in values else []
         for line in text.split(b"\n")[2:3]:
             limits += [int(field[5:]) for field in line.split(b"\t") if field[:5] == b"size:" and field[5:].isdigit()]
@@ -141,7 +141,7 @@ class RecordedDirectory(Directory):
         """Records runs of these commands at the same time. `choose` chooses the run to continue (`run_to_end`).
         `events` has the `Events` of the first runs."""
         events = [*events, *[None] * len(commands)]
-        runs = [RecordedRun(self.path, command, each) for command, each in zip(commands, events)]
+        runs = [RecordedRun(self.path, command, run_events) for command, run_events in zip(commands, events)]
         for run in runs:
             run.has_concurrent_runs = len(runs) > 1
             with self.stdin_of(run.command) as stdin:
@@ -165,27 +165,27 @@ class RecordedDirectory(Directory):
 
 # == Updates ==
 
-def runs_of_update(directory, status, error_output=b"", **given):
+def runs_of_update(directory, status, error_output=b"", **changes):
     """Yields the results for a row of `updates.UPDATE_TABLE`: of a check, and of installations from a file and from a pipe."""
     names = updates.Update.__dataclass_fields__
-    offer = {name: value for name, value in given.items() if name not in names or name in ("data", "forge")}
-    update = updates.Update(directory, status, error_output, **{name: value for name, value in given.items() if name in names})
-    offered, options = directory.make_offer(**offer), update.options
+    offer_arguments = {name: value for name, value in changes.items() if name not in names or name in ("data", "forge")}
+    update = updates.Update(directory, status, error_output, **{name: value for name, value in changes.items() if name in names})
+    offer, options = directory.make_offer(**offer_arguments), update.options
     clock = [update.clock if update.clock is not None else 1800000000]
     update.put_installed()
-    yield update.check_status, directory.record(directory.command(offered, *options, "--check", keys=update.keys),
+    yield update.check_status, directory.record(directory.command(offer, *options, "--check", keys=update.keys),
                                                 events=[Events(clock=clock)])
-    for more, source, ends in update.installations():
+    for more, source, expected_status in update.installations():
         update.put_installed()
-        command = directory.command(offered, *options, *more, keys=update.keys, source=source)
-        yield ends, directory.record(command, events=[Events(clock=clock)])
+        command = directory.command(offer, *options, *more, keys=update.keys, source=source)
+        yield expected_status, directory.record(command, events=[Events(clock=clock)])
 
 
 # The Python package runs only every fifth row, because it calls the same C code.
-for row_number, (row, row_status, *row_given) in enumerate(updates.UPDATE_TABLE):
-    row_given = row_given[1:] if row_given and isinstance(row_given[0], bytes) else row_given
+for row_number, (row, row_status, *row_arguments) in enumerate(updates.UPDATE_TABLE):
+    row_arguments = row_arguments[1:] if row_arguments and isinstance(row_arguments[0], bytes) else row_arguments
     case(f"{updates.OUTCOMES.get(row_status, 'rejects')}: {row}", row_number % 5 == 0)(
-        partial(runs_of_update, status=row_status, **(row_given[0] if row_given else {})))
+        partial(runs_of_update, status=row_status, **(row_arguments[0] if row_arguments else {})))
 
 
 # == Faults ==
@@ -234,16 +234,16 @@ def prepare_command(directory, installed=OLD_DATA, record=b"5", options=(), keys
 def runs_with_each_call_broken(directory, situation, events):
     """Yields the results of runs in which each call in turn has the fault of `events`. After a kill, the same command
     runs again."""
-    at, is_reached = 0, True
+    number, is_reached = 0, True
     while is_reached:
-        at += 1
+        number += 1
         command = prepare_command(directory, **situation)
-        runs = directory.record(command, events=[replace(events, at=at)])
+        runs = directory.record(command, events=[replace(events, fault_at=number)])
         yield None, runs
         is_reached = runs[0].reached
         if is_reached and events.fault == KILL:
             yield None, directory.record(command)
-    expect(at > 1, "no call was broken")
+    expect(number > 1, "no call was broken")
 
 
 for situation_name, a_situation in SITUATIONS.items():
@@ -291,19 +291,19 @@ def held_lock(directory):
 
 def offers(directory):
     """Returns commands for several updates of one target, by name."""
-    def offered(name, data, number, *options, source=None, **more):
+    def offered_command(name, data, number, *options, source=None, **more):
         return directory.command(directory.make_offer(name, data, number, **more), *options, name=name, source=source)
 
     return {
-        "newer": offered("newer", NEW_DATA, 6, "--wait", "1"),
-        "from a pipe": offered("piped", NEW_DATA, 6, source=STANDARD_INPUT),
-        "newest": offered("newest", LATER_DATA, 7, "--wait", "1"),
-        "newest from a pipe": offered("newest-piped", LATER_DATA, 7, "--wait", "1", source=STANDARD_INPUT),
-        "bad": offered("bad", NEW_DATA, 9, signed=LATER_DATA),
-        "older": offered("older", LATER_DATA, 4),
-        "rolled back": offered("rolled-back", LATER_DATA, 4, "--roll-back", "--wait", "1"),
-        "again": offered("again", LATER_DATA, 6, "--again"),
-        "checked": offered("checked", NEW_DATA, 6, "--check"),
+        "newer": offered_command("newer", NEW_DATA, 6, "--wait", "1"),
+        "from a pipe": offered_command("piped", NEW_DATA, 6, source=STANDARD_INPUT),
+        "newest": offered_command("newest", LATER_DATA, 7, "--wait", "1"),
+        "newest from a pipe": offered_command("newest-piped", LATER_DATA, 7, "--wait", "1", source=STANDARD_INPUT),
+        "bad": offered_command("bad", NEW_DATA, 9, signed=LATER_DATA),
+        "older": offered_command("older", LATER_DATA, 4),
+        "rolled back": offered_command("rolled-back", LATER_DATA, 4, "--roll-back", "--wait", "1"),
+        "again": offered_command("again", LATER_DATA, 6, "--again"),
+        "checked": offered_command("checked", NEW_DATA, 6, "--check"),
     }
 
 
@@ -337,7 +337,7 @@ def runs_at_once_with_faults(directory, orders=40):
     for order in range(orders):
         prepare_command(directory, data=b"")
         randomness = random.Random(order)
-        events = Events(at=randomness.randrange(1, 120), fault=randomness.choice([errno.EIO, errno.EINTR, KILL, KILL]))
+        events = Events(fault_at=randomness.randrange(1, 120), fault=randomness.choice([errno.EIO, errno.EINTR, KILL, KILL]))
         names = randomness.sample(sorted(commands), 2)
         yield None, directory.record(*(commands[name] for name in names), choose=in_order(randomness), events=[events])
 
@@ -357,14 +357,14 @@ def in_order(randomness):
 
 def put_at_target(directory, data):
     """Replaces the installed file, as another process may do."""
-    directory.put("made", data)
-    os.chmod(directory.path_of("made"), 0o640)
-    os.replace(directory.path_of("made"), directory.path_of(TARGET))
+    directory.put("replacement", data)
+    os.chmod(directory.path_of("replacement"), 0o640)
+    os.replace(directory.path_of("replacement"), directory.path_of(TARGET))
 
 
 def put_record(directory, octets):
-    directory.put("made", octets)
-    os.replace(directory.path_of("made"), directory.path_of(RECORD))
+    directory.put("replacement", octets)
+    os.replace(directory.path_of("replacement"), directory.path_of(RECORD))
 
 
 def remove(directory, name):
@@ -388,14 +388,14 @@ CHANGES = (
 
 def runs_with_each_change(directory, situation, change):
     """Yields the results of runs in which another process makes this change before each call in turn."""
-    at, is_reached = 0, True
+    number, is_reached = 0, True
     while is_reached:
-        at += 1
+        number += 1
         runs = directory.record(
-            prepare_command(directory, **situation), events=[Events(changed_at=at, change=partial(change, directory))]
+            prepare_command(directory, **situation), events=[Events(changed_at=number, change=partial(change, directory))]
         )
         yield None, runs
-        is_reached = runs[0].count >= at
+        is_reached = runs[0].count >= number
 
 
 for change_name, a_change, in_situations in CHANGES:
@@ -431,11 +431,11 @@ NO_FORTIFICATION = ("-U_FORTIFY_SOURCE", "-D_FORTIFY_SOURCE=0")
 
 def compile_object(path, scratch, name, *more):
     """Compiles a file, and returns the path of the object file."""
-    made = os.path.join(scratch, name)
+    object_path = os.path.join(scratch, name)
     include = [f"-I{proved.ROOT}/c", f"-I{proved.ROOT}/include"]
     static_library.run_or_fail([needs.compiler_with_libsodium(), "-std=c11", "-O1", *NO_FORTIFICATION, "-pthread", *include, *more,
-                                "-c", "-o", made, path])
-    return made
+                                "-c", "-o", object_path, path])
+    return object_path
 
 
 class Sources:
@@ -453,11 +453,11 @@ class Sources:
 
     def program(self, name="recorded", changed=None):
         """Links the program. `changed` has object files that replace others, by source file."""
-        made = os.path.join(self.scratch, name)
+        program_path = os.path.join(self.scratch, name)
         objects = {**self.objects, **(changed or {})}
-        static_library.run_or_fail([needs.compiler_with_libsodium(), "-pthread", "-o", made, *objects.values(), *WRAP_OPTIONS,
-                                    self.library, "-lsodium"])
-        return made
+        static_library.run_or_fail([needs.compiler_with_libsodium(), "-pthread", "-o", program_path, *objects.values(),
+                                    *WRAP_OPTIONS, self.library, "-lsodium"])
+        return program_path
 
     def mutant(self, mutant):
         """Builds the program with a mutant."""
@@ -520,14 +520,14 @@ def load_package(scratch):
 def decisions(requests):
     """Returns the decision of `trace_reader` for each request."""
     text = "".join(f"{request}\n" for request in requests)
-    ran = subprocess.run([PROGRAM], input=text, capture_output=True, text=True, timeout=SECONDS * 4)
-    decided = ran.stdout.splitlines()
-    expect(ran.returncode == 0 and len(decided) == len(requests), f"trace_reader: status {ran.returncode}: {ran.stderr}")
+    result = subprocess.run([PROGRAM], input=text, capture_output=True, text=True, timeout=SECONDS * 4)
+    decided = result.stdout.splitlines()
+    expect(result.returncode == 0 and len(decided) == len(requests), f"trace_reader: status {result.returncode}: {result.stderr}")
     return dict(zip(requests, decided))
 
 
 def recorded_case(start, signer, function):
-    """Runs a case. Returns pairs of what the case expects and a recorded run."""
+    """Runs a case. Returns pairs of an expected exit status, None or BREAKS_THE_RULES, and a recorded run."""
     with tempfile.TemporaryDirectory(dir=IN_MEMORY) as path:
         return [(status, run) for status, runs in function(RecordedDirectory(path, start, signer)) for run in runs]
 
@@ -535,15 +535,15 @@ def recorded_case(start, signer, function):
 def failures_of_case(name, runs):
     """Yields the failures of a case: wrong exit statuses, and offences."""
     decided = decisions(list(dict.fromkeys(trace.request() for _, run in runs for trace in run.traces)))
-    found = [breaks_the_rules(run, decided) for status, run in runs if status == BREAKS_THE_RULES]
-    if found and not any(found):
+    are_reported = [breaks_the_rules(run, decided) for status, run in runs if status == BREAKS_THE_RULES]
+    if are_reported and not any(are_reported):
         yield f"{name}: trace_reader did not report that another process replaced the record"
     for status, run in runs:
-        what = f"{name}: {' '.join(run.command.arguments)}"
+        description = f"{name}: {' '.join(run.command.arguments)}"
         if isinstance(status, int) and run.status != status:
-            yield f"{what}: exit status {run.status}, expected {status}"
+            yield f"{description}: exit status {run.status}, expected {status}"
         if not (status == BREAKS_THE_RULES and breaks_the_rules(run, decided)):
-            yield from offences(run, what, decided)
+            yield from offences(run, description, decided)
 
 
 def offending_items(run, decided):
@@ -558,21 +558,21 @@ def breaks_the_rules(run, decided):
     return [item[0] for item in offending_items(run, decided)] == ["record"]
 
 
-def offences(run, what, decided):
+def offences(run, description, decided):
     """Yields the offences of a run, which recording.py or `trace_reader` found."""
-    yield from (f"{what}: {offence}" for offence in run.offences)
-    yield from (f"{what}: not lawful: {' '.join(item)[:200]}" for item in offending_items(run, decided))
+    yield from (f"{description}: {offence}" for offence in run.offences)
+    yield from (f"{description}: not lawful: {' '.join(item)[:200]}" for item in offending_items(run, decided))
 
 
-def check_cases(checks, start, signer, what, names):
+def check_cases(checks, start, signer, program_name, names):
     for name, function in names.items():
         if case_selection.is_selected(name):
             try:
                 runs = recorded_case(start, signer, function)
                 failures = [*failures_of_case(name, runs)]
-                checks.check(not failures, f"{what}: {len(failures)} of {len(runs)} runs", *failures[:3])
-            except (Failure, OSError, subprocess.SubprocessError) as why:
-                checks.check(False, what, name, why)
+                checks.check(not failures, f"{program_name}: {len(failures)} of {len(runs)} runs", *failures[:3])
+            except (Failure, OSError, subprocess.SubprocessError) as error:
+                checks.check(False, program_name, name, error)
 
 
 def check_mutant(sources, signer, mutant):
@@ -580,8 +580,8 @@ def check_mutant(sources, signer, mutant):
     start, function = program_starter(sources.mutant(mutant)), cases[mutant.case]
     runs = recorded_case(start, signer, function)
     decided = decisions(list(dict.fromkeys(trace.request() for _, run in runs for trace in run.traces)))
-    found = [offence for _, run in runs for offence in offences(run, mutant.name, decided)]
-    return "" if found else f"no run of the case `{mutant.case}` with the mutant {mutant.name} has an offence"
+    found_offences = [offence for _, run in runs for offence in offences(run, mutant.name, decided)]
+    return "" if found_offences else f"no run of the case `{mutant.case}` with the mutant {mutant.name} has an offence"
 
 
 def run_all(checks, scratch):
@@ -592,8 +592,8 @@ def run_all(checks, scratch):
     check_cases(checks, load_package(scratch), signer, "the Python package", package_cases)
     for mutant in mutants.mutants_of("installer", "recorded_mutants"):
         if case_selection.is_selected(mutant.name):
-            why = check_mutant(sources, signer, mutant)
-            checks.check(not why, why)
+            failure = check_mutant(sources, signer, mutant)
+            checks.check(not failure, failure)
 
 
 if __name__ == "__main__":

@@ -148,9 +148,9 @@ class Command:
 class Events:
     """What happens during a run."""
 
-    # The call of number `at` has this fault: an errno, SHORT or KILL. For KILL all calls are counted, otherwise only
-    # system calls, and if `calls` is not empty, only those of these names.
-    at: int = 0
+    # Call number `fault_at`, counted from 1, has the fault `fault`: an errno, SHORT or KILL. If `fault_at` is 0, no call has a
+    # fault. For KILL all calls are counted, otherwise only system calls, and if `calls` is not empty, only calls with these names.
+    fault_at: int = 0
     fault: object = 0
     calls: tuple = ()
     # True if the call is executed before it fails.
@@ -158,7 +158,7 @@ class Events:
     # The times that the clock shows one after another; the last one is repeated. A number below -1 is a negative errno
     # with which the clock fails.
     clock: list = field(default_factory=lambda: [1000])
-    # Before the call of this number (all calls are counted), the function `change` is called, which acts as another process.
+    # Before call number `changed_at` (all calls are counted), the function `change` is called, which acts as another process.
     changed_at: int = 0
     change: object = None
 
@@ -177,8 +177,8 @@ class Trace:
         head = [self.letters or "-", *map(hex_word, keys), hex_word(command.name), hex_word(command.signature),
                 hex_word(self.data), str(MAX_SIZE), hex_word(self.recorded),
                 *file_words(self.initial_files.target), *file_words(self.initial_files.record)]
-        signed = [["signed", *map(hex_word, each)] for each in command.signed]
-        return " ".join(each for item in [head, *signed, *self.items] for each in item)
+        signed = [["signed", *map(hex_word, word)] for word in command.signed]
+        return " ".join(word for item in [head, *signed, *self.items] for word in item)
 
 
 class RecordedRun:
@@ -247,8 +247,8 @@ class RecordedRun:
         """Returns the fault of a call, or 0."""
         events = self.events
         if events.fault == KILL or not request.is_report and (not events.calls or request.name in events.calls):
-            events.at -= 1
-            if events.at == 0:
+            events.fault_at -= 1
+            if events.fault_at == 0:
                 self.reached = True
                 return events.fault
         return 0
@@ -268,9 +268,9 @@ class RecordedRun:
         while self.pending is None:
             try:
                 header = self.stream.readline()
-            except TimeoutError as why:
+            except TimeoutError as error:
                 self.process.kill()
-                raise Failure(f"the run made no call within {SECONDS} seconds") from why
+                raise Failure(f"the run made no call within {SECONDS} seconds") from error
             if not header:
                 self.end()
                 return
@@ -313,26 +313,26 @@ class RecordedRun:
 
     # == The machine ==
 
-    def add_offence(self, what):
-        self.offences.append(what)
+    def add_offence(self, offence):
+        self.offences.append(offence)
 
     def begin(self, octets):
         """Begins the trace of a machine, and compares its options, which are the bytes `octets`, with those of the command."""
         numbering, *flags, is_list, _ = struct.unpack("9I", octets)
         command, is_first = self.command, not self.traces
         letters, data = command.letters, command.data
-        used = [letter for letter, flag in zip(OPTION_LETTERS, flags) if flag] + ["T"] * (numbering == 0)
+        used_letters = [letter for letter, flag in zip(OPTION_LETTERS, flags) if flag] + ["T"] * (numbering == 0)
         # The first machine for data from a pipe makes a check. Only if the data cannot be opened, the run does not know
         # that it is a pipe and makes no check. Then the first report must be a failure.
-        self.has_to_fail = command.is_pipe and is_first and "C" not in used
+        self.has_to_fail = command.is_pipe and is_first and "C" not in used_letters
         if command.is_pipe and is_first and not self.has_to_fail:
             letters += "" if "C" in letters else "C"
         elif command.is_pipe:
             data = b"" if self.due == "ALREADY_INSTALLED" else data[:command.max_received]
         keys = [b"".join(part for name, part in self.parameters if name == key) for key in ("key", "other")]
         # Runs with a list are not recorded.
-        if {*used} != {*letters} or keys != (command.keys * 2)[:2] or is_list:
-            self.add_offence(f"the options of a machine are {used}, {is_list} and {keys}, expected {letters}")
+        if {*used_letters} != {*letters} or keys != (command.keys * 2)[:2] or is_list:
+            self.add_offence(f"the options of a machine are {used_letters}, {is_list} and {keys}, expected {letters}")
         self.expect_no_effects()
         self.traces.append(Trace(command, letters, data, self.files))
         self.data_file = self.record_file = self.target_inode = self.lock_inode = self.open_inode = None
@@ -434,10 +434,12 @@ class RecordedRun:
         """Finds the changes since the run continued. These are effects of this run."""
         before, self.files = self.files, files_at(self.path)
         after = self.files
-        for what, old, new, own, renamed in (("target", before.target, after.target, self.data_file, "data_renamed"),
-                                             ("record", before.record, after.record, self.record_file, "record_renamed")):
+        for name, old, new, temporary_file, renamed in (
+                ("target", before.target, after.target, self.data_file, "data_renamed"),
+                ("record", before.record, after.record, self.record_file, "record_renamed")):
             if new != old:
-                self.add_effect(renamed if new and new.inode == own and new.inode in before.temporary else f"{what}_changed")
+                is_renamed = new and new.inode == temporary_file and new.inode in before.temporary
+                self.add_effect(renamed if is_renamed else f"{name}_changed")
         for inode, file in after.temporary.items():
             self.find_changes_of(inode, before.temporary.get(inode), file)
         removed = before.temporary.keys() - after.temporary.keys() - {file.inode for file in (after.target, after.record) if file}
@@ -524,8 +526,8 @@ class RecordedRun:
                 if name == "record" and not any(change[0] == "record" for change in self.foreign_changes):
                     self.record_at_open = old
                 self.foreign_changes.append([name, *file_words(new)])
-        own = {self.data_file, self.record_file}
-        if any(before.temporary[number] != self.files.temporary.get(number) for number in before.temporary.keys() & own):
+        own_files = {self.data_file, self.record_file}
+        if any(before.temporary[number] != self.files.temporary.get(number) for number in before.temporary.keys() & own_files):
             self.add_offence("another process changed a temporary file of this run")
         if self.open_inode is None:
             self.add_foreign_changes()

@@ -72,11 +72,12 @@ class Directory:
     def reset(self, **offered):
         """Removes all files. Then puts a public key and an installed update of version 5 there, and offers an update
         (`offer`)."""
-        for each in os.scandir(self.path):
-            if not each.is_dir(follow_symlinks=False):
-                os.remove(each.path)
+        for entry in os.scandir(self.path):
+            if not entry.is_dir(follow_symlinks=False):
+                os.remove(entry.path)
         self.put(PK, self.signer.public_key_file())
         self.put_installed()
+        # A mode that no program chooses by default, to see if an update gets the mode of the file that it replaces.
         os.chmod(self.path_of(TARGET), 0o751)
         self.offer(**offered)
         return self
@@ -104,7 +105,8 @@ class Directory:
     def offer(self, name="new", data=NEW_DATA, number=6, signed=None, legacy=False, signed_name=TARGET, label="timestamp",
               more=""):
         """Offers an update: writes its data and its signature file. If `signed` is given, these bytes are signed instead of the
-        data. The trusted comment holds the version number in the field `label`, the file name `signed_name`, and the fields `more`."""
+        data. The trusted comment holds the version number in the field `label`, the file name `signed_name`, and the fields
+        `more`."""
         self.put(name, data)
         comment = f"{label}:{number}\tfile:{signed_name}{more}\tprehashed"
         self.put(name + ".sig", self.signer.sign(data if signed is None else signed, comment, legacy))
@@ -126,8 +128,8 @@ class Directory:
         return stat.S_IMODE(os.stat(self.path_of(name)).st_mode)
 
     def content(self, name=TARGET):
-        """Returns the content of a file, or None. Of a version record, returns only the version number if the record is complete and
-        the number is a timestamp."""
+        """Returns the content of a file, or None if it does not exist. If the file is a complete version record that holds a
+        timestamp, returns only the timestamp, so that records can be compared without their digests."""
         data = content_or_none(self.path, name)
         return data and re.sub(rb"\Atimestamp:(\d+)\n[0-9a-f]{64}\n[0-9a-f]{128}\Z", rb"\1", data)
 
@@ -140,8 +142,8 @@ class Directory:
 
     def snapshot(self):
         """Returns the modification time of the directory, and by name the contents, modification times and inodes of all files."""
-        files = {each.name: (each.is_file() and read(each.path), each.stat().st_mtime_ns, each.stat().st_ino)
-                 for each in os.scandir(self.path)}
+        files = {entry.name: (entry.is_file() and read(entry.path), entry.stat().st_mtime_ns, entry.stat().st_ino)
+                 for entry in os.scandir(self.path)}
         return os.stat(self.path).st_mtime_ns, files
 
     # == Runs ==
@@ -179,34 +181,34 @@ class Directory:
             environment = self.preload_environment(TRACE_TO=str(trace), **variables)
             return self.run(arguments, environment, pass_fds=[trace], **(options or {}))
 
-        ran, trace = with_report_pipe(run)
-        return ran, trace.decode().splitlines()
+        result, trace = with_report_pipe(run)
+        return result, trace.decode().splitlines()
 
-    def run_stopped_before(self, number, meanwhile, where=".", **calls):
-        """Installs `new` into the subdirectory `where`. Before its call of this number the run is stopped, `meanwhile` is called
-        with the `Directory` of the target, and then the run continues. CALLS=NAMES counts only the calls of these functions."""
-        return self.runner.run_stopped(self.path, [PK, "new", "new.sig", os.path.join(where, TARGET)],
-                                       lambda: meanwhile(Directory(self.path_of(where), self.runner)), AT=number, **calls)
+    def run_stopped_before(self, number, meanwhile, subdirectory=".", **calls):
+        """Installs `new` into this subdirectory. Stops the run before its Nth call (N is `number`), calls `meanwhile` with the
+        `Directory` of the target, and continues the run. CALLS=NAMES counts only the calls of these functions."""
+        return self.runner.run_stopped(self.path, [PK, "new", "new.sig", os.path.join(subdirectory, TARGET)],
+                                       lambda: meanwhile(Directory(self.path_of(subdirectory), self.runner)), AT=number, **calls)
 
-    def run_stopped_when_staged(self, meanwhile, where="."):
+    def run_stopped_when_staged(self, meanwhile, subdirectory="."):
         """Like `run_stopped_before`, at the time when the temporary file is complete and not yet verified."""
-        ran = self.run_stopped_before(1, meanwhile, where, CALLS=LIBC_CALLS["read-back"])
-        expect(ran.reached, "it wrote no temporary file", ran)
-        return ran
+        result = self.run_stopped_before(1, meanwhile, subdirectory, CALLS=LIBC_CALLS["read-back"])
+        expect(result.reached, "it wrote no temporary file", result)
+        return result
 
     # == Results ==
 
-    def expect_end(self, ran, status, error_output=None):
+    def expect_end(self, result, status, error_output=None):
         """Raises a `Failure` unless a run had this exit status, and its error output ends with `error_output`. If that is empty,
         so must be the error output; if it is None, any error output is accepted."""
-        is_expected = error_output is None or ran.stderr.endswith(error_output) and bool(ran.stderr) == bool(error_output)
-        # "Success" is the text for errno 0, so a message with it has no cause.
-        expect(ran.status == status and is_expected and b"Success" not in ran.stderr, ran,
+        is_expected = error_output is None or result.stderr.endswith(error_output) and bool(result.stderr) == bool(error_output)
+        # "Success" is the text for errno 0. A message that contains it reports an error without its cause, which is a mistake.
+        expect(result.status == status and is_expected and b"Success" not in result.stderr, result,
                f"expected status {status} and {error_output}")
 
-    def expect_result(self, ran, status, error_output=None):
+    def expect_result(self, result, status, error_output=None):
         """Like `expect_end`. Also expects that the update `new` is installed if the run succeeded, otherwise the older one."""
-        self.expect_end(ran, status, error_output)
+        self.expect_end(result, status, error_output)
         self.expect_installed(*((NEW_DATA, b"6") if status in (0, ALREADY_INSTALLED) else (OLD_DATA, b"5")))
 
     def expect_install(self, name, status, *flags, error_output=None):
@@ -215,8 +217,8 @@ class Directory:
 
     def expect_run(self, arguments, status, error_output=b"", **options):
         """Runs the program with these arguments, and expects this exit status and exactly this error output."""
-        ran = self.run(arguments, **options)
-        expect(ran.status == status and ran.stderr == error_output, ran, f"expected status {status} and {error_output}")
+        result = self.run(arguments, **options)
+        expect(result.status == status and result.stderr == error_output, result, f"expected status {status} and {error_output}")
 
     def expect_process_end(self, process, status, error_output=None):
         """Waits for a started run, and expects this end (`expect_end`)."""

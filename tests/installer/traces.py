@@ -1,5 +1,5 @@
 #!/usr/bin/env python3
-"""Checks the decisions of the program `trace_reader` on traces of an installer.
+"""Checks that the program `trace_reader` decides correctly whether a trace of an installer is lawful.
 
     tests/installer/traces.py [--write] [--program PROGRAM]
 
@@ -132,31 +132,31 @@ class Run:
         return self.report_done("record_synced", "record_renamed", "names_synced", "data_renamed", "names_synced")
 
     def request(self):
-        return " ".join(self.head + [each for item in self.items for each in item])
+        return " ".join(self.head + [word for item in self.items for word in item])
 
 
 def upgrade():
     return Run().report_done("locked").begin().install()
 
 
-def changed(at, position, value):
-    """Returns an upgrade in which the word at a position of call `at` is another one."""
+def with_changed_word(index, position, value):
+    """Returns an upgrade in which the word at a position of call `index` is another one."""
     run = upgrade()
-    run.items[at][position] = value
+    run.items[index][position] = value
     return run
 
 
-def swapped(at):
-    """Returns an upgrade in which call `at` and the next one are swapped."""
+def with_swapped_calls(index):
+    """Returns an upgrade in which call `index` and the next one are swapped."""
     run = upgrade()
-    run.items[at], run.items[at + 1] = run.items[at + 1], run.items[at]
+    run.items[index], run.items[index + 1] = run.items[index + 1], run.items[index]
     return run
 
 
-def without(at):
-    """Returns an upgrade without call `at`."""
+def without_call(index):
+    """Returns an upgrade without call `index`."""
     run = upgrade()
-    del run.items[at]
+    del run.items[index]
     return run
 
 
@@ -164,8 +164,8 @@ def without_valid_signature(message):
     """Returns an upgrade in which Ed25519 rejects the signature of the comment or of the data."""
     run = upgrade()
     # The words `signed MESSAGE KEY SIGNATURE` for the comment, and then for the data, are at the end of the head.
-    at = {"comment": -8, "data": -4}[message]
-    run.head = run.head[:at] + run.head[at:][4:]
+    index = {"comment": -8, "data": -4}[message]
+    run.head = run.head[:index] + run.head[index:][4:]
     return run
 
 
@@ -209,15 +209,16 @@ def unlawful_runs():
     runs, 5 creates one, 6 to 8 copy the data, 9 and 10 read it back, 11 verifies it, 12 sets the permissions, 13 syncs the file,
     14 to 16 write the new record, 17 renames it, 18 syncs the directory, 19 renames the file, 20 syncs the directory."""
     runs = {
-        "record of another version": (changed(15, WRITTEN_BYTES, hex_word(record_text(4, NEW_DATA))), 15),
-        "other data is copied": (changed(6, WRITTEN_BYTES, hex_word(b"other")), 6),
-        "other data is read back": (changed(9, REPORTED_BYTES, hex_word(b"other")), 9),
-        "valid data signature is reported as invalid": (changed(11, REPORT, "refused"), 11),
-        "valid comment signature is reported as invalid": (changed(3, REPORT, "refused"), 3),
+        "record of another version": (with_changed_word(15, WRITTEN_BYTES, hex_word(record_text(4, NEW_DATA))), 15),
+        "other data is copied": (with_changed_word(6, WRITTEN_BYTES, hex_word(b"other")), 6),
+        "other data is read back": (with_changed_word(9, REPORTED_BYTES, hex_word(b"other")), 9),
+        "valid data signature is reported as invalid": (with_changed_word(11, REPORT, "refused"), 11),
+        "valid comment signature is reported as invalid": (with_changed_word(3, REPORT, "refused"), 3),
         "invalid comment signature is reported as valid": (without_valid_signature("comment"), 3),
         "invalid data signature is reported as valid": (without_valid_signature("data"), 11),
-        "another record is read": (changed(1, REPORTED_BYTES, hex_word(record_text(1, OLD_DATA))), 1),
-        "another signature file is read": (changed(2, REPORTED_BYTES, hex_word(signature_file(b"version:9\tfile:app"))), 2),
+        "another record is read": (with_changed_word(1, REPORTED_BYTES, hex_word(record_text(1, OLD_DATA))), 1),
+        "another signature file is read":
+            (with_changed_word(2, REPORTED_BYTES, hex_word(signature_file(b"version:9\tfile:app"))), 2),
         "lock is taken although another run holds it": (Run().other_process("busy", "1", "-").report_done("locked"), 1),
         "another process replaces the record of a locked target":
             (Run().report_done("locked").other_process("record", "9", hex_word(record_text(1, OLD_DATA))), 1),
@@ -231,13 +232,13 @@ def unlawful_runs():
         "check that installs": (Run(CHECK).begin().install(), 3),
     }
     calls = upgrade().items
-    for at, call in enumerate(calls[:-1]):
-        runs[f"call {at} is missing"] = (without(at), at)
-        if call != calls[at + 1]:
-            runs[f"calls {at} and {at + 1} are swapped"] = (swapped(at), at)
-    for at, call in enumerate(calls):
+    for index, call in enumerate(calls[:-1]):
+        runs[f"call {index} is missing"] = (without_call(index), index)
+        if call != calls[index + 1]:
+            runs[f"calls {index} and {index + 1} are swapped"] = (with_swapped_calls(index), index)
+    for index, call in enumerate(calls):
         if call[EFFECT] != "-":
-            runs[f"call {at} has no effect"] = (changed(at, EFFECT, "-"), at)
+            runs[f"call {index} has no effect"] = (with_changed_word(index, EFFECT, "-"), index)
     return runs
 
 
@@ -248,7 +249,7 @@ CI_CASES = ["upgrade", "check", "lock in use", "roll-back", "record of another v
 def cases():
     """Yields all cases: a name, the line for `trace_reader`, and the expected decision."""
     yield from ((name, run.request(), "lawful") for name, run in lawful_runs().items())
-    yield from ((name, run.request(), str(at)) for name, (run, at) in unlawful_runs().items())
+    yield from ((name, run.request(), str(index)) for name, (run, index) in unlawful_runs().items())
 
 
 def write():
@@ -273,10 +274,10 @@ def main():
         if not os.access(arguments.program, os.X_OK):
             raise Missing(f"{arguments.program} is missing: run rt ci")
         text = "".join(f"{request}\n" for _, request, _ in all_cases)
-        ran = subprocess.run([arguments.program], input=text, capture_output=True, text=True, timeout=SECONDS)
-        decisions = ran.stdout.splitlines()
-        checks.check(ran.returncode == 0 and len(decisions) == len(all_cases),
-                     f"status {ran.returncode} and {len(decisions)} decisions, expected {len(all_cases)}: {ran.stderr}")
+        result = subprocess.run([arguments.program], input=text, capture_output=True, text=True, timeout=SECONDS)
+        decisions = result.stdout.splitlines()
+        checks.check(result.returncode == 0 and len(decisions) == len(all_cases),
+                     f"status {result.returncode} and {len(decisions)} decisions, expected {len(all_cases)}: {result.stderr}")
         for (name, _, expected), decision in zip(all_cases, decisions):
             checks.same(decision, expected, name)
     except Missing as missing:

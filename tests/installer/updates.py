@@ -39,8 +39,8 @@ DAMAGED_RECORD_ERROR = error_text(RECORD_PATH, "the version record is damaged", 
 FILE_NAME_ERROR = (error_text("new.sig", "the trusted comment does not name the file to install")
                    + f"hint: use --name NAME if the update was signed under a name other than {TARGET}\n".encode())
 HOLDS_VERSION_ERROR, HOLDS_TIMESTAMP_ERROR = (
-    error_text(RECORD_PATH, f"the version record holds a {recorded}, not a {other}", f"use --numbering {recorded}")
-    for recorded, other in (("version", "timestamp"), ("timestamp", "version")))
+    error_text(RECORD_PATH, f"the version record holds a {recorded}, not a {expected}", f"use --numbering {recorded}")
+    for recorded, expected in (("version", "timestamp"), ("timestamp", "version")))
 # The hint for a truncated key file or signature file.
 COPY_AGAIN = "download or copy the file again"
 # The text and the hint of the error for data above the limit of --max-size.
@@ -175,9 +175,9 @@ class Update:
         before = directory.snapshot()
         stdin = {"typed": self.data} if is_data_needed else {"stdin": pipe}
         arguments = [*self.arguments, *options, source, "new.sig", TARGET]
-        ran, calls = directory.run_traced(arguments, stdin, **self.environment)
+        result, calls = directory.run_traced(arguments, stdin, **self.environment)
         error_output = self.error_output.replace(b" new:", f" {source}:".encode()) if status else b""
-        expect((ran.status, ran.stderr) == (status, error_output), source, *options, ran,
+        expect((result.status, result.stderr) == (status, error_output), source, *options, result,
                f"expected status {status} and {error_output}")
         expect(is_data_needed or directory.snapshot() == before, "something was changed")
         if status == ALREADY_INSTALLED:
@@ -211,7 +211,7 @@ class Update:
 def check_and_install(directory, status, error_output=b"", kind=Update, **changes):
     """Runs --check and all installations of an update. `changes` has the fields of `kind`, which is `Update` or a
     subclass, and other arguments of `Directory.offer`. Returns the traced calls of the last installation."""
-    names = {each.name for each in fields(kind)}
+    names = {known_field.name for known_field in fields(kind)}
     offered = {name: value for name, value in changes.items() if name not in names}
     of_update = {name: value for name, value in changes.items() if name in names}
     update = kind(directory, status, error_output, offered=offered, **of_update)
@@ -251,10 +251,10 @@ UPDATE_TABLE = (
     ("recorded version without a digest, and no installed file", 0, dict(number=5, installed=None)),
     ("recorded version, and no installed file", 0, dict(record=recorded(NEW_DATA, 6), installed=None)),
     ("update that was signed again, over a changed file", 0, dict(record=recorded(NEW_DATA, 6), more=UNEXPIRED_FIELD)),
-    *((f"recorded version over {what}{more}", 0, dict(options=options, installed=data, record=recorded(NEW_DATA, 6)))
+    *((f"recorded version over {description}{more}", 0, dict(options=options, installed=data, record=recorded(NEW_DATA, 6)))
       for more, options in (("", ()), (", with --first", FIRST))
-      for what, data in (("an older file", OLD_DATA), ("a changed file", NEW_DATA[:-1] + b"x"), ("a truncated file", NEW_DATA[:-1]),
-                         ("an empty file", b""))),
+      for description, data in (("an older file", OLD_DATA), ("a changed file", NEW_DATA[:-1] + b"x"),
+                                ("a truncated file", NEW_DATA[:-1]), ("an empty file", b""))),
     ("same update", ALREADY_INSTALLED, NEW_IS_INSTALLED),
     ("same update, with --first", ALREADY_INSTALLED, dict(NEW_IS_INSTALLED, options=FIRST)),
     ("another update of the recorded version that is installed", ALREADY_INSTALLED,
@@ -327,20 +327,20 @@ UPDATE_TABLE = (
     ("clock one second before the expiry date", 0, dict(more=f"\texpires:{FAR_FUTURE}", clock=FAR_FUTURE - 1)),
     ("clock at the expiry date", EXPIRED, EXPIRED_ERROR, dict(more=f"\texpires:{FAR_FUTURE}", clock=FAR_FUTURE)),
     ("clock behind the date of the record", 0, dict(record_time=FAR_FUTURE, clock=FAR_FUTURE - 1, more=UNEXPIRED_FIELD)),
-    *(row for what, more, *ended in (
+    *(row for description, more, *outcome in (
         ("an expiry date", UNEXPIRED_FIELD, 0),
         ("no expiry date", "", REJECTED, NO_EXPIRY_ERROR),
         ("a field Expires:", UNEXPIRED_FIELD.replace("expires", "Expires"), REJECTED, BAD_EXPIRY_ERROR),
         ("a space before expires:", UNEXPIRED_FIELD.replace("expires", " expires"), REJECTED, BAD_EXPIRY_ERROR),
         ("a space after expires", UNEXPIRED_FIELD.replace("expires", "expires "), REJECTED, BAD_EXPIRY_ERROR),
         ("fields expires: and EXPIRES:", UNEXPIRED_FIELD + UNEXPIRED_FIELD.upper(), REJECTED, BAD_EXPIRY_ERROR))
-      for row in ((f"--must-expire, and {what}", *ended, dict(options=("--must-expire",), more=more)),
-                  (f"no --must-expire, and {what}", 0, dict(more=more)))),
+      for row in ((f"--must-expire, and {description}", *outcome, dict(options=("--must-expire",), more=more)),
+                  (f"no --must-expire, and {description}", 0, dict(more=more)))),
     # The size of the data.
     ("two signed sizes", REJECTED, BAD_SIZE_FIELD_ERROR, dict(more=SIZE_FIELD + SIZE_FIELD)),
-    *((f"signed size with {what}", REJECTED, BAD_SIZE_FIELD_ERROR, dict(more=f"\tsize:{size}"))
-      for what, size in (("a word", "long"), ("a plus sign", f"+{len(NEW_DATA)}"), ("no digits", ""))),
-    *((what, *ended, dict(data=data, more=f"\tsize:{size}", check_status=0)) for what, data, size, *ended in (
+    *((f"signed size with {description}", REJECTED, BAD_SIZE_FIELD_ERROR, dict(more=f"\tsize:{size}"))
+      for description, size in (("a word", "long"), ("a plus sign", f"+{len(NEW_DATA)}"), ("no digits", ""))),
+    *((description, *outcome, dict(data=data, more=f"\tsize:{size}", check_status=0)) for description, data, size, *outcome in (
         ("data of the signed size", NEW_DATA, len(NEW_DATA), 0),
         ("long data of the signed size", LONG_DATA, len(LONG_DATA), 0),
         ("no data, of the signed size 0", b"", 0, 0),
@@ -348,9 +348,9 @@ UPDATE_TABLE = (
         ("data of one byte less than the signed size", NEW_DATA, len(NEW_DATA) + 1, REJECTED, SIZE_ERROR),
         ("long data of the signed size 1", LONG_DATA, 1, REJECTED, SIZE_ERROR))),
     # Keys on the command line.
-    *((f"keys {' and '.join(keys)}", status, dict(before, keys=keys))
+    *((f"keys {' and '.join(keys)}", status, dict(changes, keys=keys))
       for keys in (["own"], ["own", "other"], ["other", "own"], ["own", "twin"], ["twin", "own"])
-      for status, before in ((0, {}), (ALREADY_INSTALLED, NEW_IS_INSTALLED))),
+      for status, changes in ((0, {}), (ALREADY_INSTALLED, NEW_IS_INSTALLED))),
     ("keys twin and twin", REJECTED, COMMENT_ERROR, dict(keys=["twin", "twin"])),
     *((f"older update with keys {' and '.join(keys)}", OLDER_VERSION, OLDER_ERROR, dict(keys=keys, number=4))
       for keys in (["own", "twin"], ["twin", "own"])),
@@ -366,22 +366,23 @@ UPDATE_TABLE = (
     ),
     # The record holds the greatest version number. Only an update under another key than the recorded one, with --first or
     # --new-key, is installed over it.
-    *(row for what, keys, record, *ended in (
+    *(row for description, keys, record, *outcome in (
         ("record of another key", [], recorded_under("other"), 0),
         ("record of the same key", [], recorded_under("own"), OLDER_VERSION, OLDER_ERROR),
         ("record of the first of two keys", ["other", "own"], recorded_under("other"), OLDER_VERSION, OLDER_ERROR),
         ("record of the first of two keys of the same key ID", ["twin", "own"], recorded_under("twin"), OLDER_VERSION, OLDER_ERROR),
         ("record without a key", [], b"timestamp:7", OLDER_VERSION, OLDER_ERROR))
-      for row in ((what, OLDER_VERSION, OLDER_ERROR, dict(keys=keys, record=record)),
-                  (f"{what}, with --first", *ended, dict(options=FIRST, keys=keys, record=record)),
-                  (f"{what}, with --new-key", *ended, dict(options=NEW_KEY, keys=keys, record=record)))),
+      for row in ((description, OLDER_VERSION, OLDER_ERROR, dict(keys=keys, record=record)),
+                  (f"{description}, with --first", *outcome, dict(options=FIRST, keys=keys, record=record)),
+                  (f"{description}, with --new-key", *outcome, dict(options=NEW_KEY, keys=keys, record=record)))),
     ("newer update with --new-key", 0, dict(options=NEW_KEY)),
     ("no version record, with --new-key", UNRECORDED, NO_RECORD_ERROR, dict(options=NEW_KEY, record=None)),
     ("damaged record, with --new-key", UNRECORDED, DAMAGED_RECORD_ERROR, dict(options=NEW_KEY, record=b"five")),
     ("record of a version under another key, with --new-key", UNRECORDED, HOLDS_VERSION_ERROR,
      dict(options=NEW_KEY, record=recorded_under("other", "version"))),
     # After a roll-back, the record keeps the version number and the key of the newer update.
-    *((f"{what}, with --roll-back", *ended, dict(before, options=(*options, *ROLL_BACK))) for what, options, before, *ended in (
+    *((f"{description}, with --roll-back", *outcome, dict(changes, options=(*options, *ROLL_BACK)))
+      for description, options, changes, *outcome in (
         ("older update", (), dict(record=recorded(OLD_DATA, 7), new_record=recorded(NEW_DATA, 7)), 0),
         ("older version", BY_VERSION,
          dict(record=recorded(OLD_DATA, 7, "version"), label="version", new_record=recorded(NEW_DATA, 7, "version")), 0),
@@ -415,23 +416,23 @@ UPDATE_TABLE = (
         )
     ),
     # Records without a digest, or with a damaged one. Their version number is compared, but not the data.
-    *((f"timestamp {number}, over {'the same' if installed == NEW_DATA else 'another'} file and a record of 5 ({what})", *ended,
-       dict(number=number, installed=installed, record=record))
-      for what, record in (("number and line feed", b"5\n"), ("64 digits", b"5".rjust(64, b"0")),
-                           ("timestamp", b"timestamp:5"), ("timestamp and line feed", b"timestamp:5\n"),
-                           ("damaged digest", recorded(OLD_DATA, 5, change=lambda record: record[:-1] + b"g")))
-      for number, installed,
-      *ended in ((4, OLD_DATA, OLDER_VERSION, OLDER_ERROR), (5, OLD_DATA, SAME_VERSION, OTHER_DATA_ERROR),
-                 (5, NEW_DATA, ALREADY_INSTALLED), (6, OLD_DATA, 0))),
+    *((f"timestamp {number}, over {'the same' if installed == NEW_DATA else 'another'} file and a record of 5 ({description})",
+       *outcome, dict(number=number, installed=installed, record=record))
+      for description, record in (("number and line feed", b"5\n"), ("64 digits", b"5".rjust(64, b"0")),
+                                  ("timestamp", b"timestamp:5"), ("timestamp and line feed", b"timestamp:5\n"),
+                                  ("damaged digest", recorded(OLD_DATA, 5, change=lambda record: record[:-1] + b"g")))
+      for number, installed, *outcome in (
+          (4, OLD_DATA, OLDER_VERSION, OLDER_ERROR), (5, OLD_DATA, SAME_VERSION, OTHER_DATA_ERROR),
+          (5, NEW_DATA, ALREADY_INSTALLED), (6, OLD_DATA, 0))),
     # A record with a damaged key, or with a digest of another length, is damaged. --first ignores it.
-    *((f"record with {what}{more}", *ended, dict(options=options, record=recorded(OLD_DATA, 5, change=change)))
-      for more, options, *ended in (("", (), UNRECORDED, DAMAGED_RECORD_ERROR), (", with --first", FIRST, 0))
-      for what, change in (("a digit less", lambda record: record[:-1]),
-                           ("a digit more", lambda record: record + b"0"),
-                           ("a line feed at its end", lambda record: record + b"\n"),
-                           ("a key and no digest", lambda record: record.rpartition(b"\n")[0]),
-                           ("a space", lambda record: record.replace(b"\n", b" \n")),
-                           ("only a word", lambda _: b"six"))),
+    *((f"record with {description}{more}", *outcome, dict(options=options, record=recorded(OLD_DATA, 5, change=change)))
+      for more, options, *outcome in (("", (), UNRECORDED, DAMAGED_RECORD_ERROR), (", with --first", FIRST, 0))
+      for description, change in (("a digit less", lambda record: record[:-1]),
+                                  ("a digit more", lambda record: record + b"0"),
+                                  ("a line feed at its end", lambda record: record + b"\n"),
+                                  ("a key and no digest", lambda record: record.rpartition(b"\n")[0]),
+                                  ("a space", lambda record: record.replace(b"\n", b" \n")),
+                                  ("only a word", lambda _: b"six"))),
 )
 # The first word of the name of a case, by the expected exit status. For all others it is "rejects".
 OUTCOMES = {0: "installs", ALREADY_INSTALLED: "keeps", FAILED: "fails"}
@@ -473,16 +474,16 @@ def limits_data(directory, limit, status):
     """The limit applies to data from a file and from a pipe."""
     for source in ("new", "/dev/stdin"):
         directory.put_installed()
-        ran = directory.run(["--max-size", limit, PK, source, "new.sig", TARGET], typed=NEW_DATA)
-        directory.expect_result(ran, status, error_text(source, *TOO_LARGE_TEXTS) if status else b"")
+        result = directory.run(["--max-size", limit, PK, source, "new.sig", TARGET], typed=NEW_DATA)
+        directory.expect_result(result, status, error_text(source, *TOO_LARGE_TEXTS) if status else b"")
 
 
 @update_cases.table("reports a target that cannot be read")
 def reports_unreadable_target(directory):
     directory.expect_install("new", 0)
     before = directory.snapshot()
-    ran = directory.install_broken(CALLS="pread", AT=1, ERRNO=errno.EIO)
-    directory.expect_end(ran, FAILED, error_text(TARGET, "Input/output error (os error 5)"))
+    result = directory.install_broken(CALLS="pread", AT=1, ERRNO=errno.EIO)
+    directory.expect_end(result, FAILED, error_text(TARGET, "Input/output error (os error 5)"))
     expect(directory.snapshot() == before, "something was changed")
 
 
@@ -544,18 +545,18 @@ NOT_REGULAR = {
 
 @update_cases.table(
     *(
-        (f"rejects a {kind} as the {what}", kind, name, b"4")
+        (f"rejects a {kind} as the {role}", kind, name, b"4")
         for kind in NOT_REGULAR
-        for what, name in (("record", RECORD), ("lock", LOCK))
+        for role, name in (("record", RECORD), ("lock", LOCK))
     ),
     *((f"rejects a {kind} as the target", kind, TARGET, OLD_DATA) for kind in NOT_REGULAR),
     ("rejects a link to the update as the target", "link", TARGET, NEW_DATA, True),
     ("rejects a pipe as the target of the recorded version", "pipe", TARGET, NEW_DATA, True),
 )
-def rejects_irregular_file(directory, kind, name, behind, is_recorded=False):
+def rejects_irregular_file(directory, kind, name, linked_content, is_recorded=False):
     """--check and an installation reject a link, a directory or a pipe. They do not follow the link, wait for the pipe, or change
-    anything. `behind` is the content of the file `behind`, to which links point."""
-    directory.put("behind", behind)
+    anything. `linked_content` is the content of the file `behind`, to which links point."""
+    directory.put("behind", linked_content)
     if is_recorded:
         directory.put(RECORD, directory.signer.version_record(NEW_DATA, 6))
     directory.replace(name, NOT_REGULAR[kind][0])
@@ -567,7 +568,7 @@ def rejects_irregular_file(directory, kind, name, behind, is_recorded=False):
     expect({*os.listdir(directory.path)} == names - {LOCK} | {name}, f"--check left {os.listdir(directory.path)}")
     directory.expect_install("new", FAILED, error_output=error_output)
     after = os.lstat(path)
-    is_unchanged = (before.st_ino, before.st_mode, behind) == (after.st_ino, after.st_mode, directory.content("behind"))
+    is_unchanged = (before.st_ino, before.st_mode, linked_content) == (after.st_ino, after.st_mode, directory.content("behind"))
     expect(is_unchanged, f"{name}, or the file that it leads to, was changed")
     expect(name == TARGET or directory.content() == OLD_DATA, "the update was installed")
     expect({*os.listdir(directory.path)} <= names, f"it left {os.listdir(directory.path)}")

@@ -50,9 +50,9 @@ def error_in(subject, body, is_merge=False):
 
 def commits():
     """Yields the hash, the parents, the subject and the body of each commit that must be checked."""
-    ran = subprocess.run(["git", "log", "--format=%h%x1f%P%x1f%s%x1f%b%x1e", f"{LAST_UNCHECKED}..HEAD"], cwd=TOP,
-                         stdout=subprocess.PIPE, check=True)
-    for record in ran.stdout.decode().split("\x1e")[:-1]:
+    process = subprocess.run(["git", "log", "--format=%h%x1f%P%x1f%s%x1f%b%x1e", f"{LAST_UNCHECKED}..HEAD"], cwd=TOP,
+                             stdout=subprocess.PIPE, check=True)
+    for record in process.stdout.decode().split("\x1e")[:-1]:
         name, parents, subject, body = record.lstrip("\n").split("\x1f")
         yield name, parents.split(), subject, body
 

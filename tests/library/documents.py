@@ -124,7 +124,7 @@ class Index:
         self.library = sources.Library()
         self.sources = [source for crate in self.library.crates for source in self.library.crate_sources(crate)]
         self.items = [item for source in self.sources for item in source.items]
-        self.types = {item.name for item in self.items if item.what in ("struct", "enum", "trait", "type")}
+        self.types = {item.name for item in self.items if item.keyword in ("struct", "enum", "trait", "type")}
         specs = [file for directory in self.library.crates.values() for file in sources.files_below(f"{directory}/specs", ".antt")]
         self.definitions = [definition for file in specs for definition in sources.read_module(file).definitions.values()]
         # The names in code. `of_crates` are the names in the crates and the C sources, which are the only ones that
@@ -141,7 +141,7 @@ class Index:
 
     def functions(self, name):
         """Returns the functions with this name."""
-        return [item for item in self.items if item.what == "fn" and item.name == name]
+        return [item for item in self.items if item.keyword == "fn" and item.name == name]
 
     def clauses_of(self, function):
         """Returns the clauses of a function, and those of the trait's function that it implements."""
@@ -160,7 +160,7 @@ def numbered_lines(document, text):
     return ((f"{document}:{number}", line) for number, line in enumerate(text.split("\n"), 1))
 
 
-def shortened(text):
+def clause_as_quoted(text):
     """Returns a clause as a CALLING.md quotes it: `S` stands for what `self` points to before the call, and `S'`
     for what it points to afterwards."""
     return re.sub(r"\bself\.(?:now|old)\b", "S", re.sub(r"\bself\.new\b", "S'", sources.in_one_line(text)))
@@ -171,47 +171,48 @@ def check_calls(report, index, document, text):
     quoted clause."""
     directory = f"{ROOT}/crates/{CALLS.match(document)[1]}/"
     file, calls, is_quoted = "", [], False
-    for where, line in numbered_lines(document, text):
+    for location, line in numbered_lines(document, text):
         if line.startswith("```"):
             is_quoted, file, calls = line == "```text", "", []
         elif is_quoted and line.startswith("src/"):
             file = directory + line.partition(",")[0]
         elif is_quoted and line.startswith("fn "):
             path = re.match(r"fn ([\w:]+)", line)[1]
-            calls = [each for each in index.functions(path.rpartition("::")[2]) if (each.file, each.path) == (file, path)]
+            calls = [function for function in index.functions(path.rpartition("::")[2])
+                     if (function.file, function.path) == (file, path)]
             headers = [re.sub(r"^(?:pub(?:\(crate\))? )?", "", sources.in_one_line(call.header)) for call in calls]
             expected = line.replace(f"fn {path}", "fn " + path.rpartition("::")[2])
-            report.check(expected in headers, where, f"`{expected}` is not in {file}, which has {headers}")
+            report.check(expected in headers, location, f"`{expected}` is not in {file}, which has {headers}")
         elif is_quoted and line.strip():
             parts = re.fullmatch(r"  (requires|ensures)(?: (\w+))?: (.*)", line)
-            clauses = [shortened(clause.text) for call in calls for clause in index.clauses_of(call)
+            clauses = [clause_as_quoted(clause.text) for call in calls for clause in index.clauses_of(call)
                        if parts and (clause.kind, clause.name) == (parts[1], parts[2] or "")]
-            report.check(parts and parts[3] in clauses, where, f"no clause `{line.strip()}`; the source has {clauses}")
+            report.check(parts and parts[3] in clauses, location, f"no clause `{line.strip()}`; the source has {clauses}")
 
 
 def check_links(report, document, text):
     """Checks that each relative link leads to an existing file and, if it has an anchor, to a heading in this file."""
-    for where, line in numbered_lines(document, text):
+    for location, line in numbered_lines(document, text):
         for link in re.findall(r"\]\((?!\w+:)([^)\s]+)\)", line):
             path, _, anchor = link.partition("#")
             target = os.path.normpath(os.path.join(os.path.dirname(document), path)) if path else document
             exists = os.path.exists(os.path.join(ROOT, target))
-            report.check(exists, where, f"broken link {link}: no file {target}")
+            report.check(exists, location, f"broken link {link}: no file {target}")
             if exists and anchor:
-                heads = re.findall(r"^#+ (.*)$", read(target), re.M)
-                anchors = {re.sub(r"[^\w\- ]", "", head.lower()).replace(" ", "-") for head in heads}
-                report.check(anchor in anchors, where, f"broken link {link}: {target} has no #{anchor}")
+                headings = re.findall(r"^#+ (.*)$", read(target), re.M)
+                anchors = {re.sub(r"[^\w\- ]", "", heading.lower()).replace(" ", "-") for heading in headings}
+                report.check(anchor in anchors, location, f"broken link {link}: {target} has no #{anchor}")
 
 
 @functools.lru_cache(maxsize=None)
-def find(path):
+def paths_ending_with(path):
     """Returns the files and directories to which a path in a document may refer. It may be the end of a longer
     path, such as `specs/Fed` in any crate, without the ending of the file, and it may have wildcards."""
     path = path.rstrip("/")
     if "*" in path or "NAME" in path:
         return glob.glob(os.path.join(ROOT, path.replace("NAME", "*")))
     ends = tuple(f"/{path}{ending}" for ending in ENDINGS)
-    return [place for place in PATHS if f"/{place}".endswith(ends)]
+    return [candidate for candidate in PATHS if f"/{candidate}".endswith(ends)]
 
 
 def is_path(text):
@@ -221,7 +222,7 @@ def is_path(text):
     return bool("/" in text and not re.fullmatch(r"\d+(?:/\d+)*", text) or re.search(r"\.(?:rt|antt|py|md|c|txt|edit)$", text))
 
 
-def squeezed(text):
+def with_single_spaces(text):
     """Returns source code without comment lines, with each run of white space replaced by a space."""
     return re.sub(r"\s+", " ", re.sub(r"(?m)^\s*//.*$", "", text)).strip()
 
@@ -229,7 +230,7 @@ def squeezed(text):
 def check_blocks(report, document, text, index):
     """Checks that each block of Rust is part of a source file, ignoring comments and white space."""
     for block in (block for language, block in BLOCK.findall(text) if language == "rust"):
-        is_in_source = any(squeezed(block) in squeezed(source.text) for source in index.sources)
+        is_in_source = any(with_single_spaces(block) in with_single_spaces(source.text) for source in index.sources)
         report.check(is_in_source, document, f"no source file has this block: {block[:100]!r}")
 
 
@@ -237,15 +238,15 @@ def check_paths(report, document, text):
     """Checks each path that is quoted or used in a command, and each name whose file is given, as in "`NAME` of
     `FILE`"."""
     for path in (path for language, block in BLOCK.findall(text) if language == "sh" for path in PATHS_IN_COMMANDS.findall(block)):
-        report.check(not is_path(path) or find(path), document, f"no file or directory {path}")
-    for where, line in numbered_lines(document, text):
+        report.check(not is_path(path) or paths_ending_with(path), document, f"no file or directory {path}")
+    for location, line in numbered_lines(document, text):
         for name in QUOTED.findall(line):
             for path in [name] if " " not in name else PATHS_IN_COMMANDS.findall(name):
-                report.check(not is_path(path) or find(path), where, f"no file or directory {path}")
+                report.check(not is_path(path) or paths_ending_with(path), location, f"no file or directory {path}")
         for names, path in re.findall(NAMES + r" of `([\w./]+)`", line):
             for name in QUOTED.findall(names) if is_path(path) else ():
-                defined = {name for place in find(path) for name in names_of(place)}
-                report.check(name.rpartition("::")[2] in defined, where, f"{path} has no {name}")
+                defined = {name for file in paths_ending_with(path) for name in names_of(file)}
+                report.check(name.rpartition("::")[2] in defined, location, f"{path} has no {name}")
 
 
 def names_of(path):
@@ -267,18 +268,18 @@ def quoted_names(text):
 
 def check_names(report, document, text, index, types):
     """Checks that each quoted name occurs in a source file, and that each `TYPE::NAME` names a member of this type."""
-    for where, line in numbered_lines(document, without_blocks(text)):
+    for location, line in numbered_lines(document, without_blocks(text)):
         if document == "docs/DIFFERENCES.md" and line.startswith("|"):
             # The first column names items of another project, the Rust crate minisign.
             line = line[line.find(" | "):]
         for quoted, name in quoted_names(line):
             *owners, last = name.split("::")
-            report.check({*owners, last} <= index.known | OTHER_NAMES, where, f"no `{quoted}` in any source")
+            report.check({*owners, last} <= index.known | OTHER_NAMES, location, f"no `{quoted}` in any source")
             if owners and owners[-1] in types:
                 has_member = any(item.owner == owners[-1] and item.name == last or item.name == owners[-1] and
-                                 item.what in ("struct", "enum", "trait", "type") and re.search(rf"\b{last}\b", item.text)
+                                 item.keyword in ("struct", "enum", "trait", "type") and re.search(rf"\b{last}\b", item.text)
                                  for item in index.items)
-                report.check(has_member, where, f"{owners[-1]} has no {last}")
+                report.check(has_member, location, f"{owners[-1]} has no {last}")
 
 
 def check_comments(report, path, index):
@@ -296,18 +297,19 @@ def check_comments(report, path, index):
             report.check(holds, path, f"a comment names `{name}`, which is in no source")
         # The paths that a must-fail edit quotes are inputs of a function, not files.
         quoted = [re.sub(r"\(.*\)$", "", word) for word in QUOTED.findall(comment) if not path.endswith(".edit")]
-        for place in {*filter(is_path, quoted), *PATHS_IN_COMMENTS.findall(comment)}:
-            report.check(place.startswith(".") or find(place), path, f"a comment names the file {place}, which does not exist")
+        for named_path in {*filter(is_path, quoted), *PATHS_IN_COMMENTS.findall(comment)}:
+            exists = named_path.startswith(".") or paths_ending_with(named_path)
+            report.check(exists, path, f"a comment names the file {named_path}, which does not exist")
 
 
 def check_clauses(report, index, document, text):
     """Checks that the clauses that a sentence names, as in "the clause `x` of `f`", exist."""
-    for where, line in numbered_lines(document, text):
+    for location, line in numbered_lines(document, text):
         for name, functions in re.findall(r"clauses? `(\w+)` of " + NAMES, line):
             for function in QUOTED.findall(functions):
                 candidates = index.functions(function.rpartition("::")[2])
                 holds = any(clause.name == name for candidate in candidates for clause in index.clauses_of(candidate))
-                report.check(holds, where, f"no clause `{name}` of `{function}`")
+                report.check(holds, location, f"no clause `{name}` of `{function}`")
 
 
 def check_texts(report, index):
@@ -320,40 +322,40 @@ def check_texts(report, index):
             report.check(f"`{form}`" in formats, FORMATS, f"the form `{form}` of the usage is missing")
     # This table is skipped, because tools/header.py generates it.
     table = re.compile(r"^\| Name \| Number \|.*?(?=\n\n|\Z)", re.M | re.S)
-    for where, line in numbered_lines(FORMATS, table.sub(lambda match: "\n" * match[0].count("\n"), formats)):
+    for location, line in numbered_lines(FORMATS, table.sub(lambda match: "\n" * match[0].count("\n"), formats)):
         for quoted in QUOTED.findall(line):
             is_text = " " in quoted.strip() and not re.search(r"[*^+=<]", quoted)
-            report.check(not is_text or quoted in strings, where, f"no string of the sources contains {quoted!r}")
+            report.check(not is_text or quoted in strings, location, f"no string of the sources contains {quoted!r}")
 
 
 def check_architecture(report):
     """Checks that docs/ARCHITECTURE.md names each crate, each module of `minisign` and `minisign_tool`, and each
     file of definitions of `minisign`."""
     text = read(ARCHITECTURE)
-    named = {name for part in QUOTED.findall(without_blocks(text)) for name in NAME.findall(part)}
+    names_in_document = {name for quoted in QUOTED.findall(without_blocks(text)) for name in NAME.findall(quoted)}
     for crate in re.findall(r"(?m)^\w+(?=:)", read("crates.txt")):
         report.check(re.search(rf"\b{crate}\b", text), ARCHITECTURE, f"the crate {crate} is missing")
     for file in (file for file in FILES if re.match(r"crates/(?:minisign|minisign_tool)/src/|crates/minisign/specs/", file)):
         name = os.path.splitext(os.path.basename(file))[0]
-        report.check(name in {"lib", "main", "Lib", *named}, ARCHITECTURE, f"{file} is missing")
+        report.check(name in {"lib", "main", "Lib", *names_in_document}, ARCHITECTURE, f"{file} is missing")
 
 
 def check_layers(report, index):
     """Checks that no crate uses the proofs of another crate, except its laws (proofs/Laws), which are made for callers."""
     for file in (file for file in FILES if file.startswith("crates/") and file.endswith((".antt", ".rt"))):
-        named = {*re.findall(r"\b(\w+)(?:\.|::)proofs\b(?!(?:\.|::)Laws\b)", read(file))}
-        others = named & {*index.library.crates} - {file.split("/")[1]}
-        report.check(not others, file, f"it uses proofs of {', '.join(others)}")
+        used_crates = {*re.findall(r"\b(\w+)(?:\.|::)proofs\b(?!(?:\.|::)Laws\b)", read(file))}
+        other_crates = used_crates & {*index.library.crates} - {file.split("/")[1]}
+        report.check(not other_crates, file, f"it uses proofs of {', '.join(other_crates)}")
 
 
 def check_edit(report, path):
     """Checks that a must-fail edit says why the edited function is wrong and names it, that its file exists, and
     that this file has each old text exactly once."""
-    error = WrongBody(path.split("/")[1], path).why_not
+    error = WrongBody(path.split("/")[1], path).edit_error
     report.check(not error, path, error)
 
 
-def check_run(report, document, text, scripts):
+def check_blocks_are_run(report, document, text, scripts):
     """Checks that each block of commands or code is fenced, and that a script runs the blocks of its language."""
     fences = {*re.findall(r"(?m)^[ \t>]*(?:```|~~~).*$", text)[::2]} - {"```"}
     expected_fences = {f"```{language}" for language in scripts}
@@ -366,19 +368,19 @@ def check_run(report, document, text, scripts):
 
 def check_kit(report, readme):
     """Checks that README.md names the kit that dist/PROVED names, and no other."""
-    proved_by = re.findall(r"(?m)^kit: (.*)$", read("dist/PROVED"))
-    named = re.findall(r"`(rattle-kit-[^`]+)`", readme)
-    report.check(named == proved_by, "README.md", f"it names the kits {named}, and dist/PROVED names {proved_by}")
+    expected_kits = re.findall(r"(?m)^kit: (.*)$", read("dist/PROVED"))
+    kits = re.findall(r"`(rattle-kit-[^`]+)`", readme)
+    report.check(kits == expected_kits, "README.md", f"it names the kits {kits}, and dist/PROVED names {expected_kits}")
 
 
 def check_version(report, documents):
     """Checks that each version of the logic that a document names with a kit is the version of the installed kit.
     The names of the kits are not compared, because a kit is replaced more often than its logic."""
     if sources.find_kit():
-        ran = subprocess.run(["rt", "version"], stdout=subprocess.PIPE, stderr=subprocess.STDOUT, timeout=60)
+        process = subprocess.run(["rt", "version"], stdout=subprocess.PIPE, stderr=subprocess.STDOUT, timeout=60)
         for document, text in documents.items():
             for logic in re.findall(r"`rattle-kit-[^` ]+ (logic [^`]+)`", text):
-                report.check(logic in ran.stdout.decode(), document, f"`rt version` does not say {logic}")
+                report.check(logic in process.stdout.decode(), document, f"`rt version` does not say {logic}")
 
 
 def main():
@@ -398,8 +400,8 @@ def main():
         if CALLS.match(document):
             check_calls(report, index, document, text)
     for path in (file for file in FILES if file.endswith((*COMMENTED, ".md")) and not file.startswith("dist/")):
-        place = MACHINE_PATH.search(read(path))
-        report.check(place is None, path, f"it names a directory of a particular machine: {place and place[0]}")
+        match = MACHINE_PATH.search(read(path))
+        report.check(match is None, path, f"it names a directory of a particular machine: {match and match[0]}")
         if not path.endswith(".md"):
             check_comments(report, path, index)
         if re.match(r"crates/[^/]+/(?:must-fail|wrong-bodies)/", path):
@@ -408,7 +410,7 @@ def main():
     check_architecture(report)
     check_layers(report, index)
     for document, scripts in RUN_BY.items():
-        check_run(report, document, documents[document], scripts)
+        check_blocks_are_run(report, document, documents[document], scripts)
     check_version(report, documents)
     check_kit(report, documents["README.md"])
     return report.end()

@@ -1,5 +1,5 @@
 #!/usr/bin/env python3
-"""Runs tests of the crates with failing allocations and with little memory.
+"""Checks that tests of the crates pass if an allocation fails, and within limits on memory.
 
     tests/library/failing_allocations.py
 
@@ -55,9 +55,9 @@ def listed_tests():
         if any(word in text for word in names):
             crates.add(os.path.relpath(path, CRATES).split(os.sep)[0])
     for tests in [os.path.join(CRATES, crate, "out", f"{crate}_tests") for crate in sorted(crates)]:
-        ran = run_program([tests, "--list"], None)
-        expect(ran.status == 0, f"{tests} --list: {ran}")
-        yield from ((tests, name) for name in re.findall(r"(?m)^(.*): test$", ran.stdout.decode()))
+        result = run_program([tests, "--list"], None)
+        expect(result.status == 0, f"{tests} --list: {result}")
+        yield from ((tests, name) for name in re.findall(r"(?m)^(.*): test$", result.stdout.decode()))
 
 
 def test_named(listed, function):
@@ -72,10 +72,10 @@ def check_failing_allocations(scratch, tests, name):
     program = FaultRunner(tests, scratch)
 
     def attempt(number, directory):
-        ran = program.run_with_failed_allocation(directory, [name], number)
-        expect(ran.status == 0, ran)
+        result = program.run_with_failed_allocation(directory, [name], number)
+        expect(result.status == 0, result)
         # False if the test made fewer than `number` allocations, so that none failed.
-        return ran.reached
+        return result.reached
 
     count = for_each_call(program.parent, attempt)
     if name.split("::")[-1] == TWO_ALLOCATIONS:
@@ -88,10 +88,10 @@ def check_memory_limits(scratch, listed, function, enough, too_little):
     """Checks that a test passes with enough address space, and fails with too little. Both are in MiB."""
     for mebibytes in filter(None, (enough, too_little)):
         limits = (mebibytes * 1024 * 1024,) * 2
-        ran = run_program([*test_named(listed, function)], scratch,
-                          preexec_fn=lambda: resource.setrlimit(resource.RLIMIT_AS, limits))
+        result = run_program([*test_named(listed, function)], scratch,
+                             preexec_fn=lambda: resource.setrlimit(resource.RLIMIT_AS, limits))
         expected = "pass" if mebibytes == enough else "fail"
-        expect((ran.status == 0) == (mebibytes == enough), f"within {mebibytes} MiB: {ran}, expected to {expected}")
+        expect((result.status == 0) == (mebibytes == enough), f"within {mebibytes} MiB: {result}, expected to {expected}")
 
 
 def run_all(scratch):

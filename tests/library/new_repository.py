@@ -67,10 +67,10 @@ def prove(directory, crate, *functions):
     """Proves the caller's crate in a directory, and checks that the prover reports these functions as proved."""
     error = proved.build_libraries(crate.dependencies)
     expect(not error, error)
-    ran = proved.rattle("check", CALLER, directory, crate=crate)
-    is_proved = not ran.returncode and "logic=proved" in ran.stdout
-    expect(is_proved and {*functions} <= {*proved.functions_of(CALLER, ran.stdout)},
-           f"the caller is not proved: {proved.first_error(ran.stdout)}")
+    process = proved.rattle("check", CALLER, directory, crate=crate)
+    is_proved = not process.returncode and "logic=proved" in process.stdout
+    expect(is_proved and {*functions} <= {*proved.functions_of(CALLER, process.stdout)},
+           f"the caller is not proved: {proved.first_error(process.stdout)}")
 
 
 def check_documents(directory):
@@ -103,7 +103,7 @@ def check_pages(directory, libraries):
     callers = {f"of_{library}": caller_of(library) for library in libraries}
     text, modules = "".join(callers.values()), "".join(f"pub mod {name};\n" for name in callers)
     kit_crates = {name for crate in proved.crates().values() for name in crate.kit_dependencies} - {"std"}
-    named = [
+    dependencies = [
         crate
         for crate in (*proved.crates(), *sorted(kit_crates))
         if crate in libraries or re.search(rf"\b{crate}(?:::|\.)", text)
@@ -112,7 +112,7 @@ def check_pages(directory, libraries):
     for name, source in {"lib": f"{TACTIC}\n{modules}", **callers}.items():
         write(directory, f"src/{name}.rt", f"//! Callers.\n\n{source}".encode())
     functions = [f"{name}::{function}" for name, caller in callers.items() for function in re.findall(r"\bfn (\w+)", caller)]
-    prove(directory, proved.Crate(f"{CALLER}: {' '.join(named)}", proved.crates()), *functions)
+    prove(directory, proved.Crate(f"{CALLER}: {' '.join(dependencies)}", proved.crates()), *functions)
 
 
 def run_all(scratch):

@@ -5,8 +5,8 @@
 
 A mutant is a patch that adds one mistake, which a test must notice (tests/shared/mutants.py). If an edit of the
 sources changes a line of a patch, the patch must be written again; CONTRIBUTING.md says how. Each directory with
-patches must be used by a test script. Each patch must identify one place: with other line numbers, it must still
-change the same lines. The script prints a line for each failure; the last line is `N passed, M failed`.
+patches must be used by a test script. Each patch with a single hunk must identify one place: with other line numbers, it
+must still change the same lines. The script prints a line for each failure; the last line is `N passed, M failed`.
 
 Needs Python 3.9 or later and git, which is installed if that is permitted.
 """
@@ -27,7 +27,7 @@ from running import Failure, read, write
 HUNK = re.compile(r"(?m)^@@ -\d+((?:,\d+)?) \+\d+((?:,\d+)?) @@")
 
 
-def moved(scratch, mutant):
+def with_other_line_numbers(scratch, mutant):
     """Returns the mutant with other line numbers: the header of each hunk says that it begins at line 1."""
     patch = write(scratch, "moved.patch", HUNK.sub(r"@@ -1\1 +1\2 @@", read(mutant.patch).decode()).encode())
     return mutant._replace(patch=patch)
@@ -40,7 +40,7 @@ def check_mutant(checks, scratch, mutant):
         changed = mutants.applied_to(text, mutant)
         checks.check(changed != text, f"{mutant.patch} changes nothing")
         if read(mutant.patch).count(b"\n@@ ") == 1:
-            checks.check(mutants.applied_to(text, moved(scratch, mutant)) == changed,
+            checks.check(mutants.applied_to(text, with_other_line_numbers(scratch, mutant)) == changed,
                          f"{mutant.patch} fits several places: add a line of context")
     except (Failure, OSError) as error:
         checks.check(False, f"{os.path.relpath(mutant.patch, proved.ROOT)}: {error}")

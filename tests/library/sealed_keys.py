@@ -1,6 +1,6 @@
 #!/usr/bin/env python3
-"""Checks the encrypted secret keys in the crate `minisign_fixtures`: encrypts the same key (key A) with Python's
-hashlib, and compares the results.
+"""Checks that the encrypted secret keys in the crate `minisign_fixtures` are those that Python's hashlib makes from the
+same key (key A), passwords and limits.
 
     tests/library/sealed_keys.py
 

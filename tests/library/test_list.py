@@ -125,7 +125,7 @@ def check_totals(checks, scratch):
                      f"expected {last_line!r} and {'success' if must_succeed else 'failure'}")
 
 
-def packages_asked_for(path):
+def packages_needed_by(path):
     """Yields the packages that a script needs, as regular expressions, because parts of some names are known only
     when the script runs."""
     nodes = [*ast.walk(ast.parse(read(path)))]
@@ -153,7 +153,7 @@ def check_packages(checks):
         read(PACKAGES) == "".join(f"{name}\n" for name in sorted({*packages})),
         f"{PACKAGES} must have one name per line, sorted",
     )
-    needed = {package for script in glob.glob("tests/*/*.py") for package in packages_asked_for(script)}
+    needed = {package for script in glob.glob("tests/*/*.py") for package in packages_needed_by(script)}
     checks.check(len(needed) > 20, f"the scripts need {len(needed)} packages, expected more than 20")
     # libc6-dev need not be listed, because the package gcc depends on it.
     for package in needed - {re.escape("libc6-dev")}:
@@ -170,11 +170,11 @@ def check_ci(checks, scratch):
     for name in ("python3", "apt-get", "nice", "make", "awk"):
         os.chmod(write(programs, name, f"#!{shutil.which('sh')}\necho {name} >> {scratch}/started\n".encode()), 0o755)
     command = ["bash", os.path.join(TOP, ".ci", "run")]
-    ran = run_program(command, None, env={"PATH": programs, "CI": "1"}, stderr=subprocess.STDOUT)
-    lines = ran.stdout.decode().splitlines()
-    checks.check(ran.status != 0 and len(lines) == 1 and "there is no rt" in lines[0] and f"`{COMMAND}`" in lines[0],
-                 f".ci/run without the kit: exit status {ran.status}, output {lines}, "
-                 f"expected one line with `there is no rt` and `{COMMAND}`")
+    result = run_program(command, None, env={"PATH": programs, "CI": "1"}, stderr=subprocess.STDOUT)
+    lines = result.stdout.decode().splitlines()
+    checks.check(result.status != 0 and len(lines) == 1 and "rt was not found" in lines[0] and f"`{COMMAND}`" in lines[0],
+                 f".ci/run without the kit: exit status {result.status}, output {lines}, "
+                 f"expected one line with `rt was not found` and `{COMMAND}`")
     path = os.path.join(scratch, "started")
     started = read(path).split() if os.path.exists(path) else []
     checks.check(not started, f".ci/run without the kit started {started}")

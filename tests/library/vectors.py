@@ -30,7 +30,7 @@ import tool_program
 import rows
 import test_script
 from process import run
-from request_format import ERROR_TEXTS, encoded, rejected
+from request_format import ERROR_TEXTS, encode_word, rejected
 from sources import read
 
 LIST = "tests/library/vectors.txt"
@@ -94,7 +94,7 @@ class Vector:
         self.covers = [tuple(line.strip().split(" ", 1)) for line in lines]
 
 
-def expanded(name):
+def expand_ranges(name):
     """Returns all names that a name with ranges stands for. A range is written {1..6}, or {2..14..4} for every
     fourth number."""
     range_of_names = re.search(r"\{(\d+)\.\.(\d+)(?:\.\.(\d+))?\}", name)
@@ -102,7 +102,7 @@ def expanded(name):
         return [name]
     first, last, step = int(range_of_names[1]), int(range_of_names[2]), int(range_of_names[3] or 1)
     before, after = name[:range_of_names.start()], name[range_of_names.end():]
-    return [each for number in range(first, last + 1, step) for each in expanded(f"{before}{number}{after}")]
+    return [expanded for number in range(first, last + 1, step) for expanded in expand_ranges(f"{before}{number}{after}")]
 
 
 def read_list(text):
@@ -113,7 +113,7 @@ def read_list(text):
 
 # == Test cases of tests/rows, and named errors ==
 
-def decoded(word):
+def decode_word(word):
     """Returns a word of a request or response. If its value is encoded in hexadecimal, the decoded text is appended."""
     name, is_value, value = word.rpartition("=")
     if not re.fullmatch(r"x(?:[0-9a-f]{2})*", value):
@@ -128,8 +128,8 @@ def rows_of(module):
     for row in importlib.import_module(module).ROWS if module in rows.MODULES else []:
         answer = rejected(row.answer) if isinstance(row.answer, str) else row.answer
         words = [*row.request.split(" "), "->", *answer.head.split(" "),
-                 *(f"{name}={encoded(value)}" for name, value in answer.values.items())]
-        text = " ".join(map(decoded, words))
+                 *(f"{name}={encode_word(value)}" for name, value in answer.values.items())]
+        text = " ".join(map(decode_word, words))
         quoted = [part for pair in re.findall(r" '(.*?)'|\"(.*?)\"", text) for part in pair]
         errors = [names_of_errors[part] for part in quoted if part in names_of_errors]
         answers = [row.answer] if isinstance(row.answer, str) else []
@@ -188,29 +188,29 @@ def items_of(text):
     items, imports = {}, {}
     for begin, end in zip(starts, [*starts[1:], len(text)]):
         item = text[begin:end]
-        named = re.match(r"(?:#\[[^\n]*\]\n)*(?:pub )?(?:const fn|fn|const|static|type|struct|enum|trait) (\w+)", item)
-        if named:
-            items[named[1]] = item
+        definition = re.match(r"(?:#\[[^\n]*\]\n)*(?:pub )?(?:const fn|fn|const|static|type|struct|enum|trait) (\w+)", item)
+        if definition:
+            items[definition[1]] = item
         elif re.match(r"(?:pub )?use ", item):
-            imports.update(imported(item[item.index("use ") + 4:].partition(";")[0]))
+            imports.update(imported_paths(item[item.index("use ") + 4:].partition(";")[0]))
     return items, imports
 
 
-def imported(tree, before=""):
+def imported_paths(tree, prefix=""):
     """Maps the names that a `use` imports to their full paths. `tree` is the text after `use`, or a part of it in
-    braces, and `before` is the path in front of these braces."""
+    braces, and `prefix` is the path in front of these braces."""
     tree = " ".join(tree.split())
     head, brace, inner = tree.partition("{")
     if not brace:
         path, _, name = tree.partition(" as ")
         if path.strip() == "self":
-            return {before.rstrip(":").rpartition("::")[2]: before[:-2]}
-        return {(name or path).rpartition("::")[2].strip(): before + path.strip()}
+            return {prefix.rstrip(":").rpartition("::")[2]: prefix[:-2]}
+        return {(name or path).rpartition("::")[2].strip(): prefix + path.strip()}
     paths, depth, part = {}, 0, ""
     for character in inner[:inner.rindex("}")] + ",":
         depth += {"{": 1, "}": -1}.get(character, 0)
         if character == "," and depth == 0:
-            paths.update(imported(part, before + head.strip()) if part.strip() else {})
+            paths.update(imported_paths(part, prefix + head.strip()) if part.strip() else {})
             part = ""
         else:
             part += character
@@ -220,22 +220,22 @@ def imported(tree, before=""):
 @functools.lru_cache(maxsize=None)
 def modules_of(crate):
     """Maps the path of each module of a crate to its items and imports, as `items_of` returns them."""
-    modules, waiting = {}, [("", f"crates/{crate}/src/lib.rt")]
-    while waiting:
-        path, file = waiting.pop()
+    modules, pending = {}, [("", f"crates/{crate}/src/lib.rt")]
+    while pending:
+        path, file = pending.pop()
         if not os.path.exists(file):
             continue
         text = without_comments(read(file))
         modules[path] = items_of(text)
         directory = os.path.dirname(file) if path == "" else file[:-3]
-        waiting += [
+        pending += [
             (f"{path}::{name}".strip(":"), f"{directory}/{name}.rt")
             for name in re.findall(r"(?m)^(?:pub )?mod (\w+);", text)
         ]
     return modules
 
 
-def resolved(crate, module, name):
+def resolve_name(crate, module, name):
     """Returns the crate, the module and the name of the item to which a name in a module refers, or None if it is
     not in USED."""
     items, imports = modules_of(crate)[module]
@@ -258,14 +258,16 @@ def text_of_test(path):
     item = modules_of(VECTORS).get(module, ({}, {}))[0].get(name)
     if item is None or not item.startswith("#[test]\n"):
         return None
-    seen, waiting = {}, [(VECTORS, module, name)]
-    while waiting:
-        place = waiting.pop()
-        if place not in seen:
-            seen[place] = modules_of(place[0])[place[1]][0][place[2]]
-            waiting += filter(None, (resolved(*place[:2], used) for used in set(re.findall(r"\w+", seen[place])) - {place[2]}))
+    seen, pending = {}, [(VECTORS, module, name)]
+    while pending:
+        item_path = pending.pop()
+        if item_path not in seen:
+            seen[item_path] = modules_of(item_path[0])[item_path[1]][0][item_path[2]]
+            words = set(re.findall(r"\w+", seen[item_path])) - {item_path[2]}
+            pending += filter(None, (resolve_name(*item_path[:2], word) for word in words))
     text = "\n".join(seen.values())
-    return " ".join([" ".join(text.split()), *("".join(re.findall("0x([0-9a-f]{2})", listed)) for listed in BYTES.findall(text))])
+    byte_lists = ("".join(re.findall("0x([0-9a-f]{2})", byte_list)) for byte_list in BYTES.findall(text))
+    return " ".join([" ".join(text.split()), *byte_lists])
 
 
 # == Facts and mutants ==
@@ -321,7 +323,7 @@ def errors_in(vector):
         yield "it has no value"
     texts_by_test = []
     for kind, name in vector.covers:
-        texts = {each: TEXT_OF[kind](each) if kind in TEXT_OF else None for each in expanded(name)}
+        texts = {each: TEXT_OF[kind](each) if kind in TEXT_OF else None for each in expand_ranges(name)}
         missing = [each for each, text in texts.items() if text is None]
         if missing or not texts:
             yield f"there is no {kind} {(missing or [name])[0]}"
@@ -363,7 +365,7 @@ def check_all(checks, _):
         checks.check(not errors, vector.name, "; ".join(errors))
     for vector in map(Vector, INVALID_VECTORS):
         checks.check([*errors_in(vector)], f"the invalid vector `{vector.name}` is accepted")
-    covers = {(kind, each) for vector in vectors for kind, name in vector.covers for each in expanded(name)}
+    covers = {(kind, each) for vector in vectors for kind, name in vector.covers for each in expand_ranges(name)}
     print(f"{len(vectors)} vectors, covered by {len(covers)} tests")
 
 

@@ -57,30 +57,30 @@ TOOLS = [
 OTHER_TOOLS = [["md5sum", "--tag"], ["sha1sum"], ["sha384sum"], ["b2sum", "--tag", "-l", "256"], ["openssl", "dgst", "-sha256"]]
 
 
-def word(octets):
+def encode_word(data):
     """Encodes bytes as a word of a request."""
-    return f"[{octets.hex()}]"
+    return f"[{data.hex()}]"
 
 
-def answers(requests):
+def responses_to(requests):
     """Returns the responses of `list_reader`. A request is a tuple of the hash function for lines with 128 digits, a
     list, a file name and the data of the file."""
-    lines = "".join(f"{long} {word(text)} {word(name)} {word(data)}\n" for long, text, name, data in requests)
-    ran = subprocess.run([PROGRAM], input=lines, stdout=subprocess.PIPE, text=True, timeout=SECONDS)
-    responses = ran.stdout.splitlines()
-    if ran.returncode or len(responses) != len(requests):
-        raise SystemExit(f"{PROGRAM}: exit status {ran.returncode} after {len(responses)} of {len(requests)} responses")
+    lines = "".join(f"{long} {encode_word(text)} {encode_word(name)} {encode_word(data)}\n" for long, text, name, data in requests)
+    process = subprocess.run([PROGRAM], input=lines, stdout=subprocess.PIPE, text=True, timeout=SECONDS)
+    responses = process.stdout.splitlines()
+    if process.returncode or len(responses) != len(requests):
+        raise SystemExit(f"{PROGRAM}: exit status {process.returncode} after {len(responses)} of {len(requests)} responses")
     return responses
 
 
-def list_by(tool, names, directory):
+def list_written_by(tool, names, directory):
     """Returns the list that a tool writes for these files."""
-    ran = subprocess.run([*tool, "--", *names] if tool[0] != "openssl" else [*tool, *names], cwd=directory,
-                         stdout=subprocess.PIPE, check=True, env={**os.environ, "LC_ALL": "C.UTF-8"})
-    return ran.stdout
+    process = subprocess.run([*tool, "--", *names] if tool[0] != "openssl" else [*tool, *names], cwd=directory,
+                             stdout=subprocess.PIPE, check=True, env={**os.environ, "LC_ALL": "C.UTF-8"})
+    return process.stdout
 
 
-def make(directory, name, data=DATA):
+def write_file(directory, name, data=DATA):
     path = os.path.join(os.fsencode(directory), name if isinstance(name, bytes) else name.encode())
     os.makedirs(os.path.dirname(path), exist_ok=True)
     with open(path, "wb") as file:
@@ -93,32 +93,33 @@ def check_tools(checks):
         # Each file has different data, so that no line is mistaken for another.
         files = {name: name.encode() * 3 for name in NAMES}
         for name, data in files.items():
-            make(directory, name, data)
+            write_file(directory, name, data)
         for name in ESCAPED:
-            make(directory, name)
+            write_file(directory, name)
         for tool, long in TOOLS:
             paths = [f"./{name}" for name in NAMES]
-            text = list_by(tool, paths, directory)
-            accepted = answers([(long, text, name.encode(), data) for name, data in files.items()])
-            for at, (name, answer) in enumerate(zip(files, accepted), 1):
-                checks.same(answer, f"ok {at}", f"{' '.join(tool)}: {name!r}")
-            rejected = answers([(long, text, name.encode(), data + b"!") for name, data in files.items()])
-            for at, (name, answer) in enumerate(zip(files, rejected), 1):
-                checks.same(answer, f"mismatch {at}", f"{' '.join(tool)}: other data of {name!r}")
+            text = list_written_by(tool, paths, directory)
+            accepted = responses_to([(long, text, name.encode(), data) for name, data in files.items()])
+            for number, (name, response) in enumerate(zip(files, accepted), 1):
+                checks.same(response, f"ok {number}", f"{' '.join(tool)}: {name!r}")
+            rejected = responses_to([(long, text, name.encode(), data + b"!") for name, data in files.items()])
+            for number, (name, response) in enumerate(zip(files, rejected), 1):
+                checks.same(response, f"mismatch {number}", f"{' '.join(tool)}: other data of {name!r}")
         for tool, long in TOOLS:
             if tool[0] in ("openssl", "shasum"):
                 continue
-            text = list_by(tool, [*ESCAPED, "a"], directory)
+            text = list_written_by(tool, [*ESCAPED, "a"], directory)
             for name in ESCAPED:
-                checks.same(*answers([(long, text, name.encode(), DATA)]), "bad_name", f"{' '.join(tool)}: {name!r}")
+                checks.same(*responses_to([(long, text, name.encode(), DATA)]), "bad_name", f"{' '.join(tool)}: {name!r}")
             for line in text.split(b"\n"):
                 name = line.partition(b"  ")[2]
                 if line.startswith(b"\\") and name:
-                    checks.same(*answers([(long, text, name, DATA)]), "bad_name", f"{' '.join(tool)}: {name!r}")
-            checks.same(*answers([(long, text, b"a", files["a"])]), f"ok {len(ESCAPED) + 1}", f"{' '.join(tool)}: after escapes")
+                    checks.same(*responses_to([(long, text, name, DATA)]), "bad_name", f"{' '.join(tool)}: {name!r}")
+            response, = responses_to([(long, text, b"a", files["a"])])
+            checks.same(response, f"ok {len(ESCAPED) + 1}", f"{' '.join(tool)}: after escapes")
         for tool in OTHER_TOOLS:
-            text = list_by(tool, ["a"], directory)
-            checks.same(*answers([("sha512", text, b"a", files["a"])]), "malformed 1", " ".join(tool))
+            text = list_written_by(tool, ["a"], directory)
+            checks.same(*responses_to([("sha512", text, b"a", files["a"])]), "malformed 1", " ".join(tool))
 
 
 # == Random lists ==
@@ -145,8 +146,8 @@ def random_line(rng):
     name = rng.choice(RANDOM_NAMES) if rng.random() < 0.6 else b"a"
     kind = rng.random()
     if kind < 0.45:
-        between = rng.choice([b"  ", b" *", b" ", b"\t", b"   "] if rng.random() < 0.2 else [b"  ", b" *"])
-        line = digits + between + name
+        separator = rng.choice([b"  ", b" *", b" ", b"\t", b"   "] if rng.random() < 0.2 else [b"  ", b" *"])
+        line = digits + separator + name
     elif kind < 0.8:
         if rng.random() < 0.8:
             line = b"SHA256 (" + name + b") = " + digits
@@ -164,8 +165,8 @@ def random_line(rng):
     if rng.random() < 0.04:
         line = b" " + line
     if rng.random() < 0.04 and line:
-        at = rng.randrange(len(line))
-        line = line[:at] + bytes([rng.randrange(256)]) + line[at + 1:]
+        position = rng.randrange(len(line))
+        line = line[:position] + bytes([rng.randrange(256)]) + line[position + 1:]
     return line
 
 
@@ -179,7 +180,7 @@ def can_be_made(name):
     return name and b"\0" not in name and not name.startswith(b"/") and b".." not in name.split(b"/") and name != b"L"
 
 
-def looked_up(rng, text):
+def random_name(rng):
     """Returns a name to look up."""
     return rng.choice([name for name in RANDOM_NAMES if can_be_made(name)]) if rng.random() < 0.3 else b"a"
 
@@ -199,7 +200,7 @@ def without_dot(name):
     return name[2:] if name.startswith(b"./") else name
 
 
-def fault_of(line, long):
+def parse_line(line, long):
     """Returns why a line is malformed, or its hash function, name and digest, or None if the line is empty or a comment."""
     if re.search(rb"[\x00-\x1f\x7f]", line):
         return "a control character"
@@ -224,7 +225,7 @@ def fault_of(line, long):
     return "no entry"
 
 
-def expected(long, text, name, data):
+def expected_response(long, text, name, data):
     """Returns the expected response, and if a line is malformed the reason in words."""
     try:
         text.decode(), name.decode()
@@ -235,7 +236,7 @@ def expected(long, text, name, data):
     *lines, last = re.split(rb"\r?\n", text)
     entries = []
     for number, line in enumerate([*lines, *([last] if last else [])], 1):
-        entry = fault_of(line, long)
+        entry = parse_line(line, long)
         if isinstance(entry, str):
             return f"malformed {number}", entry
         if entry and entry[1] == without_dot(name):
@@ -247,7 +248,7 @@ def expected(long, text, name, data):
 
 
 # The reasons for which we reject lists that sha256sum accepts, by our response. Any other reason is a failure.
-TAKEN_BY_COREUTILS = {
+ACCEPTED_BY_COREUTILS = {
     "malformed": ("a control character", "a name that is not a relative path", "a space before the entry",
                   "one space or tab between digits and name", "other spaces in a tagged line",
                   "a backslash before a name without escapes"),
@@ -264,47 +265,48 @@ def has_unknown_escape(line):
 
 def compare_with_sha256sum(checks, rng, count):
     """Compares the results for random lists with those of sha256sum. Returns how often each pair of results occurs."""
-    kinds, differences, requests, theirs = Counter(), Counter(), [], []
+    counts, differences, requests, sha256sum_results = Counter(), Counter(), [], []
     with tempfile.TemporaryDirectory(prefix="minisign-lists-") as directory:
         for _ in range(count):
             text = random_list(rng)
-            name = looked_up(rng, text)
+            name = random_name(rng)
             with tempfile.TemporaryDirectory(dir=directory) as scratch:
                 os.mkdir(os.path.join(scratch, "d"))
-                make(scratch, name)
-                make(scratch, "L", text)
-                ran = subprocess.run(["sha256sum", "--strict", "--ignore-missing", "-c", "L"], cwd=scratch,
-                                     stdin=subprocess.DEVNULL, stdout=subprocess.PIPE, stderr=subprocess.PIPE)
+                write_file(scratch, name)
+                write_file(scratch, "L", text)
+                process = subprocess.run(["sha256sum", "--strict", "--ignore-missing", "-c", "L"], cwd=scratch,
+                                         stdin=subprocess.DEVNULL, stdout=subprocess.PIPE, stderr=subprocess.PIPE)
             requests.append(("-", text, name, DATA))
-            theirs.append((ran.returncode == 0, ran.stdout + ran.stderr))
-        for (_, text, name, _), answer, (accepts, message) in zip(requests, answers(requests), theirs):
-            ours = answer.split()[0]
-            kinds[ours, accepts] += 1
-            if ours == "ok" and not accepts:
+            sha256sum_results.append((process.returncode == 0, process.stdout + process.stderr))
+        for (_, text, name, _), response, (sha256sum_accepts, message) in zip(requests, responses_to(requests), sha256sum_results):
+            result = response.split()[0]
+            counts[result, sha256sum_accepts] += 1
+            if result == "ok" and not sha256sum_accepts:
                 # Our line has the right digest, so sha256sum must have rejected another line.
                 lines = [line for line in text.replace(b"\r\n", b"\n").split(b"\n") if line]
-                reason = b"-: FAILED" in message or b"'standard input'" in message or b"-: " in message
-                reason = reason or len(lines) > 1 and b"FAILED" in message
+                is_explained = b"-: FAILED" in message or b"'standard input'" in message or b"-: " in message
+                is_explained = is_explained or len(lines) > 1 and b"FAILED" in message
                 # We skip lines with any escapes. sha256sum rejects escapes other than the three that it knows.
-                reason = reason or any(has_unknown_escape(line) for line in lines) and b"improperly formatted" in message
-                checks.check(reason, f"only we accept {name!r} in {text!r}; sha256sum: {message!r}")
-            elif accepts and ours != "ok":
-                why = expected("-", text, name, DATA)[1]
+                is_explained = is_explained or (any(has_unknown_escape(line) for line in lines)
+                                                and b"improperly formatted" in message)
+                checks.check(is_explained, f"only we accept {name!r} in {text!r}; sha256sum: {message!r}")
+            elif sha256sum_accepts and result != "ok":
+                reason = expected_response("-", text, name, DATA)[1]
                 checks.check(
-                    why in TAKEN_BY_COREUTILS.get(ours, ()),
-                    f"sha256sum accepts {text!r}, our response is {answer}: {why}",
+                    reason in ACCEPTED_BY_COREUTILS.get(result, ()),
+                    f"sha256sum accepts {text!r}, our response is {response}: {reason}",
                 )
-                differences[ours, why] += 1
-            expected_answer = expected("-", text, name, DATA)[0]
-            checks.check(answer == expected_answer, f"{name!r} in {text!r}: got {answer}, expected {expected_answer}")
-    checks.check(kinds["ok", True] > count // 50, f"too few lists are accepted by both to compare: {kinds}")
+                differences[result, reason] += 1
+            expected = expected_response("-", text, name, DATA)[0]
+            checks.check(response == expected, f"{name!r} in {text!r}: got {response}, expected {expected}")
+    checks.check(counts["ok", True] > count // 50, f"too few lists are accepted by both to compare: {counts}")
     print("accepted by sha256sum only:", {" ".join(filter(None, kind)): times for kind, times in differences.items()})
-    return kinds
+    return counts
 
 
 def compare_with_signify(checks, rng, count):
     """Compares the results for random BSD lists with those of `signify -C`. Returns how often each pair of results occurs."""
-    kinds = Counter()
+    counts = Counter()
     with tempfile.TemporaryDirectory(prefix="minisign-lists-") as directory:
         signify = program("signify-openbsd", "signify-openbsd")
         subprocess.run([signify, "-G", "-n", "-p", "k.pub", "-s", "k.sec"], cwd=directory, check=True, stdout=subprocess.DEVNULL)
@@ -316,25 +318,26 @@ def compare_with_signify(checks, rng, count):
                 line = b"SHA256 (" + name + b") = " + digits
                 lines.append(line if rng.random() < 0.93 else rng.choice([b"# a", b"x", digits + b"  " + name]))
             text = b"\n".join(lines) + b"\n"
-            make(directory, "L", text)
-            make(directory, "a")
+            write_file(directory, "L", text)
+            write_file(directory, "a")
             subprocess.run([signify, "-S", "-e", "-s", "k.sec", "-m", "L", "-x", "L.sig"], cwd=directory, check=True)
-            accepts = subprocess.run([signify, "-C", "-q", "-p", "k.pub", "-x", "L.sig", "a"], cwd=directory,
-                                     stdout=subprocess.DEVNULL, stderr=subprocess.DEVNULL).returncode == 0
-            ours = answers([("-", text, b"a", DATA)])[0].split()[0]
-            kinds[ours, accepts] += 1
+            signify_accepts = subprocess.run([signify, "-C", "-q", "-p", "k.pub", "-x", "L.sig", "a"], cwd=directory,
+                                             stdout=subprocess.DEVNULL, stderr=subprocess.DEVNULL).returncode == 0
+            result = responses_to([("-", text, b"a", DATA)])[0].split()[0]
+            counts[result, signify_accepts] += 1
             # signify accepts neither untagged lines, nor comments, nor upper-case digits. It accepts a list in which the name
             # occurs twice, and the lines before one that it cannot parse.
-            if ours == "ok" and not accepts:
-                reason = DIGEST.upper() in text or any(not line.startswith(b"SHA256 (") for line in lines)
-                reason = reason or any(len(line) < len(b"SHA256 (a) = ") + 64 for line in lines)
-            elif accepts and ours != "ok":
-                reason = ours in ("twice", "malformed")
+            if result == "ok" and not signify_accepts:
+                is_explained = DIGEST.upper() in text or any(not line.startswith(b"SHA256 (") for line in lines)
+                is_explained = is_explained or any(len(line) < len(b"SHA256 (a) = ") + 64 for line in lines)
+            elif signify_accepts and result != "ok":
+                is_explained = result in ("twice", "malformed")
             else:
-                reason = True
-            checks.check(reason, f"signify {'accepts' if accepts else 'rejects'} {text!r}, our response is {ours}")
-    checks.check(kinds["ok", True] > count // 20, f"too few lists are accepted by both to compare: {kinds}")
-    return kinds
+                is_explained = True
+            verb = "accepts" if signify_accepts else "rejects"
+            checks.check(is_explained, f"signify {verb} {text!r}, our response is {result}")
+    checks.check(counts["ok", True] > count // 20, f"too few lists are accepted by both to compare: {counts}")
+    return counts
 
 
 def main():

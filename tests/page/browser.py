@@ -100,7 +100,7 @@ class Chromium(Person):
         self.drop_data(place, items=[{"mimeType": "text/plain", "data": text}])
 
     def drop_data(self, place, **data):
-        x, y = self.see("middleOf", place)
+        x, y = self.call_in_page("middleOf", place)
         for kind in ("dragEnter", "dragOver", "drop"):
             self.command("Input.dispatchDragEvent", type=kind, x=x, y=y, data={**data, "dragOperationsMask": 1})
         self.wait_until_taken()
@@ -132,7 +132,7 @@ class Chromium(Person):
             ("forced-colors", "active", None),
         ):
             self.set_media(*asked)
-            texts, borders, is_asked, is_white = self.see("contrasts"), *self.see("ground", *asked)
+            texts, borders, is_asked, is_white = self.call_in_page("contrasts"), *self.call_in_page("mediaEffects", *asked)
             wrong += [f"{asked}: {text!r} has contrast {contrast:.1f}" for contrast, text in texts if contrast < MIN_CONTRAST]
             wrong += [f"{asked}: a border is {width} wide" for width in borders if width == "0px"]
             if not texts or not is_asked or wants_white not in (None, is_white):

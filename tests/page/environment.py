@@ -13,20 +13,20 @@ from visible_verdicts import NARROW
 
 def check_network(person):
     """The page works without a network. With a network, it requests only its own address."""
-    paths = person.signed("data", b"data", trusted="t")
+    paths = person.write_signed("data", b"data", trusted="t")
     person.command("Network.enable")
     network = {"latency": 0, "downloadThroughput": -1, "uploadThroughput": -1}
     person.command("Network.emulateNetworkConditions", offline=True, **network)
     person.requests()
     person.begin(person.first.line, *paths)
-    person.only("offline", number=0, comment="t")
+    person.check_only_row("offline", number=0, comment="t")
     person.command("Network.emulateNetworkConditions", offline=False, **network)
     requested = [address for address in person.requests() if not address.startswith(("about:", "blob:", "data:"))]
     person.same(requested, [person.address], "the requests of the page from disk")
     with served(person.page) as (address, _, requested):
         person.begin(person.first.line, *paths, address=address)
-        person.only("served", number=0, comment="t")
-        person.same(person.see("fetchFrom", address), [], "the requests that the policy allows")
+        person.check_only_row("served", number=0, comment="t")
+        person.same(person.call_in_page("fetchFrom", address), [], "the requests that the policy allows")
         person.same(requested, ["/minisign.html"], "the requests of the page from a server")
     rejections = [line for line in person.console_messages() if "Content Security Policy" in line or "Refused" in line]
     person.check(len(rejections) >= 2, f"the policy rejected {rejections}, expected two requests")
@@ -57,7 +57,7 @@ def check_missing_features(person):
     ):
         number = person.command("Page.addScriptToEvaluateOnNewDocument", source=script)["identifier"]
         person.open()
-        person.says("unusable", f"after {script}", named, lacks=[not_named])
+        person.check_text("unusable", f"after {script}", named, lacks=[not_named])
         person.same((*map(person.is_shown, STATES), person.rows()), (True, False, []),
                     f"after {script}: True for each of {STATES} that is shown, and the rows")
         person.command("Page.removeScriptToEvaluateOnNewDocument", identifier=number)
@@ -67,21 +67,21 @@ def check_narrow_screen(person):
     """On a narrow screen, even with a font of twice the size, no text is cut off. All texts have enough contrast, also with forced
     colours."""
     person.open()
-    person.choose_key(person.put(f"{'k' * 60}.pub", person.first.text))
+    person.choose_key(person.write_file(f"{'k' * 60}.pub", person.first.text))
     person.choose(
-        *person.signed(f"Update-1.0-{'long' * 20}.tar.gz", b"data", trusted=f"timestamp:1\tfile:{'y' * 80}"),
-        *person.signed("foreign", b"data", key="second"),
-        person.put("alone", b"x"),
-        person.put("other.pub", person.first.text),
+        *person.write_signed(f"Update-1.0-{'long' * 20}.tar.gz", b"data", trusted=f"timestamp:1\tfile:{'y' * 80}"),
+        *person.write_signed("foreign", b"data", key="second"),
+        person.write_file("alone", b"x"),
+        person.write_file("other.pub", person.first.text),
     )
-    person.same(len(person.settled("a narrow screen")), 3, "a narrow screen: the number of rows")
+    person.same(len(person.settled_rows("a narrow screen")), 3, "a narrow screen: the number of rows")
     for font_size in ("", "200%"):
         person.run("document.documentElement.style.fontSize = arguments[0]", font_size)
         for size in ((), NARROW):
             person.resize(*size)
-            what = f"a font size of {font_size or '100%'} in a window of {size}"
-            person.same((person.see("fits"), person.see("cutOffParts")), (True, []),
-                        f"{what}: True if the rows fit, and the elements that are cut off")
+            label = f"a font size of {font_size or '100%'} in a window of {size}"
+            person.same((person.call_in_page("fitsWindow"), person.call_in_page("cutOffParts")), (True, []),
+                        f"{label}: True if the rows fit, and the elements that are cut off")
     person.resize()
     person.run("document.documentElement.style.fontSize = ''")
     person.same(person.wrong_looks(), [], "low contrasts and missing borders")
@@ -98,12 +98,13 @@ def check_keyboard_and_screen_reader(person):
     person.run("document.body.focus()")
     person.same(person.tab(), "key-text", "the element with the focus after the first Tab")
     person.press(person.first.line)
-    person.says("key-message", "a key that is typed", begins="Key ")
+    person.check_text("key-message", "a key that is typed", begins="Key ")
     person.same(person.tab(), "key-file", "the element with the focus after the second Tab")
     outline = person.run("return getComputedStyle(document.querySelector('#key-file + label')).outlineStyle")
     person.same(outline, "solid", "the outline of the element with the focus")
-    person.choose(*person.signed("data", b"data", trusted="t"), *person.pair("bad", b"bad", person.sign(b"data", trusted="t")))
-    person.settled("the keyboard")
+    person.choose(*person.write_signed("data", b"data", trusted="t"),
+                  *person.write_pair("bad", b"bad", person.sign(b"data", trusted="t")))
+    person.settled_rows("the keyboard")
     nodes = person.nodes()
     expected = {
         ("textbox", "Paste the content of the public key file, or only its line of 56 characters", None),
@@ -143,10 +144,10 @@ def check_release_for_screen_readers(person):
     release = Release(person)
     person.open(build_page(release, "--name", "Example", "--version", "1.2.3", "--link", f"{ZIP}={LINK}"))
     release.drop(ZIP, None, "screen readers", verdict="good")
-    found = {(role, name, properties.get("level")) for role, name, properties in person.nodes()}
+    nodes = {(role, name, properties.get("level")) for role, name, properties in person.nodes()}
     for expected in (("heading", "Files of Example 1.2.3", 2), ("link", ZIP, None), ("StaticText", "\u2713 Verified", None),
                    ("region", "Files of Example 1.2.3", None)):
-        person.check(expected in found, f"the page of a release: screen readers do not find {expected}")
+        person.check(expected in nodes, f"the page of a release: screen readers do not find {expected}")
     person.open()
     person.run("document.getElementById('project').open = true")
     nodes = person.nodes()
@@ -168,7 +169,7 @@ def check_release_for_screen_readers(person):
 
 def check_dropped_directories(person):
     """The page shows a message if a directory is dropped, and removes the message when files are dropped."""
-    path = person.put("data", b"data")
+    path = person.write_file("data", b"data")
     person.open()
     for place in ("downloads", "downloads", "key"):
         person.drop(place, os.path.dirname(path))

@@ -74,35 +74,35 @@ class Firefox(Person):
         element = self.send_command("FindElement", using="css selector", value=f"#{name}")
         self.send_command("ElementSendKeys", id=next(iter(element.values())), text="\n".join(map(os.path.realpath, paths)))
 
-    def see_in_window(self, what, *arguments):
+    def call_in_window(self, function, *arguments):
         """Calls a function of in_page.js in the browser's window, outside of the page, and returns its result."""
         self.send_command("Marionette:SetContext", value="chrome")
         try:
-            return self.see(what, *arguments)
+            return self.call_in_page(function, *arguments)
         finally:
             self.send_command("Marionette:SetContext", value="content")
 
     def resize(self, width=None, height=None):
         # The page is resized within the window, because the window cannot be narrower than 500 pixels.
-        self.see_in_window("resizeIn", width, height)
+        self.call_in_window("resizeIn", width, height)
         self.wait(lambda: (self.run("return [innerWidth, innerHeight]") == [width, height]) == (width is not None))
 
     def force_colours(self, is_forced):
-        self.see_in_window("forceColours", is_forced)
+        self.call_in_window("forceColours", is_forced)
         self.wait(lambda: self.run("return matchMedia('(forced-colors: active)').matches") == is_forced)
 
     def print_out(self, is_printed):
-        self.see_in_window("printIn", is_printed)
+        self.call_in_window("printIn", is_printed)
         self.wait(lambda: self.run("return matchMedia('print').matches") == is_printed)
 
     def drop(self, place, *paths):
         # Creates a drop event with files that were chosen in a temporary file field.
-        self.see("addPlace", "dropped")
+        self.call_in_page("addPlace", "dropped")
         self.send("dropped", *paths)
-        self.act("dropFrom", place, "dropped")
+        self.act_in_page("dropFrom", place, "dropped")
 
     def save_into(self, directory):
-        self.see_in_window("saveInto", directory)
+        self.call_in_window("saveInto", directory)
 
     def drop_text(self, place, text):
-        self.act("dropText", place, text)
+        self.act_in_page("dropText", place, text)

@@ -50,14 +50,14 @@ def check_wrong_files(person):
     line, secret, sig = person.first.line, person.minisign.read("first.key"), person.sign(b"data", trusted="t")
     bare = f"{line}\n".encode()
     person.open()
-    person.says("introduction", "the first words", "signature", ".minisig", "beside the download", "RW", "website")
+    person.check_text("introduction", "the first words", "signature", ".minisig", "beside the download", "RW", "website")
     person.same(person.text_of("introduction").count(". "), 2, "the first words are three sentences")
-    person.check(person.see("isBefore", "introduction", "key-text"), "the introduction comes after the first field")
+    person.check(person.call_in_page("isBefore", "introduction", "key-text"), "the introduction comes after the first field")
     for name, data, *words in (("some.file", secret, "secret key"), ("some.file", sig, "is a signature, not a key"),
                                ("cut.pub", b"untrusted comment: x\n" + sig.split(b"\n")[1][:56] + b"\n", "part of a signature"),
                                ("alone.pub", bare, "only the key", f" {line} (alone.pub)")):
-        person.choose_key(person.put(name, data))
-        person.says("key-message", f"{words[0]}, as the key's file", name, *words)
+        person.choose_key(person.write_file(name, data))
+        person.check_text("key-message", f"{words[0]}, as the key's file", name, *words)
     # Wrong files that are dropped as downloads are reported below the files. A file with only the line of a key is reported
     # as a wrong key, but the key itself is not shown.
     person.open()
@@ -67,8 +67,8 @@ def check_wrong_files(person):
                 ("update.zip.asc", PGP_KEY.encode()), ("update.zip.asc", PGP_SIGNATURE.encode()),
                 ("update.zip.sig", PGP_BYTES), ("update.zip.gpg", PGP_BYTES), ("key.ASC", PGP_BYTES))),
             ("files-message", "first.key", secret, "first.key This is a secret key")):
-        person.drop("downloads", person.put(name, data))
-        person.says(part, f"{name} among the files", words, lacks=[line])
+        person.drop("downloads", person.write_file(name, data))
+        person.check_text(part, f"{name} among the files", words, lacks=[line])
         person.same(person.rows(), [], f"{name} among the files: the rows")
 
 
@@ -79,7 +79,7 @@ def check_wrong_key_texts(person):
     secret, sig = person.minisign.read("first.key").decode(), person.sign(b"data", trusted="t").decode()
     link, pgp = "made the link chose the key", "a PGP key or signature, which this page cannot verify"
     person.open()
-    for what, typed, words, is_key_shown in (
+    for label, typed, words, is_key_shown in (
         ("a secret key", secret, "secret key", False),
         ("the second line of a secret key", secret.split("\n")[1], "secret key", False),
         ("a signature", sig, "is a signature, not a key", False),
@@ -114,14 +114,14 @@ def check_wrong_key_texts(person):
         ("a key of PGP", PGP_KEY, pgp, False),
         ("a signature of PGP", PGP_SIGNATURE, pgp, False),
     ):
-        what = f"{what} in the key's field"
+        label = f"{label} in the key's field"
         person.type_key(typed)
         shown = {"ends": f" {line}"} if is_key_shown else {"lacks": [line]}
-        person.says("key-message", what, words, begins="No public key: ", **shown)
+        person.check_text("key-message", label, words, begins="No public key: ", **shown)
         person.same(
-            (person.is_shown("key-full"), person.see("numberOfKey") is None),
+            (person.is_shown("key-full"), person.call_in_page("numberOfKey") is None),
             (False, False),
-            f"{what}: a key is shown, no number",
+            f"{label}: a key is shown, no number",
         )
 
 
@@ -131,46 +131,47 @@ def check_dragged_texts(person):
     person.begin("no key")
     person.drop_text("key-text", line)
     person.same(person.text_of("key-text", "value"), line, "a key that is dragged to its field")
-    person.uses(person.first, "a key that is dragged to its field")
+    person.check_key_in_use(person.first, "a key that is dragged to its field")
     person.drop_text("signature-text", person.sign(b"data").decode())
-    person.only("a signature that is dragged", has=["file itself is missing"])
+    person.check_only_row("a signature that is dragged", has=["file itself is missing"])
     person.drop_text("introduction", line)
     person.same(len(person.rows()), 1, "a text that is dragged to no field: the rows")
 
 
 def check_pasted_signatures(person):
     """A signature can be pasted before or after its file, and again. Another text gets a message."""
-    path, (sig, other) = person.put("update.zip", b"data"), (person.sign(data, trusted="t").decode() for data in (b"data", b"x"))
+    path = person.write_file("update.zip", b"data")
+    sig, other_sig = (person.sign(data, trusted="t").decode() for data in (b"data", b"x"))
     person.open()
-    for what, texts, expected in (
+    for label, texts, expected in (
         ("unchanged", [sig], 0),
         ("with spaces", [sig.replace("\n", "\n    ")], 0),
         ("with empty lines", ["\n" + sig.replace("\n", "\n\n\u00a0 ")], 0),
         ("without its end", [sig.rstrip()], 0),
-        ("of other data", [other], 31),
-        ("again", [other, sig], 0),
+        ("of other data", [other_sig], 31),
+        ("again", [other_sig, sig], 0),
     ):
         for is_file_first in (True, False):
-            person.begin(person.first.line, *[path] * is_file_first, anew=False)
+            person.begin(person.first.line, *[path] * is_file_first, reloads=False)
             for text in texts:
                 person.type_text("signature-text", text)
             if not is_file_first:
                 person.choose(path)
-            person.only(f"a pasted signature {what}", number=expected, name="update.zip")
+            person.check_only_row(f"a pasted signature {label}", number=expected, name="update.zip")
     # A signature for the next file. The file before it no longer has a signature (replaced_inputs.py).
     for name in ("one", "two"):
-        person.choose(person.put(name, name.encode()))
+        person.choose(person.write_file(name, name.encode()))
         person.type_text("signature-text", person.sign(name.encode(), trusted="t").decode())
-    person.expect_each(
+    person.check_rows(
         "number",
         {"update.zip": None, "one": None, "two": 0},
         "files with signatures that are pasted one after the other",
     )
     for text, words in ((person.first.line, "is a public key, not a signature"), ("signature", "is not a signature"),
                         (person.minisign.read("first.key").decode(), "is a secret key"), (PGP_SIGNATURE, "PGP")):
-        person.begin(anew=False)
+        person.begin(reloads=False)
         person.type_text("signature-text", text)
-        person.says("files-message", "no signature that is pasted", words)
+        person.check_text("files-message", "no signature that is pasted", words)
         person.same(person.rows(), [], f"{words}: the rows")
         person.type_text("signature-text", "")
         person.same(person.text_of("files-message"), "", f"{words}: the message after the field was cleared")
@@ -179,15 +180,15 @@ def check_pasted_signatures(person):
 def check_page_that_cannot_start(person):
     """If the script, a part of it or WebAssembly cannot run, the page says so, and what to do."""
     script = "return [performance.now(), getComputedStyle(document.getElementById('unusable')).visibility === 'visible']"
-    what = "a script that cannot run"
+    label = "a script that cannot run"
     with served(person.page, Content_Security_Policy="script-src 'none'") as (address, *_):
         person.go(address)
         milliseconds, is_early = person.run(script)
         person.check(not is_early or milliseconds > 1400,
                      f"the page says after {milliseconds} ms that it has not started, expected after 1400 ms or later")
         person.wait(lambda: person.run(script)[1])
-        person.says("unusable", what, "has not started", "Allow JavaScript")
-        person.same([*map(person.is_shown, STATES)], [True, False], f"{what}: if {STATES} are shown")
+        person.check_text("unusable", label, "has not started", "Allow JavaScript")
+        person.same([*map(person.is_shown, STATES)], [True, False], f"{label}: if {STATES} are shown")
     for policy, at, is_secure, has, lacks in (
         (
             "script-src 'unsafe-inline'",
@@ -207,13 +208,13 @@ def check_page_that_cannot_start(person):
             [],
         ),
     ):
-        what = f"the policy {policy!r}, served over https or locally: {is_secure}"
+        label = f"the policy {policy!r}, served over https or locally: {is_secure}"
         with served(person.page, Content_Security_Policy=policy) as addresses:
             person.open(addresses[at])
-        person.says("unusable", what, *has, lacks=["newer browser", *lacks])
+        person.check_text("unusable", label, *has, lacks=["newer browser", *lacks])
         shown = person.run("return isSecureContext"), *map(person.is_shown, STATES), person.run(script)[1]
         person.same(shown, (is_secure, True, False, True),
-                    f"{what}: a secure context, if {STATES} are shown, and if the message is visible")
+                    f"{label}: a secure context, if {STATES} are shown, and if the message is visible")
     # Without worker threads the page still verifies.
     with served(person.page, Content_Security_Policy="worker-src 'none'") as (address, *_):
         person.open(address)
@@ -221,4 +222,4 @@ def check_page_that_cannot_start(person):
         person.same(engine, "PageEngine", "the engine where no thread is allowed")
         person.choose_key(os.path.join(CORPUS, "published.pub"))
         person.choose(*(os.path.join(CORPUS, name) for name in ("test", "published.minisig")))
-        person.only("no thread of its own", number=0)
+        person.check_only_row("no thread of its own", number=0)

@@ -44,28 +44,29 @@ HOSTILE_NAMES = {
 
 def check_comments_and_names(person):
     """Comments and names are shown as text, and change nothing around them."""
-    made = Case("made", person.first.text, person.sign(b"data", trusted="t"), b"data")
+    signed_case = Case("made", person.first.text, person.sign(b"data", trusted="t"), b"data")
     expected, paths = {}, []
     for number, (comment, shown) in enumerate(HOSTILE_COMMENTS.items()):
         # libsodium signs with the unencrypted secret key, because not every comment can be passed to minisign on a command line.
-        case = with_comment(made, person.minisign.read("first.key"), comment.encode(), sign_by_libsodium)
-        paths += person.pair(f"comment{number}", case.data, case.sig)
+        case = with_comment(signed_case, person.minisign.read("first.key"), comment.encode(), sign_by_libsodium)
+        paths += person.write_pair(f"comment{number}", case.data, case.sig)
         expected[f"comment{number}"] = 0, shown or comment
     person.begin(person.first.line, *paths)
-    person.expect_each("number comment", expected, "hostile comments")
+    person.check_rows("number comment", expected, "hostile comments")
     # A comment without a valid signature is not shown.
-    person.choose(*person.pair("forged", b"data", with_line(made.sig, 2, b"trusted comment: \xe2\x9c\x93 Verified")))
-    person.named("forged", "a forged comment", number=32, comment=None, lacks=["\u2713"])
-    person.choose(*person.pair("untrusted", b"data", with_line(made.sig, 0, b"untrusted comment: \xe2\x9c\x93 UNTRUSTED")))
-    person.named("untrusted", "an untrusted comment", number=0, lacks=["UNTRUSTED"])
+    person.choose(*person.write_pair("forged", b"data", with_line(signed_case.sig, 2, b"trusted comment: \xe2\x9c\x93 Verified")))
+    person.check_row_named("forged", "a forged comment", number=32, comment=None, lacks=["\u2713"])
+    untrusted_comment = b"untrusted comment: \xe2\x9c\x93 UNTRUSTED"
+    person.choose(*person.write_pair("untrusted", b"data", with_line(signed_case.sig, 0, untrusted_comment)))
+    person.check_row_named("untrusted", "an untrusted comment", number=0, lacks=["UNTRUSTED"])
     check_shown_as_text(person, "hostile comments")
     person.click("clear")
     # The drivers separate the paths of chosen files by line feeds. Only in Chromium can files be dropped without such a list.
     names = {name: shown or name for name, shown in HOSTILE_NAMES.items() if "\n" not in name or person.is_chromium}
     numbers = {name: 31 if "Verified" in name else 0 for name in names}
     for name, number in numbers.items():
-        person.drop("downloads", *person.pair(name, b"other" if number else b"data", made.sig))
-    person.expect_each("number", {names[name]: number for name, number in numbers.items()}, "hostile names")
+        person.drop("downloads", *person.write_pair(name, b"other" if number else b"data", signed_case.sig))
+    person.check_rows("number", {names[name]: number for name, number in numbers.items()}, "hostile names")
     check_shown_as_text(person, "hostile names")
     log = "".join(person.log())
     person.check("\u202e" not in log and "[U+202E]" in log,
@@ -74,14 +75,14 @@ def check_comments_and_names(person):
         person.same(person.wrong_looks(), [], "low contrasts and missing borders")
 
 
-def check_shown_as_text(person, what):
+def check_shown_as_text(person, label):
     """Checks that no text became markup, and that the page fits into a wide and a narrow window."""
     person.same(
-        person.see("markup"),
+        person.call_in_page("markup"),
         ["Verify a download", 0, []],
-        f"{what}: the title, markup, and elements in the signer's texts",
+        f"{label}: the title, markup, and elements in the signer's texts",
     )
     for size in ((), NARROW):
         person.resize(*size)
-        person.check(person.see("fits"), f"{what}: an element overflows its container at {size or 'full size'}")
+        person.check(person.call_in_page("fitsWindow"), f"{label}: an element overflows its container at {size or 'full size'}")
     person.resize()

@@ -1,7 +1,8 @@
 // Functions that the tests run in the page, to act on it, to read what it shows, to break it, and to call its script.
-// `Person.see` and `Person.act` of person.py call them.
+// `Person.call_in_page` and `Person.act_in_page` of person.py call
+// them.
 
-const all = (parts, of = document) => Array.from(of.querySelectorAll(parts));
+const all = (parts, root = document) => Array.from(root.querySelectorAll(parts));
 const allRows = () => all("#verdicts > li");
 const boxOf = part => part.getBoundingClientRect();
 
@@ -25,13 +26,13 @@ function band() {
 
 // Returns five things: the rows; the band; true if this is a project's page, which has no field for a key; the notice
 // about the key, with true if it is a warning; and the message that names the key and its source.
-function state() {
-  const whose = document.getElementById("key-notice");
+function pageState() {
+  const notice = document.getElementById("key-notice");
   return [
     rows(),
     band(),
     !document.getElementById("key-text").checkVisibility(),
-    [whose.innerText, whose.checkVisibility() && whose.classList.contains("caution")],
+    [notice.innerText, notice.checkVisibility() && notice.classList.contains("caution")],
     document.getElementById("key-message").innerText
   ];
 }
@@ -56,19 +57,19 @@ function typeText(name, text) {
 }
 
 // Returns true if the page has processed all actions of the user.
-function isTaken() {
+function hasProcessedActions() {
   return !(Number(document.documentElement.dataset.pending) > 0);
 }
 
 // Returns true if the page with this query can be used, or has said that it cannot. (While it is being loaded, there may be no root
 // element yet.)
 function isReady(search = location.search) {
-  return location.search === search && document.documentElement?.dataset.ready !== undefined && isTaken();
+  return location.search === search && document.documentElement?.dataset.ready !== undefined && hasProcessedActions();
 }
 
 // Returns true if the page shows a message about the key.
-function isKeySaid() {
-  return isTaken() && document.getElementById("key-message").innerText !== "";
+function isKeyMessageShown() {
+  return hasProcessedActions() && document.getElementById("key-message").innerText !== "";
 }
 
 function click(name) {
@@ -76,30 +77,30 @@ function click(name) {
 }
 
 // Clears the fields and the list.
-function empty() {
+function clearInputs() {
   typeText("key-text", "");
   typeText("signature-text", "");
   click("clear");
 }
 
 // Returns true if no action is being processed and no row is queued or being read, and otherwise the progress.
-function work() {
+function progress() {
   const rows = allRows();
   const waiting = rows.filter(row => row.dataset.verdict === "queued").length;
   const reading = rows.find(row => row.dataset.verdict === "reading");
-  return isTaken() && waiting === 0 && !reading ||
+  return hasProcessedActions() && waiting === 0 && !reading ||
     [document.documentElement.dataset.pending, rows.length, waiting, reading?.innerText];
 }
 
 // Calls a function until it returns true, or for a second, and returns the last result.
-async function until(look) {
-  const end = performance.now() + 1000;
-  let seen = look();
-  while (seen !== true && performance.now() <= end) {
+async function waitUntil(condition) {
+  const deadline = performance.now() + 1000;
+  let result = condition();
+  while (result !== true && performance.now() <= deadline) {
     await new Promise(resolve => setTimeout(resolve, 10));
-    seen = look();
+    result = condition();
   }
-  return seen;
+  return result;
 }
 
 // Returns true if the verdict of this row, and all of its warnings, are in the window and not hidden by the band.
@@ -110,13 +111,13 @@ function isInView(name) {
 }
 
 // Returns true if the place for the download is completely in the window without scrolling.
-function isPlaceSeen() {
+function isDropAreaVisible() {
   const {top, bottom} = boxOf(document.querySelector("#files + label"));
   return scrollY === 0 && top >= 0 && bottom <= innerHeight;
 }
 
 // Returns true if the element with the focus, or the label that is shown instead of it, begins behind the band.
-function isFocusBehind() {
+function isFocusBehindBand() {
   const active = document.activeElement, place = active.classList.contains("unseen") ? active.nextElementSibling : active;
   return boxOf(place).top < boxOf(document.getElementById("band")).bottom;
 }
@@ -147,7 +148,7 @@ function bandWith(verdict) {
 }
 
 // Returns by what verdicts differ in rows or in the band: colours, the style of the border on this side, and words.
-function looks(parts, side) {
+function verdictLooks(parts, side) {
   return Object.fromEntries(all(parts).map(row => {
     const style = getComputedStyle(row), head = row.querySelector(".verdict");
     const colours = side === "Left" ? [getComputedStyle(head).color, style.borderLeftColor] : [style.backgroundColor];
@@ -157,18 +158,19 @@ function looks(parts, side) {
 
 // Returns the styles that make elements look like buttons, for the button below the list and for each place for files.
 function buttons() {
-  const look = part => {
+  const styleOf = part => {
     const {backgroundColor, borderTopWidth, borderTopStyle, borderTopColor, paddingLeft, display} = getComputedStyle(part);
     return [backgroundColor, borderTopWidth, borderTopStyle, borderTopColor, paddingLeft, display].join(" ");
   };
-  return [document.getElementById("clear"), ...all(".drop-area .button")].map(look);
+  return [document.getElementById("clear"), ...all(".drop-area .button")].map(styleOf);
 }
 
 // Returns true if the page is not wider than the window, and no part of a row overflows the row.
-function fits() {
+function fitsWindow() {
   const isWithin = (part, row) => {
-    const a = boxOf(part), b = boxOf(row);
-    return a.left >= b.left - 1 && a.right <= b.right + 1 && a.top >= b.top - 1 && a.bottom <= b.bottom + 1;
+    const inner = boxOf(part), outer = boxOf(row);
+    return inner.left >= outer.left - 1 && inner.right <= outer.right + 1
+      && inner.top >= outer.top - 1 && inner.bottom <= outer.bottom + 1;
   };
   const {scrollWidth, clientWidth} = document.documentElement;
   return scrollWidth <= clientWidth
@@ -219,26 +221,26 @@ function markup() {
 // because browsers do not print backgrounds.
 function contrasts(isPrinted = false) {
   const channel = value => value <= 0.04045 ? value / 12.92 : ((value + 0.055) / 1.055) ** 2.4;
-  const light = color => {
+  const luminance = color => {
     const [r, g, b] = color.match(/[\d.]+/g).map(Number);
     return 0.2126 * channel(r / 255) + 0.7152 * channel(g / 255) + 0.0722 * channel(b / 255);
   };
   const isClear = color => color === "transparent" || /, 0\)$/.test(color);
-  const ground = part => {
+  const backgroundOf = part => {
     const color = part && !isPrinted ? getComputedStyle(part).backgroundColor : "rgb(255, 255, 255)";
-    return isClear(color) ? ground(part.parentElement) : color;
+    return isClear(color) ? backgroundOf(part.parentElement) : color;
   };
   const visible = textsBelow(document.body).filter(({data, parentElement: part}) =>
     data.trim() && part.checkVisibility() && !part.closest("script, .unseen"));
   return visible.map(({data, parentElement: part}) => {
-    const [text, behind] = [getComputedStyle(part).color, ground(part)].map(light);
-    return [(Math.max(text, behind) + 0.05) / (Math.min(text, behind) + 0.05), data.trim().slice(0, 40)];
+    const [text, background] = [getComputedStyle(part).color, backgroundOf(part)].map(luminance);
+    return [(Math.max(text, background) + 0.05) / (Math.min(text, background) + 0.05), data.trim().slice(0, 40)];
   });
 }
 
 // Returns the widths of the borders of rows and warnings, true if the media feature has this value, and true if the
 // page's background is white.
-function ground(feature, value) {
+function mediaEffects(feature, value) {
   return [
     all("#verdicts > li, .caution").map(part => getComputedStyle(part).borderLeftWidth),
     matchMedia(`(${feature}: ${value})`).matches,
@@ -328,9 +330,9 @@ function countReadings(name) {
 
 // Makes the next call of a function of the page hang.
 function hangOnce(name) {
-  const real = window[name];
+  const original = window[name];
   window[name] = () => {
-    window[name] = real;
+    window[name] = original;
     window.isBroken = true;
     return new Promise(() => {});
   };
@@ -338,12 +340,12 @@ function hangOnce(name) {
 
 // Makes worker threads end when they get a message, four times.
 function endThreads() {
-  const {prototype} = Worker, real = prototype.postMessage;
+  const {prototype} = Worker, original = prototype.postMessage;
   let count = 0;
   prototype.postMessage = function () {
     this.terminate();
     if (++count === 4) {
-      prototype.postMessage = real;
+      prototype.postMessage = original;
       window.isBroken = true;
     }
   };
@@ -351,9 +353,9 @@ function endThreads() {
 
 // Delays the first text that is read until a part of the next file has been read.
 function waitOnce() {
-  const real = window.bytesOfTextFile;
+  const original = window.bytesOfTextFile;
   window.bytesOfTextFile = async file => {
-    window.bytesOfTextFile = real;
+    window.bytesOfTextFile = original;
     await new Promise(resolve => {
       new MutationObserver((_, observer) => {
         if ((document.querySelector("progress")?.value ?? 0) > 0) {
@@ -363,44 +365,44 @@ function waitOnce() {
       }).observe(document.getElementById("verdicts"), {attributes: true, childList: true, subtree: true});
     });
     window.isBroken = true;
-    return real(file);
+    return original(file);
   };
 }
 
 // Delays each file that the page reads until letFilesGo is called. (Texts are delayed before their time limit starts.)
 function holdFiles() {
   const {bytesOfFile, bytesOfTextFile} = window;
-  const held = new Promise(resolve => {
+  const released = new Promise(resolve => {
     window.letFilesGo = () => {
       Object.assign(window, {bytesOfFile, bytesOfTextFile});
       resolve();
     };
   });
-  window.bytesOfFile = async (...of) => {
-    await held;
-    return bytesOfFile(...of);
+  window.bytesOfFile = async (...range) => {
+    await released;
+    return bytesOfFile(...range);
   };
   window.bytesOfTextFile = async file => {
-    await held;
+    await released;
     return bytesOfTextFile(file);
   };
 }
 
 // Makes reading files with this name fail.
 function breakFiles(name) {
-  const real = window.bytesOfFile;
-  window.bytesOfFile = async (file, ...of) => file.name === name ? null : await real(file, ...of);
+  const original = window.bytesOfFile;
+  window.bytesOfFile = async (file, ...range) => file.name === name ? null : await original(file, ...range);
 }
 
 // ---- Calling the page's script ----
 
 // Verifies COUNT generated files, and counts the good verdicts in window.verified.
 function verifyMany(count, text, data) {
-  const real = window.showVerdict;
+  const original = window.showVerdict;
   const files = Array.from({length: count}, (_, at) => [new File([data], `f${at}`), new File([text], `f${at}.minisig`)]).flat();
   window.verified = 0;
   window.showVerdict = (download, verdict, source) => {
-    real(download, verdict, source);
+    original(download, verdict, source);
     window.verified += verdict.verdict === "good" ? 1 : 0;
   };
   queueAction(() => takeFiles(files));
@@ -421,10 +423,11 @@ async function fetchFrom(address) {
 // Calls page_ask with any number as `allow_legacy`; the page itself passes 0 or 1. Returns the error number, and true
 // if the state is unchanged.
 function askWithFlag(key, signature, flag, isBegun) {
-  const state = isBegun ? library.begin() : new Uint8Array(STATE_BYTES), before = state.slice();
-  const read = library.readKey(Uint8Array.from(key), false).key, {text, value} = library.readSignature(Uint8Array.from(signature));
-  const number = library.onState(state, place => library.calls.page_ask(
-    place, library.put(library.key, KEY_BYTES, read)[0], library.put(library.signature, SIGNATURE_BYTES, value)[0],
+  const state = isBegun ? library.begin() : new Uint8Array(STATE_BYTES), stateBefore = state.slice();
+  const keyStruct = library.readKey(Uint8Array.from(key), false).key;
+  const {text, value} = library.readSignature(Uint8Array.from(signature));
+  const number = library.onState(state, address => library.calls.page_ask(
+    address, library.put(library.key, KEY_BYTES, keyStruct)[0], library.put(library.signature, SIGNATURE_BYTES, value)[0],
     ...library.put(library.text, TEXT_BYTES, text), flag, BigInt(library.questions), BigInt(library.message), BigInt(TEXT_BYTES)));
-  return [number, state.every((byte, at) => byte === before[at])];
+  return [number, state.every((byte, at) => byte === stateBefore[at])];
 }

@@ -19,101 +19,102 @@ def attack(person, good):
     Returns the paths, and the key."""
     foreign = with_key_id_of(person.first.text, person.second.text)
     harmful = with_key_id_of(good, person.sign(b"harmful", key="second", trusted="t"))
-    data, sig = person.pair("update.zip", b"harmful", harmful)
-    return (data, sig, person.put("minisign.pub", foreign, data)), Key(foreign, lines(foreign)[1].decode())
+    data, sig = person.write_pair("update.zip", b"harmful", harmful)
+    return (data, sig, person.write_file("minisign.pub", foreign, data)), Key(foreign, lines(foreign)[1].decode())
 
 
 def check_given_key_is_kept(person):
     """A key that the user gave is not replaced by a key that comes with the files. A different key with the same key ID
     is not taken for it."""
-    user_key, good, my_key = person.first, person.sign(b"update", trusted="t"), person.put("my.pub", person.first.text)
-    theirs, _ = attack(person, good)
+    user_key, good_sig = person.first, person.sign(b"update", trusted="t")
+    my_key_path = person.write_file("my.pub", user_key.text)
+    attack_paths, _ = attack(person, good_sig)
     person.open()
-    for how, give, given, words in (("typed", person.type_key, user_key.line, "pasted or typed"),
-                                    ("chosen", person.choose_key, my_key, "chose as the file my.pub")):
-        what = f"a key that was {how}"
-        person.begin(anew=False)
-        give(given)
-        person.drop("downloads", *theirs)
-        person.only(f"{what}, and another among the files", number=31, cautions=[])
-        person.uses(user_key, what)
-        person.says(
+    for source, set_key, key_input, words in (("typed", person.type_key, user_key.line, "pasted or typed"),
+                                    ("chosen", person.choose_key, my_key_path, "chose as the file my.pub")):
+        label = f"a key that was {source}"
+        person.begin(reloads=False)
+        set_key(key_input)
+        person.drop("downloads", *attack_paths)
+        person.check_only_row(f"{label}, and another among the files", number=31, cautions=[])
+        person.check_key_in_use(user_key, label)
+        person.check_text(
             "files-message",
-            what,
+            label,
             begins="minisign.pub came with the files and was ignored: this page uses the key above, ",
         )
-        person.choose(*person.pair("update.zip", b"update", good))
-        person.only(what, number=0, verdict="good", cautions=[], has=[words])
-        person.same(person.text_of("files-message"), "", f"{what}: the message about new files")
+        person.choose(*person.write_pair("update.zip", b"update", good_sig))
+        person.check_only_row(label, number=0, verdict="good", cautions=[], has=[words])
+        person.same(person.text_of("files-message"), "", f"{label}: the message about new files")
 
 
 def check_key_with_files(person):
     """If the user gave no key and one key comes with the files, the page uses it, and each verdict begins with a
     warning about that."""
-    good, my_key = person.sign(b"update", trusted="t"), person.put("my.pub", person.first.text)
-    theirs, foreign = attack(person, good)
+    good_sig, my_key_path = person.sign(b"update", trusted="t"), person.write_file("my.pub", person.first.text)
+    attack_paths, attack_key = attack(person, good_sig)
     person.open()
-    person.drop("downloads", *person.signed("a", b"a", trusted="of a"), *person.signed("d.pub", b"d", trusted="of d"),
-                person.put("c", b"c"), my_key)
-    person.expect_each("verdict comment", {"a": ("unchecked", "of a"), "d.pub": ("unchecked", "of d"), "c": ("waiting", None)},
-                       "several files and the key")
-    what = "a key with the files"
-    person.begin(anew=False)
-    person.drop("downloads", *theirs)
-    person.only(what, verdict="unchecked", cautions=[], has=["came with the files as minisign.pub"])
-    person.uses(foreign, what)
+    person.drop("downloads", *person.write_signed("a", b"a", trusted="of a"), *person.write_signed("d.pub", b"d", trusted="of d"),
+                person.write_file("c", b"c"), my_key_path)
+    person.check_rows("verdict comment", {"a": ("unchecked", "of a"), "d.pub": ("unchecked", "of d"), "c": ("waiting", None)},
+                      "several files and the key")
+    label = "a key with the files"
+    person.begin(reloads=False)
+    person.drop("downloads", *attack_paths)
+    person.check_only_row(label, verdict="unchecked", cautions=[], has=["came with the files as minisign.pub"])
+    person.check_key_in_use(attack_key, label)
     log = person.log()
-    person.check(log[0].startswith("Signed, by a key that you have not checked"), f"{what}: the log for screen readers: {log}")
-    person.choose(*person.pair("other.zip", b"other", good))
-    person.named("other.zip", "another file", number=31)
+    person.check(log[0].startswith("Signed, by a key that you have not checked"), f"{label}: the log for screen readers: {log}")
+    person.choose(*person.write_pair("other.zip", b"other", good_sig))
+    person.check_row_named("other.zip", "another file", number=31)
     # When the project's key is chosen instead, the results with the other key are discarded.
-    person.choose_key(my_key)
-    person.named("update.zip", "the project's key instead", number=31)
+    person.choose_key(my_key_path)
+    person.check_row_named("update.zip", "the project's key instead", number=31)
     log = person.log()
     person.check(all(line.startswith("NOT verified") for line in log) and len(log) == 2,
                  f"the project's key instead: the log for screen readers, expected two lines `NOT verified ..`: {log}")
     person.click("key-remove")
-    person.expect_each("verdict", {"update.zip": "waiting", "other.zip": "waiting"}, "a key that was removed")
+    person.check_rows("verdict", {"update.zip": "waiting", "other.zip": "waiting"}, "a key that was removed")
     person.same((person.text_of("key-message"), person.is_shown("key-full"), person.log()), ("", False, []),
                 "a key that was removed: the messages")
     # If several keys come together, none is used.
-    person.drop("downloads", my_key, theirs[-1])
-    person.says("key-message", "two keys at once", "several keys")
+    person.drop("downloads", my_key_path, attack_paths[-1])
+    person.check_text("key-message", "two keys at once", "several keys")
     person.same((person.is_shown("key-full"), {row.verdict for row in person.rows()}), (False, {"waiting"}), "two keys at once")
 
 
 def check_key_field(person):
     """The page does not change the text in the field for the key, even if it is not a key. As long as the field has a
     text, the page ignores keys that come with the files, and says so."""
-    user_key, paths = person.first, person.signed("update.zip", b"update", trusted="t")
-    keys = [person.put(name, user_key.text) for name in ("minisign.pub", "other.pub")]
+    user_key, paths = person.first, person.write_signed("update.zip", b"update", trusted="t")
+    keys = [person.write_file(name, user_key.text) for name in ("minisign.pub", "other.pub")]
     person.open()
     for text in ("no key", "RWQ", "minisign -Vm update.zip", ".", user_key.line[:-1]):
         for dropped_keys in (keys[:1], keys):
-            what = f"{text!r} in the key's field, and {len(dropped_keys)} keys among the files"
-            person.begin(text, anew=False)
+            label = f"{text!r} in the key's field, and {len(dropped_keys)} keys among the files"
+            person.begin(text, reloads=False)
             said = person.text_of("key-message")
             person.drop("downloads", *paths, *dropped_keys)
-            person.only(what, verdict="waiting", number=None)
+            person.check_only_row(label, verdict="waiting", number=None)
             seen = person.text_of("key-text", "value"), person.text_of("key-message"), person.is_shown("key-full")
-            person.same(seen, (text, said, False), f"{what}: the field")
+            person.same(seen, (text, said, False), f"{label}: the field")
             ignored = (
                 "{} came with the files and was ignored: the text in the field above is not a key. Correct that text,"
                 " or clear the field."
             )
-            person.says(
+            person.check_text(
                 "files-message",
-                what,
+                label,
                 *(ignored.format(name) for name in ("minisign.pub", "other.pub")[: len(dropped_keys)]),
             )
     # White space is treated like an empty field, because the user cannot see it.
     person.type_key(" \n")
     person.drop("downloads", keys[0])
-    person.only("an empty field", verdict="unchecked")
-    person.says("key-notice", "an empty field", WITH_FILES)
+    person.check_only_row("an empty field", verdict="unchecked")
+    person.check_text("key-notice", "an empty field", WITH_FILES)
     # The user pastes the key that came with the files.
     person.type_key(user_key.line)
-    person.only("a key with the files that is pasted then", verdict="good", cautions=[])
+    person.check_only_row("a key with the files that is pasted then", verdict="good", cautions=[])
 
 
 def check_keys_in_links(person):
@@ -123,8 +124,8 @@ def check_keys_in_links(person):
     escaped = first.replace("+", "%2B").replace("/", "%2F")
     for part in (escaped, f"key={first}", f"key={escaped}", f"key={first}&later=more", f"later=more&key={first}"):
         person.open(f"{person.address}#{part}")
-        person.says("key-message", f"#{part}", ends="which came with the link to this page.")
-        person.uses(person.first, f"#{part}")
+        person.check_text("key-message", f"#{part}", ends="which came with the link to this page.")
+        person.check_key_in_use(person.first, f"#{part}")
     for part in (
         f"Verified%20by%20the%20project:%20{first}",
         f"untrusted%20comment:%20Verified%0A{first}",
@@ -140,23 +141,23 @@ def check_keys_in_links(person):
         person.sign(b"x").decode().split("\n")[1][:56].replace("+", "%2B"),
     ):
         person.open(f"{person.address}#{part}")
-        person.says("key-message", f"#{part}",
-                    begins="No public key: the link to this page has no key of 56 characters after #.")
+        person.check_text("key-message", f"#{part}",
+                          begins="No public key: the link to this page has no key of 56 characters after #.")
         seen = (
             person.is_shown("key-full"),
             person.text_of("key-text", "value"),
             "Verified" in person.run("return document.body.innerText"),
         )
         person.same(seen, (False, "", False), f"#{part}: a key, and words of the link, are shown")
-    what = "an address that changes"
-    person.begin(first, *person.signed("update.zip", b"update"))
-    person.only(f"before {what}", number=0)
+    label = "an address that changes"
+    person.begin(first, *person.write_signed("update.zip", b"update"))
+    person.check_only_row(f"before {label}", number=0)
     person.run("document.documentElement.dataset.older = 'yes'; location.hash = arguments[0]", second)
     person.wait(lambda: person.run("return document.documentElement?.dataset.older === undefined"))
-    person.wait(lambda: person.see("isReady"))
-    person.expect_each("verdict", {}, what)
-    person.says("key-message", what, "which came with the link to this page")
-    person.uses(person.second, what)
+    person.wait(lambda: person.call_in_page("isReady"))
+    person.check_rows("verdict", {}, label)
+    person.check_text("key-message", label, "which came with the link to this page")
+    person.check_key_in_use(person.second, label)
 
 
 # File names, and trusted comments with the signed names. In DIFFERENT the names are different. In SIMILAR the signed
@@ -206,36 +207,37 @@ def check_signed_names(person):
     data = b"update"
     person.begin(person.first.line)
     for name, comment in {**DIFFERENT, **SIMILAR, **MATCHING_NAMES}.items():
-        person.choose(*person.signed(name, data, trusted=comment))
-    rows = {row.name: row for row in person.settled("comments")}
+        person.choose(*person.write_signed(name, data, trusted=comment))
+    rows = {row.name: row for row in person.settled_rows("comments")}
     for names, words, lacks in (
         (DIFFERENT, [NAMED, OTHER_FILE], []),
         (SIMILAR, [NAMED], [OTHER_FILE]),
         (MATCHING_NAMES, [], [NAMED]),
     ):
         for name, comment in names.items():
-            what = f"{name} with the comment {comment!r}"
+            label = f"{name} with the comment {comment!r}"
             verdict, cautions = ("renamed", 1) if names is DIFFERENT else ("good", 0)
-            person.expect(rows[name], what, number=0, verdict=verdict, has=words, lacks=lacks)
-            person.same(len(rows[name].cautions), cautions, f"{what}: the warnings")
-            person.same("it was signed on" in rows[name].text, name in ("a.zip", "b.zip"), f"{what}: the time is shown")
+            person.check_row(rows[name], label, number=0, verdict=verdict, has=words, lacks=lacks)
+            person.same(len(rows[name].cautions), cautions, f"{label}: the warnings")
+            person.same("it was signed on" in rows[name].text, name in ("a.zip", "b.zip"), f"{label}: the time is shown")
     for name, words in (("a.zip", "signed on 2023-11-14, 22:13 UTC."), ("b.zip", f"{NAMED}a.zip."), ("c.zip", "U+202Ec.zip"),
                         ("i.zip", f"{NAMED}dist/i.zip.")):
-        person.expect(rows[name], f"the signed name of {name}, or the time", has=[words])
+        person.check_row(rows[name], f"the signed name of {name}, or the time", has=[words])
     # If the key came with the files, the warning about that comes before the one about the name.
-    what = "another name, under a key that came with the files"
-    person.begin("", *person.signed("b.zip", data, trusted="file:a.zip"), person.put("minisign.pub", person.first.text), anew=False)
-    person.only(what, verdict="unchecked", number=0, has=[f"{NAMED}a.zip. {OTHER_FILE}"])
+    label = "another name, under a key that came with the files"
+    key_path = person.write_file("minisign.pub", person.first.text)
+    person.begin("", *person.write_signed("b.zip", data, trusted="file:a.zip"), key_path, reloads=False)
+    person.check_only_row(label, verdict="unchecked", number=0, has=[f"{NAMED}a.zip. {OTHER_FILE}"])
     person.type_key(person.first.line)
-    person.only(f"{what}, which is pasted then", verdict="renamed", number=0)
+    person.check_only_row(f"{label}, which is pasted then", verdict="renamed", number=0)
 
     signed = {comment: person.sign(data, trusted=comment) for comment in ("t", "t ", " t", "t\t")}
     ends, warning = "white space at its beginning or end", "Do not use the file"
     for comment, in_file, number, why in (
             *((comment, in_file, 32, ends) for comment in ("t ", " t", "t\t") for in_file in (comment, "t")),
             ("t", "u", 32, warning), ("t ", "u ", 32, warning), ("t", " t ", 0, "")):
-        what = f"the signed comment {comment!r}, which is {in_file!r} in the file"
+        label = f"the signed comment {comment!r}, which is {in_file!r} in the file"
         person.click("clear")
-        person.choose(*person.pair("update.zip", data, with_line(signed[comment], 2, f"trusted comment: {in_file}".encode())))
-        row = person.only(what, number=number, comment="t" if number == 0 else None)
-        person.check(why in row.why and ("Do not use" in row.why) == (why == warning), f"{what}: {row.why!r}")
+        person.choose(*person.write_pair("update.zip", data, with_line(signed[comment], 2, f"trusted comment: {in_file}".encode())))
+        row = person.check_only_row(label, number=number, comment="t" if number == 0 else None)
+        person.check(why in row.why and ("Do not use" in row.why) == (why == warning), f"{label}: {row.why!r}")

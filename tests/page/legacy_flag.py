@@ -15,5 +15,5 @@ def check_allow_legacy_flag(person):
     for flag in (0, 1, 2, 3, 2**31, 2**32 - 1):
         for is_begun in (True, False):
             expected = BAD_LEGACY_FLAG if flag > 1 else OK if is_begun else NOT_BEGUN
-            what = f"`allow_legacy` {flag}, and begun: {is_begun}"
-            person.same(person.see("askWithFlag", key, sig, flag, is_begun), [expected, expected != OK], what)
+            label = f"`allow_legacy` {flag}, and begun: {is_begun}"
+            person.same(person.call_in_page("askWithFlag", key, sig, flag, is_begun), [expected, expected != OK], label)

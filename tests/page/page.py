@@ -75,16 +75,16 @@ def run_in(begin):
     """Starts a browser by `begin` and runs all selected steps. In Chromium it also checks the mutants."""
     person = begin()
     try:
-        for what, step in steps_in(person):
-            if not case_selection.is_selected(f"{person.name}, {what}"):
+        for label, step in steps_in(person):
+            if not case_selection.is_selected(f"{person.name}, {label}"):
                 continue
             begun = time.monotonic()
             try:
                 person = run_step(person, step, begin)
             except Exception as why:
                 traceback.print_exc()
-                person.check(False, f"{person.name}, {what}: ended early: {why!r:.300}")
-            print(f"page: {person.name}, {what}, {time.monotonic() - begun:.1f} s", flush=True)
+                person.check(False, f"{person.name}, {label}: ended early: {why!r:.300}")
+            print(f"page: {person.name}, {label}, {time.monotonic() - begun:.1f} s", flush=True)
         if person.is_chromium:
             page_mutants.check_mutants(person, lambda name: case_selection.is_selected(f"{person.name}, {name}"))
     finally:

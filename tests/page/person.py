@@ -87,38 +87,38 @@ def shortened(name):
     return name if len(name) <= MAX_NAME else f"{name[:MAX_NAME - NAME_END - 1]}\u2026{name[-NAME_END:]}"
 
 
-def band_of(rows, is_own):
+def band_of(rows, is_project_page):
     """Returns what the band must show: the worst verdict, the files that have it, and the next step."""
     worst = next((verdict for verdict in HEADINGS if any(row.verdict == verdict for row in rows)), None)
     names = [shortened(row.name) for row in rows if row.verdict == worst]
     count = f" ({len(names)} of {len(rows)} files)" if len(rows) > 1 else ""
-    more = f" and {len(names) - MAX_NAMED} more" if len(names) > MAX_NAMED else ""
-    return worst and [worst, f"{HEADINGS[worst]}{count}: {', '.join(names[:MAX_NAMED])}{more}",
-                      next_step(worst, [row for row in rows if row.verdict == worst], is_own)]
+    omitted = f" and {len(names) - MAX_NAMED} more" if len(names) > MAX_NAMED else ""
+    return worst and [worst, f"{HEADINGS[worst]}{count}: {', '.join(names[:MAX_NAMED])}{omitted}",
+                      next_step(worst, [row for row in rows if row.verdict == worst], is_project_page)]
 
 
-def next_step(verdict, rows, is_own=False):
+def next_step(verdict, rows, is_project_page=False):
     """Returns the next step for the rows with this verdict."""
     if verdict != "waiting":
-        return (PROJECT_NEXT_STEPS if is_own else NEXT_STEPS)[verdict][len(rows) > 1]
+        return (PROJECT_NEXT_STEPS if is_project_page else NEXT_STEPS)[verdict][len(rows) > 1]
     parts = [part for words, part in MISSING.items() if any(words in row.text for row in rows)]
     return f"Add what is missing: {' and '.join(', '.join(parts).rsplit(', ', 1))}."
 
 
-def key_sentences(rows, said):
-    """Returns the sentence about the key that the page must show above the list, and true if it is a warning. `said` is
+def key_sentences(rows, message):
+    """Returns the sentence about the key that the page must show above the list, and true if it is a warning. `message` is
     the message about the key, which names its source."""
-    source = next((each for each in KEY_SENTENCES if each in said), None)
-    fits, fails = KEY_SENTENCES.get(source, ("", ""))
-    words = fits if any(row.number == 0 for row in rows) else fails if any(row.verdict == "bad" for row in rows) else ""
-    return [words, bool(words) and source in ("which came with the files", "which came with the link")]
+    source = next((each for each in KEY_SENTENCES if each in message), None)
+    if_valid, if_invalid = KEY_SENTENCES.get(source, ("", ""))
+    sentence = if_valid if any(row.number == 0 for row in rows) else if_invalid if any(row.verdict == "bad" for row in rows) else ""
+    return [sentence, bool(sentence) and source in ("which came with the files", "which came with the link")]
 
 
 def is_consistent(row):
     """Returns true if a row is consistent: it begins with its verdict, only a good verdict says "Verified" and has no
     warnings, only the verdict and the warnings are bold, and what is said once above the list is not in the row."""
     lines = [line for line in row.text.split("\n") if line]
-    sentences = [sentence for both in KEY_SENTENCES.values() for sentence in both if sentence]
+    sentences = [sentence for pair in KEY_SENTENCES.values() for sentence in pair if sentence]
     return (row.head == lines[0] == HEADINGS[row.verdict] and row.bold == [row.head, *row.cautions]
             and (row.number == 0) == (row.verdict in SIGNED) and (row.comment is None or row.number == 0)
             and not any(sentence in row.text for sentence in sentences)
@@ -159,7 +159,7 @@ class Person:
 
     def __init__(self, command, **environment):
         """Starts a browser or its driver in a new process group, and a session as soon as it listens."""
-        self.opened = itertools.count()
+        self.load_count = itertools.count()
         self.process = subprocess.Popen(command, stdin=subprocess.DEVNULL, stdout=subprocess.DEVNULL, stderr=subprocess.DEVNULL,
                                         start_new_session=True, env=dict(os.environ, **environment))
         end = time.monotonic() + SECONDS
@@ -196,28 +196,28 @@ class Person:
 
     # ---- Files for the page ----
 
-    def put(self, name, data, beside=None):
-        """Writes a file into a new directory, or into the directory of another file, and returns its path."""
-        return write(os.path.dirname(beside) if beside else tempfile.mkdtemp(dir=self.scratch), name, data)
+    def write_file(self, name, data, sibling=None):
+        """Writes a file into a new directory, or into the directory of `sibling`, and returns its path."""
+        return write(os.path.dirname(sibling) if sibling else tempfile.mkdtemp(dir=self.scratch), name, data)
 
-    def pair(self, name, data, sig):
+    def write_pair(self, name, data, sig):
         """Writes a file and its signature into a new directory, and returns their paths."""
-        path = self.put(name, data)
-        return path, self.put(f"{name}.minisig", sig, path)
+        path = self.write_file(name, data)
+        return path, self.write_file(f"{name}.minisig", sig, path)
 
-    def sign(self, data, key="first", **how):
-        return self.minisign.sign(key, data, **how)
+    def sign(self, data, key="first", **options):
+        return self.minisign.sign(key, data, **options)
 
-    def signed(self, name, data, **how):
+    def write_signed(self, name, data, **options):
         """Writes a file and a new signature of it, and returns their paths."""
-        return self.pair(name, data, self.sign(data, **how))
+        return self.write_pair(name, data, self.sign(data, **options))
 
-    def sparse(self, name, length, *flags):
+    def write_sparse(self, name, length, *flags):
         """Returns the paths of a sparse file of zeros and its signature, which are made once for both browsers."""
         path = os.path.join(self.scratch, "sparse", name)
         if not os.path.exists(f"{path}.minisig"):
             os.makedirs(os.path.dirname(path), exist_ok=True)
-            os.truncate(self.put(name, b"", path), length)
+            os.truncate(self.write_file(name, b"", path), length)
             self.minisign.run("-S", "-s", "first.key", "-m", path, "-x", f"{path}.minisig", "-t", f"{length} bytes", *flags)
         return path, f"{path}.minisig"
 
@@ -226,7 +226,7 @@ class Person:
     @contextlib.contextmanager
     def with_held_files(self):
         """Delays each file that the page reads until the end, as a slow disk does. Actions do not wait for the page meanwhile."""
-        self.see("holdFiles")
+        self.call_in_page("holdFiles")
         self.is_waiting = False
         try:
             yield
@@ -238,11 +238,11 @@ class Person:
     def go(self, address):
         self.send_command("Navigate", url=address)
 
-    def press(self, keys, held=""):
-        """Presses keys one after another, while the keys `held` are held down."""
-        acts = [*(("keyDown", key) for key in held), *((kind, key) for key in keys for kind in ("keyDown", "keyUp")),
-                *(("keyUp", key) for key in held)]
-        steps = [{"type": kind, "value": key} for kind, key in acts]
+    def press(self, keys, held_keys=""):
+        """Presses keys one after another, while `held_keys` are held down."""
+        key_events = [*(("keyDown", key) for key in held_keys), *((kind, key) for key in keys for kind in ("keyDown", "keyUp")),
+                *(("keyUp", key) for key in held_keys)]
+        steps = [{"type": kind, "value": key} for kind, key in key_events]
         self.send_command("PerformActions", actions=[{"type": "key", "id": "keyboard", "actions": steps}])
         self.wait_until_taken()
 
@@ -253,44 +253,44 @@ class Person:
         address = address or self.address
         # Changing only the part after # does not load the page again, and drivers do not wait for the page if that part
         # is the same.
-        search = f"?{next(self.opened)}" if "#" in address else ""
+        search = f"?{next(self.load_count)}" if "#" in address else ""
         self.go(address.replace("#", f"{search}#"))
-        self.wait(lambda: self.see("isReady", search))
+        self.wait(lambda: self.call_in_page("isReady", search))
 
-    def wait(self, look, seconds=SECONDS, pause=0.02):
-        """Waits until `look` returns True. The time limit starts again whenever it returns something new."""
-        before, since = None, time.monotonic()
-        while (now := look()) is not True:
-            if now != before:
-                before, since = now, time.monotonic()
-            elif time.monotonic() > since + seconds:
+    def wait(self, condition, seconds=SECONDS, pause=0.02):
+        """Waits until `condition` returns True. The time limit starts again whenever it returns something new."""
+        last_value, changed_at = None, time.monotonic()
+        while (value := condition()) is not True:
+            if value != last_value:
+                last_value, changed_at = value, time.monotonic()
+            elif time.monotonic() > changed_at + seconds:
                 shown = self.run("return document.body.innerText")
-                raise TimeoutError(f"no change for {seconds} s: {now!r:.300}: {shown[:300]}")
+                raise TimeoutError(f"no change for {seconds} s: {value!r:.300}: {shown[:300]}")
             time.sleep(pause)
 
-    def act(self, what, *arguments):
+    def act_in_page(self, function, *arguments):
         """Calls a function of in_page.js, and waits until the page has processed the action."""
         if not self.is_waiting:
-            self.run(f"{IN_PAGE}{what}(...arguments);", *arguments)
-        elif self.run(f"{IN_PAGE}{what}(...arguments); return until(isTaken);", *arguments) is not True:
+            self.run(f"{IN_PAGE}{function}(...arguments);", *arguments)
+        elif self.run(f"{IN_PAGE}{function}(...arguments); return waitUntil(hasProcessedActions);", *arguments) is not True:
             self.wait_until_taken()
 
     def wait_until_taken(self):
         """Waits until the page has processed the user's actions."""
         if self.is_waiting:
-            self.wait_seen("isTaken")
+            self.wait_seen("hasProcessedActions")
 
-    def wait_seen(self, what):
+    def wait_seen(self, function):
         """Waits until a function of in_page.js returns true. The time limit starts again whenever it returns something new."""
-        self.wait(lambda: self.run(f"{IN_PAGE}return until({what});"), pause=0)
+        self.wait(lambda: self.run(f"{IN_PAGE}return waitUntil({function});"), pause=0)
 
-    def begin(self, key="", *paths, address=None, anew=True):
-        """Loads the page, or with `anew=False` clears the open one, which takes a tenth of the time. Then pastes the
+    def begin(self, key="", *paths, address=None, reloads=True):
+        """Loads the page, or with `reloads=False` clears the open one, which takes a tenth of the time. Then pastes the
         text as the key and chooses the files together, if they are given."""
-        if anew:
+        if reloads:
             self.open(address)
         else:
-            self.act("empty")
+            self.act_in_page("clearInputs")
         if key:
             self.type_key(key)
         if paths:
@@ -298,7 +298,7 @@ class Person:
 
     def type_text(self, name, text):
         """Sets the text of a field, as if it were pasted."""
-        self.act("typeText", name, text)
+        self.act_in_page("typeText", name, text)
 
     def type_key(self, text):
         self.type_text("key-text", text)
@@ -306,25 +306,25 @@ class Person:
     def choose_key(self, path):
         self.send("key-file", path)
         if self.is_waiting:
-            self.wait_seen("isKeySaid")
+            self.wait_seen("isKeyMessageShown")
 
     def choose(self, *paths):
         self.send("files", *paths)
         self.wait_until_taken()
 
     def click(self, name):
-        self.act("click", name)
+        self.act_in_page("click", name)
 
-    def tab(self, held=""):
+    def tab(self, held_keys=""):
         """Presses Tab, and returns what has the focus then."""
-        self.press(self.TAB, held)
+        self.press(self.TAB, held_keys)
         return self.focus()
 
     # ---- What the user sees ----
 
-    def see(self, what, *arguments):
+    def call_in_page(self, function, *arguments):
         """Calls a function of in_page.js and returns its result."""
-        return self.run(f"{IN_PAGE}return {what}(...arguments);", *arguments)
+        return self.run(f"{IN_PAGE}return {function}(...arguments);", *arguments)
 
     def text_of(self, name, part="innerText"):
         """Returns the text of an element, or with `part="value"` that of a field."""
@@ -334,7 +334,7 @@ class Person:
         return self.run("return document.getElementById(arguments[0]).checkVisibility()", name)
 
     def rows(self):
-        return [SimpleNamespace(**row) for row in self.see("rows")]
+        return [SimpleNamespace(**row) for row in self.call_in_page("rows")]
 
     def row(self, name):
         return next(row for row in self.rows() if row.name == name)
@@ -354,65 +354,65 @@ class Person:
 
     # ---- Checks ----
 
-    def says(self, name, what, *has, lacks=(), begins="", ends=""):
+    def check_text(self, name, label, *has, lacks=(), begins="", ends=""):
         """Checks that the text of an element has the words of `has` and none of `lacks`, and its beginning and end."""
-        said = self.text_of(name)
-        self.check(has_words(said, has, lacks) and said.startswith(begins) and said.endswith(ends),
-                   f"{what}: {said!r}, expected {begins!r}, {has}, {ends!r}, without {lacks}")
+        text = self.text_of(name)
+        self.check(has_words(text, has, lacks) and text.startswith(begins) and text.endswith(ends),
+                   f"{label}: {text!r}, expected {begins!r}, {has}, {ends!r}, without {lacks}")
 
-    def uses(self, key, what):
+    def check_key_in_use(self, key, label):
         """Checks that the page shows this key as the one in use."""
-        self.same(self.text_of("key-full"), f"In full: {key.line}", f"{what}: the key in use")
+        self.same(self.text_of("key-full"), f"In full: {key.line}", f"{label}: the key in use")
 
-    def settled(self, what):
+    def settled_rows(self, label):
         """Waits until nothing is being verified, checks that each row and the band at the top are consistent, and
         returns the rows."""
-        self.wait_seen("work")
-        seen, band, is_project_page, key_source, key_warning = self.see("state")
-        rows = [SimpleNamespace(**row) for row in seen]
+        self.wait_seen("progress")
+        row_fields, band, is_project_page, key_source, key_warning = self.call_in_page("pageState")
+        rows = [SimpleNamespace(**row) for row in row_fields]
         for row in rows:
-            self.check(is_consistent(row), f"{what}: the texts of a row do not fit its verdict: {row}")
-        self.same(band, band_of(rows, is_project_page), f"{what}: the band at the top of the window")
-        self.same(key_source, key_sentences(rows, key_warning), f"{what}: what is said once about the key, and if it is a warning")
+            self.check(is_consistent(row), f"{label}: the texts of a row do not fit its verdict: {row}")
+        self.same(band, band_of(rows, is_project_page), f"{label}: the band at the top of the window")
+        self.same(key_source, key_sentences(rows, key_warning), f"{label}: what is said once about the key, and if it is a warning")
         verdicts = [row.verdict == "bad" for row in rows]
-        self.same(verdicts, sorted(verdicts, reverse=True), f"{what}: if rows are bad, in their order")
+        self.same(verdicts, sorted(verdicts, reverse=True), f"{label}: if rows are bad, in their order")
         return rows
 
-    def only(self, what, **expected):
+    def check_only_row(self, label, **expected):
         """Checks the only row, once nothing is being verified, and returns it."""
-        rows = self.settled(what)
-        self.check(len(rows) == 1, f"{what}: {len(rows)} rows, expected one")
-        return self.expect(rows[0], what, **expected)
+        rows = self.settled_rows(label)
+        self.check(len(rows) == 1, f"{label}: {len(rows)} rows, expected one")
+        return self.check_row(rows[0], label, **expected)
 
-    def named(self, name, what, **expected):
+    def check_row_named(self, name, label, **expected):
         """Checks the row of this name, once nothing is being verified, and returns it."""
-        return self.expect(next(row for row in self.settled(what) if row.name == name), what, **expected)
+        return self.check_row(next(row for row in self.settled_rows(label) if row.name == name), label, **expected)
 
-    def expect(self, row, what, has=(), lacks=(), **parts):
+    def check_row(self, row, label, has=(), lacks=(), **parts):
         """Checks the attributes of a row, and that its text has the words of `has` and none of `lacks`. Returns the row."""
         for name, expected in parts.items():
-            self.same(getattr(row, name), expected, f"{what}: {name} of the row {row.name!r}")
+            self.same(getattr(row, name), expected, f"{label}: {name} of the row {row.name!r}")
         if has or lacks:
-            self.check(has_words(row.text, has, lacks), f"{what}: {row.text!r}, expected {has}, without {lacks}")
+            self.check(has_words(row.text, has, lacks), f"{label}: {row.text!r}, expected {has}, without {lacks}")
         return row
 
-    def expect_each(self, parts, expected, what):
+    def check_rows(self, parts, expected, label):
         """Checks that exactly these rows exist, once nothing is being verified, and one attribute of each, or several (separated by
         spaces). `expected` has their values by name."""
-        rows, of = self.settled(what), operator.attrgetter(*parts.split())
-        self.same(sorted(row.name for row in rows), sorted(expected), f"{what}: the rows")
+        rows, attributes_of = self.settled_rows(label), operator.attrgetter(*parts.split())
+        self.same(sorted(row.name for row in rows), sorted(expected), f"{label}: the rows")
         for row in rows:
-            self.same(of(row), expected.get(row.name), f"{what}: {parts} of {row.name}")
+            self.same(attributes_of(row), expected.get(row.name), f"{label}: {parts} of {row.name}")
 
     # ---- Resources ----
 
     def processes(self):
         """Returns the process IDs in the session of the browser or driver, except its own."""
-        own, numbers = str(self.process.pid), [number for number in os.listdir("/proc") if number.isdigit()]
+        own_id, numbers = str(self.process.pid), [number for number in os.listdir("/proc") if number.isdigit()]
         return [
             number
             for number in numbers
-            if number != own and proc_file(number, "stat").rpartition(")")[2].split()[3:4] == [own]
+            if number != own_id and proc_file(number, "stat").rpartition(")")[2].split()[3:4] == [own_id]
         ]
 
     def page_processes(self):

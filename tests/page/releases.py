@@ -45,14 +45,14 @@ def check_files_of_the_release(person):
     names, older = sorted([ZIP, TAR, "new.pub"]), release.sign(ZIP, b"older")
     links = {ZIP: LINK, TAR: f"dl/{TAR}"}
 
-    def expect(what, **states):
+    def expect(label, **states):
         shown = {
             name: (states.get(name.replace("-", "_").replace(".", "_"), ("waiting", NOT_YET)), links.get(name))
             for name in names
         }
-        head, files = person.see("releaseList")
+        head, files = person.call_in_page("releaseList")
         person.same((head, {name: ((verdict, words), link) for name, verdict, words, link in files}), (HEADING, shown),
-                    f"{what}: the files of the release")
+                    f"{label}: the files of the release")
 
     person.open(address)
     expect("before any download")
@@ -62,8 +62,8 @@ def check_files_of_the_release(person):
     expect("a verified file and a bad one", app_1_0_zip=("good", VERIFIED), app_1_0_tar_gz=("bad", BAD))
     person.click("clear")
     expect("after the list was cleared")
-    person.drop("downloads", *person.pair(ZIP, b"older", older))
-    person.only("an older file", verdict="unlisted")
+    person.drop("downloads", *person.write_pair(ZIP, b"older", older))
+    person.check_only_row("an older file", verdict="unlisted")
     expect("an older file", app_1_0_zip=("unlisted", "! Signed by this key, but not part of this release"))
     person.click("clear")
     release.drop("download", release.files[TAR], "a renamed file", verdict="renamed")
@@ -74,10 +74,10 @@ def check_files_of_the_release(person):
     expect("the file under its name, too", app_1_0_tar_gz=("good", VERIFIED))
     # While a replacement is read, the file is not verified.
     with person.with_held_files():
-        person.drop("downloads", person.put(TAR, b"x"))
-        verdicts = {name: verdict for name, verdict, *_ in person.see("releaseList")[1]}
+        person.drop("downloads", person.write_file(TAR, b"x"))
+        verdicts = {name: verdict for name, verdict, *_ in person.call_in_page("releaseList")[1]}
         person.check(verdicts[TAR] != "good", f"while a file of the release is replaced: {verdicts}")
-    person.settled("a replaced file")
+    person.settled_rows("a replaced file")
     expect("a replaced file", app_1_0_tar_gz=("bad", BAD))
 
 
@@ -90,8 +90,8 @@ def check_pages_without_names(person):
         (("--version", VERSION), "Files of 1.2.3"),
     ):
         person.open(build_page(release, *words))
-        person.same((person.see("releaseList")[0], person.is_shown("release")), (head, True), f"{words}: the heading")
-    for address in (person.address, release.build_own()):
+        person.same((person.call_in_page("releaseList")[0], person.is_shown("release")), (head, True), f"{words}: the heading")
+    for address in (person.address, release.build_page()):
         person.open(address)
         person.same(person.is_shown("release"), False, f"{address}: the files of a release are shown")
 
@@ -105,17 +105,17 @@ def check_hostile_release(person):
         signature = f"{name.replace('/', '_')}.minisig", person.sign(b"x", trusted=f"file:{name}").decode()
         file = name.rpartition("/")[2]
         page = build.page(*module, person.first.line, name, [signature], {"name": name, "version": name, "links": [(file, link)]})
-        person.open(f"file://{person.put('own.html', page.encode())}")
-        head, files = person.see("releaseList")
+        person.open(f"file://{person.write_file('own.html', page.encode())}")
+        head, files = person.call_in_page("releaseList")
         shown_file = (shown or name).rpartition("/")[2]
         person.same(
             (head, [row[0] for row in files], [row[3] for row in files]),
             (f"Files of {shown or name} {shown or name}", [shown_file], [None]),
             f"the release {name!r} with the link {link!r}",
         )
-        seen = person.run("return [document.querySelector('h1').textContent, document.title, "
-                          "document.querySelectorAll('h1 > bdi > *, h2 img, h2 script, li img').length]")
-        person.same(seen, [name, name, 0], f"the release {name!r}: the heading, the title, and markup")
+        actual = person.run("return [document.querySelector('h1').textContent, document.title, "
+                            "document.querySelectorAll('h1 > bdi > *, h2 img, h2 script, li img').length]")
+        person.same(actual, [name, name, 0], f"the release {name!r}: the heading, the title, and markup")
 
 
 def check_safe_links(person):
@@ -123,12 +123,12 @@ def check_safe_links(person):
     person.open()
     links = SAFE_LINKS + UNSAFE_LINKS
     expected = [link in SAFE_LINKS for link in links]
-    for what, found in (("build.py", [build.is_safe_link(link) for link in links]),
+    for label, are_safe in (("build.py", [build.is_safe_link(link) for link in links]),
                         ("the page", person.run("return arguments[0].map(isSafeLink)", links))):
         person.same(
-            [link for link, is_safe, right in zip(links, found, expected) if is_safe != right],
+            [link for link, is_safe, is_expected in zip(links, are_safe, expected) if is_safe != is_expected],
             [],
-            f"{what}: links with a wrong result",
+            f"{label}: links with a wrong result",
         )
 
 
@@ -137,54 +137,54 @@ def check_many_signatures(person):
     signatures once more."""
     for length, legacy, readings in ((100_000, False, 1), (3_000_001, False, 1), (100_000, True, 2)):
         release = Release(person)
-        others = [person.put(f"{number}.minisig", release.sign(str(number), b"%d" % number)) for number in range(18)]
+        others = [person.write_file(f"{number}.minisig", release.sign(str(number), b"%d" % number)) for number in range(18)]
         last = [
-            person.put(f"old{number}.minisig", person.sign(b"x%d" % number, trusted=f"file:old{number}", legacy=True))
+            person.write_file(f"old{number}.minisig", person.sign(b"x%d" % number, trusted=f"file:old{number}", legacy=True))
             for number in range(3)
         ]
         data = pattern(length)
-        own = person.put("z.minisig", person.sign(data, trusted="file:z"))
-        release.paths = [*others, *(last if legacy else []), own]
-        what = f"{length} bytes and {len(release.paths)} signatures, legacy ones: {legacy}"
+        own_path = person.write_file("z.minisig", person.sign(data, trusted="file:z"))
+        release.paths = [*others, *(last if legacy else []), own_path]
+        label = f"{length} bytes and {len(release.paths)} signatures, legacy ones: {legacy}"
         person.open(build_page(release))
-        person.see("countReadings", "download")
-        release.drop("download", data, what, verdict="renamed", number=0)
-        person.same(person.run("return window.readings"), readings, f"{what}: how often the file is read")
-        release.drop("other", data[:-1], f"{what}, and another file", verdict="bad")
+        person.call_in_page("countReadings", "download")
+        release.drop("download", data, label, verdict="renamed", number=0)
+        person.same(person.run("return window.readings"), readings, f"{label}: how often the file is read")
+        release.drop("other", data[:-1], f"{label}, and another file", verdict="bad")
 
 
 def check_looks(person):
     """The page of a release, and the form for a project's page, can be read at 400 % zoom (a window of 320 by 256), on
     a narrow screen, on paper and with forced colours, and the states of files differ in words."""
     release, long = Release(person), f"Example-1.2.3-{'x86_64-' * 12}installer.tar.gz"
-    release.paths.append(person.put(f"{long}.minisig", release.sign(long, b"long")))
+    release.paths.append(person.write_file(f"{long}.minisig", release.sign(long, b"long")))
     address = build_page(release, "--name", NAME * 9, "--version", VERSION, "--link", f"{ZIP}={LINK}", f"{long}={long}?{'a' * 200}")
     person.open(address)
     release.drop(ZIP, None, "looks", verdict="good")
     release.drop(TAR, b"x", "looks", verdict="bad")
     check_readable(person, "the page of a release")
-    states = {words for _, _, words, _ in person.see("releaseList")[1]}
+    states = {words for _, _, words, _ in person.call_in_page("releaseList")[1]}
     person.same(states, {NOT_YET, VERIFIED, BAD}, "the words of the states")
     person.open()
     person.run("document.getElementById('project').open = true")
     check_readable(person, "the form for a project's page")
 
 
-def check_readable(person, what):
+def check_readable(person, label):
     """Checks that nothing is cut off in small windows, and that texts have enough contrast in each view."""
     for size in ((320, 256), NARROW, ()):
         person.resize(*size)
         person.same(
-            (person.see("fits"), person.see("cutOffParts")),
+            (person.call_in_page("fitsWindow"), person.call_in_page("cutOffParts")),
             (True, []),
-            f"{what} at {size}: if rows fit, and what is cut off",
+            f"{label} at {size}: if rows fit, and what is cut off",
         )
     for view, show in (("in print", person.print_out), ("with forced colours", person.force_colours)):
         show(True)
         try:
-            faint = [text for contrast, text in person.see("contrasts", view == "in print") if contrast < MIN_CONTRAST]
+            faint = [text for contrast, text in person.call_in_page("contrasts", view == "in print") if contrast < MIN_CONTRAST]
         finally:
             show(False)
-        person.same(faint, [], f"{what} {view}: texts with low contrast")
+        person.same(faint, [], f"{label} {view}: texts with low contrast")
     if person.is_chromium:
-        person.same(person.wrong_looks(), [], f"{what}: low contrasts and missing borders")
+        person.same(person.wrong_looks(), [], f"{label}: low contrasts and missing borders")

@@ -39,18 +39,18 @@ def check_stopping(person):
     def is_broken():
         return person.run("return window.isBroken === true")
 
-    first = person.signed("a", bytes(4_000_000), trusted="t")
-    paths = {"small": person.signed("small", b"b", trusted="t"), "long": person.sparse("long", LONG_BYTES)}
-    for what, (other, *broken) in HANGS.items():
+    first = person.write_signed("a", bytes(4_000_000), trusted="t")
+    paths = {"small": person.write_signed("small", b"b", trusted="t"), "long": person.write_sparse("long", LONG_BYTES)}
+    for label, (other, *broken) in HANGS.items():
         person.begin("", *first, *paths[other])
-        person.see(*broken)
+        person.call_in_page(*broken)
         person.type_key(person.first.line)
         person.wait(lambda: person.row("a").verdict == "reading" and (other == "long" or is_broken()))
         person.run(CLICK)
         person.wait(is_broken)
-        person.expect_each("verdict", {"a": "stopped", other: "good"}, what)
+        person.check_rows("verdict", {"a": "stopped", other: "good"}, label)
         person.run(CLICK)
-        person.expect_each("verdict", {"a": "good", other: "good"}, f"{what}, and verified again")
+        person.check_rows("verdict", {"a": "good", other: "good"}, f"{label}, and verified again")
 
 
 def check_hanging_read(person):
@@ -58,24 +58,24 @@ def check_hanging_read(person):
     download. Other files do not wait for it any longer."""
     person.open()
     person.run("window.originalRead = window.bytesOfFile; window.bytesOfFile = () => new Promise(() => {});")
-    person.choose(person.put("hanging", b"x"), *person.signed("a", b"a", trusted="t"))
+    person.choose(person.write_file("hanging", b"x"), *person.write_signed("a", b"a", trusted="t"))
     person.run("window.bytesOfFile = window.originalRead;")
     person.type_key(person.first.line)
-    person.expect_each("verdict", {"a": "good", "hanging": "waiting"}, "files whose read hung")
+    person.check_rows("verdict", {"a": "good", "hanging": "waiting"}, "files whose read hung")
 
 
 def check_changed_file(person):
     """Chromium reports a file that changed after it was chosen. In Firefox the verdict is about the new content."""
     before, after = b"as it was", b"another 1"
     for signed, number in ((before, 31), (after, 0)):
-        path, sig = person.pair("update.zip", before, person.sign(signed))
+        path, sig = person.write_pair("update.zip", before, person.sign(signed))
         person.begin("", path, sig)
-        person.settled("before it changes")
-        person.put("update.zip", after, path)
+        person.settled_rows("before it changes")
+        person.write_file("update.zip", after, path)
         os.utime(path, (1, 1))
         person.type_key(person.first.line)
         expected = {"verdict": "bad", "has": ["it changed while it was read"]} if person.is_chromium else {"number": number}
-        person.only("a file that changed", **expected)
+        person.check_only_row("a file that changed", **expected)
 
 
 def processor_seconds(person):
@@ -90,14 +90,14 @@ def check_many_files(person):
     for count in (FEW, MANY):
         person.begin(person.first.line)
         before = processor_seconds(person)
-        person.see("verifyMany", count, text, "x")
+        person.call_in_page("verifyMany", count, text, "x")
         person.wait(lambda: person.run("return window.verified >= arguments[0] || window.verified", count), pause=2)
         times.append((processor_seconds(person) - before) / count)
     measured = f"processor seconds for each of {FEW} and each of {MANY} files: {times}"
     person.check(times[1] < MAX_TIME_RATIO * times[0], f"{measured}, expected at most {MAX_TIME_RATIO} times as much")
     print(f"page: {person.name}, {measured}", flush=True)
     begin = f"{HEADINGS['good']} ({MANY} of {MANY} files): f0, f1, f2, "
-    band = person.see("band")[1]
+    band = person.call_in_page("band")[1]
     person.check(band.startswith(begin) and band.endswith(f", f{MAX_NAMED - 1} and {MANY - MAX_NAMED} more"),
                  f"the band of many files: {band}")
 
@@ -105,8 +105,8 @@ def check_many_files(person):
 def check_large_file(person):
     """The user can stop a file of 2 GB, and its row then says that it was stopped. When the file is verified again, it
     is read in pieces: the memory of the page grows by at most MAX_GROWTH, and the page stays responsive."""
-    paths = person.sparse("big", BIG_BYTES)
-    person.begin(person.first.line, *paths, *person.signed("small", b"small", trusted="t"))
+    paths = person.write_sparse("big", BIG_BYTES)
+    person.begin(person.first.line, *paths, *person.write_signed("small", b"small", trusted="t"))
     person.wait(lambda: person.run("return (document.querySelector('progress')?.value ?? 0) > 0"))
     text = person.row("big").text
     person.check(re.search(r"[\d.]+ [MG]B of 2\.0 GB read", text), f"no progress in the row {text!r}")
@@ -115,7 +115,7 @@ def check_large_file(person):
                      "the name of the progress bar does not contain the name of the file")
     person.run("document.querySelector('#verdicts button').focus()")
     person.press(person.ENTER)
-    person.expect_each("verdict", {"big": "stopped", "small": "good"}, "a stopped file, and the next")
+    person.check_rows("verdict", {"big": "stopped", "small": "good"}, "a stopped file, and the next")
     person.same(person.focus(), "Verify it again", "the focus after a stop")
     log = person.log()
     person.check(any(line.startswith("Stopped before it was verified") and line.endswith(" big") for line in log),
@@ -129,7 +129,7 @@ def check_large_file(person):
 
     person.choose(*paths)
     person.wait(measure_memory, pause=0.1)
-    person.only("2 GB", number=0, comment=f"{BIG_BYTES} bytes")
+    person.check_only_row("2 GB", number=0, comment=f"{BIG_BYTES} bytes")
     measured = f"while 2 GB are read, the memory grows from {before:.0f} to {max(sizes):.0f} MiB"
     person.check(max(sizes) < before + MAX_GROWTH, f"{measured}, expected at most {MAX_GROWTH} MiB more")
     print(f"page: {person.name}, {measured}", flush=True)

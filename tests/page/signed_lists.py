@@ -48,7 +48,7 @@ ROWS = (
 def put_list(person, text=TEXT, name=LIST, comment=COMMENT, key="first"):
     """Writes a list and its signature into a new directory, and returns their paths."""
     data = text.encode()
-    return person.pair(name, data, person.sign(data, key, trusted=comment))
+    return person.write_pair(name, data, person.sign(data, key, trusted=comment))
 
 
 def check_listed_files(person):
@@ -56,55 +56,55 @@ def check_listed_files(person):
     in the list."""
     paths = put_list(person)
     person.begin(person.first.line, *paths)
-    person.named(LIST, "a list", verdict="good", number=0, cautions=[], has=["This is a list of 7 files."])
+    person.check_row_named(LIST, "a list", verdict="good", number=0, cautions=[], has=["This is a list of 7 files."])
     for name, data, verdict, number, words in ROWS:
-        person.drop("downloads", person.put(name, data))
-        row = person.named(name, f"{name} of {len(data)} bytes", verdict=verdict, number=number, has=words)
+        person.drop("downloads", person.write_file(name, data))
+        row = person.check_row_named(name, f"{name} of {len(data)} bytes", verdict=verdict, number=number, has=words)
         person.same(row.comment, COMMENT if number == 0 else None, f"{name}: the trusted comment of the list")
         person.same(len(row.cautions), int(verdict == "renamed"), f"{name}: warnings: {row.cautions}")
 
 
 def check_order_of_files(person):
     """The list and its files can be dropped in any order. Without the list, or with another key, no file is verified."""
-    data, (list_path, signature) = person.put(NEW, FILES[NEW]), put_list(person)
+    data, (list_path, signature) = person.write_file(NEW, FILES[NEW]), put_list(person)
     person.begin(person.first.line, data)
-    person.only("a file before its list", verdict="waiting", has=["Its signature is missing."])
+    person.check_only_row("a file before its list", verdict="waiting", has=["Its signature is missing."])
     person.drop("downloads", list_path, signature)
-    person.expect_each("verdict", {NEW: "good", LIST: "good"}, "a list after its file")
+    person.check_rows("verdict", {NEW: "good", LIST: "good"}, "a list after its file")
     person.drop("downloads", *put_list(person, line_of(NEW, b"other")))
-    person.expect_each("verdict", {NEW: "bad", LIST: "good"}, "another list in its place")
+    person.check_rows("verdict", {NEW: "bad", LIST: "good"}, "another list in its place")
     person.drop("downloads", *put_list(person, TEXT))
-    person.expect_each("verdict", {NEW: "good", LIST: "good"}, "the list again")
+    person.check_rows("verdict", {NEW: "good", LIST: "good"}, "the list again")
     person.type_key(person.second.line)
-    person.expect_each("verdict", {NEW: "waiting", LIST: "bad"}, "another key")
+    person.check_rows("verdict", {NEW: "waiting", LIST: "bad"}, "another key")
     person.type_key(person.first.line)
-    person.expect_each("verdict", {NEW: "good", LIST: "good"}, "the right key again")
-    person.drop("downloads", person.put(LIST, TEXT.encode() + b"\n"))
-    person.expect_each("verdict", {NEW: "waiting", LIST: "bad"}, "a list that was changed")
+    person.check_rows("verdict", {NEW: "good", LIST: "good"}, "the right key again")
+    person.drop("downloads", person.write_file(LIST, TEXT.encode() + b"\n"))
+    person.check_rows("verdict", {NEW: "waiting", LIST: "bad"}, "a list that was changed")
     person.begin(person.first.line, data, list_path, signature)
-    person.expect_each("verdict", {NEW: "good", LIST: "good"}, "all at once")
+    person.check_rows("verdict", {NEW: "good", LIST: "good"}, "all at once")
     # A file with its own signature is verified with this signature.
-    person.begin(person.first.line, list_path, signature, *person.signed("own.zip", b"own", trusted="file:own.zip"))
-    person.expect_each("verdict", {"own.zip": "good", LIST: "good"}, "a file with its own signature")
-    person.begin("", data, list_path, signature, person.put("minisign.pub", person.first.text))
-    person.expect_each("verdict", {NEW: "unchecked", LIST: "unchecked"}, "a key that came with the list")
+    person.begin(person.first.line, list_path, signature, *person.write_signed("own.zip", b"own", trusted="file:own.zip"))
+    person.check_rows("verdict", {"own.zip": "good", LIST: "good"}, "a file with its own signature")
+    person.begin("", data, list_path, signature, person.write_file("minisign.pub", person.first.text))
+    person.check_rows("verdict", {NEW: "unchecked", LIST: "unchecked"}, "a key that came with the list")
 
 
 def check_lists_that_are_not_used(person):
     """A signed file with a malformed line, or whose trusted comment does not name it, is not used as a list, and the
     page says why."""
-    data = person.put(NEW, FILES[NEW])
-    for what, how, words in (
+    data = person.write_file(NEW, FILES[NEW])
+    for label, how, words in (
             ("a malformed line", {"text": TEXT + "MD5 (b) = 00\n"}, ["Line 9: ", "This line is malformed"]),
             ("a comment that does not name the list", {"comment": "version:2"}, ["The trusted comment does not name this list."]),
             ("a list of another name", {"comment": "file:OTHER", "name": LIST}, [])):
         person.begin(person.first.line, data, *put_list(person, **how))
-        person.wait_seen("work")
+        person.wait_seen("progress")
         verdict, more = ("good", ["looks like a list"]) if words else ("renamed", [])
-        person.expect(person.row(LIST), what, verdict=verdict, has=[*more, *words])
-        person.expect(person.row(NEW), what, verdict="waiting")
-    person.begin(person.first.line, data, *person.signed("notes.txt", b"no list", trusted="file:notes.txt"))
-    person.expect_each("verdict", {NEW: "waiting", "notes.txt": "good"}, "a text that is not a list")
+        person.check_row(person.row(LIST), label, verdict=verdict, has=[*more, *words])
+        person.check_row(person.row(NEW), label, verdict="waiting")
+    person.begin(person.first.line, data, *person.write_signed("notes.txt", b"no list", trusted="file:notes.txt"))
+    person.check_rows("verdict", {NEW: "waiting", "notes.txt": "good"}, "a text that is not a list")
 
 
 def build_page(person, release, *words, text=TEXT, comment=COMMENT):
@@ -124,30 +124,32 @@ def check_release_with_list(person):
     address, _ = build_page(person, release, "--name", "Example", "--version", "2", "--link", f"{NEW}=dl/{NEW}")
     person.open(address)
     person.same(person.is_shown("signature-text"), False, "a page with a list asks for a signature")
-    head, files = person.see("releaseList")
+    head, files = person.call_in_page("releaseList")
     person.same(
         (head, [(name, verdict, link) for name, verdict, _, link in files]),
         ("Files of Example 2", [(name, "waiting", f"dl/{NEW}" if name == NEW else None) for name in names]),
         "before any download",
     )
     for name, data, verdict, number, words in ROWS:
-        person.drop("downloads", person.put(name, data))
-        person.named(name, f"the page of a release, {name} of {len(data)} bytes", verdict=verdict, number=number, has=words)
+        person.drop("downloads", person.write_file(name, data))
+        person.check_row_named(name, f"the page of a release, {name} of {len(data)} bytes",
+                               verdict=verdict, number=number, has=words)
         person.click("clear")
-    person.drop("downloads", person.put(NEW, FILES[NEW]), person.put("download", FILES[LARGE]), person.put(OLD, b"x"))
-    person.expect_each("verdict", {NEW: "good", "download": "renamed", OLD: "bad"}, "several files of a release")
-    states = {name: verdict for name, verdict, *_ in person.see("releaseList")[1]}
+    person.drop("downloads", person.write_file(NEW, FILES[NEW]), person.write_file("download", FILES[LARGE]),
+                person.write_file(OLD, b"x"))
+    person.check_rows("verdict", {NEW: "good", "download": "renamed", OLD: "bad"}, "several files of a release")
+    states = {name: verdict for name, verdict, *_ in person.call_in_page("releaseList")[1]}
     person.same(states, {**dict.fromkeys(names, "waiting"), NEW: "good", OLD: "bad"}, "several files of a release: the states")
     person.click("clear")
     # Files that are not in the list of the release are not reported as part of it, even with their own signature or an older list.
-    person.drop("downloads", *person.signed("own.zip", b"own", trusted="file:own.zip"))
-    person.only("a file with its own signature", verdict="unlisted")
+    person.drop("downloads", *person.write_signed("own.zip", b"own", trusted="file:own.zip"))
+    person.check_only_row("a file with its own signature", verdict="unlisted")
     person.drop(
         "downloads",
         *put_list(person, line_of("older.zip", b"older"), name="OLDSUMS", comment="file:OLDSUMS"),
-        person.put("older.zip", b"older"),
+        person.write_file("older.zip", b"older"),
     )
-    person.expect_each("verdict", {"own.zip": "unlisted", "OLDSUMS": "unlisted", "older.zip": "bad"}, "an older list")
+    person.check_rows("verdict", {"own.zip": "unlisted", "OLDSUMS": "unlisted", "older.zip": "bad"}, "an older list")
 
 
 def check_invalid_built_in_lists(person):
@@ -155,17 +157,17 @@ def check_invalid_built_in_lists(person):
     without Ed25519."""
     release = Release(person)
     path, signature = put_list(person)
-    changed = person.put(LIST, TEXT.replace("version", "x").encode() + line_of("more", b"").encode())
-    person.put(f"{LIST}.minisig", read(signature), changed)
+    changed = person.write_file(LIST, TEXT.replace("version", "x").encode() + line_of("more", b"").encode())
+    person.write_file(f"{LIST}.minisig", read(signature), changed)
     person.same(
         release.build("--from", person.page, "--key", person.first.line, "--list", changed),
         (0, ""),
         "build.py with a changed list",
     )
     person.open(f"file://{release.out}")
-    person.says("files-message", "a changed list", "The list that is built into this page is not valid")
-    person.drop("downloads", person.put(NEW, FILES[NEW]))
-    person.only("a file of a changed list", verdict="waiting")
+    person.check_text("files-message", "a changed list", "The list that is built into this page is not valid")
+    person.drop("downloads", person.write_file(NEW, FILES[NEW]))
+    person.check_only_row("a file of a changed list", verdict="waiting")
     unnamed, _ = put_list(person, comment="version:2")
     for words, why in (
         (["--list", path + "x"], "cannot be read"),
@@ -194,7 +196,7 @@ def check_saved_list(person):
         page == read(release.out),
         f"the saved page with a list has {len(page)} bytes, which differ from those of build.py",
     )
-    changed = person.put(LIST, TEXT.encode() + b"\n")
+    changed = person.write_file(LIST, TEXT.encode() + b"\n")
     for files, words in (([path], "is not a signature file"), ([path, signature, *release.paths], "is not a signature file"),
                          ([changed, signature], "cannot be used as a list. This file is not the one that was signed"),
                          ([*put_list(person, comment="version:2")], "The trusted comment does not name this list."),
@@ -202,4 +204,4 @@ def check_saved_list(person):
         fill(person, release, signatures=files)
         person.click("project-save")
         person.wait(lambda: person.text_of("project-message") != "")
-        person.says("project-message", f"{words}", words, begins="No page was saved. ")
+        person.check_text("project-message", f"{words}", words, begins="No page was saved. ")

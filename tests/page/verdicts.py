@@ -59,11 +59,12 @@ def check_corpus(person):
         by_key.setdefault(case.pk, []).append(case)
     person.open()
     for text, cases in by_key.items():
-        key = person.put("some.pub", text)
-        pairs = [(person.put(str(at), case.data, key), person.put(f"{at}.minisig", case.sig, key)) for at, case in enumerate(cases)]
-        person.act("empty")
+        key = person.write_file("some.pub", text)
+        pairs = [(person.write_file(str(at), case.data, key), person.write_file(f"{at}.minisig", case.sig, key))
+                 for at, case in enumerate(cases)]
+        person.act_in_page("clearInputs")
         person.choose_key(key)
-        rejection = person.see("numberOfKey")
+        rejection = person.call_in_page("numberOfKey")
         if rejection == UNKNOWN_ALGORITHM:
             # The C program accepts a key of any algorithm (docs/DIFFERENCES.md).
             algorithm = base64.b64decode(lines(text)[1])[:2]
@@ -71,7 +72,7 @@ def check_corpus(person):
             continue
         if rejection == 0:
             person.choose(*(path for pair in pairs for path in pair))
-            rows = {row.name: row for row in person.settled("texts")}
+            rows = {row.name: row for row in person.settled_rows("texts")}
         for at, (case, pair) in enumerate(zip(cases, pairs)):
             ours = (rows[str(at)].number, rows[str(at)].comment) if rejection == 0 else (rejection, None)
             counted[ours[0] == 0] += case not in corpus
@@ -91,9 +92,9 @@ def check_new_signatures(person):
     sig, foreign = person.sign(data, trusted="version 2"), person.sign(data, key="second")
     key_id = lines(first.text)[0].rpartition(b" ")[2].decode()
     paths, key_path, anything = (
-        person.pair("update.zip", data, sig),
-        person.put("my.pub", first.text),
-        person.put("anything", first.text),
+        person.write_pair("update.zip", data, sig),
+        person.write_file("my.pub", first.text),
+        person.write_file("anything", first.text),
     )
     person.open()
     for how, take, arguments in (
@@ -103,31 +104,31 @@ def check_new_signatures(person):
         ("dropped on the key", person.drop, ["key", anything]),
         ("dropped among the files", person.drop, ["downloads", key_path]),
     ):
-        what = f"a key {how}"
-        person.begin("", *paths, anew=False)
-        person.only(f"before {what}", verdict="waiting")
+        label = f"a key {how}"
+        person.begin("", *paths, reloads=False)
+        person.check_only_row(f"before {label}", verdict="waiting")
         take(*arguments)
-        person.only(what, number=0, comment="version 2", has=[key_id])
-        person.says("key-message", what, f"Key {key_id}")
-        person.uses(first, what)
+        person.check_only_row(label, number=0, comment="version 2", has=[key_id])
+        person.check_text("key-message", label, f"Key {key_id}")
+        person.check_key_in_use(first, label)
     # With another key the file is no longer verified.
-    person.choose_key(person.put("second.pub", person.second.text))
-    person.only("another key", number=29, has=[key_id, "made with another key"])
+    person.choose_key(person.write_file("second.pub", person.second.text))
+    person.check_only_row("another key", number=29, has=[key_id, "made with another key"])
     person.type_key("")
-    person.only("no key", verdict="waiting")
-    for what, number, changed, text in (
+    person.check_only_row("no key", verdict="waiting")
+    for label, number, changed, text in (
             ("a changed bit of the data", 31, flip_bit(data, 0), sig), ("a byte less", 31, data[:-1], sig),
             ("a byte more", 31, data + b"x", sig), ("no data", 31, b"", sig), ("a foreign signature", 29, data, foreign),
             ("a foreign signature with the key's ID", 31, data, with_key_id_of(sig, foreign)),
             ("the signature of other data", 31, data, person.sign(b"other")),
             ("a legacy signature", 0, data, person.sign(data, legacy=True)),
             ("a legacy signature of other data", 31, data, person.sign(b"other", legacy=True))):
-        person.begin(first.line, *person.pair("update.zip", changed, text), anew=False)
-        person.only(what, number=number)
+        person.begin(first.line, *person.write_pair("update.zip", changed, text), reloads=False)
+        person.check_only_row(label, number=number)
     key, text = ed25519_edge_cases.files_accepted_for_all_data()
     for content in (b"", b"data", data):
-        person.begin(key.decode(), *person.pair("data", content, text), anew=False)
-        person.only("a signature that would fit every file", number=WEAK, verdict="bad")
+        person.begin(key.decode(), *person.write_pair("data", content, text), reloads=False)
+        person.check_only_row("a signature that would fit every file", number=WEAK, verdict="bad")
 
 
 def check_ed25519_vectors(person):
@@ -138,14 +139,17 @@ def check_ed25519_vectors(person):
         by_key.setdefault(vector["A"], []).append(vector)
     person.open()
     for vectors in by_key.values():
-        paths, place = [], person.put("unused", b"")
+        paths, place = [], person.write_file("unused", b"")
         for at, vector in enumerate(vectors):
             key, text = ed25519_edge_cases.legacy_files(vector)
-            paths += [person.put(f"{at}", bytes.fromhex(vector["msg"]), place), person.put(f"{at}.minisig", text, place)]
-        person.act("empty")
-        person.choose_key(person.put("vectors.pub", key))
+            paths += [
+                person.write_file(f"{at}", bytes.fromhex(vector["msg"]), place),
+                person.write_file(f"{at}.minisig", text, place),
+            ]
+        person.act_in_page("clearInputs")
+        person.choose_key(person.write_file("vectors.pub", key))
         person.choose(*paths)
-        rows = {row.name: row.number for row in person.settled("vectors")}
+        rows = {row.name: row.number for row in person.settled_rows("vectors")}
         for at, vector in enumerate(vectors):
             expected = shared_cases.ERRORS[ed25519_edge_cases.expected_error(vector)]
             person.same(rows.get(str(at)), expected, f"the vector {vector['name']}")
@@ -166,29 +170,30 @@ def check_errors(person):
         for number, words, text in errors:
             person.type_key(text.decode() if is_typed else "")
             if not is_typed:
-                person.choose_key(person.put("faulty.pub", text))
-            person.says("key-message", f"a key, typed: {is_typed}, rejected by {number}", words, begins="No public key: ")
-            person.same(person.see("numberOfKey"), number, f"a key, typed: {is_typed}: the number")
+                person.choose_key(person.write_file("faulty.pub", text))
+            person.check_text("key-message", f"a key, typed: {is_typed}, rejected by {number}", words, begins="No public key: ")
+            person.same(person.call_in_page("numberOfKey"), number, f"a key, typed: {is_typed}: the number")
     person.type_key(person.first.line)
     for number, words, text in signature_errors(sig, person.sign(data, key="second")):
         person.click("clear")
-        person.choose(*person.pair("data", data, text))
-        row = person.only(f"the error {number}", number=number, has=[words, f"Library message: {meaning[number]}."])
+        person.choose(*person.write_pair("data", data, text))
+        row = person.check_only_row(f"the error {number}", number=number, has=[words, f"Library message: {meaning[number]}."])
         messages[number] = row.why
     person.same(len(set(messages.values())), len(messages), f"the number of different messages: {messages}")
     # A legacy signature of a file that is too large for the page.
-    person.begin(person.first.line, *person.sparse("large", 64 * 1048576 + 1, "-l"), anew=False)
-    person.only("a large legacy file", number=30, verdict="unsupported", has=["legacy format", "program minisign", meaning[30]])
+    person.begin(person.first.line, *person.write_sparse("large", 64 * 1048576 + 1, "-l"), reloads=False)
+    person.check_only_row("a large legacy file", number=30, verdict="unsupported",
+                          has=["legacy format", "program minisign", meaning[30]])
     # A file that cannot be read, and a signature file that is too long.
-    path, sig_path = person.signed("data", b"data")
-    person.begin("", path, anew=False)
-    person.settled("only a file")
+    path, sig_path = person.write_signed("data", b"data")
+    person.begin("", path, reloads=False)
+    person.settled_rows("only a file")
     os.remove(path)
     person.choose(sig_path)
     person.type_key(person.first.line)
-    person.only("a file that is gone", verdict="bad", has=["could not be read"])
-    person.begin(person.first.line, *person.pair("data", b"data", person.sign(b"data") + b"x" * 65536), anew=False)
-    person.only("a long signature", verdict="bad", has=["too large to be a signature"])
+    person.check_only_row("a file that is gone", verdict="bad", has=["could not be read"])
+    person.begin(person.first.line, *person.write_pair("data", b"data", person.sign(b"data") + b"x" * 65536), reloads=False)
+    person.check_only_row("a long signature", verdict="bad", has=["too large to be a signature"])
 
 
 def check_matching(person):
@@ -198,7 +203,7 @@ def check_matching(person):
     a, b = sign(b"a"), sign(b"b")
     two, parts_of = {"b": b"b", "b.minisig": b}, {0: ("good", 0, "t"), None: ("waiting", None, None)}
     person.begin(person.first.line)
-    for what, given, expected, *has in (
+    for label, drops, expected, *has in (
         ("only a signature", [{"a.minisig": a}], {"a": None}, "file itself is missing"),
         (
             "a file and a signature with different names",
@@ -246,11 +251,11 @@ def check_matching(person):
         ),
     ):
         person.click("clear")
-        person.same(person.rows(), [], f"the list after it was cleared, before {what}")
-        for files in given:
-            first = person.put("unused", b"")
-            person.choose(*(person.put(name, data, first) for name, data in files.items()))
+        person.same(person.rows(), [], f"the list after it was cleared, before {label}")
+        for files in drops:
+            first = person.write_file("unused", b"")
+            person.choose(*(person.write_file(name, data, first) for name, data in files.items()))
         parts = {name: parts_of.get(number, ("bad", number, None)) for name, number in expected.items()}
-        person.expect_each("verdict number comment", parts, what)
+        person.check_rows("verdict number comment", parts, label)
         for words in has:
-            person.says("verdicts", what, words)
+            person.check_text("verdicts", label, words)

@@ -12,7 +12,7 @@ from verifying import (ACCEPTED, BY_BYTES, CHANGED_TEXT, KEY_TEXT, LEGACY_RECORD
                        PREHASHED_RECORD, PREHASHED_TEXT, verification_cases)
 
 
-def failing(name, outcome, key, signature, reads=4, output=False):
+def failing_read_cases(name, outcome, key, signature, reads=4, output=False):
     """Yields test cases in which each of the `reads` reads fails in turn, and one in which the next read would fail, so
     that the result is `outcome`."""
     for read in range(1, reads + 2):
@@ -20,19 +20,19 @@ def failing(name, outcome, key, signature, reads=4, output=False):
                           key=key, output=output, legacy=outcome != "LegacyNotAccepted", chunks=BY_BYTES, fail=read)
 
 
-def signing(name, error=None, **how):
+def sign_abc(name, error=None, **options):
     """Returns test cases that sign data at time 0, with the default comments."""
-    return signing_cases(f"signing: {name}", b"abc", None, None, error, time=0, chunks=BY_BYTES, **how)
+    return signing_cases(f"signing: {name}", b"abc", None, None, error, time=0, chunks=BY_BYTES, **options)
 
 
 ROWS = [row for rows in (
     # Data that is copied is read twice, except for legacy signatures. (No request lets the marking of the position or the rewinding
     # fail.)
-    *(failing(name, ACCEPTED, key, *how) for key in (KEY_TEXT, RECORD) for name, *how in (
+    *(failing_read_cases(name, ACCEPTED, key, *options) for key in (KEY_TEXT, RECORD) for name, *options in (
         ("copy", PREHASHED_TEXT, 8, True), ("read once", PREHASHED_TEXT),
         ("read once, legacy", LEGACY_TEXT), ("read once, legacy with output", LEGACY_TEXT, 4, True))),
     # A failing reader is reported before the result of any check, but after a rejected key or signature file.
-    *(failing(*case) for case in (
+    *(failing_read_cases(*case) for case in (
         ("bare", ACCEPTED, RECORD, PREHASHED_RECORD),
         ("bare, legacy", ACCEPTED, RECORD, LEGACY_RECORD),
         ("bare, another key", "DifferentKeyIds", OTHER_RECORD, PREHASHED_RECORD),
@@ -53,10 +53,10 @@ ROWS = [row for rows in (
     verification_cases("legacy: the data changes", ACCEPTED, LEGACY_TEXT, output=True, legacy=True,
            chunks=(1, 2, 3, 64), second=b"abd"),
     # Signing makes four reads and then requests 64 random bytes twice. Each read may fail, and there may be too few random bytes.
-    *(signing(f"read {read} fails", "ReadingFailed", fail=read) for read in range(1, 5)),
-    *(signing(f"read {read} fails before random bytes do", "ReadingFailed", fail=read, random=b"") for read in range(1, 5)),
-    *(signing(f"{length} random bytes", "RandomSourceFailed", fail=5, random=bytes(length)) for length in (0, 63, 64, 127)),
-    signing("no device fails", fail=5),
+    *(sign_abc(f"read {read} fails", "ReadingFailed", fail=read) for read in range(1, 5)),
+    *(sign_abc(f"read {read} fails before random bytes do", "ReadingFailed", fail=read, random=b"") for read in range(1, 5)),
+    *(sign_abc(f"{length} random bytes", "RandomSourceFailed", fail=5, random=bytes(length)) for length in (0, 63, 64, 127)),
+    sign_abc("no device fails", fail=5),
     # The signature does not depend on the sizes of the pieces.
     signing_cases("signing", toy.some_data(130), chunks=(1, 2, 127, 128, 129, 130, 131)),
 ) for row in rows]

@@ -42,26 +42,26 @@ UNLIMITED = sink()
 DEFAULT_ARGUMENTS, COMMENTS = (None, None, COUNTING, 0), (b"timestamp:0", DEFAULT_COMMENT)
 
 
-def sealed(password):
+def sealed_record(password):
     """Returns the record of the secret key of the counted pair, encrypted with this password."""
     return PAIR.sealed(password.encode(), USUAL_LIMITS, SALT)
 
 
-def generated_pair(key, record, is_encrypted, **tail):
+def generated_pair(key, record, is_encrypted, **values):
     """Returns the expected response with the key pair of this key, whose secret key has this record."""
     return response(
         pk=key.public_record,
         sk=record,
         encrypted=is_encrypted,
         drawn=RANDOM_BYTES if is_encrypted else PLAIN_RANDOM_BYTES,
-        **tail,
+        **values,
     )
 
 
-def generated_encrypted_pair(password, comment=b"rsign encrypted secret key", **tail):
+def generated_encrypted_pair(password, comment=b"rsign encrypted secret key", **values):
     """Returns the expected response with the counted pair, encrypted with this password, and with the key files in both writers."""
-    record = sealed(password)
-    return generated_pair(PAIR, record, True, sink1=PUBLIC_TEXT, sink2=secret_text(record, comment), **tail)
+    record = sealed_record(password)
+    return generated_pair(PAIR, record, True, sink1=PUBLIC_TEXT, sink2=secret_text(record, comment), **values)
 
 
 def failing_sinks(public, secret):
@@ -82,15 +82,15 @@ def cases_with_few_random_bytes(count):
     After that, no password is asked for, and nothing is written. An unencrypted pair needs no salt. The calls that do
     not write files use the same random bytes as those that do."""
     name, random = f"{count} random bytes", COUNTED[:count]
-    fails = {"drawn": max(drawn for drawn in (0, 32, PLAIN_RANDOM_BYTES) if drawn <= count)}
-    lines, unasked = typed("p", "p"), {"typed_left": 2, **fails}
+    effects = {"drawn": max(needed for needed in (0, 32, PLAIN_RANDOM_BYTES) if needed <= count)}
+    lines, without_prompt = typed("p", "p"), {"typed_left": 2, **effects}
     yield "gen_write_sealed", name, random, UNLIMITED, UNLIMITED, None, None, lines, rejected(
-        "RandomSourceFailed", **unasked, **NOTHING_WRITTEN
+        "RandomSourceFailed", **without_prompt, **NOTHING_WRITTEN
     )
-    yield "gen_sealed", name, random, None, lines, rejected("RandomSourceFailed", **unasked)
+    yield "gen_sealed", name, random, None, lines, rejected("RandomSourceFailed", **without_prompt)
     if count < PLAIN_RANDOM_BYTES:
-        yield "gen_write_plain", name, random, UNLIMITED, UNLIMITED, rejected("RandomSourceFailed", **fails, **NOTHING_WRITTEN)
-        yield "gen_plain", name, random, rejected("RandomSourceFailed", **fails)
+        yield "gen_write_plain", name, random, UNLIMITED, UNLIMITED, rejected("RandomSourceFailed", **effects, **NOTHING_WRITTEN)
+        yield "gen_plain", name, random, rejected("RandomSourceFailed", **effects)
 
 
 def signing_cases(name, record, message=b"test"):
@@ -104,7 +104,7 @@ def signing_cases(name, record, message=b"test"):
 def cases_with_password(password):
     """Yields cases for the counted pair, encrypted with this password. The encrypted secret key must not sign, and no
     data and no random bytes are read then. Decrypting its file gives the key of the counted pair."""
-    record, name = sealed(password), f"encrypted with {password!r}"
+    record, name = sealed_record(password), f"encrypted with {password!r}"
     yield "gen_sealed", name, COUNTING, password, typed("typed"), generated_pair(PAIR, record, True, typed_left=1)
     yield ("sign", name, None, record, data(b"test"), *DEFAULT_ARGUMENTS,
            rejected("EncryptedKeyRefused", drawn=0, reads=0, pos=0))
@@ -123,8 +123,8 @@ CASES = [
     *(("gen_write_plain", f"sinks {sinks}", random, *sinks, answer)
       for key, random in ((KEY_A, KEY_A_RANDOM_BYTES), (PAIR, COUNTING))
       for sinks, answer in (
-          *((sinks, rejected("WritingFailed", drawn=PLAIN_RANDOM_BYTES, **took))
-            for sinks, took in failing_sinks(key.public_record, key.record())),
+          *((sinks, rejected("WritingFailed", drawn=PLAIN_RANDOM_BYTES, **received))
+            for sinks, received in failing_sinks(key.public_record, key.record())),
           ((sink(42), sink(158)), generated_pair(key, key.record(), False, sink1=key.public_record, sink2=key.record())))),
     # The password is asked for twice, after all random bytes were generated. Both files are written, that of the secret
     # key with the default comment, or none. If a password is passed in, none is asked for.
@@ -138,8 +138,8 @@ CASES = [
                 generated_encrypted_pair("", stdout=WHOLE_OUTPUT_IF_EMPTY, typed_left=1),
             ),
             *(
-                (name, lines, rejected(error, drawn=RANDOM_BYTES, stdout=shown, **NOTHING_WRITTEN))
-                for name, lines, error, shown in (
+                (name, lines, rejected(error, drawn=RANDOM_BYTES, stdout=output, **NOTHING_WRITTEN))
+                for name, lines, error, output in (
                     ("two passwords that differ", typed("a", "b"), "PasswordsDiffer", BOTH_PROMPTS),
                     ("end of input after the first password", typed("a"), "EndOfInput", BOTH_PROMPTS),
                     ("no input", NOTHING_TYPED, "EndOfInput", FIRST_PROMPT),
@@ -154,8 +154,8 @@ CASES = [
     # The public key is written and flushed before the secret key is written. The prompt is complete before that.
     *(("gen_write_sealed", f"sinks {sinks}", COUNTED[:RANDOM_BYTES], *sinks, None, None, typed("p", "p"), answer)
       for sinks, answer in (
-          *((sinks, rejected("WritingFailed", drawn=RANDOM_BYTES, stdout=WHOLE_OUTPUT, **took))
-            for sinks, took in failing_sinks(PUBLIC_TEXT, secret_text(sealed("p")))),
+          *((sinks, rejected("WritingFailed", drawn=RANDOM_BYTES, stdout=WHOLE_OUTPUT, **received))
+            for sinks, received in failing_sinks(PUBLIC_TEXT, secret_text(sealed_record("p")))),
           ((sink(114), sink(259)), generated_encrypted_pair("p", stdout=WHOLE_OUTPUT)))),
     *(case for count in range(RANDOM_BYTES) for case in cases_with_few_random_bytes(count)),
     ("gen_write_plain", "40 random bytes", COUNTED[:PLAIN_RANDOM_BYTES], UNLIMITED, UNLIMITED,
@@ -172,7 +172,7 @@ CASES = [
     *signing_cases("an unencrypted pair", RECORD),
     *(case for password in ("password", "", "key password") for case in cases_with_password(password)),
     ("gen_sealed", "with a typed password", COUNTED[:RANDOM_BYTES], None, typed("p", "p"),
-     generated_pair(PAIR, sealed("p"), True, stdout=WHOLE_OUTPUT)),
+     generated_pair(PAIR, sealed_record("p"), True, stdout=WHOLE_OUTPUT)),
     ("gen_sealed", "random bytes that are all 9", NINES, "password", NOTHING_TYPED,
      generated_pair(PAIR_OF_NINES, PAIR_OF_NINES.sealed(b"password", USUAL_LIMITS, NINES[:32]), True)),
     *signing_cases("decrypted", DECRYPTED), *signing_cases("decrypted", DECRYPTED, LOREM),

@@ -6,7 +6,7 @@ from collections import namedtuple
 
 import public_keys
 import toy
-from generating_keys import DECRYPTED, sealed
+from generating_keys import DECRYPTED, sealed_record
 from request_format import Row, encode_request, rejected, rows, secret_key, signature, typed
 from running import unreadable
 from sealed_keys import WHOLE_OUTPUT, OUTPUT_IF_EMPTY
@@ -46,7 +46,7 @@ KINDS = (
         "sk_from_file",
         (None, typed(b"")),
         1,
-        base64.b64encode(sealed("")),
+        base64.b64encode(sealed_record("")),
         *[secret_key(DECRYPTED, stdout=OUTPUT_IF_EMPTY)] * 2,
         "MissingSecretKeyComment", "MissingEncodedSecretKey", "public", "RecordTooShort", b" ", "SecretKeyNotBase64",
         "SecretKeyNotBase64",
@@ -95,7 +95,7 @@ def cases(kind):
 
 
 CASES = [(kind, *case) for kind in KINDS for case in cases(kind)]
-FILES = {"not encrypted": toy.secret_text(), "with a password": COMMENT + base64.b64encode(sealed("password")) + b"\n",
+FILES = {"not encrypted": toy.secret_text(), "with a password": COMMENT + base64.b64encode(sealed_record("password")) + b"\n",
          **{path: content for _, path, content, _ in CASES if content is not None}}
 
 ROWS = [

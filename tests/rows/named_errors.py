@@ -20,7 +20,8 @@ ERRORS = rows_of("named_errors.txt", r"(?m)^ ?(?P<number>\d+) (?P<name>\w+) (?P<
 
 def compare(checks):
     """Checks that docs/FORMATS.md has the same errors, in the same order."""
-    documented = rows_of("../../docs/FORMATS.md", r"(?m)^\| `(?P<name>\w+)` \| (?P<number>\d+) \|(?: `\w+`)? \| (?P<kind>\w+) "
+    documented_errors = rows_of("../../docs/FORMATS.md",
+                                r"(?m)^\| `(?P<name>\w+)` \| (?P<number>\d+) \|(?: `\w+`)? \| (?P<kind>\w+) "
                                                   r"\| `(?P<text>[^`]*)` \|")
-    for expected, actual in zip_longest(ERRORS, documented):
+    for expected, actual in zip_longest(ERRORS, documented_errors):
         checks.check(actual == expected, "docs/FORMATS.md", f"it has {actual}, expected {expected}")

@@ -1,5 +1,5 @@
-"""Test cases for typed passwords. A password is one line of at most 1024 bytes, without its line feed and without one carriage return
-before it."""
+"""Test cases for typed passwords. A password is one line of at most 1024 bytes. Its line feed, and one carriage return
+before it, do not belong to the password."""
 
 from request_format import NOTHING_TYPED, rejected, response, rows, typed
 

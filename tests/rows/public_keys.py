@@ -44,7 +44,7 @@ ROWS = [
           ("the text of the upstream tool", UPSTREAM_RECORD, response(text=UPSTREAM_TEXT))),
     # The public key of a secret key's record whose checksum does not match, with and without a key derivation.
     *rows("public half", "pk_from_secret_key", *(
-        (f"key derivation {derivation}", toy.KEY_A.record(derivation, other=bytes(32)), KEY_A)
+        (f"key derivation {derivation}", toy.KEY_A.record(derivation, checksum=bytes(32)), KEY_A)
         for derivation in (bytes(2), b"Sc"))),
     # The error for a prefix of a file depends on its length. The first line may have any content. The second line is
     # trimmed, but its length is checked before.

@@ -10,13 +10,13 @@ from request_format import response, rows, secret_key
 def parsing_and_comparison(name, kind, record, answer, begin, end):
     """Yields cases for a record. Parsing must succeed with its bytes, even if more bytes follow, and fail if a byte is missing. A
     comparison of two records must compare only the bytes from `begin` to `end`."""
-    renamed = bytes([7]) * begin + record[begin:end] + bytes([7]) * (len(record) - end)
-    changed = record[:end - 1] + b"\x5b" + record[end:]
+    with_other_fields = bytes([7]) * begin + record[begin:end] + bytes([7]) * (len(record) - end)
+    with_other_key = record[:end - 1] + b"\x5b" + record[end:]
     yield from rows(f"record of {name}", f"{kind}_from_bytes", ("its bytes", record, answer),
                     ("one byte more", record + b"!", answer), ("one byte less", record[:-1], "RecordTooShort"))
     yield from rows(f"equal: {name}", f"{kind}_eq", ("with the same record", record, record, response(eq=True)),
-                    ("with other fields", record, renamed, response(eq=True)),
-                    ("with another last byte of the key", record, changed, response(eq=False)))
+                    ("with other fields", record, with_other_fields, response(eq=True)),
+                    ("with another last byte of the key", record, with_other_key, response(eq=False)))
 
 
 ROWS = [
@@ -29,5 +29,5 @@ ROWS = [
             ("scrypt", b"Sc", None, False),
             ("scrypt, another checksum", b"Sc", bytes(32), True),
             ("an unknown key derivation, another checksum", b"Xx", bytes(32), True))
-        for record in [toy.KEY_A.record(derivation, other=checksum)])),
+        for record in [toy.KEY_A.record(derivation, checksum=checksum)])),
 ]

@@ -22,15 +22,15 @@ COUNTING = Word("c0")
 
 def typed(*lines):
     """Returns the lines that the user types at a prompt. Each must end with a line feed."""
-    return Word(",".join(map(encoded, lines)))
+    return Word(",".join(map(encode_word, lines)))
 
 
 def data(content, **options):
     """Returns a reader for data. `pos` is the offset of the first read, `chunk` the maximum number of bytes that a read
     returns, `fail` the number of the read that fails, counted from 1, and `second` the content after rewinding. Options
     that are None are not sent."""
-    parts = [f"{name}={encoded(value)}" for name, value in options.items() if value is not None]
-    return Word(",".join([encoded(content), *parts]))
+    parts = [f"{name}={encode_word(value)}" for name, value in options.items() if value is not None]
+    return Word(",".join([encode_word(content), *parts]))
 
 
 def sink(size=None, flushes=True):
@@ -41,10 +41,10 @@ def sink(size=None, flushes=True):
 
 def bones(record):
     """Returns a bare signature, which has no comments. The crate minisign calls it SignatureBones."""
-    return Word(f"bones:{encoded(record)}")
+    return Word(f"bones:{encode_word(record)}")
 
 
-def encoded(value):
+def encode_word(value):
     """Returns the encoding of a word in a request or response."""
     if value is None:
         return "-"
@@ -55,7 +55,7 @@ def encoded(value):
 
 def encode_request(name, *words):
     """Returns the line of a request."""
-    return " ".join([name, *map(encoded, words)])
+    return " ".join([name, *map(encode_word, words)])
 
 
 # A test case: its name, a request, and the expected response, which is an `Answer` or the name of an error.
@@ -69,10 +69,10 @@ Answer = namedtuple("Answer", "head values")
 ERROR_TEXTS = {error["name"]: (error["kind"], error["text"]) for error in ERRORS}
 
 
-def rows(what, request, *cases):
+def rows(prefix, request, *cases):
     """Returns a `Row` for each of `cases`, which is a tuple of a name, the words of the request, and the expected
-    response. The name of the row is `what`, a colon and the name."""
-    return [Row(f"{what}: {name}", encode_request(request, *words), answer) for name, *words, answer in cases]
+    response. The name of the row is `prefix`, a colon and the name."""
+    return [Row(f"{prefix}: {name}", encode_request(request, *words), answer) for name, *words, answer in cases]
 
 
 def response(head="ok", **values):
@@ -84,26 +84,26 @@ def response(head="ok", **values):
 def rejected(error, text=None, **values):
     """Returns the expected response for a named error. `text` is passed if the text of the error contains key IDs."""
     kind, default_text = ERROR_TEXTS[error]
-    return response(f"err {kind} {encoded(text or default_text)}", **values)
+    return response(f"err {kind} {encode_word(text or default_text)}", **values)
 
 
 # The expected response to a request that violates the precondition of the call. No proved caller can make this call.
 OUTSIDE_PRECONDITION = response("outside")
 
 
-def public_key(record, **tail):
-    """Returns the expected response with the public key of a record. `tail` has further values, for example the output."""
-    return response(raw=record, keynum=record[2:10], base64=base64.b64encode(record), **tail)
+def public_key(record, **values):
+    """Returns the expected response with the public key of a record. `values` are further values, for example the output."""
+    return response(raw=record, keynum=record[2:10], base64=base64.b64encode(record), **values)
 
 
-def secret_key(record, is_encrypted=False, **tail):
+def secret_key(record, is_encrypted=False, **values):
     """Returns the expected response with the secret key of a record. Its debug output has each secret byte in
     hexadecimal digits, without leading zeros."""
     debug = "".join(f"{byte:x}" for byte in record[62:126])
-    return response(raw=record, keynum=record[54:62], encrypted=is_encrypted, debug=debug, **tail)
+    return response(raw=record, keynum=record[54:62], encrypted=is_encrypted, debug=debug, **values)
 
 
-def signature(record, text, trusted=b"t", untrusted=b"c", **tail):
+def signature(record, text, trusted=b"t", untrusted=b"c", **values):
     """Returns the expected response with a signature: its record, file and comments."""
     return response(bones=record, keynum=record[2:10], prehashed=record[:2] == b"ED", untrusted=untrusted, trusted=trusted,
-                 text=text, **tail)
+                 text=text, **values)

@@ -1,5 +1,5 @@
 #!/usr/bin/env python3
-"""Checks the results of the library's calls for the test cases in the modules of this directory.
+"""Checks that the library's calls return the expected results for the test cases in the modules of this directory.
 
     tests/rows/rows.py [MODULE ..]
 
@@ -24,7 +24,7 @@ sys.path.append(os.path.join(HERE, "..", "shared"))
 
 import named_errors
 from checks import Checks
-from request_format import encoded, rejected
+from request_format import encode_word, rejected
 from running import make_files
 
 PROGRAM = os.path.realpath(f"{HERE}/../../crates/minisign_compare/out/minisign_compare")
@@ -34,11 +34,11 @@ MODULES = sorted({name[:-3] for name in os.listdir(HERE) if name.endswith(".py")
 
 def responses_to(requests, directory):
     """Runs `minisign_compare` in a directory with these requests. Returns its responses, one line for each request."""
-    ran = subprocess.run([PROGRAM], input="\n".join(requests) + "\n", cwd=directory, stdout=subprocess.PIPE,
-                         stderr=subprocess.STDOUT, text=True, timeout=SECONDS)
-    lines = ran.stdout.splitlines()
-    if ran.returncode or len(lines) != len(requests):
-        raise SystemExit(f"{PROGRAM}: exit status {ran.returncode} after {len(lines)} responses to {len(requests)} "
+    process = subprocess.run([PROGRAM], input="\n".join(requests) + "\n", cwd=directory, stdout=subprocess.PIPE,
+                             stderr=subprocess.STDOUT, text=True, timeout=SECONDS)
+    lines = process.stdout.splitlines()
+    if process.returncode or len(lines) != len(requests):
+        raise SystemExit(f"{PROGRAM}: exit status {process.returncode} after {len(lines)} responses to {len(requests)} "
                          f"requests, last response: {lines[-1] if lines else 'none'}")
     return lines
 
@@ -50,8 +50,8 @@ def difference(answer, line):
     head, *words = [result] if result.startswith("err ") else result.split(" ")
     values = dict(word.partition("=")[::2] for word in [*words, *tail.split()])
     differences = [] if head == answer.head else [f"got `{head}`, expected `{answer.head}`"]
-    differences += [f"{name} is {values.get(name)}, expected {encoded(value)}" for name, value in answer.values.items()
-                    if values.get(name) != encoded(value)]
+    differences += [f"{name} is {values.get(name)}, expected {encode_word(value)}" for name, value in answer.values.items()
+                    if values.get(name) != encode_word(value)]
     return "; ".join(differences)
 
 

@@ -35,9 +35,9 @@ def encrypted(password, limits=SMALL_LIMITS):
     return toy.join_lines([b"c", base64.b64encode(KEY_A.sealed(password, limits, SALT))])
 
 
-def decrypted(record, **tail):
+def decrypted(record, **values):
     """Returns the expected response with the decrypted key of a record, or if it is None, the error for a wrong password."""
-    return secret_key(record, **tail) if record else rejected("WrongPassword", **tail)
+    return secret_key(record, **values) if record else rejected("WrongPassword", **values)
 
 
 ENCRYPTED, ENCRYPTED_WITH_EMPTY = encrypted(b"password"), encrypted(b"")
@@ -83,7 +83,7 @@ ROWS = [
                   (b"SC", "UnsupportedEncryptionAlgorithm")))))),
     # The limits are checked after the password was read and before the key derivation. The record of key A here is not
     # encrypted although it names scrypt, so no password is right.
-    *(row for name, limits, error, shown in (
+    *(row for name, limits, error, output in (
         ("one byte of memory too many", TOO_HIGH, "ParametersTooHigh", OUTPUT_WHILE_DERIVING),
         ("the greatest number of bytes", MAX_LIMITS, "ParametersTooHigh", OUTPUT_WHILE_DERIVING),
         ("no parts", ZERO_PARTS, "InvalidParameters", OUTPUT_WHILE_DERIVING),
@@ -91,7 +91,7 @@ ROWS = [
         ("no limits", NO_LIMITS, "WrongPassword", WHOLE_OUTPUT),
         ("small limits", SMALL_LIMITS, "WrongPassword", WHOLE_OUTPUT))
       for text in [secret_text(KEY_A.record(SCRYPT, limits))]
-      for row in rows(f"limits: {name}", "sk_open", ("typed", text, None, typed("p"), rejected(error, stdout=shown)),
+      for row in rows(f"limits: {name}", "sk_open", ("typed", text, None, typed("p"), rejected(error, stdout=output)),
                       ("passed in", text, "p", typed("typed"), rejected(error, typed_left=1)))),
     # A decrypted key is written unencrypted, but is not accepted as a key without encryption, because it names scrypt.
     *rows("a decrypted key", "sk_to_box", ("is written unchanged", DECRYPTED, None, response(text=DECRYPTED_TEXT))),

@@ -22,24 +22,25 @@ ALPHABET = b"ABCDEFGHIJKLMNOPQRSTUVWXYZabcdefghijklmnopqrstuvwxyz0123456789+/"
 NO_FOURTH, NOT_BASE64, UNTRUSTED = "MissingGlobalSignature", "SignatureNotBase64", "UntrustedCommentPrefix"
 
 
-def verify_and_copy(name, outcome, text, content=b"abc", **how):
+def verify_and_copy(name, outcome, text, content=b"abc", **options):
     """Returns test cases that verify data with the signature file `text`, and copy the data."""
-    return verification_cases(f"{name}, verified", outcome, text, content, output=True, legacy=True, **how)
+    return verification_cases(f"{name}, verified", outcome, text, content, output=True, legacy=True, **options)
 
 
-def parse_and_verify(name, outcome, text, written=PREHASHED_TEXT, trusted=b"t", untrusted=b"c", **how):
-    """Yields test cases that parse a signature file and verify with it. If the file is well-formed, `written` is the
+def parse_and_verify(name, outcome, text, rewritten=PREHASHED_TEXT, trusted=b"t", untrusted=b"c", **options):
+    """Yields test cases that parse a signature file and verify with it. If the file is well-formed, `rewritten` is the
     file that is written for the parsed signature."""
     is_well_formed = outcome in (ACCEPTED, "CommentSignatureRefused")
-    answer = signature(PREHASHED_RECORD, written, trusted, untrusted) if is_well_formed else outcome
+    answer = signature(PREHASHED_RECORD, rewritten, trusted, untrusted) if is_well_formed else outcome
     yield from rows("signature", "sig_from_string", (name, text, answer))
-    yield from verify_and_copy(name, outcome, text, trusted=trusted, **how)
+    yield from verify_and_copy(name, outcome, text, trusted=trusted, **options)
 
 
 def prefix_cases(length):
     """Returns test cases for the first `length` bytes of the worked signature, whose lines end after 21, 122, 141 and 230 bytes."""
-    of_fourth = "CommentSignatureRefused" if (length - 141) % 4 == 0 else NOT_BASE64
-    ends = {0: "MissingUntrustedComment", 21: "MissingSignature", 122: "MissingTrustedComment", 141: NO_FOURTH, 228: of_fourth}
+    fourth_line_error = "CommentSignatureRefused" if (length - 141) % 4 == 0 else NOT_BASE64
+    ends = {0: "MissingUntrustedComment", 21: "MissingSignature", 122: "MissingTrustedComment", 141: NO_FOURTH,
+            228: fourth_line_error}
     outcome = next((error for end, error in ends.items() if length <= end), ACCEPTED)
     text = PREHASHED_TEXT[:length]
     return parse_and_verify(f"prefix: {length} bytes", outcome, text, text.rstrip(b"\n") + b"\n")
@@ -63,7 +64,7 @@ def comment_size_cases(size):
                         chunks=AT_ONCE)
 
 
-def signed_and_verified(name, content):
+def sign_and_verify(name, content):
     """Yields test cases that sign data with the comment `t`, accept and copy it, and reject it without its last byte."""
     text = toy.signature_text(content, untrusted=DEFAULT_COMMENT)
     yield from signing_cases(f"{name}, signed", content, b"t", None, time=0, chunks=AT_ONCE)
@@ -90,7 +91,7 @@ WHITE_SPACE = (
 )
 NO_WHITE_SPACE = "\x1c\x1d\x1e\x1f\u180e\u200b\ufeff"
 
-ROWS = [row for rows_of in (
+ROWS = [row for row_group in (
     signing_cases("written", time=0),
     signing_cases("spaces: signed", b"abc", b" t ", time=0),
     parse_and_verify("spaces", "CommentSignatureRefused", SPACES, TRIMMED),
@@ -157,10 +158,10 @@ ROWS = [row for rows_of in (
         (f"upstream, {comment}", text, signature(record, text + b"\n", comment, b"signature from minisign secret key"))
         for text in (UPSTREAM_LEGACY, UPSTREAM_PREHASHED) for record, comment, _ in [upstream_parts(text)])),
     *map(comment_size_cases, SIZES),
-    *(signed_and_verified(f"data: {size} bytes", toy.some_data(size)) for size in SIZES),
+    *(sign_and_verify(f"data: {size} bytes", toy.some_data(size)) for size in SIZES),
     # Every byte can be the first and the last byte of data.
-    *(signed_and_verified(f"data: byte {byte}", bytes([byte, ord("a"), byte])) for byte in range(256)),
+    *(sign_and_verify(f"data: byte {byte}", bytes([byte, ord("a"), byte])) for byte in range(256)),
     # The highest timestamp of signed and unsigned 32-bit integers, the one after it, and the highest of 64 bits.
     *(signing_cases(f"timestamp: {time}", b"abc", None, None, time=time, public=RECORD, chunks=AT_ONCE)
       for time in ((1 << 31) - 1, 1 << 31, (1 << 32) - 1, 1 << 32, (1 << 64) - 1)),
-) for row in rows_of]
+) for row in row_group]

@@ -11,8 +11,8 @@ from verifying import ACCEPTED, AT_ONCE_AND_BY_BYTES, BY_BYTES, name_with_read_s
 
 TIME = 1555779966
 # The record of key A with a wrong checksum: without a key derivation, and with one, which makes it an encrypted key.
-WRONG_CHECKSUM = KEY_A.record(other=bytes(32))
-ENCRYPTED = KEY_A.record(SCRYPT, other=bytes(32))
+WRONG_CHECKSUM = KEY_A.record(checksum=bytes(32))
+ENCRYPTED = KEY_A.record(SCRYPT, checksum=bytes(32))
 OTHER_KEY_GIVEN_MESSAGE = "Could not verify signature with the provided public key ID: E7620F1842B4E81F"
 
 

@@ -59,23 +59,23 @@ def verification_cases(name, outcome, signature=PREHASHED_TEXT, content=b"abc", 
     copied = second if second is not None and goes_back else content
     for chunk in chunks:
         source = data(front + content, pos=len(front) or None, second=second, chunk=chunk, fail=fail)
-        encoded = encode_request(request, key, bones(signature) if is_bare else signature, source, quiet, output, legacy)
+        request_line = encode_request(request, key, bones(signature) if is_bare else signature, source, quiet, output, legacy)
         reads = reads_of(len(content), chunk)
-        both = reads + (reads_of(len(copied), chunk) if goes_back else 0)
+        all_reads = reads + (reads_of(len(copied), chunk) if goes_back else 0)
         if outcome == "ReadingFailed" and fail <= reads:
             answer = rejected("ReadingFailed", reads=fail, pos=fail - 1)
         elif outcome == "ReadingFailed":
-            again = fail - 1 - reads
-            answer = rejected("ReadingFailed", stdout=content[:again], stderr=status, reads=fail, pos=again)
+            copied_length = fail - 1 - reads
+            answer = rejected("ReadingFailed", stdout=content[:copied_length], stderr=status, reads=fail, pos=copied_length)
         elif outcome in ERRORS_AFTER_DATA:
             message = OTHER_KEY_MESSAGE if outcome == "DifferentKeyIds" else None
             answer = rejected(outcome, message, reads=reads, pos=len(front + content))
         elif outcome in (ACCEPTED, "DataChanged"):
-            effects = {"stdout": copied if output else b"", "stderr": status, "reads": both, "pos": len(front + copied)}
+            effects = {"stdout": copied if output else b"", "stderr": status, "reads": all_reads, "pos": len(front + copied)}
             answer = rejected("DataChanged", **effects) if outcome else response(**effects)
         else:
             answer = rejected(outcome)
-        yield Row(name_with_read_size(name, chunk), encoded, answer)
+        yield Row(name_with_read_size(name, chunk), request_line, answer)
 
 
 def with_changed_comment_signature(record):
@@ -83,7 +83,7 @@ def with_changed_comment_signature(record):
     return toy.signature_text(b"", record, comment_signature=toy.flip_bit(toy.signature_of(record[10:] + b"t")))
 
 
-def cases_for_all_options(name, key, signature, content, outcome, strict=None, **how):
+def cases_for_all_options(name, key, signature, content, outcome, strict=None, **arguments):
     """Yields test cases for each combination of quiet, output and legacy. If `strict` is not None, it is the outcome if
     legacy signatures are not accepted."""
     for quiet, output, legacy in product((False, True), repeat=3):
@@ -97,7 +97,7 @@ def cases_for_all_options(name, key, signature, content, outcome, strict=None, *
             quiet=quiet,
             output=output,
             legacy=legacy,
-            **how,
+            **arguments,
         )
 
 
@@ -208,12 +208,12 @@ ROWS = [row for rows in (
     [
         Row(
             "upstream: a signature is added to the table",
-            encode_request("table_add", signed, UPSTREAM_RECORD[10:], signature),
+            encode_request("table_add", signed_message, UPSTREAM_RECORD[10:], signature),
             response(),
         )
         for text, message in UPSTREAM_MESSAGES.items()
-        for record, trusted, of_comment in [upstream_parts(text)]
-        for signed, signature in ((message, record[10:]), (record[10:] + trusted, of_comment))
+        for record, trusted, comment_signature in [upstream_parts(text)]
+        for signed_message, signature in ((message, record[10:]), (record[10:] + trusted, comment_signature))
     ],
     *(cases_for_all_options(f"upstream: {name}", UPSTREAM_TEXT, text, content, *outcomes, trusted=upstream_parts(text)[1])
       for name, text, content, *outcomes in (

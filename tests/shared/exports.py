@@ -24,7 +24,7 @@ C_TYPES = {"u32": "uint32_t", "u64": "uint64_t", "i64": "int64_t", "usize": "siz
            "PublicKeyValue": "minisign_public_key", "SignatureValue": "minisign_signature", "Questions": "minisign_questions",
            "UnopenedKeyValue": "minisign_unopened_key", "SecretKeyValue": "minisign_secret_key", "Sealing": "minisign_sealing",
            "NewKey": "minisign_new_key", "Installation": "minisign_installation", "Choices": "minisign_install_options",
-         "ListValue": "minisign_list", "EntryValue": "minisign_list_entry", "FileValue": "minisign_list_file"}
+           "ListValue": "minisign_list", "EntryValue": "minisign_list_entry", "FileValue": "minisign_list_file"}
 # The opaque structs, whose fields are private to the library.
 OPAQUE_STRUCTS = ("minisign_state", "minisign_installation", "minisign_list_file")
 # The ctypes type for each integer type that a field may have.
@@ -73,7 +73,7 @@ def parameters_of(parameters):
     return [parameter for parameter in re.split(r",\s*(?![^\[]*\])", parameters.strip().rstrip(",")) if parameter]
 
 
-def exported():
+def rattle_exports():
     """Maps the name of each export of `minisign_c` to the C types of its parameters and the C type of its result."""
     texts = map(sources.read, ("crates/minisign_c/src/lib.rt", "crates/minisign_c/src/installing.rt"))
     return {name: ([kind for parameter in parameters_of(parameters) for kind in c_types_of(parameter.partition(":")[2].strip())],
@@ -84,12 +84,12 @@ def exported():
 def wrong_declarations():
     """Returns a line for each function whose declaration differs from its export, or that is only declared or only
     exported."""
-    exports = exported()
+    exports = rattle_exports()
     headers = c_header.all_headers()
     declared = {
         call.name: (
             [boundary.plain_parameter(parameter) for parameter in headers.flat_parameters(call)],
-            boundary.plain(call.answer),
+            boundary.plain_type(call.answer),
         )
         for call in boundary.proved_calls(headers)
     }
@@ -117,11 +117,11 @@ def write_layout(directory):
         lengths.update(re.findall(r"const (\w+): usize = (\d+);", text))
         if "#[repr(C)]" in text:
             structs.update((item.name, item.text) for item in sources.read_source(file).items
-                           if item.what == "struct" and "#[repr(C)]" in item.text)
+                           if item.keyword == "struct" and "#[repr(C)]" in item.text)
     rattle_names = {c_name: name for name, c_name in C_TYPES.items()}
     for name in (name for name in headers.structs if name not in headers.in_parts):
         struct = ctypes_type(rattle_names[name], structs, lengths)
         lines.append(f"IS_LAID_OUT({name}, {ctypes.sizeof(struct)}, {ctypes.alignment(struct)});")
         fields = [(field, getattr(struct, field)) for field, _ in struct._fields_ if name not in OPAQUE_STRUCTS]
-        lines += [f"IS_AT({name}, {field}, {place.offset}, {place.size});" for field, place in fields]
+        lines += [f"IS_AT({name}, {field}, {member.offset}, {member.size});" for field, member in fields]
     return write(directory, "layout.c", "\n".join([*lines, ""]).encode())

@@ -39,16 +39,16 @@ class FaultRunner(Program):
         `reached` of the result is true if the program made this call."""
 
         def run(report):
-            environment = self.fault_environment(**fault, SAYS=report)
+            environment = self.fault_environment(**fault, REPORT_TO=report)
             return self.run(directory, arguments, environment, pass_fds=[report], **options)
 
-        ran, report = with_report_pipe(run)
-        return replace(ran, reached=bool(report))
+        result, report = with_report_pipe(run)
+        return replace(result, reached=bool(report))
 
     def run_stopped(self, directory, arguments, meanwhile, **fault):
         """Stops the program before a call, calls `meanwhile`, and continues the program. `fault` selects the call.
         `reached` of the result is true if the program made this call."""
-        environment = self.fault_environment(SIGNAL=int(signal.SIGSTOP), GOES_ON=1, **fault)
+        environment = self.fault_environment(SIGNAL=int(signal.SIGSTOP), CONTINUE=1, **fault)
         process = subprocess.Popen([self.program, *arguments], cwd=directory, env=environment, stdin=subprocess.DEVNULL,
                                    stdout=subprocess.DEVNULL, stderr=subprocess.PIPE)
         reached = os.waitid(os.P_PID, process.pid, os.WSTOPPED | os.WEXITED | os.WNOWAIT).si_code == os.CLD_STOPPED
@@ -75,9 +75,9 @@ class FaultRunner(Program):
         `prepare` fills the directory and returns the program's arguments. `check_run` gets the result and the
         directory. `fault` selects the calls and says how they are broken."""
         def attempt(number, directory):
-            ran = self.run_broken(directory, prepare(directory), {"AT": number, **fault})
-            check_run(ran, directory)
-            return ran.reached
+            result = self.run_broken(directory, prepare(directory), {"AT": number, **fault})
+            check_run(result, directory)
+            return result.reached
 
         return for_each_call(self.parent, attempt)
 
@@ -126,9 +126,9 @@ class TaskFaultRunner(FaultRunner):
         targets, and that for every number of files, some kill left this number of them replaced."""
         seen = set()
 
-        def check_run(ran, directory):
-            expect(ran.status == (-signal.SIGKILL if ran.reached else 0), ran)
-            new = task.check(directory, killed=ran.reached)
+        def check_run(result, directory):
+            expect(result.status == (-signal.SIGKILL if result.reached else 0), result)
+            new = task.check(directory, killed=result.reached)
             expect(new == sorted(new, reverse=True), f"a later file is new, but an earlier one is not: {[*zip(task.targets, new)]}")
             seen.add(sum(new))
 
@@ -139,13 +139,13 @@ class TaskFaultRunner(FaultRunner):
     def check_failing_writes(self, task, number, **fault):
         """Makes each write fail in turn, with the errno `number`. Checks that at most `before_failing` files are new."""
 
-        def check_run(ran, directory):
+        def check_run(result, directory):
             new = sum(task.check(directory))
-            if ran.reached:
-                self.expect_unwritten(ran, number)
-                expect(new <= task.before_failing, ran, f"{new} files are new, expected at most {task.before_failing}")
+            if result.reached:
+                self.expect_unwritten(result, number)
+                expect(new <= task.before_failing, result, f"{new} files are new, expected at most {task.before_failing}")
             else:
-                expect((ran.status, new) == (0, len(task.targets)), ran, f"{new} files are new, expected {len(task.targets)}")
+                expect((result.status, new) == (0, len(task.targets)), result, f"{new} files are new, expected {len(task.targets)}")
 
         expect(self.break_each(task.make, check_run, CALLS="write", ERRNO=number, **fault), "the run made no write")
 
@@ -154,8 +154,8 @@ class TaskFaultRunner(FaultRunner):
         with tempfile.TemporaryDirectory(dir=self.parent) as directory, small_file_system(directory):
             arguments = task.make(directory)
             with full_file_system(directory):
-                ran = self.run(directory, arguments)
-            self.expect_unwritten(ran, errno.ENOSPC)
+                result = self.run(directory, arguments)
+            self.expect_unwritten(result, errno.ENOSPC)
             expect(not any(task.check(directory)), "a file is new")
 
     def check_file_size_limit(self, task, handler=signal.SIG_DFL, is_ended=False):
@@ -168,12 +168,12 @@ class TaskFaultRunner(FaultRunner):
             signal.signal(signal.SIGXFSZ, handler)
 
         with tempfile.TemporaryDirectory(dir=self.parent) as directory:
-            ran = self.run(directory, task.make(directory), preexec_fn=prepare)
+            result = self.run(directory, task.make(directory), preexec_fn=prepare)
             expect(not any(task.check(directory, killed=is_ended)), "a file is new")
         if is_ended:
-            expect(ran.status == -signal.SIGXFSZ, ran)
+            expect(result.status == -signal.SIGXFSZ, result)
         else:
-            self.expect_unwritten(ran, errno.EFBIG)
+            self.expect_unwritten(result, errno.EFBIG)
 
     def check_concurrent_runs(self, task, environment=None, times=1, runs=8):
         """Starts several runs that write the same files at once, and repeats this as often as `times` says. Checks

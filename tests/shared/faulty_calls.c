@@ -16,17 +16,18 @@
                      A `write` is counted only if it is to a regular file that the program itself has opened.
      BREAK_AT=N      Break call number N, counted from 1. Unless BREAK_SIGNAL, BREAK_ERRNO or BREAK_SHORT is set, the program is
                      killed before the call.
-     BREAK_SIGNAL    Send this signal instead of SIGKILL, and then wait for ever unless BREAK_GOES_ON is set.
+     BREAK_SIGNAL    Send this signal instead of SIGKILL, and then wait for ever unless BREAK_CONTINUE is set.
      BREAK_ERRNO     Make the call fail with this errno.
      BREAK_SHORT     Make a write accept only half of its bytes, and the next write fail. Make a read return at most two bytes.
-     BREAK_GOES_ON   After the signal, make the call; this is for signals such as SIGSTOP. After a short write, let the next write
+     BREAK_CONTINUE  After the signal, make the call; this is for signals such as SIGSTOP. After a short write, let the next write
                      succeed.
      BREAK_REST      Break all later calls too.
-     BREAK_SAYS=FD   When the program makes a call that is broken, write a byte to this file descriptor.
+     BREAK_REPORT_TO=FD
+                     When the program makes a call that is broken, write a byte to this file descriptor.
 
    Changing what the program sees:
      BREAK_UNNAMED   Make O_TMPFILE fail with EOPNOTSUPP, as on file systems that do not support it.
-     DRAW_ZEROS      Make getentropy return zeros.
+     ZERO_RANDOM     Make getentropy return zeros.
      RANDOM_BYTES=N  Make /dev/urandom contain N bytes, which count up from 0.
      SHOWN_TIME      The time that the clock shows, in seconds since 1970.
 
@@ -81,7 +82,7 @@ static int is_named(const char *name)
 static int is_broken(const char *name)
 {
     const char *at = getenv("BREAK_AT");
-    const char *report_fd = getenv("BREAK_SAYS");
+    const char *report_fd = getenv("BREAK_REPORT_TO");
     const char *number = getenv("BREAK_ERRNO");
 
     if (!at || is_foreign || !is_named(name))
@@ -94,7 +95,7 @@ static int is_broken(const char *name)
     if (!number && !getenv("BREAK_SHORT")) {
         /* raise() signals the calling thread, so with SIGSTOP this thread stops before it makes the call. */
         raise(getenv("BREAK_SIGNAL") ? atoi(getenv("BREAK_SIGNAL")) : SIGKILL);
-        if (getenv("BREAK_GOES_ON"))
+        if (getenv("BREAK_CONTINUE"))
             return 0;
         pause();
     }
@@ -247,7 +248,7 @@ static ssize_t write_or_break(int fd, const void *bytes, size_t length)
 
     if (is_opened_file(fd) && (fails_next || is_broken("write"))) {
         if (getenv("BREAK_SHORT") && !fails_next && length > 1) {
-            fails_next = !getenv("BREAK_GOES_ON");
+            fails_next = !getenv("BREAK_CONTINUE");
             return REAL(write)(fd, bytes, length / 2);
         }
         errno = getenv("BREAK_ERRNO") ? atoi(getenv("BREAK_ERRNO")) : EIO;
@@ -397,7 +398,7 @@ int getentropy(void *bytes, size_t length)
     NOTE_CALLER;
     if (is_broken("getentropy"))
         return -1;
-    return getenv("DRAW_ZEROS") ? (memset(bytes, 0, length), 0) : REAL(getentropy)(bytes, length);
+    return getenv("ZERO_RANDOM") ? (memset(bytes, 0, length), 0) : REAL(getentropy)(bytes, length);
 }
 
 /* Defines a replacement for an allocation function. ONLY_IN does not apply to it. */

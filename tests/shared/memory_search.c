@@ -2,9 +2,12 @@
  * whenever the program opens, writes or closes a file, waits at a terminal or raises a signal, and when the program
  * ends. Memory that is excluded from core dumps is taken to be the program's memory for secrets.
  *
- * For each needle, each search appends a line to the file that the environment variable SEARCH_SAYS names: the event, the
- * name of the needle, and how often it was found in registers, on the stack, in other memory, and in the memory for
- * secrets. */
+ * For each needle, each search appends a line to the file that the environment variable SEARCH_RESULTS names: the event,
+ * the name of the needle, and how often it was found in registers, on the stack, in other memory, and in the memory for
+ * secrets.
+ *
+ * search_memory.h searches. Its TRAP raises a signal whose handler calls `look`, so that the registers are in the memory
+ * that is searched (`signal_stack`). Its COUNTS_OF makes a line of the results. */
 #include "preload.h"
 
 #include <sys/select.h>
@@ -18,14 +21,18 @@ static const char *event;
 /* An address on the stack of the main thread. */
 static const uint8_t *stack_address;
 
+/* The usual limit of the stack's size on Linux. The stack is less than this away from `stack_address`. */
+enum { STACK_BYTES = 8 << 20 };
+
 static int place_of(const uint8_t *at, bool is_undumped)
 {
-    return is_undumped                                              ? OWN
-           : is_within(at, signal_stack, sizeof signal_stack)       ? REGISTERS
-           : is_within(at, stack_address - (8 << 20), (size_t) 16 << 20) ? STACK
-                                                                    : ELSEWHERE;
+    return is_undumped                                                              ? OWN
+           : is_within(at, signal_stack, sizeof signal_stack)                       ? REGISTERS
+           : is_within(at, stack_address - STACK_BYTES, (size_t) 2 * STACK_BYTES)   ? STACK
+                                                                                    : ELSEWHERE;
 }
 
+/* Searches the memory once, and appends the results to the file. */
 static void look(void)
 {
     char line[256];
@@ -50,7 +57,7 @@ static void look(void)
 
 __attribute__((constructor)) static void begin(void)
 {
-    const char *name = getenv("SEARCH_SAYS");
+    const char *name = getenv("SEARCH_RESULTS");
 
     stack_address = __builtin_frame_address(0);
     if (name != NULL) {

@@ -44,8 +44,8 @@ def apply(mutant, top, inside=""):
     strip = f"-p{1 + len(inside.split('/'))}" if inside else "-p1"
     command = [needs.git(), "apply", "--unidiff-zero", "--whitespace=nowarn", strip, mutant.patch]
     # A repository above the copy would make git ignore the patch.
-    status, said = run(command, top, GIT_CEILING_DIRECTORIES=os.path.dirname(os.path.realpath(top)))
-    expect(status == 0, f"git apply {mutant.name}: {said}")
+    status, output = run(command, top, GIT_CEILING_DIRECTORIES=os.path.dirname(os.path.realpath(top)))
+    expect(status == 0, f"git apply {mutant.name}: {output}")
 
 
 def applied_to(text, mutant):

@@ -4,6 +4,7 @@ its results."""
 import base64
 import hashlib
 
+from ed25519_edge_cases import GROUP_ORDER
 from running import build_preload, read, write
 
 # The needles are stored masked, so that a search does not find the list of needles itself.
@@ -19,16 +20,12 @@ def of_secret_key(record):
     return {"seed": seed, "half of the seed": seed[:16], "base64 of the seed": encoded_seed}
 
 
-# The order of Ed25519's base point.
-ORDER = 2**252 + 27742317777372353535851937790883648493
-
-
 def of_ed25519(seed, message):
     """Returns the needles for the values that Ed25519 derives from a seed and a message (RFC 8032, section 5.1.6)."""
     expanded = hashlib.sha512(seed).digest()
     scalar, prefix = int.from_bytes(expanded[:32], "little"), expanded[32:]
     scalar = scalar & ~7 & (1 << 255) - 1 | 1 << 254
-    nonce = int.from_bytes(hashlib.sha512(prefix + message).digest(), "little") % ORDER
+    nonce = int.from_bytes(hashlib.sha512(prefix + message).digest(), "little") % GROUP_ORDER
     return {"scalar of the key": scalar.to_bytes(32, "little"), "prefix of the key": prefix,
             "nonce of the signature": nonce.to_bytes(32, "little")}
 
@@ -65,6 +62,6 @@ def build_memory_search(directory, needles):
 
 
 def read_results(directory):
-    """Returns the parsed lines of the file `found` in a directory. SEARCH_SAYS must have been set to the path of
+    """Returns the parsed lines of the file `found` in a directory. SEARCH_RESULTS must have been set to the path of
     this file."""
     return [parse_counts(line) for line in read(directory, "found").decode().splitlines()]

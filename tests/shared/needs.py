@@ -60,8 +60,8 @@ def which(name):
 def apt_get(*arguments):
     """Runs apt-get. Returns an empty string on success, and otherwise the end of the output."""
     command = ["apt-get", "-q", "-y", "-o", "DPkg::Lock::Timeout=300", *arguments]
-    status, said = run(command, seconds=SECONDS, DEBIAN_FRONTEND="noninteractive")
-    return (said[-300:] or f"apt-get exits with status {status}") if status else ""
+    status, output = run(command, seconds=SECONDS, DEBIAN_FRONTEND="noninteractive")
+    return (output[-300:] or f"apt-get exits with status {status}") if status else ""
 
 
 def install(packages):
@@ -71,9 +71,9 @@ def install(packages):
     return apt_get(*command) and (apt_get("update") or apt_get(*command))
 
 
-def need(find, what, *packages):
+def need(find, description, *packages):
     """Returns the result of `find`. If that is None, installs the packages, if permitted, and calls `find` again.
-    Raises `Missing` if the result is still None; `what` names the missing program in the message."""
+    Raises `Missing` if the result is still None; `description` names the missing program in the message."""
     result, hint = find(), f"install {' '.join(packages)}"
     if result is None and may_install():
         with open(LOCK, "w", encoding="ascii") as lock:
@@ -82,7 +82,7 @@ def need(find, what, *packages):
             error = "" if find() is not None else install(packages)
             result, hint = find(), f"still missing after installing {' '.join(packages)}: {error}"
     if result is None:
-        raise Missing(f"{what} is missing: {hint}")
+        raise Missing(f"{description} is missing: {hint}")
     return result
 
 

@@ -75,13 +75,13 @@ def run_case(program, prepare, arguments, case):
         )
         fault = {"CALLS": case.failing_call, "AT": 1, "ERRNO": ERRORS.get(case.failing_call)}
         run = functools.partial(program.run_broken, fault=fault) if case.failing_call else program.run
-        ran = run(directory, arguments(case.requested), **(AS_NOBODY if case.as_nobody else {}))
+        result = run(directory, arguments(case.requested), **(AS_NOBODY if case.as_nobody else {}))
         after, new_acl = os.stat(path), acl_of(path)
         mode = stat.S_IMODE(after.st_mode)
         owners = (NOBODY, NOBODY) if case.as_nobody else (before.st_uid, before.st_gid)
         expect(
-            ran.status == 0 and after.st_ino != before.st_ino,
-            ran,
+            result.status == 0 and after.st_ino != before.st_ino,
+            result,
             f"the file was{' not' * (after.st_ino == before.st_ino)} replaced",
         )
         expect(mode == case.new_mode, f"the new file has the mode {mode:o}, expected {case.new_mode:o}")

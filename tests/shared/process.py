@@ -22,20 +22,20 @@ class RunResult:
         return f"exit status {self.status}, stdout {self.stdout[-200:]!r}, stderr {self.stderr[-400:]!r}"
 
 
-def run_program(command, directory, typed=None, seconds=120, **how):
+def run_program(command, directory, typed=None, seconds=120, **options):
     """Runs a program in a directory and returns its `RunResult`. Its standard input is the bytes `typed`, or empty
     if `typed` is None. The other arguments are passed to `subprocess.run`."""
-    stdin = {"stdin": subprocess.DEVNULL} if typed is None or "stdin" in how else {"input": typed}
-    finished = subprocess.run(command, cwd=directory, timeout=seconds,
-                              **{"stdout": subprocess.PIPE, "stderr": subprocess.PIPE, "umask": 0o022, **stdin, **how})
-    return RunResult(finished.returncode, finished.stdout or b"", finished.stderr or b"")
+    stdin = {"stdin": subprocess.DEVNULL} if typed is None or "stdin" in options else {"input": typed}
+    process = subprocess.run(command, cwd=directory, timeout=seconds,
+                             **{"stdout": subprocess.PIPE, "stderr": subprocess.PIPE, "umask": 0o022, **stdin, **options})
+    return RunResult(process.returncode, process.stdout or b"", process.stderr or b"")
 
 
 def run_with_stderr(command, directory=None, typed=b"", seconds=SECONDS, stderr=subprocess.PIPE, **environment):
     """Runs a command, with `environment` added to the environment variables. Returns its exit status, standard
     output and standard error."""
-    ran = run_program(command, directory, typed, seconds, env=dict(os.environ, **environment), stderr=stderr)
-    return ran.status, ran.stdout.decode(errors="replace"), ran.stderr.decode(errors="replace")
+    result = run_program(command, directory, typed, seconds, env=dict(os.environ, **environment), stderr=stderr)
+    return result.status, result.stdout.decode(errors="replace"), result.stderr.decode(errors="replace")
 
 
 def run(command, directory=None, typed=b"", seconds=SECONDS, **environment):
@@ -43,17 +43,17 @@ def run(command, directory=None, typed=b"", seconds=SECONDS, **environment):
     return run_with_stderr(command, directory, typed, seconds, subprocess.STDOUT, **environment)[:2]
 
 
-def run_measured(command, directory, typed=b"", **how):
+def run_measured(command, directory, typed=b"", **options):
     """Runs a command, with the bytes `typed` as its standard input. Returns its exit status, its standard output,
     and its peak memory use (RSS) in KiB."""
-    process = subprocess.Popen(command, cwd=directory, stdin=subprocess.PIPE, stdout=subprocess.PIPE, **how)
+    process = subprocess.Popen(command, cwd=directory, stdin=subprocess.PIPE, stdout=subprocess.PIPE, **options)
     with process.stdin, process.stdout:
         process.stdin.write(typed)
         process.stdin.close()
         output = process.stdout.read()
-    _, status, used = os.wait4(process.pid, 0)
+    _, status, usage = os.wait4(process.pid, 0)
     process.returncode = os.waitstatus_to_exitcode(status)
-    return process.returncode, output, used.ru_maxrss
+    return process.returncode, output, usage.ru_maxrss
 
 
 def with_report_pipe(run):

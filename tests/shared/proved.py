@@ -1,11 +1,16 @@
-"""Runs `rattle`, the prover of the Rattle kit, on crates of this repository whose dependencies are already proved
-and built.
+"""Checks and builds crates of this repository with the prover `rattle`, without proving their libraries again.
 
-CI runs some scripts after `rt ci`, which proves each library from scratch and leaves it built for the crates that
-depend on it. The environment variable MINISIGN_RT_CI then names the file with the output of `rt ci`. The other
-commands of `rt` do not use these builds and would prove the libraries again, so the scripts call `rattle` directly,
-with flags that its `--help` lists. If the variable is not set, or `rt ci` left no builds, `rt lib` builds the
-libraries that are not up to date.
+This module is for scripts that run after `rt ci`, which proves all libraries and leaves them built ("proved"):
+
+  * `crates` reads crates.txt, and `kit` finds the Rattle kit, which contains the prover and the compilers.
+  * `build_libraries` builds the libraries that `rt ci` has not left built.
+  * `rattle` runs the prover on one crate, or on a changed copy of it.
+  * `build_archive` and `link_module` build the static libraries and the WebAssembly modules of a release.
+
+In CI, the environment variable MINISIGN_RT_CI names the file with the output of `rt ci`, which says which crates are
+proved. The commands of `rt` do not use the builds of `rt ci` and would prove the libraries again, so this module
+calls `rattle` directly, with flags that its `--help` lists. If the variable is not set, or `rt ci` left no builds,
+`rt lib` builds the libraries that are not up to date.
 
 Needs Python 3.9 or later and the kit.
 """
@@ -23,8 +28,8 @@ CI_OUTPUT_VARIABLE = "MINISIGN_RT_CI"
 WASM = "wasm64-unknown-unknown"
 # The verdict line of each static library that this process built, by the name of the crate.
 verdicts = {}
-# The outputs of finished runs of `rt ci` that were passed to `use_ci_output`.
-given_outputs = []
+# The outputs of `rt ci` that were passed to `use_ci_output`. They replace the file that MINISIGN_RT_CI names.
+ci_outputs = []
 
 
 class NotBuilt(Exception):
@@ -32,20 +37,22 @@ class NotBuilt(Exception):
 
 
 class Crate:
-    """A crate in crates.txt.
+    """A crate in crates.txt, parsed from its line there.
 
     `options` are the words after its name, such as `staticlib`. `direct_dependencies` are the crates of the
     repository that its line names, and `kit_dependencies` the kit's crates that it uses. `dependencies` are all
-    crates of the repository that it depends on, directly or indirectly, each after its own dependencies."""
+    crates of the repository that it depends on, directly or indirectly, each after its own dependencies.
+
+    The parameter `crates` maps names to the crates that `line` may name. All other names are crates of the kit."""
 
     def __init__(self, line, crates):
-        left, _, right = line.partition(":")
-        self.name, *self.options = left.split()
-        named = right.split()
-        self.direct_dependencies = [name for name in named if name in crates]
-        self.kit_dependencies = ["std", *(name for name in named if name not in crates)]
+        name_and_options, _, dependencies = line.partition(":")
+        self.name, *self.options = name_and_options.split()
+        names = dependencies.split()
+        self.direct_dependencies = [name for name in names if name in crates]
+        self.kit_dependencies = ["std", *(name for name in names if name not in crates)]
         self.dependencies = list(
-            dict.fromkeys(name for each in self.direct_dependencies for name in (*crates[each].dependencies, each))
+            dict.fromkeys(name for crate in self.direct_dependencies for name in (*crates[crate].dependencies, crate))
         )
 
 
@@ -54,52 +61,52 @@ def crates():
     """Maps the name of each crate in crates.txt to its `Crate`. Each crate follows its dependencies."""
     with open(f"{ROOT}/crates.txt", encoding="utf-8") as file:
         lines = {line.partition(":")[0].split()[0]: line for line in file if ":" in line.partition("#")[0]}
-    named = {name: [each for each in line.partition(":")[2].split() if each in lines] for name, line in lines.items()}
+    dependencies = {name: [word for word in line.partition(":")[2].split() if word in lines] for name, line in lines.items()}
     sorted_crates = {}
-    for name in graphlib.TopologicalSorter(named).static_order():
+    for name in graphlib.TopologicalSorter(dependencies).static_order():
         sorted_crates[name] = Crate(lines[name], sorted_crates)
     return sorted_crates
 
 
 @functools.lru_cache(maxsize=None)
 def kit():
-    """Returns the directory of the kit."""
-    ran = subprocess.run(["rt", "doc"], stdout=subprocess.PIPE, check=True)
-    return os.path.dirname(os.path.realpath(ran.stdout.decode().strip()))
+    """Returns the directory in which the kit is installed."""
+    process = subprocess.run(["rt", "doc"], stdout=subprocess.PIPE, check=True)
+    return os.path.dirname(os.path.realpath(process.stdout.decode().strip()))
 
 
 def use_ci_output(path):
-    """Makes this module use the builds of a finished `rt ci`, whose output is in this file."""
+    """Makes this module use the builds that `rt ci` left. `path` is a file with the output of `rt ci`."""
     with open(path, encoding="utf-8", errors="replace") as file:
-        given_outputs.append(file.read())
+        ci_outputs.append(file.read())
 
 
 def ci_output():
     """Returns the output of `rt ci`, or an empty string if this script does not run after `rt ci`."""
-    if given_outputs or not os.environ.get(CI_OUTPUT_VARIABLE):
-        return "".join(given_outputs)
+    if ci_outputs or not os.environ.get(CI_OUTPUT_VARIABLE):
+        return "".join(ci_outputs)
     with open(os.environ[CI_OUTPUT_VARIABLE], encoding="utf-8", errors="replace") as file:
         return file.read()
 
 
 def were_proved(names):
-    """Returns true if `rt ci` reported all of these crates as proved. (Some kits report `is kept` if an earlier run
-    proved a crate.)"""
+    """Returns true if the output of `rt ci` says that all of these crates are proved. (For a crate that an earlier run
+    proved, some kits print `is kept` instead of `proved`.)"""
     output = ci_output()
     return all(re.search(rf"(?m)^rt: {name} (proved$|is kept: )", output) for name in names)
 
 
 def functions_of(crate, output):
-    """Returns the functions of a crate that the prover reported as proved in this output."""
+    """Returns the paths of the functions of a crate that are proved according to this output of the prover."""
     return re.findall(rf"(?m)^fn {crate}::(\S+): proved$", output)
 
 
 def built_library(library):
-    """Returns the path of a built library, which is a directory."""
+    """Returns the path at which a library is built. A built library is a directory, although its name ends with .rlib."""
     return f"{ROOT}/crates/{library}/out/rlib/{library}.rlib"
 
 
-def are_built(libraries):
+def ci_left_builds(libraries):
     """Returns true if `rt ci` proved these libraries and left them built. Builds with a file `stamp` are not used:
     `rt ci` may have restored them from an earlier check, possibly of different sources."""
     paths = [built_library(library) for library in libraries]
@@ -108,17 +115,17 @@ def are_built(libraries):
 
 
 def build_libraries(libraries):
-    """Builds the libraries unless `rt ci` left them built. Returns an empty string, or the error if a library could
-    not be proved."""
-    for library in [] if are_built(libraries) else libraries:
-        ran = run(["rt", "lib"], f"{ROOT}/crates/{library}")
-        if ran.returncode:
-            return f"{library}: {first_error(ran.stdout)}"
+    """Proves and builds these libraries, which takes minutes, unless `rt ci` left them built. Returns an empty string,
+    or the first error if a library could not be proved."""
+    for library in [] if ci_left_builds(libraries) else libraries:
+        process = run(["rt", "lib"], f"{ROOT}/crates/{library}")
+        if process.returncode:
+            return f"{library}: {first_error(process.stdout)}"
     return ""
 
 
 def run(command, directory):
-    """Runs a command in a directory. Returns the finished process, with standard error merged into `stdout`."""
+    """Runs a command in a directory. Returns the finished process, with standard error merged into its `stdout`."""
     return subprocess.run(command, cwd=directory, stdin=subprocess.DEVNULL, stdout=subprocess.PIPE, stderr=subprocess.STDOUT,
                           errors="replace")
 
@@ -130,18 +137,20 @@ def first_error(output):
 
 
 def rattle(verb, name, directory, *flags, before=(), crate=None):
-    """Runs the prover's command `verb`, which is check or build, on a crate whose files are in this directory. The
-    libraries that it depends on must be built. `crate` must be given if the crate is not in crates.txt. `before` is
-    put in front of the command."""
+    """Runs `rattle check` or `rattle build` on a crate and returns the finished process.
+
+    `verb` is `check` or `build`. `directory` has the files of the crate, for example a changed copy of them. The
+    libraries that the crate depends on must be built. `flags` are added to the command. `before` are words in front
+    of the command, such as `nice`. `crate` is the `Crate` if it is not in crates.txt under this name."""
     crate = crate or crates()[name]
     root = next(name for name in ("src/main.rt", "src/lib.rt") if os.path.exists(f"{directory}/{name}"))
     arguments = ["--crate-name", name, root, "-L", f"dependency={kit()}/rlibs"]
-    for each in crate.kit_dependencies:
-        arguments += ["--extern", f"{each}={kit()}/rlibs/{each}.rlib"]
-    for each in crate.direct_dependencies:
-        arguments += ["--extern", f"{each}={built_library(each)}"]
-    for each in crate.dependencies:
-        arguments += ["-L", f"dependency={os.path.dirname(built_library(each))}"]
+    for dependency in crate.kit_dependencies:
+        arguments += ["--extern", f"{dependency}={kit()}/rlibs/{dependency}.rlib"]
+    for dependency in crate.direct_dependencies:
+        arguments += ["--extern", f"{dependency}={built_library(dependency)}"]
+    for dependency in crate.dependencies:
+        arguments += ["-L", f"dependency={os.path.dirname(built_library(dependency))}"]
     if "staticlib" in crate.options:
         arguments += ["--crate-type", "staticlib"]
     arguments += ["--antt-project", f"{kit()}/rattle/logic/antt-project.json", "--logic-built", f"{kit()}/logic_built"]
@@ -154,25 +163,28 @@ def toolchain():
 
 
 def build_archive(name, archive, *flags, compilers=None):
-    """Proves a static library, builds its archive with LLVM, and returns the prover's verdict line."""
+    """Proves a crate, builds it as a static library with LLVM, and returns the prover's verdict line.
+
+    `name` is the crate, `archive` the path of the static library, and `compilers` the directory of the compilers, by
+    default that of the kit. `flags` are added to the command. Raises `NotBuilt` if a proof or the build fails."""
     error = build_libraries(crates()[name].dependencies)
     if error:
         raise NotBuilt(error)
     os.makedirs(os.path.dirname(archive), exist_ok=True)
     options = ["--toolchain", compilers or toolchain(), "--backend", "llvm", *flags, "-o", archive]
-    ran = rattle("build", name, f"{ROOT}/crates/{name}", *options)
-    require_success(ran, name)
-    verdicts[name] = re.findall(r"(?m)^logic=proved .*$", ran.stdout)[-1]
+    process = rattle("build", name, f"{ROOT}/crates/{name}", *options)
+    require_success(process, name)
+    verdicts[name] = re.findall(r"(?m)^logic=proved .*$", process.stdout)[-1]
     return verdicts[name]
 
 
 def link_module(archive, module, memory):
-    """Links a static library for WebAssembly into a module with `memory` bytes of memory."""
+    """Links a static library for WebAssembly into a module, at the path `module`, with `memory` bytes of memory."""
     options = ["--target", WASM, "--toolchain", toolchain(), "--memory", str(memory), "-o", module, archive]
     require_success(run([f"{kit()}/bin/rattle-link", *options], ROOT), module)
 
 
-def require_success(ran, what):
-    """Raises `NotBuilt` if a build command failed. `what` is what it should have built."""
-    if ran.returncode:
-        raise NotBuilt(f"{what} was not built: {ran.stdout[-1000:]}")
+def require_success(process, product):
+    """Raises `NotBuilt` if a build command failed. `product` names what the command builds."""
+    if process.returncode:
+        raise NotBuilt(f"{product} was not built: {process.stdout[-1000:]}")

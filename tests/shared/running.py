@@ -254,7 +254,7 @@ class Runner(Program):
     def run_each(self, case, calls, error, **variables):
         """Runs a case repeatedly, each time with another of these calls failing with this errno."""
         def failure_of(number, directory, report):
-            environment = self.fault_environment(CALLS=calls, ERRNO=error, AT=number, SAYS=report, **variables)
+            environment = self.fault_environment(CALLS=calls, ERRNO=error, AT=number, REPORT_TO=report, **variables)
             try:
                 self.run_in(directory, case, environment, [report])
             except Failure as failure:
@@ -517,8 +517,8 @@ def write_and_close(pipe, data):
 def compare(case, status, streams):
     """Raises a `Failure` unless exit status, standard error and standard output are those that the case expects."""
     writes, output = streams.writes(), streams.output()
-    ended = f"exit status {status}" if status >= 0 else signal.Signals(-status).name
-    expect(status == case.status, f"{ended}, expected exit status {case.status}; stderr: {writes}")
+    outcome = f"exit status {status}" if status >= 0 else signal.Signals(-status).name
+    expect(status == case.status, f"{outcome}, expected exit status {case.status}; stderr: {writes}")
     expect(writes in (case.lines.choices if isinstance(case.lines, OneOf) else (case.lines,)),
            f"stderr {writes}, expected {case.lines}")
     if isinstance(case.output, PrefixOf):
@@ -581,8 +581,8 @@ def build_preload(directory, name, only_in=None):
     library, source = os.path.join(directory, f"{name}.so"), os.path.join(HERE, f"{name}.c")
     macros = [f'-DONLY_IN="{only_in}"'] if only_in else []
     command = [needs.c_compiler(), "-shared", "-fPIC", "-O1", "-I", directory, "-o", library, *macros, source, "-ldl"]
-    finished = subprocess.run(command, stderr=subprocess.PIPE)
-    if finished.returncode:
-        raise needs.Missing(f"{name}.c was not compiled: {finished.stderr.decode(errors='replace')[-300:]}")
+    process = subprocess.run(command, stderr=subprocess.PIPE)
+    if process.returncode:
+        raise needs.Missing(f"{name}.c was not compiled: {process.stderr.decode(errors='replace')[-300:]}")
     os.chmod(library, 0o755)
     return library

@@ -55,24 +55,24 @@ def cached_object(variables, reuse=True):
     build it. If the cache does not have it, the object file that make has built is added to the cache. A lock
     prevents other scripts from building the same file meanwhile."""
     out = os.path.join(DIRECTORY, variables.get("OUT", ""))
-    built = os.path.join(out, "portable-calls.o")
+    object_path = os.path.join(out, "portable-calls.o")
     # make does not compile dist/calls.c with C_CALLS, if the object file exists, or for the targets of calls without OUT.
-    if "OUT" not in variables or "C_CALLS" in variables or os.path.exists(built):
+    if "OUT" not in variables or "C_CALLS" in variables or os.path.exists(object_path):
         yield
         return
     os.makedirs(OBJECT_CACHE, exist_ok=True)
-    cached = os.path.join(OBJECT_CACHE, f"{object_digest(variables)}.o")
-    with open(f"{cached}.lock", "w", encoding="ascii") as lock:
+    cached_path = os.path.join(OBJECT_CACHE, f"{object_digest(variables)}.o")
+    with open(f"{cached_path}.lock", "w", encoding="ascii") as lock:
         fcntl.flock(lock, fcntl.LOCK_EX)
-        if os.path.exists(cached):
+        if os.path.exists(cached_path):
             fcntl.flock(lock, fcntl.LOCK_UN)
             if reuse:
                 os.makedirs(out, exist_ok=True)
-                shutil.copyfile(cached, built)
+                shutil.copyfile(cached_path, object_path)
         yield
-        if not os.path.exists(cached) and os.path.exists(built):
-            shutil.copyfile(built, f"{cached}.new")
-            os.replace(f"{cached}.new", cached)
+        if not os.path.exists(cached_path) and os.path.exists(object_path):
+            shutil.copyfile(object_path, f"{cached_path}.new")
+            os.replace(f"{cached_path}.new", cached_path)
 
 
 def run_or_fail(command, directory=None, seconds=SECONDS, **environment):

@@ -64,10 +64,10 @@ def text_of(record, comment=b"minisign encrypted secret key"):
     return join_lines([b"untrusted comment: " + comment, base64.b64encode(record)])
 
 
-def flip_bit(data, at=-1):
+def flip_bit(data, position=-1):
     """Returns the data with the lowest bit of one byte flipped, by default of the last byte."""
-    at %= len(data)
-    return data[:at] + bytes([data[at] ^ 1]) + data[at + 1:]
+    position %= len(data)
+    return data[:position] + bytes([data[position] ^ 1]) + data[position + 1:]
 
 
 # ---- Records of secret keys ----

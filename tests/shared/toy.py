@@ -9,6 +9,7 @@ import struct
 from dataclasses import dataclass
 
 import texts
+# Callers use flip_bit and key_stream as `toy.flip_bit` and `toy.key_stream`.
 from texts import Limits, flip_bit, join_lines, key_stream, text_of
 
 # Messages of `minisign_tool`.
@@ -33,8 +34,8 @@ OTHER_KEYNUM = bytes.fromhex("1fe8b442180f62e7")
 def fold(message):
     """Returns the XOR of the 32-byte blocks of a message, of which the last one is padded with zeros."""
     folded = 0
-    for at in range(0, len(message), 32):
-        folded ^= int.from_bytes(message[at:at + 32], "little")
+    for begin in range(0, len(message), 32):
+        folded ^= int.from_bytes(message[begin:begin + 32], "little")
     return folded.to_bytes(32, "little")
 
 
@@ -89,11 +90,11 @@ class Key:
     def public_record(self):
         return b"Ed" + self.keynum + self.public
 
-    def record(self, derivation=NOT_ENCRYPTED, limits=NO_LIMITS, salt=bytes(32), other=None):
-        """Returns the unencrypted record. `other` replaces the right checksum."""
+    def record(self, derivation=NOT_ENCRYPTED, limits=NO_LIMITS, salt=bytes(32), checksum=None):
+        """Returns the unencrypted record. `checksum` replaces the right one."""
         packed = struct.pack("<QQ", limits.operations, limits.memory)
         record = b"Ed" + derivation + b"B2" + salt + packed + self.keynum + self.seed + self.public
-        return record + (other or texts.checksum_of(record))
+        return record + (checksum or texts.checksum_of(record))
 
     def sealed(self, password, limits=USUAL_LIMITS, salt=bytes(range(32))):
         """Returns the record encrypted with a password."""

@@ -29,22 +29,23 @@ COUNTED_PUBLIC = b"""untrusted comment: minisign public key: 2726252423222120
 RWQgISIjJCUmJ1pbWFleX1xdUlNQUVZXVFVKS0hJTk9MTUJDQEFGR0RF
 """
 COUNTED_SECRET = b"""untrusted comment: rsign encrypted secret key
-RWRTY0IyKCkqKywtLi8wMTIzNDU2Nzg5Ojs8PT4/QEFCQ0RFRkcAABAAAAAAAAAAAAIAAAAAXsrUPdVfRwB5KzWs1gxMpeWRV1NwSl+wvS3yfJHSuB4R/Pz7fjWZ0NuIvbOTYzc06tcjZcma8YW35LizX+hn4HmrLBaZfd3HwOv+fYOu+VKlFvoXb5KyfQcAcM++/0OlXTsF5mCWdJA=
+RWRTY0IyKCkqKywtLi8wMTIzNDU2Nzg5Ojs8PT4/QEFCQ0RFRkcAABAAAAAAAAAAAAIAAAAAXsrUPdVfRwB5KzWs1gxMpeWRV1NwSl+wvS\
+3yfJHSuB4R/Pz7fjWZ0NuIvbOTYzc06tcjZcma8YW35LizX+hn4HmrLBaZfd3HwOv+fYOu+VKlFvoXb5KyfQcAcM++/0OlXTsF5mCWdJA=
 """
 
 # The key IDs of all generated keys, which have to differ.
-MADE_BEFORE = set()
+EARLIER_KEY_IDS = set()
 
 
-def pair(password=b"p", public_mode=0o644, secret_mode=0o600, names=(PK, SK), links=()):
-    """Expects the two files of a key pair with these modes. The password must decrypt the secret key. `links` are links that must exist
-    too."""
+def leaves_pair(password=b"p", public_mode=0o644, secret_mode=0o600, names=(PK, SK), links=()):
+    """Expects the two files of a key pair with these modes. The password must decrypt the secret key. `links` are links
+    that must exist too."""
     files = {**dict(links), **dict.fromkeys(names, bytes)}
     return ExpectedFiles(files, dict(zip(names, (public_mode, secret_mode))),
-                  check=lambda left: check_pair(password, *(left[name][1] for name in names)))
+                         check=lambda files_after: check_pair(password, *(files_after[name][1] for name in names)))
 
 
-def one_file(name, links):
+def leaves_one_key(name, links):
     """Expects a secret key in this file, which only its owner may read, and these links to it."""
     return ExpectedFiles({**links, name: check_secret}, {name: 0o600})
 
@@ -73,10 +74,10 @@ def check_pair(password, public_text, secret_text):
     public = toy.public_text(key.keynum, key.public)
     expect(public_text == public, f"the public key is {public_text!r}, that of the secret key is {public!r}")
     expect(
-        key.keynum not in MADE_BEFORE and salt != key.seed,
+        key.keynum not in EARLIER_KEY_IDS and salt != key.seed,
         f"random bytes occur twice: key ID {key.keynum.hex()}, salt {salt.hex()}",
     )
-    MADE_BEFORE.add(key.keynum)
+    EARLIER_KEY_IDS.add(key.keynum)
 
 
 def keygen(
@@ -92,9 +93,9 @@ def keygen(
     return command_case(name, ["keygen", *arguments], lines, stdin=typed, output=output, check_directory=check_directory, **changes)
 
 
-def generated(name, password=b"p", lines=(), **changes):
+def successful_keygen(name, password=b"p", lines=(), **changes):
     """Returns a case in which a pair is generated. By default the password is typed twice."""
-    return keygen(name, *lines, **{"typed": (password + b"\n") * 2, "check_directory": pair(password), **changes})
+    return keygen(name, *lines, **{"typed": (password + b"\n") * 2, "check_directory": leaves_pair(password), **changes})
 
 
 LONGEST, TOO_MUCH = b"x" * 1024, b"x" * 1025
@@ -132,17 +133,17 @@ WITH_STREAMS = [
 ]
 
 CASES = [
-    generated("a password"),
-    generated("an empty password", b"", output=EMPTY),
-    generated("the longest password", LONGEST),
-    generated("the longest password without the last line feed", LONGEST, typed=LONGEST + b"\n" + LONGEST),
-    generated("lines that end with carriage return and line feed", typed=b"p\r\np\r\n"),
-    generated("the longest password before carriage return and line feed", LONGEST, typed=(LONGEST + b"\r\n") * 2),
-    generated("a carriage return before the end of the input", b"\r", typed=b"\r\r\n\r"),
-    generated("characters of several bytes", "\u00e4\U0001f511 \u0000".encode()),
-    generated("spaces at both ends", b" p "),
-    generated("input byte by byte", typed=Pieces((b"p", b"\n", b"p", b"\n"))),
-    generated("input from a file", typed=FromFile(b"p\np\nnever read")),
+    successful_keygen("a password"),
+    successful_keygen("an empty password", b"", output=EMPTY),
+    successful_keygen("the longest password", LONGEST),
+    successful_keygen("the longest password without the last line feed", LONGEST, typed=LONGEST + b"\n" + LONGEST),
+    successful_keygen("lines that end with carriage return and line feed", typed=b"p\r\np\r\n"),
+    successful_keygen("the longest password before carriage return and line feed", LONGEST, typed=(LONGEST + b"\r\n") * 2),
+    successful_keygen("a carriage return before the end of the input", b"\r", typed=b"\r\r\n\r"),
+    successful_keygen("characters of several bytes", "\u00e4\U0001f511 \u0000".encode()),
+    successful_keygen("spaces at both ends", b" p "),
+    successful_keygen("input byte by byte", typed=Pieces((b"p", b"\n", b"p", b"\n"))),
+    successful_keygen("input from a file", typed=FromFile(b"p\np\nnever read")),
     *(keygen(name, line, typed=typed, output=FIRST_PROMPT) for name, typed, line in NO_PASSWORD),
     *(keygen(name, line, typed=typed, output=BOTH_PROMPTS) for name, typed, line in (
         ("two passwords that differ", b"a\nb\n", DIFFERENT),
@@ -156,7 +157,7 @@ CASES = [
     keygen("two passwords that differ, and files that exist", DIFFERENT, **DIFFER, **TO_OLDER),
     # Known random bytes determine both files. If there are too few, nothing is asked.
     *(
-        generated(
+        successful_keygen(
             f"{random} random bytes, which count up",
             random_and_time=RandomAndTime(random_bytes=random),
             check_directory=ExpectedFiles({PK: COUNTED_PUBLIC, SK: COUNTED_SECRET}),
@@ -175,8 +176,8 @@ CASES = [
     ),
     # At a terminal, each line is typed when the program asks for it, and not echoed unless a case says so. Control-D
     # ends the input.
-    generated("at a terminal", typed=AT_TERMINAL),
-    generated(
+    successful_keygen("at a terminal", typed=AT_TERMINAL),
+    successful_keygen(
         "at a terminal that shows what is typed",
         typed=TypedInput((b"p\n", b"p\n"), echoes=True),
         output=b"".join(
@@ -184,12 +185,12 @@ CASES = [
             for part in (FIRST_PROMPT, b"p\n", BOTH_PROMPTS[len(FIRST_PROMPT) :], b"p\n", DERIVING)
         ),
     ),
-    generated("an empty password at a terminal", b"", typed=TypedInput((b"\n", b"\n")), output=EMPTY),
-    generated("the longest password at a terminal", LONGEST, typed=TypedInput((LONGEST + b"\n",) * 2)),
-    generated("the last line without a line feed at a terminal", b"p", typed=TypedInput((b"p\n", b"p\x04\x04"))),
+    successful_keygen("an empty password at a terminal", b"", typed=TypedInput((b"\n", b"\n")), output=EMPTY),
+    successful_keygen("the longest password at a terminal", LONGEST, typed=TypedInput((LONGEST + b"\n",) * 2)),
+    successful_keygen("the last line without a line feed at a terminal", b"p", typed=TypedInput((b"p\n", b"p\x04\x04"))),
     # Existing files are replaced and keep their modes, except for permissions that the group has and all others do not. Links are
     # followed: the target is replaced, and the link is unchanged.
-    *(generated(name, files=files, check_directory=pair(b"p", *modes)) for name, files, *modes in (
+    *(successful_keygen(name, files=files, check_directory=leaves_pair(b"p", *modes)) for name, files, *modes in (
         ("files that exist", {PK: LONGER, SK: LONGER}, 0o644, 0o644),
         ("a public file that exists", {PK: b""}, 0o644, 0o600),
         ("a secret file that exists", {SK: LONGER}, 0o644, 0o644),
@@ -204,13 +205,13 @@ CASES = [
         ("files with access control lists",
          {PK: WithMode(LONGER, 0o644, "g::---,u:65534:rw"), SK: WithMode(LONGER, 0o600, "u:65534:rw")}, 0o644, 0o600),
         ("files that exist and can only be written", {PK: WithMode(LONGER, 0o200), SK: WithMode(LONGER, 0o200)}, 0o200, 0o200))),
-    generated("a umask without permission to write", umask=0o222, check_directory=pair(b"p", 0o444, 0o400)),
-    generated("paths that begin with ./", arguments=("./" + PK, "././" + SK)),
+    successful_keygen("a umask without permission to write", umask=0o222, check_directory=leaves_pair(b"p", 0o444, 0o400)),
+    successful_keygen("paths that begin with ./", arguments=("./" + PK, "././" + SK)),
     *(
-        generated(
+        successful_keygen(
             name,
             files={"kept": DIRECTORY, **files, **links},
-            check_directory=pair(b"p", *modes, ("kept/public", "kept/secret"), links),
+            check_directory=leaves_pair(b"p", *modes, ("kept/public", "kept/secret"), links),
         )
         for name, links, files, *modes in (
             ("links to files", LINKS, {"kept/public": OLDER_FILE, "kept/secret": OLDER_FILE}, 0o604, 0o604),
@@ -221,8 +222,9 @@ CASES = [
     ),
     # If both paths lead to the same file, it is the secret key in the end, and only its owner may read it, whatever the
     # mode of the old file. If the paths are two hard links of a file, each becomes a separate file.
-    *(generated(f"{name}, and a umask of {umask:o}", arguments=arguments, files=files, umask=umask,
-           check_directory=one_file(shared, files) if shared else pair(b"p", 0o644 if files else 0o666 & ~umask, 0o600))
+    *(successful_keygen(f"{name}, and a umask of {umask:o}", arguments=arguments, files=files, umask=umask,
+                        check_directory=(leaves_one_key(shared, files) if shared else
+                                         leaves_pair(b"p", 0o644 if files else 0o666 & ~umask, 0o600)))
       for umask in (0o000, 0o022, 0o077)
       for name, arguments, shared, files in (
           ("one path twice", (SK, SK), SK, {}),
@@ -245,7 +247,7 @@ CASES = [
             arguments=arguments,
             files=files,
             check_directory=ExpectedFiles(
-                {path: held.data if isinstance(held, WithMode) else held for path, held in files.items()}
+                {path: content.data if isinstance(content, WithMode) else content for path, content in files.items()}
             ),
         )
         for name, arguments, files in (
@@ -269,9 +271,9 @@ CASES = [
         )
     ),
     # Named pipes are written directly, the public key's first. The first failed write ends the run; a failed message has no effect.
-    generated("keys into pipes", files={**PUBLIC_PIPE, **SECRET_PIPE}, **INTO_PIPES),
-    generated("keys into pipes, stderr takes five bytes", lines=["warni"], files={**PUBLIC_PIPE, **SECRET_PIPE}, typed=AT_TERMINAL,
-         stderr=SizeLimit(5), **INTO_PIPES),
+    successful_keygen("keys into pipes", files={**PUBLIC_PIPE, **SECRET_PIPE}, **INTO_PIPES),
+    successful_keygen("keys into pipes, stderr takes five bytes", lines=["warni"], files={**PUBLIC_PIPE, **SECRET_PIPE},
+                      typed=AT_TERMINAL, stderr=SizeLimit(5), **INTO_PIPES),
     keygen("no room for the public key, and the secret key into a pipe", WRITING_FAILED,
            files=EMPTY_PIPE, arguments=(FULL_DEVICE, SK), **INTO_PIPES),
     keygen("the public key into a pipe, and no room for the secret key", WRITING_FAILED,
@@ -284,7 +286,7 @@ CASES = [
     *without_stderr(
         [
             *WITH_STREAMS,
-            generated("a password"),
+            successful_keygen("a password"),
             keygen("two passwords that differ", DIFFERENT, **DIFFER, **TO_OLDER),
             keygen(
                 "no room for the secret key",

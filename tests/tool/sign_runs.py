@@ -11,7 +11,7 @@ from keygen_runs import FULL_DEVICE, LONGEST, GENERATED_OUTPUT, NO_PASSWORD, PK,
 from running import (CLOSED, DIRECTORY, FULL, MISSING, READ_ONLY_DIRECTORY, WRITE_ONLY, Case, FromFile, HardLink,
                      InputPipe, OneOf, Pieces, PrefixOf, RandomAndTime, SizeLimit, ToFile, TypedInput, WithMode,
                      expect)
-from tool_cases import ExpectedFiles, command_case, in_order, opening, out_of_memory, without_stderr
+from tool_cases import ExpectedFiles, command_case, ordering_cases, opening_phase, out_of_memory, without_stderr
 from toy import NOT_UTF8, OUT_OF_MEMORY, READING_FAILED, TOO_SHORT, WARNING, WRITING_FAILED
 from verify_runs import LARGE, LENGTHS, REJECTED, TEXT_NOT_UTF8, VERIFIED_RAW
 
@@ -30,10 +30,10 @@ SEALED_KEY = toy.sealed_text(b"p")
 KEY_WITHOUT_LIMITS = toy.secret_text(toy.KEY_A.sealed(b"p", toy.Limits(0, 0, 2, 512)))
 
 # The random bytes in all signatures of earlier cases, which have to differ.
-DRAWN_BEFORE = set()
+EARLIER_RANDOM_BYTES = set()
 
 
-def signed(data=b"abc", name=SIG, mode=0o644):
+def leaves_valid_signature(data=b"abc", name=SIG, mode=0o644):
     """Expects a signature file for the data, with the default comments."""
     return ExpectedFiles({name: lambda text: check_signature(data, text)}, {name: mode}, optional={SK, FILE} - {name})
 
@@ -57,12 +57,12 @@ def check_signature(data, text):
     seconds, expected = int(third.rpartition(b":")[2]), signed_at(int(third.rpartition(b":")[2]), data, *halves)
     expect(text == expected, f"the signature is {text!r}, expected {expected!r}")
     expect(abs(seconds - time.time()) <= 60, f"the signature's timestamp is {seconds}, and it is {time.time()}")
-    drawn = {*halves}
+    random_bytes = {*halves}
     expect(
-        len(drawn) == 2 and not drawn & DRAWN_BEFORE and bytes(32) not in drawn,
+        len(random_bytes) == 2 and not random_bytes & EARLIER_RANDOM_BYTES and bytes(32) not in random_bytes,
         f"random bytes occur twice, or are zeros: {text!r}",
     )
-    DRAWN_BEFORE.update(drawn)
+    EARLIER_RANDOM_BYTES.update(random_bytes)
 
 
 # An existing signature that is not changed.
@@ -71,7 +71,7 @@ OVER_OLDER = {"files": {SIG: b"older"}, "check_directory": leaves_signature(b"ol
 
 def sign(name, *lines, files=None, arguments=(SK, FILE, SIG), **changes):
     """Returns a case of `sign`, by default with an unencrypted key and the data `abc`. If it fails, no signature may be left."""
-    expected = leaves_signature() if lines and lines[-1].startswith("error: ") else signed()
+    expected = leaves_signature() if lines and lines[-1].startswith("error: ") else leaves_valid_signature()
     return command_case(
         name,
         ["sign", *arguments],
@@ -81,7 +81,7 @@ def sign(name, *lines, files=None, arguments=(SK, FILE, SIG), **changes):
     )
 
 
-def sealed(name, *lines, key=SEALED_KEY, typed=b"p\n", output=OPENED, files=None, **changes):
+def sign_with_sealed_key(name, *lines, key=SEALED_KEY, typed=b"p\n", output=OPENED, files=None, **changes):
     """Returns a case with an encrypted key, by default with the password `p`, which is typed."""
     return sign(name, *lines, files={SK: key, **(files or {})}, stdin=typed, output=output, **changes)
 
@@ -92,10 +92,10 @@ LONGER = b"older\n" * 200
 # The files are opened in the order of the arguments, and nothing is read or asked before both are open. The key file is
 # read completely and has to be UTF-8. A bad key is rejected before the password is asked for and before data is read.
 # The signature file is opened last.
-ORDER = list(in_order(
+ORDER = list(ordering_cases(
     sign,
-    opening(SK, "key", OPEN_KEY),
-    opening(FILE, "data", b"abc"),
+    opening_phase(SK, "key", OPEN_KEY),
+    opening_phase(FILE, "data", b"abc"),
     (
         SK,
         [
@@ -126,14 +126,14 @@ ORDER = list(in_order(
 WITH_STREAMS = [
     *(
         sign(
-            f"{what}, stdin {stdin or 'empty'}, stdout {stdout or 'open'}",
+            f"{title}, stdin {stdin or 'empty'}, stdout {stdout or 'open'}",
             *lines,
             stdin=stdin,
             stdout=stdout,
             **changes,
         )
         for stdin, stdout in [(b"", None), (CLOSED, None), (b"", CLOSED), (CLOSED, CLOSED), (b"", FULL)]
-        for what, changes, *lines in (
+        for title, changes, *lines in (
             ("an unencrypted key", {}),
             (
                 "a directory as data",
@@ -144,7 +144,7 @@ WITH_STREAMS = [
         )
     ),
     *(
-        sealed(
+        sign_with_sealed_key(
             f"an encrypted key, stdin {typed}, stdout {stdout or 'open'}",
             line,
             typed=typed,
@@ -185,26 +185,28 @@ WHOLE_WAY = Case(
 )
 
 CASES = [
-    *(sign(f"data of {len(data)} bytes", files={FILE: data}, check_directory=signed(data)) for data in map(toy.some_data, LENGTHS)),
+    *(sign(f"data of {len(data)} bytes", files={FILE: data}, check_directory=leaves_valid_signature(data))
+      for data in map(toy.some_data, LENGTHS)),
     sign("data from a pipe", files={FILE: InputPipe(b"abc")}),
-    sign("large data from a pipe", files={FILE: InputPipe(LARGE)}, check_directory=signed(LARGE)),
+    sign("large data from a pipe", files={FILE: InputPipe(LARGE)}, check_directory=leaves_valid_signature(LARGE)),
     sign("a key from a pipe", files={SK: InputPipe(OPEN_KEY)}),
-    sealed("a directory as data, and an encrypted key", READING_FAILED, files={FILE: DIRECTORY}),
-    sealed("a directory as data, and a wrong password", WRONG_PASSWORD, typed=b"q\n", files={FILE: DIRECTORY}),
-    sealed("a password"),
-    sealed("an empty password", key=toy.sealed_text(b""), typed=b"\n", output=OPENED_EMPTY),
-    sealed("the longest password", key=toy.sealed_text(LONGEST), typed=LONGEST + b"\r\n"),
-    sealed("characters of several bytes", key=toy.sealed_text(WIDE), typed=WIDE + b"\n"),
-    sealed("a password byte by byte", typed=Pieces((b"p", b"\r", b"\n"))),
-    sealed("a password from a file", typed=FromFile(b"p\nnever read")),
-    sealed("a password without a line feed", typed=b"p"),
-    sealed("at a terminal", typed=TypedInput((b"p\n",))),
-    sealed("an empty password at a terminal", key=toy.sealed_text(b""), typed=TypedInput((b"\n",)), output=OPENED_EMPTY),
-    sealed("a wrong password", WRONG_PASSWORD, typed=b"q\n"),
-    sealed("a wrong password at a terminal", WRONG_PASSWORD, typed=TypedInput((b"q\n",))),
-    sealed("an empty password for a key with a password", WRONG_PASSWORD, typed=b"\n", output=OPENED_EMPTY),
-    sealed("a wrong password, and a signature that exists", WRONG_PASSWORD, typed=b"q\n", **OVER_OLDER),
-    *(sealed(name, line, typed=typed, output=PROMPT) for name, typed, line in NO_PASSWORD),
+    sign_with_sealed_key("a directory as data, and an encrypted key", READING_FAILED, files={FILE: DIRECTORY}),
+    sign_with_sealed_key("a directory as data, and a wrong password", WRONG_PASSWORD, typed=b"q\n", files={FILE: DIRECTORY}),
+    sign_with_sealed_key("a password"),
+    sign_with_sealed_key("an empty password", key=toy.sealed_text(b""), typed=b"\n", output=OPENED_EMPTY),
+    sign_with_sealed_key("the longest password", key=toy.sealed_text(LONGEST), typed=LONGEST + b"\r\n"),
+    sign_with_sealed_key("characters of several bytes", key=toy.sealed_text(WIDE), typed=WIDE + b"\n"),
+    sign_with_sealed_key("a password byte by byte", typed=Pieces((b"p", b"\r", b"\n"))),
+    sign_with_sealed_key("a password from a file", typed=FromFile(b"p\nnever read")),
+    sign_with_sealed_key("a password without a line feed", typed=b"p"),
+    sign_with_sealed_key("at a terminal", typed=TypedInput((b"p\n",))),
+    sign_with_sealed_key("an empty password at a terminal", key=toy.sealed_text(b""), typed=TypedInput((b"\n",)),
+                         output=OPENED_EMPTY),
+    sign_with_sealed_key("a wrong password", WRONG_PASSWORD, typed=b"q\n"),
+    sign_with_sealed_key("a wrong password at a terminal", WRONG_PASSWORD, typed=TypedInput((b"q\n",))),
+    sign_with_sealed_key("an empty password for a key with a password", WRONG_PASSWORD, typed=b"\n", output=OPENED_EMPTY),
+    sign_with_sealed_key("a wrong password, and a signature that exists", WRONG_PASSWORD, typed=b"q\n", **OVER_OLDER),
+    *(sign_with_sealed_key(name, line, typed=typed, output=PROMPT) for name, typed, line in NO_PASSWORD),
     sign("an unencrypted key, and an input that cannot be read", stdin=WRITE_ONLY),
     *ORDER,
     *(
@@ -216,14 +218,15 @@ CASES = [
         )
         for case in ORDER
     ),
-    *(sealed(f"missing data before a password is asked for, and {what}", READING_FAILED, typed=b"", output=b"",
-             files={FILE: MISSING, SIG: held}, check_directory=leaves_signature(held))
-      for what, held in (("no signature", MISSING), ("a signature that exists", b"older"))),
+    *(sign_with_sealed_key(f"missing data before a password is asked for, and {title}", READING_FAILED, typed=b"", output=b"",
+                           files={FILE: MISSING, SIG: content}, check_directory=leaves_signature(content))
+      for title, content in (("no signature", MISSING), ("a signature that exists", b"older"))),
     sign("lines that end with carriage return and line feed", files={SK: OPEN_KEY.replace(b"\n", b"\r\n")}),
-    sealed("a key whose derivation takes too much memory", "error: scrypt parameters too high\n",
-           key=toy.secret_text(toy.KEY_A.record(b"Sc", toy.Limits((1 << 30) + 1))), output=PROMPT + DERIVING),
-    sealed("a key whose derivation has no parts, because the low 32 bits are zero", "error: invalid scrypt parameters\n",
-           key=toy.secret_text(toy.KEY_A.record(b"Sc", toy.Limits(0, 1 << 40))), output=PROMPT + DERIVING),
+    sign_with_sealed_key("a key whose derivation takes too much memory", "error: scrypt parameters too high\n",
+                         key=toy.secret_text(toy.KEY_A.record(b"Sc", toy.Limits((1 << 30) + 1))), output=PROMPT + DERIVING),
+    sign_with_sealed_key("a key whose derivation has no parts, because the low 32 bits are zero",
+                         "error: invalid scrypt parameters\n",
+                         key=toy.secret_text(toy.KEY_A.record(b"Sc", toy.Limits(0, 1 << 40))), output=PROMPT + DERIVING),
     # Known random bytes and a known time determine the whole file. There may be too few random bytes, or a time before 1970.
     *(
         make(
@@ -235,8 +238,8 @@ CASES = [
         for seconds in (0, 1555779966)
         for make, name, changes in (
             (sign, "an unencrypted key", {}),
-            (sealed, "an encrypted key", {}),
-            (sealed, "an encrypted key with limits of zero", {"key": KEY_WITHOUT_LIMITS}),
+            (sign_with_sealed_key, "an encrypted key", {}),
+            (sign_with_sealed_key, "an encrypted key with limits of zero", {"key": KEY_WITHOUT_LIMITS}),
         )
     ),
     sign(
@@ -258,15 +261,16 @@ CASES = [
     # An existing signature is replaced and keeps its mode. A failed write of the signature is the last error that is reported.
     sign("a signature that exists", files={SIG: LONGER}),
     sign("an empty signature that exists", files={SIG: b""}),
-    sign("a signature that exists, with a mode", files={SIG: WithMode(LONGER, 0o640)}, check_directory=signed(mode=0o600)),
+    sign("a signature that exists, with a mode", files={SIG: WithMode(LONGER, 0o640)},
+         check_directory=leaves_valid_signature(mode=0o600)),
     sign("a signature that exists, with an access control list", files={SIG: WithMode(LONGER, 0o644, "g::---,u:65534:rw")},
-         check_directory=signed(mode=0o644)),
-    sign("a umask with permissions for the owner only", umask=0o077, check_directory=signed(mode=0o600)),
-    sign("the signature in place of the data", arguments=(SK, FILE, FILE), check_directory=signed(name=FILE)),
-    sign("the signature in place of the key", arguments=(SK, FILE, SK), check_directory=signed(name=SK)),
-    *(make(f"{name}{more}", WRITING_FAILED, arguments=(SK, FILE, path), files=files, check_directory=leaves_signature(held))
-      for make, more in ((sign, ""), (sealed, ", and an encrypted key"))
-      for name, path, files, held in (
+         check_directory=leaves_valid_signature(mode=0o644)),
+    sign("a umask with permissions for the owner only", umask=0o077, check_directory=leaves_valid_signature(mode=0o600)),
+    sign("the signature in place of the data", arguments=(SK, FILE, FILE), check_directory=leaves_valid_signature(name=FILE)),
+    sign("the signature in place of the key", arguments=(SK, FILE, SK), check_directory=leaves_valid_signature(name=SK)),
+    *(make(f"{name}{more}", WRITING_FAILED, arguments=(SK, FILE, path), files=files, check_directory=leaves_signature(content))
+      for make, more in ((sign, ""), (sign_with_sealed_key, ", and an encrypted key"))
+      for name, path, files, content in (
           ("no room for the signature", FULL_DEVICE, {}, MISSING),
           ("a directory as signature", SIG, {SIG: DIRECTORY}, DIRECTORY),
           ("a missing directory of the signature", "none/" + SIG, {}, MISSING),
@@ -274,8 +278,8 @@ CASES = [
           ("a signature that may not be written", SIG, {SIG: WithMode(LONGER, 0o444)}, LONGER),
           ("an empty name of the signature", "", {}, MISSING),
           ("a name of the signature that is too long", "s" * 256, {}, MISSING))),
-    sealed("a wrong password before a directory as signature", WRONG_PASSWORD, typed=b"q\n", files={SIG: DIRECTORY},
-           check_directory=leaves_signature(DIRECTORY)),
+    sign_with_sealed_key("a wrong password before a directory as signature", WRONG_PASSWORD, typed=b"q\n", files={SIG: DIRECTORY},
+                         check_directory=leaves_signature(DIRECTORY)),
     sign("the signature into standard output", arguments=(SK, FILE, "/dev/stdout"), random_and_time=RandomAndTime(),
          output=signed_at(RandomAndTime.unix_time), check_directory=leaves_signature()),
     # The file is written in place, not replaced: its second hard link has the signature too.
@@ -285,12 +289,12 @@ CASES = [
     sign("the signature into standard output, which takes nine bytes", WRITING_FAILED,
          arguments=(SK, FILE, "/dev/stdout"), stdout=SizeLimit(9), output=b"untrusted"),
     *WITH_STREAMS,
-    *without_stderr([*WITH_STREAMS, sealed("a password")]),
+    *without_stderr([*WITH_STREAMS, sign_with_sealed_key("a password")]),
     # Each allocation fails. If it is for the signature file, the error is a failed write. No file is touched.
     *out_of_memory(
         OneOf(([WARNING, OUT_OF_MEMORY], [WARNING, WRITING_FAILED])),
         ("an unencrypted key", sign("", OUT_OF_MEMORY, **OVER_OLDER)),
-        ("an encrypted key", sealed("", OUT_OF_MEMORY, **{**OVER_OLDER, "output": PrefixOf(OPENED)})),
+        ("an encrypted key", sign_with_sealed_key("", OUT_OF_MEMORY, **{**OVER_OLDER, "output": PrefixOf(OPENED)})),
         ("an empty key", sign("", OUT_OF_MEMORY, files={SK: b"", SIG: b"older"}, check_directory=leaves_signature(b"older")))),
     WHOLE_WAY,
 ]

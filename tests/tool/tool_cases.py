@@ -27,15 +27,15 @@ def without_stderr(cases, **changes):
             for stderr in (CLOSED, FULL, NO_READER) for case in cases]
 
 
-def opening(file, description, data):
-    """Returns a phase of `in_order` in which a file is opened."""
+def opening_phase(file, description, data):
+    """Returns a phase of `ordering_cases` in which a file is opened."""
     return file, [
         (f"missing {description}", MISSING, READING_FAILED),
         (f"unreadable {description}", unreadable(data), READING_FAILED),
     ]
 
 
-def in_order(make, *phases):
+def ordering_cases(make_case, *phases):
     """Yields cases that show in which order a command opens, reads and checks its files: it reports the first error.
 
     A phase is a file and its possible faults in that phase. A fault is a title, the content of the file, and the line
@@ -47,22 +47,22 @@ def in_order(make, *phases):
     faults = [(phase, file, *fault) for phase, (file, file_faults) in enumerate(phases) for fault in file_faults]
     phases_of = {file: [phase for phase, (phase_file, _) in enumerate(phases) if phase_file == file] for file, _ in phases}
     for phase, file, title, content, line in faults:
-        yield make(title, line, files={file: content})
+        yield make_case(title, line, files={file: content})
         for pipe_file, (opened_in, *read_in) in phases_of.items():
             if pipe_file != file and read_in and phase < read_in[0]:
                 event, pipe = ("opened", UNOPENED_PIPE) if phase < opened_in else ("read", OPENED_PIPE)
-                yield make(f"{title} before {pipe_file} is {event}", line, files={file: content, pipe_file: pipe})
+                yield make_case(f"{title} before {pipe_file} is {event}", line, files={file: content, pipe_file: pipe})
     for (_, file, title, content, line), (_, later_file, later_title, later_content, _) in itertools.combinations(faults, 2):
         if file != later_file:
-            yield make(f"{title} before {later_title}", line, files={file: content, later_file: later_content})
+            yield make_case(f"{title} before {later_title}", line, files={file: content, later_file: later_content})
 
 
 def out_of_memory(lines, *named_cases, **changes):
     """Returns copies of these cases in which each allocation fails in turn, and copies in which all allocations after it fail too.
 
     `lines` are the expected lines of all of them. `changes` are other fields to replace."""
-    return [replace(case, name=f"{name}, and {failing} failing", lines=lines, failing_allocations=rejecting, **changes)
-            for name, case in named_cases for rejecting, failing in toy.ALLOCATION_FAILURES]
+    return [replace(case, name=f"{name}, and {description} failing", lines=lines, failing_allocations=kind, **changes)
+            for name, case in named_cases for kind, description in toy.ALLOCATION_FAILURES]
 
 
 class ExpectedFiles:

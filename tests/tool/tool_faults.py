@@ -49,10 +49,10 @@ class Task(faults.Task):
         without a public key is that of the secret key."""
         if not os.path.basename(name).startswith(TEMPORARY):
             return mode == self.mode or name not in self.files or isinstance(data, Link)
-        temporary_files = [each for each in files if os.path.basename(each).startswith(TEMPORARY)]
+        temporary_files = [path for path in files if os.path.basename(path).startswith(TEMPORARY)]
         is_secret = data.startswith(SECRET_START) or (len(temporary_files) == 2 and not data.startswith(PUBLIC_START))
-        most = self.mode if {*self.targets} & {*self.files} else 0o600 if is_secret else 0o644
-        return not mode & ~most
+        max_mode = self.mode if {*self.targets} & {*self.files} else 0o600 if is_secret else 0o644
+        return not mode & ~max_mode
 
 
 is_signature = partial(check_signature, b"abc")
@@ -96,8 +96,8 @@ class ToolFaultRunner(TaskFaultRunner):
     def run(self, directory, arguments, environment=None, program=None, **changes):
         return super().run(directory, arguments, environment, program, **{"typed": b"p\np\n", **changes})
 
-    def expect_unwritten(self, ran, _):
-        expect(ran.status == 1 and ran.stderr.endswith(WRITING_FAILED), ran)
+    def expect_unwritten(self, result, _):
+        expect(result.status == 1 and result.stderr.endswith(WRITING_FAILED), result)
 
     def check_failing_calls(self, task, calls, allowed_results, number=errno.EIO):
         """Makes each of these calls fail in turn. A result is a pair of the exit status and the number of new files.
@@ -105,14 +105,15 @@ class ToolFaultRunner(TaskFaultRunner):
         report that writing failed."""
         success, counter = (0, len(task.targets)), itertools.count(1)
 
-        def check_run(ran, directory):
-            result, allowed = (ran.status, sum(task.check(directory))), allowed_results(next(counter)) if ran.reached else [success]
-            is_reported = result == success or len(allowed) > 1 or ran.stderr.endswith(WRITING_FAILED)
+        def check_run(result, directory):
+            outcome = (result.status, sum(task.check(directory)))
+            allowed = allowed_results(next(counter)) if result.reached else [success]
+            is_reported = outcome == success or len(allowed) > 1 or result.stderr.endswith(WRITING_FAILED)
             expect(
-                result in allowed and is_reported,
-                ran,
+                outcome in allowed and is_reported,
+                result,
                 (
-                    f"exit status and number of new files: {result}, expected one of {allowed}, and an error that ends"
+                    f"exit status and number of new files: {outcome}, expected one of {allowed}, and an error that ends"
                     f" with {WRITING_FAILED}"
                 ),
             )
@@ -123,25 +124,25 @@ class ToolFaultRunner(TaskFaultRunner):
     def check_taken_names(self, task, directory, count):
         """Checks a run with constant random numbers in a directory where the first `count` names of temporary files are
         taken. It succeeds after up to 40 attempts, fails after 200, and changes none of these files."""
-        taken = [f"{TEMPORARY}{number:016x}" for number in range(count)]
-        for name in taken:
+        taken_names = [f"{TEMPORARY}{number:016x}" for number in range(count)]
+        for name in taken_names:
             write(directory, name, b"another file")
-        ran = self.run(directory, task.arguments, {"LD_PRELOAD": self.preload, "DRAW_ZEROS": "1"})
-        for name in taken:
+        result = self.run(directory, task.arguments, {"LD_PRELOAD": self.preload, "ZERO_RANDOM": "1"})
+        for name in taken_names:
             expect(
                 content_or_none(directory, name) == b"another file",
                 f"{name} was changed to {content_or_none(directory, name)!r}",
             )
             os.remove(os.path.join(directory, name))
-        result, expected = (ran.status, sum(task.check(directory))), (0, 2) if count < 99 else (1, 0)
-        expect(result == expected, ran, f"exit status and number of new files: {result}, expected {expected}")
+        outcome, expected = (result.status, sum(task.check(directory))), (0, 2) if count < 99 else (1, 0)
+        expect(outcome == expected, result, f"exit status and number of new files: {outcome}, expected {expected}")
 
     def check_path_that_is_not_utf8(self, task, directory):
         """Checks that a program runs from a path that is not UTF-8."""
         path = os.path.join(os.fsencode(self.work_directory), b"tool\xff")
         shutil.copy(self.program, path)
-        ran = self.run(directory, [*map(os.fsencode, task.arguments)], program=path)
-        expect(ran.status == 0 and all(task.check(directory)), ran, "expected status 0, and all files to be new")
+        result = self.run(directory, [*map(os.fsencode, task.arguments)], program=path)
+        expect(result.status == 0 and all(task.check(directory)), result, "expected status 0, and all files to be new")
 
     def check_memory_for_legacy_signature(self, command, mebibytes=2):
         """Checks that a legacy signature of 1 GiB is rejected with at most this many MiB more than are needed to verify a prehashed
@@ -174,8 +175,8 @@ class ToolFaultRunner(TaskFaultRunner):
                 None,
             )
             expect(needed is not None, "64 MiB are not enough to verify no data")
-            ran = run_within("large", "old", needed + 1024 * mebibytes)
-            expect(ran.status == 1 and ran.stderr.endswith(LEGACY.encode()), ran, f"expected exit status 1 and {LEGACY!r}")
+            result = run_within("large", "old", needed + 1024 * mebibytes)
+            expect(result.status == 1 and result.stderr.endswith(LEGACY.encode()), result, f"expected exit status 1 and {LEGACY!r}")
 
 
 def cases_of_task(runner, task):
@@ -188,17 +189,17 @@ def cases_of_task(runner, task):
         for more, changes in (("", {}), (" half way", {"SHORT": 1})):
             yield f"a write fails with {errno.errorcode[number]}{more}", partial(runner.check_failing_writes, **changes), number
     # The files are synced first. Their directory is synced last, when all files are replaced.
-    yield "a sync fails", runner.check_failing_calls, "fsync", lambda at: [unchanged if at <= count else (1, count)]
-    yield "a sync is not supported", runner.check_failing_calls, "fsync", lambda at: [
-        unchanged if at <= count else all_new
+    yield "a sync fails", runner.check_failing_calls, "fsync", lambda nth: [unchanged if nth <= count else (1, count)]
+    yield "a sync is not supported", runner.check_failing_calls, "fsync", lambda nth: [
+        unchanged if nth <= count else all_new
     ], errno.EINVAL
-    yield "a rename fails", runner.check_failing_calls, "rename", lambda at: [(1, at - 1)]
-    yield "a close fails", runner.check_failing_calls, "close", lambda at: [all_new]
-    yield "no random bytes for the name of a temporary file", runner.check_failing_calls, "getentropy", lambda at: [unchanged]
+    yield "a rename fails", runner.check_failing_calls, "rename", lambda nth: [(1, nth - 1)]
+    yield "a close fails", runner.check_failing_calls, "close", lambda nth: [all_new]
+    yield "no random bytes for the name of a temporary file", runner.check_failing_calls, "getentropy", lambda nth: [unchanged]
     if {*task.targets} & {*task.files}:
-        yield "fchmod fails", runner.check_failing_calls, "fchmod", lambda at: [unchanged]
+        yield "fchmod fails", runner.check_failing_calls, "fchmod", lambda nth: [unchanged]
     for calls in ("open", "read", "statx readlink"):
-        yield f"{calls} fails", runner.check_failing_calls, calls, lambda at: [unchanged, all_new]
+        yield f"{calls} fails", runner.check_failing_calls, calls, lambda nth: [unchanged, all_new]
     yield "on a full disk", runner.check_full_disk
     yield "the limit on file sizes is exceeded", runner.check_file_size_limit, signal.SIG_DFL, True
     yield "the limit on file sizes is exceeded, SIGXFSZ ignored", runner.check_file_size_limit, signal.SIG_IGN

@@ -98,7 +98,7 @@ def built_programs():
     if not os.path.exists(program):
         print("tool_program.py: building the program by `rt run`, which proves it first", flush=True)
         subprocess.run(["rt", "run"], cwd=CRATE, stdin=subprocess.DEVNULL, stdout=subprocess.DEVNULL, stderr=subprocess.DEVNULL)
-    return [each for each in (program, program + ".by-rattle") if os.path.exists(each)]
+    return [path for path in (program, program + ".by-rattle") if os.path.exists(path)]
 
 
 def run_all(scratch):
@@ -116,8 +116,10 @@ def run_all(scratch):
             os.chown(directory, NOBODY, NOBODY)
         with concurrent.futures.ProcessPoolExecutor(1) as pool:
             as_nobody = pool.submit(run_as_nobody, copy, directory)
-            for failed, ran in (run_cases(tool_faults.cases(program, tempfile.mkdtemp(dir=scratch))), as_nobody.result()):
-                failures, count = failures + [f"{os.path.basename(program)}: {failure}" for failure in failed], count + ran
+            results = (run_cases(tool_faults.cases(program, tempfile.mkdtemp(dir=scratch))), as_nobody.result())
+        for new_failures, new_count in results:
+            failures += [f"{os.path.basename(program)}: {failure}" for failure in new_failures]
+            count += new_count
     return (failures, count) if count else (["the program was not built"], 1)
 
 

@@ -7,7 +7,7 @@ from dataclasses import replace
 import toy
 from running import (CLOSED, DIRECTORY, FULL, MISSING, WRITE_ONLY, FromFile, HardLink, InputPipe, Link, OneOf, Pieces,
                      PrefixOf, ReadLate, SizeLimit, ToFile, write)
-from tool_cases import ExpectedFiles, command_case, in_order, opening, out_of_memory, without_stderr
+from tool_cases import ExpectedFiles, command_case, ordering_cases, opening_phase, out_of_memory, without_stderr
 from toy import NOT_UTF8, OUT_OF_MEMORY, READING_FAILED, TOO_SHORT, WARNING, WRITING_FAILED
 
 VERIFIED_RAW = "Signature and comment signature verified\n"
@@ -32,7 +32,7 @@ OTHER_KEY = toy.public_text(keynum=toy.OTHER_KEYNUM)
 # Lengths of data around those of BLAKE2b's blocks and of the pieces that the program reads.
 LENGTHS = (0, 1, 127, 128, 129, 65535, 65536, 65537, 131073, 5_000_000)
 # Expectations for a run whose standard error takes only the warning and five more bytes.
-CUT_SHORT = {"status": 1, "stderr": SizeLimit(len(WARNING) + 5)}
+STDERR_CUT_SHORT = {"status": 1, "stderr": SizeLimit(len(WARNING) + 5)}
 
 
 def verify(name, *lines, files=None, arguments=(PK, FILE, SIG), **changes):
@@ -51,7 +51,7 @@ def as_cat(case, output=None):
     return replace(case, arguments=["cat", *case.arguments[1:]], output=output)
 
 
-def signed(data=b"abc", **changes):
+def signed_files(data=b"abc", **changes):
     """Returns the data file and its signature file. `changes` replaces parts of the signature."""
     return {FILE: data, SIG: toy.signature_text(data, **changes)}
 
@@ -68,21 +68,21 @@ VERDICTS = [
     ("no data", {FILE: b""}, REJECTED),
     ("more data", {FILE: b"abc\n"}, REJECTED),
     ("one more letter", {FILE: b"abcd"}, REJECTED),
-    ("a changed signature", signed(record=toy.flip_bit(RECORD)), REJECTED),
+    ("a changed signature", signed_files(record=toy.flip_bit(RECORD)), REJECTED),
     ("a changed trusted comment", {SIG: GOOD[SIG].replace(b"comment: t\n", b"comment: u\n")}, COMMENT_REJECTED),
-    ("a changed comment signature", signed(comment_signature=toy.flip_bit(COMMENT_SIGNATURE)), COMMENT_REJECTED),
-    ("a short comment signature", signed(comment_signature=COMMENT_SIGNATURE[:63]), COMMENT_REJECTED),
-    ("a longer comment signature", signed(comment_signature=COMMENT_SIGNATURE + b"\xff"), VERIFIED),
-    ("another untrusted comment", signed(untrusted=b"u"), VERIFIED),
+    ("a changed comment signature", signed_files(comment_signature=toy.flip_bit(COMMENT_SIGNATURE)), COMMENT_REJECTED),
+    ("a short comment signature", signed_files(comment_signature=COMMENT_SIGNATURE[:63]), COMMENT_REJECTED),
+    ("a longer comment signature", signed_files(comment_signature=COMMENT_SIGNATURE + b"\xff"), VERIFIED),
+    ("another untrusted comment", signed_files(untrusted=b"u"), VERIFIED),
     ("another key", {PK: toy.public_text(key=b"z" * 32)}, REJECTED),
-    ("a signature of the data itself", signed(record=toy.signature_record(b"abc", algorithm=b"Ed")), LEGACY),
-    ("a trusted comment with characters of several bytes", signed(trusted="\u00e4 \U0001f511".encode()),
+    ("a signature of the data itself", signed_files(record=toy.signature_record(b"abc", algorithm=b"Ed")), LEGACY),
+    ("a trusted comment with characters of several bytes", signed_files(trusted="\u00e4 \U0001f511".encode()),
      VERIFIED[:-2] + "\u00e4 \U0001f511\n"),
-    *((f"data of {length} bytes", signed(toy.some_data(length)), VERIFIED) for length in LENGTHS),
+    *((f"data of {length} bytes", signed_files(toy.some_data(length)), VERIFIED) for length in LENGTHS),
     # Key and signature files are read completely, and have to be UTF-8.
     ("a key of one line", {PK: b"c\n"}, NO_ENCODED_KEY),
     ("a raw key", {PK: toy.RECORD}, NO_ENCODED_KEY),
-    ("a short record of a signature", signed(record=RECORD[:73]), TOO_SHORT),
+    ("a short record of a signature", signed_files(record=RECORD[:73]), TOO_SHORT),
     ("a key that ends inside a character", {PK: GOOD[PK] + b"\xc3"}, NOT_UTF8),
     ("a signature that ends inside a character", {SIG: GOOD[SIG] + b"\xf0\x9f\x94"}, NOT_UTF8),
     ("key and signature swapped", {PK: GOOD[SIG], SIG: GOOD[PK]}, NO_BASE64 + "\n"),
@@ -95,7 +95,7 @@ VERDICTS = [
     ("a signature that is not base64", {SIG: FIRST + b"!" + SECOND[1:] + THIRD + FOURTH}, "error: invalid base64\n"),
     ("a signature without the label of its trusted comment", {SIG: FIRST + SECOND + b"t\n" + FOURTH},
      "error: Trusted comment should start with: trusted comment: \n"),
-    ("a signature of an unknown algorithm", signed(record=toy.signature_record(b"abc", algorithm=b"Ex")), UNSUPPORTED),
+    ("a signature of an unknown algorithm", signed_files(record=toy.signature_record(b"abc", algorithm=b"Ex")), UNSUPPORTED),
     (
         "lines that end with carriage return and line feed",
         {name: GOOD[name].replace(b"\n", b"\r\n") for name in (PK, SIG)},
@@ -105,16 +105,16 @@ VERDICTS = [
     ("last lines without a line feed", {PK: GOOD[PK][:-1], SIG: GOOD[SIG][:-1]}, VERIFIED),
 ]
 
-# The cases for both commands. `in_order` combines faults, of which the first one has to be reported. The files are
+# The cases for both commands. `ordering_cases` combines faults, of which the first one has to be reported. The files are
 # opened in the order of the arguments, and nothing is read before all are open. Then the key is read, then the
 # signature, then both are checked, and then the data is read.
 VERIFY_AND_CAT = [
     *(verify(name, line, files=files) for name, files, line in VERDICTS),
-    *in_order(
+    *ordering_cases(
         verify,
-        opening(PK, "key", GOOD[PK]),
-        opening(FILE, "data", GOOD[FILE]),
-        opening(SIG, "signature", GOOD[SIG]),
+        opening_phase(PK, "key", GOOD[PK]),
+        opening_phase(FILE, "data", GOOD[FILE]),
+        opening_phase(SIG, "signature", GOOD[SIG]),
         (PK, [("a directory as key", DIRECTORY, READING_FAILED), ("a key that is not UTF-8", TEXT_NOT_UTF8, NOT_UTF8)]),
         (
             SIG,
@@ -131,20 +131,22 @@ VERIFY_AND_CAT = [
 ]
 
 
-def over_streams(make, *cases):
+def over_streams(make_case, *cases):
     """Returns each case four times: with standard input empty or closed, and standard output open or closed. Each case
     has a name, the files that differ from the default ones, and the expected lines."""
-    return [make(f"{what}, stdin {stdin or 'empty'}, stdout {stdout or 'open'}", *lines, files=files, stdin=stdin, stdout=stdout)
+    return [make_case(f"{title}, stdin {stdin or 'empty'}, stdout {stdout or 'open'}", *lines,
+                      files=files, stdin=stdin, stdout=stdout)
             for stdin, stdout in [(b"", None), (CLOSED, None), (b"", CLOSED), (CLOSED, CLOSED)]
-            for what, files, *lines in cases]
+            for title, files, *lines in cases]
 
 
-def failing_allocations(make, *more_lines):
+def failing_allocations(make_case, *more_lines):
     """Returns cases in which each allocation fails in turn. The error output is the warning and the error, or one of
     `more_lines`."""
     named_files = [("a good signature", {}), ("other data", {FILE: b"abd"}), ("an empty key", {PK: b""})]
     return out_of_memory(OneOf(([WARNING, OUT_OF_MEMORY], *more_lines)),
-                         *((name, make("", OUT_OF_MEMORY, files=files)) for name, files in named_files), output=PrefixOf(b"abc"))
+                         *((name, make_case("", OUT_OF_MEMORY, files=files)) for name, files in named_files),
+                         output=PrefixOf(b"abc"))
 
 
 VERIFY = [
@@ -160,7 +162,7 @@ VERIFY = [
 ]
 
 
-def holding(name, data):
+def leaves_content(name, data):
     """Returns the expected files after a run: the file `name` contains this data, and there is no new file."""
     return ExpectedFiles({name: data}, optional={*GOOD, "other"} - {name})
 
@@ -171,9 +173,9 @@ LONG = toy.some_data(2_000_000)
 CHANGED = toy.flip_bit(LONG)
 
 
-def write_at(path, at, data):
+def write_at(path, position, data):
     with open(path, "r+b") as file:
-        file.seek(at)
+        file.seek(position)
         file.write(data)
 
 
@@ -186,15 +188,16 @@ CAT = [
     # If the copy cannot be written, the error comes after the status line.
     cat("stdin closed", VERIFIED, output=b"abc", stdin=CLOSED),
     cat("stdout takes two bytes", VERIFIED, WRITING_FAILED, output=b"ab", stdout=SizeLimit(2)),
-    cat("stderr takes five bytes after the warning", WARNING + VERIFIED[:5], **CUT_SHORT),
-    *(cat(f"{what}, stdin {stdin or 'empty'}, stdout {stdout}", *lines, files=files, stdin=stdin, stdout=stdout)
+    cat("stderr takes five bytes after the warning", WARNING + VERIFIED[:5], **STDERR_CUT_SHORT),
+    *(cat(f"{title}, stdin {stdin or 'empty'}, stdout {stdout}", *lines, files=files, stdin=stdin, stdout=stdout)
       for stdout in (CLOSED, FULL) for stdin in (b"", CLOSED)
-      for what, files, *lines in (("a good signature", {}, VERIFIED, WRITING_FAILED), ("no data", signed(b""), VERIFIED),
+      for title, files, *lines in (("a good signature", {}, VERIFIED, WRITING_FAILED), ("no data", signed_files(b""), VERIFIED),
                                  ("other data", {FILE: b"abd"}, REJECTED))),
     *without_stderr(over_streams(cat, ("a good signature", {})), status=1),
     # If standard output is the data file, this is reported after all files were opened and before anything is read or written.
-    *(cat(name, lines, files=files, arguments=(PK, data, SIG), stdout=ToFile(into, flags), check_directory=holding(FILE, left))
-      for name, lines, data, into, flags, files, left in [
+    *(cat(name, lines, files=files, arguments=(PK, data, SIG), stdout=ToFile(stdout_name, flags),
+          check_directory=leaves_content(FILE, content))
+      for name, lines, data, stdout_name, flags, files, content in [
           ("stdout appends to the data", INPUT_IS_OUTPUT, FILE, FILE, APPEND, {}, b"abc"),
           ("stdout overwrites the data", INPUT_IS_OUTPUT, FILE, FILE, os.O_RDWR, {}, b"abc"),
           ("stdout truncated the data", INPUT_IS_OUTPUT, FILE, FILE, APPEND | os.O_TRUNC, {}, b""),
@@ -204,10 +207,11 @@ CAT = [
           ("stdout appends to the data, before an empty key", INPUT_IS_OUTPUT, FILE, FILE, APPEND, {PK: b""}, b"abc"),
           ("a missing signature, before stdout appends to the data", READING_FAILED, FILE, FILE, APPEND, {SIG: MISSING}, b"abc")]),
     cat("stdout appends to another file", VERIFIED, files={"other": b"abc"}, stdout=ToFile("other", APPEND),
-        check_directory=holding("other", b"abcabc")),
+        check_directory=leaves_content("other", b"abcabc")),
     # The data is changed after the status was written and before all of it was copied. The output is not read until
     # then, so the program could not copy more than a pipe holds.
-    *(cat(f"while it is copied, {name}", VERIFIED, *([] if output == LONG else [DATA_CHANGED]), files=signed(LONG), output=output,
+    *(cat(f"while it is copied, {name}", VERIFIED, *([] if output == LONG else [DATA_CHANGED]),
+          files=signed_files(LONG), output=output,
           stdout=ReadLate(2, lambda directory, change=change: change(os.path.join(directory, FILE))))
       for name, change, output in [
           ("the data's last byte changes", lambda path: write_at(path, len(LONG) - 1, CHANGED[-1:]), CHANGED),
@@ -261,10 +265,10 @@ RAW = [
         ("stdin closed", {FILE: CLOSED}, READING_FAILED))),
     # The key is opened first, then the signature, and nothing is read before both are open. Then the key is read, then
     # the signature, then both are checked, and then the data is read.
-    *in_order(
+    *ordering_cases(
         verify_raw,
-        opening(PK, "key", KEY),
-        opening(SIG, "signature", SIGNATURE),
+        opening_phase(PK, "key", KEY),
+        opening_phase(SIG, "signature", SIGNATURE),
         (PK, [("a directory as key", DIRECTORY, READING_FAILED)]),
         (SIG, [("a directory as signature", DIRECTORY, READING_FAILED)]),
         (PK, [("a short key", KEY[:41], TOO_SHORT)]),
@@ -304,7 +308,7 @@ RAW = [
     *without_stderr([verify_raw(name, files=files) for name, files in (
         ("good data", {}), ("other data", {FILE: b"abd"}), ("a missing key", {PK: MISSING}))], status=1),
     *(verify_raw(f"good data, stdout {stdout}", VERIFIED_RAW, stdout=stdout) for stdout in (CLOSED, FULL)),
-    verify_raw("stderr takes five bytes after the warning", WARNING + VERIFIED_RAW[:5], **CUT_SHORT),
+    verify_raw("stderr takes five bytes after the warning", WARNING + VERIFIED_RAW[:5], **STDERR_CUT_SHORT),
     # Each allocation fails. The first ones are made while the arguments are read.
     *out_of_memory(
         [WARNING, OUT_OF_MEMORY],
